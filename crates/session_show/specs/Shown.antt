@@ -28,7 +28,7 @@ abbrev pub IsTextBy : Detail → ℕ → List ℕ → Option Line → List ℕ �
 IsTextBy detail n line None text = ⊥
 IsTextBy detail n line (Some l) text = MatchBool (has_text detail line l) (IsNumbered n text) (text ≡ [])
 
--- A statement about a text: the one for line n, or without a line the one after the last line, whose number is n.
+-- A statement about a text: the text for line n, or, without a line, the text after the last line, whose number is n.
 abbrev pub LineTextRule : Type 1
 LineTextRule = ℕ → Option (List ℕ) → List ℕ → Type 0
 
@@ -43,7 +43,7 @@ IsLineText Explained n None text = (text ≡ []) ⊎ IsNumbered n text
 abbrev pub Unspecified : LineTextRule
 Unspecified n line text = Unit {0}
 
--- The level of detail of a form with a text for each line.
+-- The level of detail of a format with text for each line.
 abbrev pub wording_of : OutputFormat → Option Detail
 wording_of (Text detail) = Some detail
 wording_of Page = Some Fixed
@@ -53,13 +53,13 @@ abbrev pub shown_by : Option Detail → LineTextRule
 shown_by (Some detail) = IsLineText detail
 shown_by None = Unspecified
 
--- The statement about the texts of a form.
+-- The statement about the texts of a format.
 abbrev pub shown_in : OutputFormat → LineTextRule
 shown_in format = shown_by (wording_of format)
 
 -- ---- the lines
 
--- A log that is only read: a line is faulty only if it is not a log line, and the text for a line is the line itself.
+-- A log that is only read: only a line that is not a log line is an error, and the text for a line is the line itself.
 abbrev pub read_only_world : World (Unit {0})
 read_only_world = record {
   stops = λ s l. None;
@@ -81,14 +81,14 @@ abbrev pub AreShownBy : LineTextRule → ℕ → List ShownLine → Type 0
 AreShownBy shows n [] = Unit {0}
 AreShownBy shows n (t ∷ more) = shows n (Some t.line) t.text × AreShownBy shows (n + 1) more
 
--- This text shows these lines, each of which ends with a line feed.
+-- The text consists of the texts of these lines, each of which ends with a line feed.
 pub record IsShownText (shows : LineTextRule) (lines text : List ℕ) : Type 0 where
   pub told : List ShownLine
   pub lines_are : lines ≡ flat_map (λ t. ended t.line) told
   pub text_is : text ≡ flat_map (λ t. t.text) told
   pub each : AreShownBy shows 1 told
 
--- The same, and then a text after the last line.
+-- The text consists of the texts of these lines and a text after the last line.
 pub record IsWholeText (shows : LineTextRule) (lines text : List ℕ) : Type 0 where
   pub before : List ℕ
   pub behind : List ℕ
@@ -96,7 +96,8 @@ pub record IsWholeText (shows : LineTextRule) (lines text : List ℕ) : Type 0 w
   pub shown : IsShownText shows lines before
   pub last : shows (length shown.told) None behind
 
--- The same up to the ending, unless writing a text failed.
+-- The text consists of the texts of these lines and, at the end of the log, a text after the last line. Nothing is
+-- stated if a write failed.
 abbrev pub IsTextTo : LineTextRule → (lines text : List ℕ) → Ending → Type 0
 IsTextTo shows lines text Done = IsWholeText shows lines text
 IsTextTo shows lines text Unwritten = Unit {0}
@@ -111,19 +112,19 @@ Shows shows left taken ending = Moves left.0 left.1 taken.0 taken.1
 
 -- ---- one line
 
--- The bytes of the target are not known here.
+-- The bytes of the target, which are unspecified here.
 abbrev pub unknown : ℕ → Option (List ℕ)
 unknown failures = None
 
 abbrev pub failures_of : ℕ → ℕ
 failures_of failures = failures
 
--- Line n was shown; or it is faulty, and nothing was written; or writing its text failed. A pair is the number of the
+-- Line n was shown; or it is invalid, and nothing was written; or writing its text failed. A pair is the number of the
 -- target's failures before and after.
 abbrev pub ShowsLine : ℕ → List ℕ → (ℕ × ℕ) → Ending → Type 0
 ShowsLine n line failures ending = PlaysLine read_only_world unknown failures_of n tt tt line failures ending
 
--- The text for line n was written; or the line is faulty, and nothing was written; or writing failed.
+-- The text for line n was written; or the line is invalid, and nothing was written; or writing failed.
 abbrev pub WritesLine : LineTextRule → ℕ → List ℕ → (Option (List ℕ) × Option (List ℕ)) → Ending → Type 0
 WritesLine shows n line taken Done = (text : List ℕ) × Appends taken.0 taken.1 text × shows n (Some line) text
 WritesLine shows n line taken (Refused fault) = Keeps taken.0 taken.1

@@ -70,7 +70,7 @@ fn of_transport(why: Transport) -> Sentence {
     }
 }
 
-/// Returns the number that `%p` takes for a parameter.
+/// Returns the number that the mark `%p` expects for a parameter (see `TextBuf::format`).
 fn parameter_number(command: u8, parameter: u8) -> Option<u64> {
     Some(u64::from(u16::from_be_bytes([command, parameter])))
 }

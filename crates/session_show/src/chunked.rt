@@ -7,7 +7,7 @@ use arrayvec::ArrayVec;
 use itoa::Buffer;
 use session_log::{Failed, Target, put_all};
 
-/// Maximum number of chunks of a text. None has nearly as many: a line shows one message of at most 7609 bytes.
+/// Maximum number of chunks of a text, which is never reached, because a line shows one message of at most 7609 bytes.
 const PARTS: usize = 1 << 32;
 
 /// Something with a text form.
@@ -16,7 +16,7 @@ pub trait Written {
     fn write(&self, buf: &mut TextBuf);
 }
 
-/// Writes a line number, a space and a text. After a failure the target has a beginning of it.
+/// Writes a line number, a space and a text. After a failure, only a part of it was written.
 pub fn put_with_line_number<T: Target, W: Written>(
     writer: &mut T,
     buf: &mut TextBuf,
@@ -34,7 +34,7 @@ pub fn put_with_line_number<T: Target, W: Written>(
     put_parts(writer, buf, written)
 }
 
-/// Writes a text. After a failure the target has a beginning of it.
+/// Writes a text. After a failure, only a part of it was written.
 pub fn put_parts<T: Target, W: Written>(
     writer: &mut T,
     buf: &mut TextBuf,

@@ -14,10 +14,10 @@ use session_log::{CAPACITY, Failed, Line, LogFault, Source, Target, Window, next
 use session_walk::{AwaitedReply, Transaction, TransactionTracker, channel_of};
 use token_session::{Causes, Session};
 
-/// More than the maximum number of lines of a log.
+/// A bound for loops over the lines of a log, greater than their maximum number.
 const LINES: u64 = 1 << 33;
 
-/// A packet that differs, is missing or is superfluous.
+/// A packet that differs, is missing or is one too many.
 #[derive(Clone, Copy)]
 pub struct Difference {
     /// Line of the input that the packet was sent for, or 0 before the first.
@@ -67,10 +67,10 @@ impl Difference {
     }
 }
 
-/// A packet of the log or the session, and the message that it completes together with the following packets.
+/// A packet of the log or the session, with the message that it and the following packets complete.
 #[derive(Clone, Copy)]
 struct Side<'a> {
-    /// The tracker that took them.
+    /// The tracker that processed these packets.
     walk: &'a TransactionTracker,
     packet: &'a Packet,
     line: u64,
@@ -91,7 +91,7 @@ impl Written for Side<'_> {
 #[derive(Drop)]
 pub struct Comparison {
     played: ReplayedLog,
-    /// Input that was read but not yet processed; after an error, from the invalid line on.
+    /// Bytes that were read but not processed yet; after an error, from the invalid line on.
     pub window: Window,
     /// Whether the packets that were explained last belong to a request that may name a credential from before the log.
     pub may_name_prior_credential: bool,
@@ -163,12 +163,12 @@ impl Comparison {
         self.lines = self.lines.saturating_add(1);
     }
 
-    /// Explains the last difference: to `reason`, why the key doesn't send what the log has (`  it needs a new key;
-    /// line 9 is a signature`), if the lines before show it; to `logged` and `sent`, the log's packet and the
-    /// session's, each as `< 00000001 CBOR 181`. If the packets after it complete a CBOR message, its lines from
-    /// [`crate::show`] follow; the log is read on for them. What cannot be written is left out.
+    /// Explains the last difference. Writes to `reason` why the key doesn't send the packet of the log, if the
+    /// preceding lines show it (`  it needs a new key; line 9 is a signature`). Writes the log's packet to `logged` and
+    /// the session's packet to `sent`, each as `< 00000001 CBOR 181`, and if the following packets complete a CBOR
+    /// message, its lines as in [`crate::show`]. For this, more of the log is read. Failed writes are ignored.
     ///
-    /// Returns the transaction of the session's packet, or else of the log's; without one, the transaction that holds
+    /// Returns the transaction of the session's packet, or else of the log's packet, or else the transaction that holds
     /// its channel or got the last response there.
     pub fn explain<S: Source, T: Target>(
         &mut self,

@@ -39,7 +39,7 @@ static ANSWER: MessageFormats = MessageFormats {
     json: br#"{"line":%d,"kind":"answer","transaction":%d,"channel":"%w","status":%d,"statusName":"%S"#,
 };
 
-/// Returns how a message is written.
+/// Returns the output formats of a message.
 pub fn message_formats(message: &CborMessage<'_>) -> &'static MessageFormats {
     if message.is_request {
         &REQUEST
@@ -48,7 +48,8 @@ pub fn message_formats(message: &CborMessage<'_>) -> &'static MessageFormats {
     }
 }
 
-/// Returns the kind of map in a message. A response to an unknown request has no member names: no command is 0.
+/// Returns the kind of map in a message. In a response to an unknown request, the members have no names: its command is
+/// 0, which doesn't exist.
 pub fn map_of(message: &CborMessage<'_>, first: u8) -> MapKind {
     if message.is_request {
         return MapKind::Request(first);
@@ -60,7 +61,8 @@ pub fn map_of(message: &CborMessage<'_>, first: u8) -> MapKind {
 }
 
 /// Writes the lines of a message, with the number of the line that completes it: its command or status and its CBOR
-/// item; explained, also the name of the command or status, the meaning of a fault, and a line for each member.
+/// item; with explanations, also the name of the command or status, the meaning of a CBOR error, and a line for each
+/// member.
 pub fn write_message(buf: &mut TextBuf, number: u64, message: &CborMessage<'_>) {
     let Some([first, item @ ..]) = message.bytes else {
         let format = b"%d   message not shown: too many open messages\n";
@@ -150,8 +152,8 @@ pub fn write_entry(buf: &mut TextBuf, entry: &Entry<'_>) {
     }
 }
 
-/// Writes numbers for the page: the lines on which the line's transaction and its message begin (0 if none), then an
-/// earlier line that this one shows to belong to no transaction, and the transactions that end.
+/// Writes numbers for the web page: the lines on which the line's transaction and its message begin (0 if none), then
+/// an earlier line that this one shows to belong to no transaction, and the transactions that end.
 pub fn write_page(buf: &mut TextBuf, entry: &Entry<'_>) {
     let deferred = match &entry.deferred {
         Some(deferred) if deferred.transaction.is_none() => Some(deferred.number),
@@ -170,7 +172,7 @@ pub fn write_page(buf: &mut TextBuf, entry: &Entry<'_>) {
     buf.text("\n");
 }
 
-/// How an input is written: in the fixed text, with its timestamp; and in JSON, with line number, timestamp and the
+/// Output formats of an input: in the fixed text, with its timestamp; and in JSON, with line number, timestamp and the
 /// first line of its transaction.
 pub struct InputFormats {
     text: &'static [u8],
@@ -222,7 +224,7 @@ static NO_SIGNATURE: InputFormats = InputFormats {
     json: b"{\"line\":%d,\"kind\":\"signature\",\"timeMs\":%d,\"moment\":%d,\"transaction\":%d,\"accepted\":false,\"had\":false}\n",
 };
 
-/// Returns how an input is written; for a packet, the text before its channel.
+/// Returns the output formats of an input; for a packet, of the text before its channel.
 pub fn input_formats(input: &Input) -> &'static InputFormats {
     match input {
         Input::Packet(_) => &PACKET,

@@ -1,4 +1,4 @@
-//! Escapes foreign text, so that it cannot hide or move the text around it.
+//! Escapes untrusted text, so that it can't hide or move the text around it.
 
 use crate::text_buf::TextBuf;
 
@@ -74,8 +74,8 @@ pub fn write_char(buf: &mut TextBuf, c: char, is_json: bool) {
     }
 }
 
-/// Writes foreign bytes as text, escaping what is invisible. If they aren't UTF-8, each byte outside ASCII is written
-/// as `\x` and two digits.
+/// Writes untrusted bytes as text, and escapes invisible characters. If the bytes aren't UTF-8, each byte outside ASCII
+/// is written as `\x` and two digits.
 pub fn write_escaped(buf: &mut TextBuf, line: &[u8]) {
     if is_printable(line) {
         buf.bytes(line);

@@ -57,8 +57,8 @@ pub fn write_item_or_error(buf: &mut TextBuf, item: &[u8], checked: &Result<(), 
     }
 }
 
-/// Writes a CBOR item in diagnostic notation: `{1: "usb", 2: [true, h'0aff', -7]}`. Bytes that aren't the canonical
-/// encoding of one are written as their fault and its offset: `fault 9 at 1`.
+/// Writes a CBOR item in diagnostic notation: `{1: "usb", 2: [true, h'0aff', -7]}`. For bytes that aren't the canonical
+/// encoding of an item, the number and the offset of the error are written: `fault 9 at 1`.
 ///
 /// In strings, `"` and `\` are escaped with a backslash, and invisible characters as `\u00NN`.
 pub fn show_item<T: Target>(writer: &mut T, item: &[u8]) -> Result<(), Failed>
@@ -163,7 +163,7 @@ pub fn write_scalar(buf: &mut TextBuf, item: Item<'_>, notation: &Notation) {
     }
 }
 
-/// Writes a foreign text in quotation marks, escaping `"` and `\`.
+/// Writes an untrusted text in quotation marks, escaping `"` and `\`.
 pub fn write_text(buf: &mut TextBuf, text: &str, is_json: bool) {
     buf.text("\"");
     if is_printable(text.as_bytes()) {

@@ -22,7 +22,7 @@ use session_walk::{Ended, Entry, OPEN, TransactionTracker};
 pub enum OutputFormat {
     /// Text, line by line.
     Text(Detail),
-    /// Numbers for the page, line by line.
+    /// Numbers for the web page, line by line.
     Page,
     /// A table of transactions, then counts.
     Table,
@@ -33,7 +33,7 @@ pub enum OutputFormat {
 }
 
 impl OutputFormat {
-    /// Returns the level of detail, if the format has a text for each line.
+    /// Returns the level of detail, if the format has text for each line.
     fn detail(self) -> Option<Detail>
         ensures { result ≡ wording_of self }
     {
@@ -45,7 +45,7 @@ impl OutputFormat {
     }
 }
 
-/// State that follows the lines of a log.
+/// What is tracked from line to line, by output format.
 #[derive(Drop)]
 enum Following {
     /// The messages of the fixed text.
@@ -146,7 +146,7 @@ impl LogWriter {
         }
     }
 
-    /// Writes what follows the last line of a text, which has this number: explained, how much of each incomplete
+    /// Writes the text after the last line, whose number is `number`: with explanations, how much of each incomplete
     /// message was received.
     fn tell_end<T: Target>(&mut self, number: u64, writer: &mut T) -> Result<(), LogFault>
         requires { T.failed writer.old < 2 ^ 64 - 1 }
@@ -176,7 +176,7 @@ impl LogWriter {
         }
     }
 
-    /// Writes what remains at the end of the log, in a format without a text for each line: an undecided packet, the
+    /// Writes what remains at the end of the log, in a format without a text for each line: an ambiguous packet, the
     /// open transactions, and the counts.
     pub fn put<T: Target>(&mut self, writer: &mut T) -> Result<(), Failed>
         requires { T.failed writer.old < 2 ^ 64 - 1 }
@@ -197,14 +197,14 @@ impl LogWriter {
     }
 }
 
-/// Writes a log (docs/use/EXPLAINED.md) in the format of `log_writer`, which must be new and keeps the state. In a
-/// format without a text for each line, call [`LogWriter::put`] afterwards for the rest.
+/// Writes a log (docs/use/EXPLAINED.md) in the format of `log_writer`, which must be new and has the state afterwards.
+/// In a format without a text for each line, call [`LogWriter::put`] afterwards for the rest.
 ///
 /// The text for a line is written before more is read; in JSON, except for a continuation packet 100 ms or more after
-/// the one before it: only the next line shows whether it was too late. JSON of this form has no counts.
+/// the one before it: only the next line shows whether it was too late. These JSON objects don't include the counts.
 ///
-/// Allocates nothing; its memory doesn't grow with the log. Faults are those of [`crate::show`], and [`put_json_fault`]
-/// writes the object of one.
+/// Allocates nothing; its memory doesn't grow with the log. Errors are those of [`crate::show`]; [`put_json_fault`]
+/// writes one as a JSON object.
 pub fn write_log<S: Source, T: Target>(
     reader: &mut S,
     writer: &mut T,
@@ -212,17 +212,17 @@ pub fn write_log<S: Source, T: Target>(
 ) -> Result<(), LogFault>
     requires read { S.failed reader.old < 2 ^ 64 - 1 }
     requires write { T.failed writer.old < 2 ^ 64 - 1 }
-    // At Ok every line is a log line and was shown. A line fault names the first faulty line, and the lines before it
-    // were shown. A failed read names its line, and the lines before it were shown. After a failed write the text is a
-    // beginning.
+    // On success, every line is a log line and was shown. An invalid line is the first one, and the lines before it
+    // were shown. A failed read names its line, and the lines before it were shown. After a failed write, only a part
+    // of the text was written.
     ensures shown { Shows (shown_in log_writer.old.format) (S.left reader.old, S.left reader.new)
         (T.taken writer.old, T.taken writer.new) (ending_of result) }
-    // At a line fault at most 256 bytes after the lines before the faulty one were read.
+    // For an invalid line, at most 256 bytes were read after the lines before it.
     ensures reach { ReadsTo read_only_world tt (S.left reader.old) (S.left reader.new)
         (IsAtEndOfInput S.left S.ended reader.new) (ending_of result) }
-    // At Ok the reader was read to its end.
+    // On success, the reader was read to its end.
     ensures end { OnOk result (IsAtEndOfInput S.left S.ended reader.new) }
-    // A failure was counted exactly at Read, and exactly at Write.
+    // The reader's count of failures increases only for `Read`, the writer's only for `Write`.
     ensures reads { CountsFailures S.failed (reader.old, reader.new) (read_fails (ending_of result)) }
     ensures writes { CountsFailures T.failed (writer.old, writer.new) (write_fails (ending_of result)) }
 {
@@ -245,7 +245,7 @@ pub fn write_log<S: Source, T: Target>(
 }
 
 /// Writes a transaction that ended, with the number of the line that it ends at. In a table, the header precedes the
-/// first one; after the last line of a text, each but the first has the number.
+/// first one. In a text, the line number is written before each but the first.
 fn write_end(buf: &mut TextBuf, format: OutputFormat, number: u64, ended: &Ended, has_head: bool) {
     match format {
         OutputFormat::Text(_) | OutputFormat::Page => {

@@ -40,7 +40,8 @@ pub fn write_members(buf: &mut TextBuf, number: u64, map: MapKind, item: &[u8], 
     }
 }
 
-/// Decodes a member of a response: authenticator data, a signature, a statement with one, or a key.
+/// Decodes a member of a response: authenticator data, a signature, an attestation statement with a signature, or a
+/// key.
 fn write_inside(
     buf: &mut TextBuf,
     number: u64,

@@ -8,7 +8,7 @@ use session_log::{CAPACITY, Line};
 use session_walk::{AwaitedReply, Role, TransactionTracker, channel_of};
 use token_session::{Causes, Session};
 
-/// More than the maximum number of packets of a message.
+/// A bound for loops over the packets of a message, greater than their maximum number.
 pub const PACKETS: usize = 130;
 
 /// The state after the lines so far.
@@ -72,9 +72,9 @@ impl ReplayedLog {
         }
     }
 
-    /// Takes the next line, and returns the difference that it shows. An input steps the session, unless the log lacks
-    /// a packet of the input before: then the line isn't taken. If the line's packet differs, the tracker takes it
-    /// later.
+    /// Processes the next line, and returns the difference that it shows. An input steps the session, unless the log
+    /// lacks a packet of the previous input; then the line isn't processed. If the line's packet differs, the tracker
+    /// processes it later.
     pub fn take(
         &mut self,
         number: u64,

@@ -17,22 +17,22 @@ use session_log::{LogFault, Source, Target};
 /// Allocates nothing; its memory doesn't grow with the log.
 ///
 /// After [`LogFault::BadLine`], [`LogFault::TooLong`] and [`LogFault::TooManyLines`] the texts of the lines before the
-/// faulty one were written; after [`LogFault::Read`] those of the complete lines that were read; after
-/// [`LogFault::Write`] a beginning of the text. A failed read or write is not retried.
+/// invalid one were written; after [`LogFault::Read`] those of the complete lines that were read; after
+/// [`LogFault::Write`] only a part of the text. A failed read or write is not retried.
 pub fn show<S: Source, T: Target>(reader: &mut S, writer: &mut T) -> Result<(), LogFault>
     requires read { S.failed reader.old < 2 ^ 64 - 1 }
     requires write { T.failed writer.old < 2 ^ 64 - 1 }
-    // At Ok every line is a log line and was shown: each packet, tick and reply by its number, a space and more, and
-    // nothing else. A line fault names the first faulty line, and the lines before it were shown. A failed read names
-    // its line, and the lines before it were shown. After a failed write the text is a beginning.
+    // On success, every line is a log line and was shown: each packet, tick and reply by its number, a space and more,
+    // and nothing else. An invalid line is the first one, and the lines before it were shown. A failed read names its
+    // line, and the lines before it were shown. After a failed write, only a part of the text was written.
     ensures shown { Shows (IsLineText fixed) (S.left reader.old, S.left reader.new) (T.taken writer.old, T.taken writer.new)
         (ending_of result) }
-    // At a line fault at most 256 bytes after the lines before the faulty one were read.
+    // For an invalid line, at most 256 bytes were read after the lines before it.
     ensures reach { ReadsTo read_only_world tt (S.left reader.old) (S.left reader.new)
         (IsAtEndOfInput S.left S.ended reader.new) (ending_of result) }
-    // At Ok the reader was read to its end.
+    // On success, the reader was read to its end.
     ensures end { OnOk result (IsAtEndOfInput S.left S.ended reader.new) }
-    // A failure was counted exactly at Read, and exactly at Write.
+    // The reader's count of failures increases only for `Read`, the writer's only for `Write`.
     ensures reads { Counts S.failed (reader.old, reader.new) (read_fails (ending_of result)) }
     ensures writes { Counts T.failed (writer.old, writer.new) (write_fails (ending_of result)) }
 {
@@ -66,8 +66,8 @@ pub fn explain<S: Source, T: Target>(reader: &mut S, writer: &mut T) -> Result<(
 /// Writes the transaction of each line of a log (hidlog.h, `hidlog_transactions`): a line of numbers for each packet,
 /// tick and reply. Otherwise like [`crate::show`].
 ///
-/// A continuation packet that may have arrived too late counts to its message. If it was too late, the next line says
-/// so.
+/// A continuation packet that may have arrived too late is written with its message. If it was too late, the next line
+/// shows that it belongs to no transaction.
 pub fn write_transactions<S: Source, T: Target>(
     reader: &mut S,
     writer: &mut T,

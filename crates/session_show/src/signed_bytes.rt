@@ -5,10 +5,10 @@ use authn_core::Need;
 /// The prefix of a comment with bytes to sign.
 const FRONT: &[u8] = b"# signed ";
 
-/// The prefix of the comment after those.
+/// The prefix of the comment that follows them.
 const NEED: &[u8] = b"# need ";
 
-/// Maximum number of bytes on such a line.
+/// Maximum number of bytes to sign on one line.
 const PIECE: usize = 123;
 
 /// Length of the client data hash, the last bytes to be signed.
@@ -25,9 +25,9 @@ pub struct SignedBytesMismatch {
 /// The comments after an input with the bytes to sign.
 #[derive(Clone, Copy, Default)]
 pub struct Signed {
-    /// Number of bytes so far.
+    /// Number of bytes to sign in the comments so far.
     pub len: usize,
-    /// Number of bytes to sign.
+    /// Number of bytes that the session asks to sign.
     asked: usize,
     /// Line of the last comment.
     line: u64,

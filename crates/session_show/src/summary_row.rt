@@ -10,7 +10,8 @@ pub static HEAD: &str =
     "  line  channel   command                        status                            \
     user ms  KEEPALIVEs  RP id\n";
 
-/// End of the columns for status, user milliseconds and KEEPALIVEs, after the start of the command's.
+/// Ends of the columns for status, user milliseconds and KEEPALIVEs, counted from the beginning of the column for the
+/// command.
 const STATUS_END: usize = 63;
 
 const USER_END: usize = 72;

@@ -29,7 +29,7 @@ pub struct TextBuf {
     part: ArrayVec<u8, CHUNK_LEN>,
     /// Whether the text is inside a JSON string, where `"` and `\` are escaped.
     pub(crate) is_quoted: bool,
-    /// Length of a part that the text has at most once, if known from an earlier chunk.
+    /// Length of a part that a text has at most once, if known from an earlier chunk.
     pub(crate) known: Option<usize>,
 }
 
@@ -148,9 +148,10 @@ impl TextBuf {
         self.bytes(rest);
     }
 
-    /// Writes the text before a mark, and a number: `d` in decimal, `n` in decimal with a space after it, `x` and `w`
-    /// the last byte and the last four bytes in hexadecimal, `-` not at all. Other letters write its name (`name_for`),
-    /// upper case ones with a quotation mark after it; without a name, only `less` of the text is written.
+    /// Writes the text before a mark, and then a number: `d` in decimal, `x` and `w` its last byte and its last four
+    /// bytes in hexadecimal, `-` not at all; `n` in decimal and a space, without the text. Other letters write its name
+    /// (`name_for`), uppercase ones a quotation mark after it; if it has no name, `less` is written instead of the
+    /// text.
     fn mark(&mut self, mark: u8, number: u64, text: &[u8], less: &[u8]) {
         match mark {
             b'-' => self.bytes(text),
@@ -196,7 +197,7 @@ impl TextBuf {
 
     /// Writes bytes as hexadecimal digits.
     pub fn hex(&mut self, bytes: &[u8]) {
-        // Most of a long text is digits; skips them at once.
+        // A long text is mostly digits, which are skipped together.
         let passed = bytes.len().min(self.before / 2);
         self.before -= 2 * passed;
         for some in bytes.split_at(passed).1.chunks(AT_ONCE) {

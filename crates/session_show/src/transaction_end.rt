@@ -13,7 +13,7 @@ pub struct EndFormats {
     /// In the explained text if its message is complete; the first numbers are the line of the end and that of the
     /// beginning. Empty for a response or an ERROR to a complete message, which have lines of their own.
     pub whole: &'static [u8],
-    /// The same for an incomplete message, with the number of bytes received.
+    /// In the explained text if its message is incomplete; then the number of bytes received follows.
     pub part: &'static [u8],
 }
 

@@ -19,20 +19,20 @@ abbrev pub undecided_by : ℕ → Option OpenTransaction → Bool → Bool
 undecided_by input None unclear = unclear
 undecided_by input (Some contender) unclear = unclear || not (contender.transaction.line == input)
 
--- The same for a channel.
+-- After this input, the transaction of the device's next packet on the channel is ambiguous.
 abbrev pub is_open_question : ℕ → Channel → Bool
 is_open_question input c = undecided_by input c.contender (is_owner_unknown c)
 
--- The channel whose current message, if any, may or may not be pending still.
+-- The channel whose current message, if any, may still be pending.
 abbrev pub current_unidentified : Option OpenTransaction → Channel → Channel
 current_unidentified None c = c
 current_unidentified (Some current) c = with_unidentified current.transaction.line c
 
--- The channel without its two messages, of which it is unknown whether they are pending still.
+-- The channel without its two messages, each of which may still be pending.
 abbrev pub both_unidentified : Channel → Channel
 both_unidentified c = let s = contender_accepted false c in record (current_unidentified s.current (current_ended s)) { is_ambiguous = false }
 
--- The transactions whose end is unknown.
+-- The ended transactions, with those of the channel's messages, whose end is unknown.
 abbrev pub ends_lost : Channel → List Ended → List Ended
 ends_lost c ended = with_end_of (ends_by_contender false c ended) (contender_accepted false c).current Unknown
 
@@ -89,7 +89,7 @@ also_ends refused code (Some current) =
     (code == (if refused.message == INIT then 3 else 4)) && (not (is_complete_message current)
     && nat_lt current.transaction.line refused.line)
 
--- How the other transaction ends.
+-- How a message ends that was interrupted by a refused one.
 abbrev pub cause_of : Transaction → End
 cause_of refused = if refused.message == INIT then Dropped refused.line else Replaced refused.line
 
@@ -103,7 +103,7 @@ abbrev pub is_uncancelled : Option OpenTransaction → Bool
 is_uncancelled None = false
 is_uncancelled (Some m) = is_none m.cancelled
 
--- The KEEPALIVE status is this one.
+-- There is a status, and it is this one.
 abbrev pub has_status : ℕ → Option ℕ → Bool
 has_status code None = false
 has_status code (Some status) = status == code
@@ -158,7 +158,7 @@ channel_processing status now (Some m) c =
     }
     else record c { last_keepalive_at = now }
 
--- The time of a message's last KEEPALIVE, or 0.
+-- The number of KEEPALIVEs for a message, or 0.
 abbrev pub kept_of : Option OpenTransaction → ℕ
 kept_of None = 0
 kept_of (Some m) = m.keepalives
@@ -191,7 +191,8 @@ keepalive_transaction input now c =
     else None
 
 -- An ERROR other than a time-out, without a pending INIT, after a packet outside any transaction: it is for that packet
--- if a request with KEEPALIVEs can't be refused so (CTAP 2.1, section 11.2.9.1.6).
+-- if the current request has had a KEEPALIVE, because such a request isn't refused with these codes (CTAP 2.1, section
+-- 11.2.9.1.6).
 abbrev pub is_of_stray : ℕ → Channel → Bool
 is_of_stray code c = c.last_was_stray && (nat_lt 0 (kept_of c.current)
     && ((code == 1) || (code == 4) || (code == 6) || (code == 0x0b)))

@@ -12,7 +12,7 @@ use Rattle.session_walk.specs.Messages.{KeptMessages, AddsData, CanBeKept, Keeps
 abbrev pub PacketAddsData : (number : ℕ) → Fields → (transaction : ℕ) → (before after : KeptMessages) → Type 0
 PacketAddsData number packet transaction = AddsData number (length_of packet) (data_of packet) transaction
 
--- The same for an input.
+-- An input on line `number` adds its packet's data to the message that began at line `transaction`.
 abbrev pub InputAddsData : (number : ℕ) → AnyInput → (transaction : ℕ) → (before after : KeptMessages) → Type 0
 InputAddsData number (Packet packet) transaction = PacketAddsData number (fields packet.0) transaction
 InputAddsData number Tick transaction = KeepsOnly
@@ -20,7 +20,7 @@ InputAddsData number (Presence reply) transaction = KeepsOnly
 InputAddsData number (Key reply) transaction = KeepsOnly
 InputAddsData number (Signature reply) transaction = KeepsOnly
 
--- The same for a line.
+-- Line `number` adds its packet's data to the message that began at line `transaction`.
 abbrev pub LineAddsData : (number : ℕ) → Line → (transaction : ℕ) → (before after : KeptMessages) → Type 0
 LineAddsData number (Input timed) transaction = InputAddsData number timed.input transaction
 LineAddsData number (Sent packet) transaction = PacketAddsData number (fields packet.0) transaction
@@ -32,7 +32,7 @@ abbrev pub PacketBeginsKept : (number : ℕ) → Fields → (after : KeptMessage
 PacketBeginsKept number packet after = command_of packet ≡ CBOR → CanBeKept (length_of packet)
     → kept_at after number ≡ Some (new_message number (length_of packet) (data_of packet))
 
--- The same for the packet of an input.
+-- An input on line `number` whose packet begins a CBOR message stores it, if its length is allowed.
 abbrev pub InputKeeps : (number : ℕ) → AnyInput → (after : KeptMessages) → Type 0
 InputKeeps number (Packet packet) after = PacketBeginsKept number (fields packet.0) after
 InputKeeps number Tick after = ⊤
@@ -40,7 +40,7 @@ InputKeeps number (Presence reply) after = ⊤
 InputKeeps number (Key reply) after = ⊤
 InputKeeps number (Signature reply) after = ⊤
 
--- The same for a line.
+-- A line whose packet begins a CBOR message stores it, if its length is allowed.
 abbrev pub LineKeeps : (number : ℕ) → Line → (after : KeptMessages) → Type 0
 LineKeeps number (Input timed) after = InputKeeps number timed.input after
 LineKeeps number (Sent packet) after = PacketBeginsKept number (fields packet.0) after
@@ -57,7 +57,7 @@ PacketContinues (initialization channel command size part) transaction before af
 PacketContinues (continuation channel number part) transaction before after = (line : ℕ) → kept_at after line
     ≡ (if line == transaction then option_map (continued part) (kept_at before transaction) else kept_at before line)
 
--- The same for an input.
+-- An input whose packet is a continuation packet continues the message that began at line `transaction`, and no other.
 abbrev pub InputContinues : AnyInput → (transaction : ℕ) → (before after : KeptMessages) → Type 0
 InputContinues (Packet packet) transaction = PacketContinues (fields packet.0) transaction
 InputContinues Tick transaction = KeepsAll
@@ -65,7 +65,7 @@ InputContinues (Presence reply) transaction = KeepsAll
 InputContinues (Key reply) transaction = KeepsAll
 InputContinues (Signature reply) transaction = KeepsAll
 
--- The same for a line.
+-- A line whose packet is a continuation packet continues the message that began at line `transaction`, and no other.
 abbrev pub LineContinues : Line → (transaction : ℕ) → (before after : KeptMessages) → Type 0
 LineContinues (Input timed) transaction = InputContinues timed.input transaction
 LineContinues (Sent packet) transaction = PacketContinues (fields packet.0) transaction

@@ -43,7 +43,7 @@ abbrev pub replaced_end : (contender current : OpenTransaction) → (cancelled :
 replaced_end contender current (Some line) = Dropped line
 replaced_end contender current None = if is_complete_message current then Unknown else Replaced contender.transaction.line
 
--- The same, or unknown if no packet shows that the contender was accepted.
+-- How `current` ends when `contender` takes the channel: unknown if no packet shows that the contender was accepted.
 abbrev pub end_of_current : Bool → (contender current : OpenTransaction) → End
 end_of_current true contender current = replaced_end contender current current.cancelled
 end_of_current false contender current = Unknown
@@ -144,7 +144,7 @@ continuation_match number now m =
           else CONT_PACKET_DATA;
     }
 
--- The same, if there is an incomplete message.
+-- How a continuation packet relates to a message, or None if the message is complete.
 abbrev pub match_in : ℕ → ℕ → Option OpenTransaction → Option ContinuationMatch
 match_in number now None = None
 match_in number now (Some m) = if is_complete_message m then None else Some (continuation_match number now m)

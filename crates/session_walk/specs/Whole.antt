@@ -25,7 +25,7 @@ pub record PacketResult : Type 0 where
   pub transaction : Option OpenTransaction
   pub deferred : Bool
 
--- No transaction.
+-- No RP ID and no credentials.
 abbrev pub unnamed : Named
 unnamed = record {
   rp_id = record { bytes = replicate 253 0; len = 0 };
@@ -82,7 +82,7 @@ abbrev pub matches_nonce : Option ℕ → PendingInit → Bool
 matches_nonce (Some nonce) g = (g.length == 8) && (g.nonce == nonce)
 matches_nonce None g = not (g.length == 8)
 
--- The index of the first INIT that passes the test.
+-- The index of the first INIT that passes the test, or the number of INITs.
 abbrev pub place_of : (PendingInit → Bool) → List PendingInit → ℕ
 place_of test items = unwrap_or (position test items) (length items)
 

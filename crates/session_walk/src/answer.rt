@@ -23,7 +23,7 @@ pub struct ResponseStart<'a> {
 }
 
 impl ResponseStart<'_> {
-    /// Returns whether this can be the response to a message: a complete one with the same command.
+    /// Returns whether this can be the response to the message, which must be complete and have the same command.
     pub fn is_of(&self, message: &Option<OpenTransaction>) -> bool
         ensures { result ≡ can_answer self.now message.now }
     {
@@ -43,7 +43,7 @@ impl ResponseStart<'_> {
     }
 
     /// Returns the channel that a response to INIT on the broadcast channel allocates (CTAP 2.1, section 11.2.9.1.3):
-    /// the four bytes after the nonce, or the broadcast channel if there are none.
+    /// the four bytes after the nonce, or the broadcast channel if the response is too short.
     pub fn given(&self) -> u32 {
         match self.part {
             [_, _, _, _, _, _, _, _, a, b, c, d, ..] => u32::from_be_bytes([*a, *b, *c, *d]),

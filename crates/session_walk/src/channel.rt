@@ -23,8 +23,8 @@ use hid_packet::command::INIT;
 /// Maximum number of unanswered INITs tracked per channel.
 const MAX_PENDING_INITS: usize = 4;
 
-/// A device that sent nothing for this long is processing nothing, in milliseconds. While processing it sends a
-/// KEEPALIVE every 100 ms (section 11.2.9.2.1).
+/// Milliseconds without a packet after which a device is assumed to process no request. While it processes one, it
+/// sends a KEEPALIVE every 100 ms (section 11.2.9.1.7).
 const IDLE_TIMEOUT_MS: u64 = 500;
 
 /// An unanswered INIT. Smaller than `OpenTransaction`, since there are many of them.
@@ -115,7 +115,7 @@ pub struct Channel {
     pub contender: Option<OpenTransaction>,
     /// Unanswered INITs.
     pub pending_inits: ArrayVec<PendingInit, MAX_PENDING_INITS>,
-    /// Whether the last message that began is the last INIT.
+    /// Whether the message that began last is the last of `pending_inits`.
     pub last_was_init: bool,
     /// Whether `current` and `contender` cannot be told apart until one of them gets its response.
     pub is_ambiguous: bool,
@@ -123,9 +123,9 @@ pub struct Channel {
     pub last_was_stray: bool,
     /// Whether the device's last packet is a KEEPALIVE that may be for several messages.
     pub has_ambiguous_keepalive: bool,
-    /// Number of further messages, unidentified, that may still be pending here.
+    /// Number of further messages, of unknown transactions, that may still be pending here.
     pub ambiguous_count: u8,
-    /// Line of the last of these, or the line that shows it.
+    /// Line of the last of these messages, or of the packet that shows that there is one.
     pub last_lost_line: u64,
     /// Timestamp of the device's last packet.
     pub last_packet_at: u64,
@@ -195,8 +195,7 @@ impl Channel {
         open
     }
 
-    /// Ends all open transactions as no longer tracked.
-    // Not inlined by hand: its caller runs for each packet and would pay for the list each time.
+    /// Not inlined manually, because the caller runs for each packet and would need the list's stack space each time.
     pub fn forget(&self, ended: &mut EndedList) {
         for open in self.open().0.as_slice() {
             ended.add(open.exchange, End::Forgotten);
@@ -240,9 +239,9 @@ impl Channel {
         }
     }
 
-    /// Records a CANCEL, and returns the transaction in process that it is for, or its role if there is none. It ends
-    /// nothing: the response to the cancelled request does (section 11.2.9.1.5). With two messages in process, which of
-    /// them is meant is unknown.
+    /// Records a CANCEL. Returns the transaction that it cancels, if known, or else its role. It ends nothing: the
+    /// response to the cancelled request does (section 11.2.9.1.5). If two messages are in process, it is unknown which
+    /// of them is cancelled.
     pub fn cancel(&mut self, line: u64) -> (Option<Transaction>, Role)
         ensures state { self.new ≡ channel_cancelled line self.old }
         ensures transaction { result.0 ≡ cancels self.old }
@@ -270,8 +269,8 @@ impl Channel {
         (None, self.without(Role::Cancel))
     }
 
-    /// Returns whether the transaction of the device's next packet is unknown, after the input of a line: a second
-    /// message on a channel is refused before the next input, or takes the channel.
+    /// Returns whether the transaction of the device's next packet is unknown after the input on line `input`. If a
+    /// second message began on the channel, it is refused before the next input, or else it was accepted.
     pub fn is_unresolved(&self, input: u64) -> bool
         ensures { result ≡ is_open_question input self.now }
     {
@@ -281,7 +280,8 @@ impl Channel {
         }
     }
 
-    /// Ends `current` and `contender` as unknown, since a packet may be for either; the other one may still be pending.
+    /// Ends `current` and `contender` as unknown, because a packet may be for either of them; the other one may still
+    /// be pending.
     pub fn lose(&mut self, ended: &mut EndedList)
         ensures state { self.new ≡ record (both_unidentified self.old) { last_asserted_rp = self.new.last_asserted_rp } }
         ensures ended { ended.new.0.items ≡ ends_lost self.old ended.old.0.items }
@@ -338,8 +338,8 @@ impl Channel {
         }
     }
 
-    /// Returns whether a message waits for a reply: if `by_keepalive`, one that a KEEPALIVE reports and no CANCEL was
-    /// sent for; otherwise, any that may wait.
+    /// Returns whether a message waits for a reply of the caller: if `by_keepalive`, according to a KEEPALIVE and
+    /// without a CANCEL for it; otherwise, possibly.
     pub fn is_waiting(&self, by_keepalive: bool) -> bool
         ensures { result ≡ may_wait by_keepalive self.now }
     {
@@ -383,8 +383,8 @@ impl Channel {
 
     // ---- which of two messages the device continues
 
-    /// Makes `contender` the current message: a device packet shows that it was accepted, or it wasn't refused before
-    /// the next message began.
+    /// Makes `contender` the current message. If `is_shown`, a device packet shows that it was accepted; otherwise it
+    /// wasn't refused before the next message began.
     pub fn settle(&mut self, is_shown: bool, ended: &mut EndedList)
         ensures state { self.new ≡ contender_accepted is_shown self.old }
         ensures ended { ended.new.0.items ≡ ends_by_contender is_shown self.old ended.old.0.items }

@@ -141,7 +141,7 @@ impl Channels {
         }
     }
 
-    /// Updates the other channels after a response's initialization packet.
+    /// Updates all other channels after the initialization packet of a response.
     pub fn take_answer(
         &mut self,
         place: usize,
@@ -161,8 +161,8 @@ impl Channels {
         }
     }
 
-    /// Forgets the last assertion of all other channels, since a key continues only the latest (CTAP 2.1, section 6.3),
-    /// and of this one if it is unknown.
+    /// Clears the RP ID of the last assertion on all other channels, because a key continues only its latest assertion
+    /// (CTAP 2.1, section 6.3); and on this channel if the response belongs to no known transaction.
     fn forget_assertions(&mut self, place: usize, is_unknown: bool) {
         for other in 0..CHANNELS {
             if is_unknown || other != place {
@@ -172,7 +172,7 @@ impl Channels {
     }
 
     /// Records the channel that the response to the INIT on this line allocates. If it was in use, the key has
-    /// restarted, and what was open on it is dropped.
+    /// restarted, and the transactions open on it are dropped.
     fn give_out(&mut self, number: u32, line: u64, ended: &mut EndedList) {
         if number == BROADCAST {
             return;

@@ -74,7 +74,7 @@ impl Credentials {
         }
     }
 
-    /// Handles a complete response: adds the credential that it created, or forgets all credentials if it may have
+    /// Handles a complete response: adds the credential that it created, or removes all credentials if it may have
     /// deleted one.
     pub fn learn(&mut self, answer: &ResponseMessage, line: u64, bytes: &[u8]) {
         let (Some(exchange), [OK, item @ ..]) = (&answer.exchange, bytes) else {
@@ -228,7 +228,7 @@ fn may_name_prior(item: &[u8], key: i128, is_any: bool) -> bool {
     is_any && count == 0
 }
 
-/// Returns the identifier of an ID with the relying party of this hash.
+/// Returns the identifier of a credential ID or user handle at the RP whose ID has this hash.
 fn name_of(relying_party: &[u8], id: &[u8]) -> Name {
     let mut hasher = Sha256::new();
     hasher.update(relying_party);

@@ -27,7 +27,8 @@ use hid_packet::command::{ERROR, INIT, KEEPALIVE};
 pub const MIN_TIMEOUT_MS: u64 = 100;
 
 impl Channel {
-    /// Handles the initialization packet of a device message. `behind` is the line of the last input and the time.
+    /// Handles the initialization packet of a device message. `behind` has the line of the last input and the current
+    /// time.
     pub fn on_device_init_packet(
         &mut self,
         answer: &ResponseStart<'_>,
@@ -169,7 +170,7 @@ impl Channel {
         (self.refuse_one(code, input, ended), is_late)
     }
 
-    /// Ends `current` by a time-out if it is incomplete, and returns its transaction, and whether the packet before
+    /// Ends `current` by a time-out if it is incomplete. Returns its transaction, and whether the previous packet
     /// arrived too late for it.
     fn time_out(
         &mut self,
@@ -288,7 +289,7 @@ impl Channel {
         Some(init.transaction)
     }
 
-    /// Removes and returns the message that began last and may not hold the channel, if the ERROR can be for it.
+    /// Removes and returns the message that began last if it is an INIT or `contender` and the ERROR can be for it.
     fn refused_start(&mut self, code: u8) -> Option<OpenTransaction>
         ensures state { self.old.last_was_init ≡ false → self.new ≡ record self.old { contender = None } }
         ensures transaction { self.old.last_was_init ≡ false → result ≡ self.old.contender }
@@ -303,8 +304,8 @@ impl Channel {
         self.take_init(last)
     }
 
-    /// Returns whether an ERROR with this code can be for an INIT of 8 bytes. On an allocated channel INIT is accepted
-    /// at any time, so there the ERROR is for another open message.
+    /// Returns whether an ERROR with this code can be for an INIT of 8 bytes. An allocated channel accepts INIT at any
+    /// time, so there the ERROR is for another open message.
     fn may_be_of_init(&self, code: u8) -> bool {
         match code {
             INVALID_SEQ | MSG_TIMEOUT => false,

@@ -128,7 +128,8 @@ impl TransactionTracker {
             };
             self.ended.add(exchange, end);
         }
-        // Of responses in one packet, only CBOR is buffered. Other bytes from that line are another message's.
+        // Of responses in one packet, only CBOR is buffered. Other bytes stored for this line belong to another
+        // message.
         let is_kept = answer.status.is_some() || answer.progress.continuations > 0;
         if is_kept && let Some(bytes) = self.pool.bytes(answer.line) {
             self.credentials.learn(&answer, number, bytes);
@@ -139,7 +140,8 @@ impl TransactionTracker {
         }
     }
 
-    /// Resolves the ambiguous packet before a response. At a time-out, the ERROR resolves it.
+    /// Resolves the ambiguous packet before a response. If the response is the ERROR of a time-out, handling it
+    /// resolves the packet.
     fn decide_before(&mut self, answer: &ResponseStart<'_>)
         ensures pool { self.new.pool ≡ self.old.pool }
         ensures completed { self.new.completed ≡ self.old.completed }

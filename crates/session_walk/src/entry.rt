@@ -73,7 +73,7 @@ pub struct Entry<'a> {
     pub role: Role,
     /// The transactions that the line ends.
     pub ended: &'a [Ended],
-    /// First line of its packet's message, or 0 if none; `None` unless written for a page.
+    /// First line of its packet's message, or 0 if none; `None` unless the output is for the web page.
     pub page: Option<u64>,
 }
 

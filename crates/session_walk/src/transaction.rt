@@ -114,8 +114,7 @@ pub struct OpenTransaction {
     pub progress: MessageProgress,
     /// Timestamp of its last packet.
     pub at: u64,
-    /// Milliseconds from the last packet of the message that held the channel to its own first packet, if there was
-    /// one.
+    /// Milliseconds from the last packet of the message that held the channel to the first packet of this one, or 0.
     pub delay: u64,
     /// Line of the CANCEL for it, if any.
     pub cancelled: Option<u64>,
@@ -203,7 +202,7 @@ impl EndedList {
         let _ = self.0.try_push(Ended { exchange, end });
     }
 
-    /// Returns the first of these and `other` that began after a line.
+    /// Returns the transaction that began first after a line, among these and `other`.
     pub fn first_after(&self, line: u64, other: Option<Ended>) -> Option<Ended> {
         let mut first = other;
         for ended in self.0.as_slice() {
