@@ -12,7 +12,7 @@ trap 'rm -rf "$work"' EXIT
 gcc -std=c11 -D_GNU_SOURCE -O3 -march=x86-64-v2 -flto -Wall -Wextra -Werror -Wno-deprecated-declarations -o "$work/peer" \
     bench/peer/*.c -lcrypto
 
-# Whether both write the same output for a log: is_same_output LOG
+# Tests whether both programs write the same output for a log: is_same_output LOG
 is_same_output() {
     "$program" replay <"$1" >"$work/wanted" 2>"$work/fault" && "$work/peer" <"$1" >"$work/written" &&
         cmp -s "$work/wanted" "$work/written"

@@ -140,13 +140,13 @@ cd "$work/crates/table_bench"
 printf 'cf\0\0' > "$work/input"
 rt run < "$work/input" > "$work/answer"
 program=$(find out -maxdepth 3 -type f -executable -name 'table_bench*' | head -n 1)
-# The instructions of a whole run: count_instructions TABLE CALL ROWS QUARTERS
+# Prints the instructions of a whole run of 4 * QUARTERS rounds: count_instructions TABLE CALL ROWS QUARTERS
 count_instructions() {
     printf "$1$2\\x$(printf %x $(($3 - 1)))\\x$(printf %x "$4")" > "$work/input"
     valgrind --tool=callgrind --callgrind-out-file="$work/callgrind" "$program" < "$work/input" 2>&1 > "$work/answer" |
         sed -n 's/.*Collected : //p'
 }
-# The instructions of a round: count_round_instructions TABLE CALL ROWS
+# Prints the instructions of one round: count_round_instructions TABLE CALL ROWS
 count_round_instructions() {
     local quarters=$((256 - 1))
     if [ "$2" = p ]; then quarters=4; fi

@@ -5,7 +5,7 @@ top=$(cd "$(dirname "${BASH_SOURCE[0]}")/.." && pwd)
 work=$(mktemp -d)
 trap 'PATH=${every_path:-$PATH} rm -rf "$work"' EXIT
 log=$top/examples/registration.log
-# The path has a space.
+# A path with a space.
 copy="$work/a copy"
 mkdir -p "$copy/crates" "$work/bin"
 cp -a "$top"/{hidlog,crates.txt,HANDLES,release,packages,python} "$copy/"

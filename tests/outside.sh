@@ -50,13 +50,13 @@ for workflow in "$top"/.github/workflows/*.yml; do
     ! grep -q 'apt-get' "$workflow" || grep -q 'container: debian:' "$workflow" || fail "$workflow uses apt-get outside a Debian container"
 done
 
-# Runs the action's last step, with a summary of at most MAX_BYTES: keep_recordings MAX_BYTES
-keep_recordings() {
+# Runs the action's last step, with a summary of at most MAX_BYTES: write_summary MAX_BYTES
+write_summary() {
     printf 'a snapshot' >"$HIDLOG_LOG_DIR/x.snapshot"
     : >"$work/summary"
     print_step 'step["name"] == "Write the session logs to the summary"' >"$work/keep.sh"
     LOG_DIR=$HIDLOG_LOG_DIR MAX_BYTES=$1 GITHUB_STEP_SUMMARY=$work/summary bash -e "$work/keep.sh" ||
-        fail "the action keeps no recordings"
+        fail "the action's step that writes the summary failed"
 }
 
 # Prints the commands of a step of the action: print_step CONDITION
@@ -66,7 +66,7 @@ steps = yaml.safe_load(open(sys.argv[1]))['runs']['steps']
 print(next(step['run'] for step in steps if $1))" "$top/action.yml"
 }
 
-# Runs the action's first step, with pip limited to our own wheels: install_by_action VENV [REQUIREMENTS]
+# Runs the action's first step, with pip limited to the wheels built here: install_by_action VENV [REQUIREMENTS]
 install_by_action() {
     rm -rf "$work/temp"
     mkdir -p "$work/temp"
@@ -82,7 +82,7 @@ check_hashes() {
     print_step 'step.get("id") == "install"' >"$work/install.sh"
     ! install_by_action bare || fail "the action installs without cryptography"
     grep -q '^::error::the Python package cryptography is missing' "$work/said" || fail "unexpected message: $(cat "$work/said")"
-    # The package itself as the requirement.
+    # A requirements file that names the package hidlog itself.
     local wheel=("$work"/dist/*x86_64.whl) version
     version=$(sed -n 's/^version: //p' "$top/release/BUILD")
     echo "hidlog==$version" >"$work/requirements.txt"
@@ -121,12 +121,12 @@ END
     kept=("$HIDLOG_LOG_DIR"/*.log)
     [ -s "${kept[0]}" ] || fail "no recording was kept: $(cat "$work/said")"
     [[ $(hidlog check "${kept[0]}") = same\ * ]] || fail "the recording differs"
-    keep_recordings 900000
+    write_summary 900000
     awk '/^```/ { n++; next } n == 1' "$work/summary" >"$work/kept.log"
     awk '/^```/ { n++; next } n == 3' "$work/summary" | base64 -d | cmp - "$HIDLOG_LOG_DIR/x.snapshot" ||
         fail "the summary has another snapshot"
     cmp "$work/kept.log" "${kept[0]}" || fail "the summary has another recording: $(cat "$work/summary")"
-    keep_recordings 10
+    write_summary 10
     grep -q "^${kept[0]##*/} is left out: [0-9]* bytes" "$work/summary" || fail "a recording that is left out is not listed"
     echo "tests/outside.sh: the action installs, and a failed test's recording is kept"
     ran=1

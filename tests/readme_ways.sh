@@ -3,7 +3,7 @@
 # clone, pastes the ```sh blocks of "Get the packages" and of the section, and compares their output with the ```text block
 # after them. Prints the seconds of each, including the download of Debian's packages.
 #
-#     tests/readme_ways.sh FOLDER [WAY ..]     FOLDER is created by debootstrap or reused; WAY is a part of a heading
+#     tests/readme_ways.sh FOLDER [WAY ..]     FOLDER is created by debootstrap or reused; WAY is part of a heading
 #
 # Needs root, debootstrap and its mirror. Exits with 3 if one is missing, and with 1 if a section fails or takes more than
 # ten minutes.
@@ -14,7 +14,7 @@ shift
 [ "$(id -u)" = 0 ] || { echo "root is needed for a folder of debootstrap; nothing was run" >&2 && exit 3; }
 [ -d "$folder/usr" ] || debootstrap --variant=minbase bookworm "$folder" >"${folder%/}.log" || exit 3
 work=$(mktemp -d)
-# Removes nothing below a mount, even if a program in the system still uses it.
+# Unmounts, even if a program still uses the mount, and removes only files of this file system.
 clean_up() {
     umount -l "$work/system/proc" "$work/system/dev/shm" "$work/system/dev" 2>/dev/null || true
     rm -rf --one-file-system "$work"
@@ -50,8 +50,8 @@ extract_blocks() {
         into != "" { print >into }' "$top/README.md"
 }
 
-# Runs the blocks of a folder as the user, and compares the output of each: paste_blocks SYSTEM FOLDER
-paste_blocks() {
+# Runs the blocks of a folder as the user, and compares the output of each: run_blocks SYSTEM FOLDER
+run_blocks() {
     local system=$1 block text
     for block in "$2"/*.sh; do
         cp "$block" "$system/home/tester/block.sh"
@@ -73,7 +73,7 @@ follow_section() {
     extract_blocks "$1" "$work/way"
     prepare_system "$system"
     began=$SECONDS
-    { paste_blocks "$system" "$work/get" && paste_blocks "$system" "$work/way"; } || status=FAILED
+    { run_blocks "$system" "$work/get" && run_blocks "$system" "$work/way"; } || status=FAILED
     umount -l "$system/proc" "$system/dev/shm" "$system/dev"
     [ "$((SECONDS - began))" -lt 600 ] || status=FAILED
     echo "$status $1, $((SECONDS - began)) s: $(tail -1 "$work/said")"

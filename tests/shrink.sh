@@ -18,19 +18,19 @@ run_shrink() {
     python3 -m hidlog shrink "$@" >"$work/smaller" 2>"$work/said"
 }
 
-# Prints the number of inputs that are left.
+# Prints the number of inputs in the minimized log.
 count_inputs() {
     grep -c '^[>tpks]' "$work/smaller" || true
 }
 
-# Writes an example with the 20th digit of a line changed: write_changed_log LINE EXAMPLE
+# Writes an example with the 20th hex digit of a line replaced: write_changed_log LINE EXAMPLE
 write_changed_log() {
     awk -v at="$1" 'NR == at { $2 = substr($2, 1, 19) "f" substr($2, 21) } { print }' "examples/$2" >"$work/changed"
     cmp -s "examples/$2" "$work/changed" && fail "nothing was changed"
     return 0
 }
 
-# Checks that the result differs at this packet: check_differs K
+# Checks that the minimized log differs at packet K of an input's response: check_differs K
 check_differs() {
     if release/hidlog check <"$work/smaller" 2>"$work/fault" || ! grep -q "differs at packet $1\$" "$work/fault"; then
         fail "the shorter log: $(cat "$work/fault")"
@@ -62,7 +62,7 @@ for log in long longer; do
     [ "$(wc -l <"$work/smaller")" -lt 40 ] || fail "$(wc -l <"$work/smaller") lines are left"
 done
 
-# A response to getInfo after a registration: only INIT and getInfo stay.
+# A changed response to getInfo, after a registration: only INIT and getInfo remain.
 begins=$(release/hidlog show --json examples/service_sign_in.log |
     awk -F '[:,]' '/"from":"key"/ && /"name":"CBOR"/ { begins = $2 } /"kind":"answer"/ && /GetInfo/ { last = begins }
         END { print last }')
@@ -71,7 +71,7 @@ run_shrink "$work/changed" release/hidlog check
 check_differs 1
 [ "$(count_inputs)" = 2 ] || fail "$(count_inputs) inputs remain of a getInfo: $(cat "$work/smaller")"
 
-# --match: only a KEEPALIVE that requests a touch must stay.
+# --match: a KEEPALIVE that requests user presence must remain.
 # shellcheck disable=SC2016  # the shell that is called expands it
 asks='release/hidlog replay | if grep -q "^< [0-9a-f]*bb000102"; then echo "asks for presence"; exit 1; fi'
 run_shrink --match "asks for presence" examples/sign_in.log sh -c "$asks"
@@ -80,8 +80,8 @@ if sh -c "$asks" <"$work/smaller" >"$work/fault"; then
 fi
 [ "$(count_inputs)" -lt 6 ] || fail "$(cat "$work/smaller")"
 
-# The sign-in of TOUR.md: a denied sign-in stays, with the registration that it needs: five inputs (two packets, presence,
-# key pair, signature); INIT, the sign-in and the denial are three.
+# The log of TOUR.md: the denied sign-in remains, with the registration that it needs. These are eight inputs: INIT, five
+# of the registration (two packets, presence, key pair, signature), the sign-in and the denial.
 sed '22s/granted/denied/' examples/sign_in.log | release/hidlog replay >"$work/right"
 denied="! release/hidlog replay | release/hidlog show --summary | grep 'GetAssertion .*OPERATION_DENIED' >/dev/null"
 run_shrink "$work/right" sh -c "$denied"
@@ -89,7 +89,7 @@ sh -c "$denied" <"$work/smaller" && fail "what is left has no denied sign-in"
 [ "$(count_inputs)" = 8 ] || fail "$(count_inputs) inputs remain of TOUR.md's log: $(cat "$work/smaller")"
 [ "$(grep -c '^p .* denied$' "$work/smaller")" = 1 ] || fail "a denial is missing"
 
-# A finding of `hidlog judge` on standard output: a counter that does not rise needs two sign-ins.
+# A finding of `hidlog judge` on standard output: a signature counter that does not increase needs two sign-ins.
 run_shrink examples/failing/stale_sign_count.log python3 -m hidlog judge
 python3 -m hidlog judge "$work/smaller" >"$work/found" && fail "no finding in the shorter log"
 grep -q 'expected: a counter above 1' "$work/found" || fail "$(cat "$work/found")"

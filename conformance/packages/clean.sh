@@ -8,26 +8,26 @@
 # debootstrap and network access. Exit status: 3 if a requirement is missing.
 set -euo pipefail
 top=$(cd "$(dirname "${BASH_SOURCE[0]}")/../.." && pwd)
-room=${1:?usage: conformance/packages/clean.sh FOLDER}
+system=${1:?usage: conformance/packages/clean.sh FOLDER}
 for tool in debootstrap dpkg-deb; do
     command -v "$tool" >/dev/null || { echo "$tool is missing; nothing was run" >&2 && exit 3; }
 done
 [ "$(id -u)" = 0 ] || { echo "debootstrap needs root; nothing was run" >&2 && exit 3; }
-[ -d "$room/usr" ] || debootstrap --variant=minbase bookworm "$room" >"${room%/}.log" || exit 3
+[ -d "$system/usr" ] || debootstrap --variant=minbase bookworm "$system" >"${system%/}.log" || exit 3
 python=$("$top/tests/with_fido2.sh" -c 'import sys; print(sys.executable)')
-rm -rf "$room/home/tester"
-mkdir -p "$room/home/tester/packages"
-"$python" "$top/conformance/packages/build.py" "$room/home/tester/packages" >/dev/null
-chown -R 1234:1234 "$room/home/tester"
+rm -rf "$system/home/tester"
+mkdir -p "$system/home/tester/packages"
+"$python" "$top/conformance/packages/build.py" "$system/home/tester/packages" >/dev/null
+chown -R 1234:1234 "$system/home/tester"
 
-# Runs commands in the Debian system: inside USER:GROUP COMMANDS
-inside() {
-    chroot --userspec="$1" "$room" /usr/bin/env -i PATH=/usr/sbin:/usr/bin:/sbin:/bin HOME=/home/tester LANG=C.UTF-8 \
+# Runs commands in the Debian system: run_in_system USER:GROUP COMMANDS
+run_in_system() {
+    chroot --userspec="$1" "$system" /usr/bin/env -i PATH=/usr/sbin:/usr/bin:/sbin:/bin HOME=/home/tester LANG=C.UTF-8 \
         DEBIAN_FRONTEND=noninteractive bash -euc "$2"
 }
 
-# Prints the version, lists the tests, runs all of them against each kind of authenticator, and writes each kind of
-# report. $1 is the command of the tests, $2 that of the authenticator.
+# Prints the version, lists the tests, runs all of them against each kind of authenticator, and writes a report in each
+# format. $1 is the command hidlog-conformance, $2 the command of the reference authenticator.
 # shellcheck disable=SC2016 # expanded by the shell in the Debian system
 run_tests='
     $1 --version
@@ -43,13 +43,13 @@ run_tests='
         [ -s report.$kind ]
     done'
 
-inside 0:0 'cd /home/tester/packages && apt-get -qq update && apt-get -qq install -y --no-install-recommends ./*.deb >/dev/null'
+run_in_system 0:0 'cd /home/tester/packages && apt-get -qq update && apt-get -qq install -y --no-install-recommends ./*.deb >/dev/null'
 echo "the deb:"
-inside 1234:1234 "cd && set -- hidlog-conformance 'python3 -m hidlog_conformance.reference' && $run_tests"
-inside 0:0 'apt-get -qq purge -y hidlog-conformance >/dev/null && ! python3 -c "import hidlog_conformance" 2>/dev/null'
-inside 0:0 'apt-get -qq install -y --no-install-recommends python3-venv >/dev/null'
+run_in_system 1234:1234 "cd && set -- hidlog-conformance 'python3 -m hidlog_conformance.reference' && $run_tests"
+run_in_system 0:0 'apt-get -qq purge -y hidlog-conformance >/dev/null && ! python3 -c "import hidlog_conformance" 2>/dev/null'
+run_in_system 0:0 'apt-get -qq install -y --no-install-recommends python3-venv >/dev/null'
 echo "the wheel:"
-inside 1234:1234 "cd && python3 -m venv --system-site-packages venv &&
+run_in_system 1234:1234 "cd && python3 -m venv --system-site-packages venv &&
     venv/bin/python -m pip install --quiet --no-index --no-deps --disable-pip-version-check packages/*.whl &&
     set -- venv/bin/hidlog-conformance 'venv/bin/python -m hidlog_conformance.reference' && $run_tests"
 echo "the packages work in a clean Debian system"

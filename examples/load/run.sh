@@ -62,7 +62,8 @@ until "$python" -c "import socket; socket.create_connection(('127.0.0.1', $port)
     sleep 0.1
 done
 
-# Runs Locust once: run_locust NAME USERS [BEFORE] AFTER, with the arguments of measure.py
+# Runs Locust once, and measure.py with the same arguments: run_locust NAME USERS [BEFORE] AFTER. BEFORE and AFTER are
+# the databases of the security keys.
 run_locust() {
     local words=("$python" -W ignore -m locust -f "$here/locustfile.py" --loglevel WARNING --security-keys "$work/keys.db"
         --failed-logs "$work/failed") each ran=() master
@@ -85,7 +86,8 @@ run_locust() {
     "$python" "$here/measure.py" "$1" "$work/$1_stats.csv" "${@:2}"
 }
 
-# Runs Locust until the run is long enough, doubling the time: run_locust_until_long_enough NAME USERS [BEFORE] AFTER
+# Runs Locust, with double the time as often as a run was too short for measure.py: run_locust_until_long_enough NAME
+# USERS [BEFORE] AFTER
 run_locust_until_long_enough() {
     local status seconds=$seconds tries
     for tries in 1 2 3 4 5 6 7 8; do

@@ -11,7 +11,7 @@ PATH=$PATH:/usr/sbin:/sbin
 require_commands gcc "gcc libc6-dev" nm binutils qemu-system-x86_64 qemu-system-x86 busybox busybox-static cpio cpio xz xz-utils \
     dpkg-deb dpkg
 busybox 2>&1 | grep -q insmod || exit_skipped "busybox has no insmod (apt-get install busybox-static)"
-ldd "$(command -v busybox)" >/dev/null 2>&1 && nothing "busybox isn't static (apt-get install busybox-static)"
+ldd "$(command -v busybox)" >/dev/null 2>&1 && exit_skipped "busybox isn't static (apt-get install busybox-static)"
 require_header openssl/evp.h libssl-dev
 require_header linux/uhid.h linux-libc-dev
 require_in_memory_key

@@ -22,8 +22,8 @@ is_gone() {
     [ ! -e "$device" ]
 }
 
-# Records a client: record NAME COMMAND ..
-record() {
+# Runs a command with a new key, and prints the key's recording: record_client NAME COMMAND ..
+record_client() {
     log=$1
     shift
     rm -f key.state
@@ -55,6 +55,7 @@ register() {
         sed 1d "$user.public" >"$user.pem"
 }
 
+# Signs in with libfido2's tools, with two of their options: sign_in NAME OPTION OPTION
 sign_in() {
     { print_random && echo relying.example && head -1 "$1.public"; } >"$1.asked"
     fido2-assert -G "$2" "$3" -i "$1.asked" "$device" >"$1.answer" && fido2-assert -V -i "$1.answer" "$1.pem" es256
@@ -103,8 +104,8 @@ for module in hid hid-generic uhid; do
 done
 for client in libfido2_token libfido2_register libfido2_discoverable libfido2_refused openssh_key openssh_untouched \
     openssh_refused pam_u2f; do
-    record "$client" "$client"
+    record_client "$client" "$client"
 done
-record python_fido2 python3 python_fido2.py
+record_client python_fido2 python3 python_fido2.py
 echo "@@ end after $(cut -d' ' -f1 /proc/uptime) s"
 poweroff -f

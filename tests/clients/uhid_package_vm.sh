@@ -20,8 +20,8 @@ expect_success() {
     print_result "$?" "$1"
 }
 
-# Runs a command as the user, who is in the group plugdev: as_tester COMMAND ..
-as_tester() {
+# Runs a command as the user, who is in the group plugdev: run_as_tester COMMAND ..
+run_as_tester() {
     setpriv --reuid=tester --regid=tester --init-groups env HOME=/home/tester "$@"
 }
 
@@ -42,13 +42,13 @@ stop_service() {
     systemctl stop "hidlog-uhid@$1" && ! systemctl is-failed "hidlog-uhid@$1" && wait_until test ! -e /dev/hidraw0
 }
 
-# The device's permissions by the udev rule.
-is_for_plugdev() {
+# Tests whether the udev rule has given the device to the group plugdev.
+is_owned_by_plugdev() {
     udevadm settle && stat -c '%a %G' /dev/hidraw0 && [ "$(stat -c '%a %G' /dev/hidraw0)" = "660 plugdev" ]
 }
 
 is_listed() {
-    as_tester fido2-token -L | tee out | grep 'vendor=0x1209, product=0x0001'
+    run_as_tester fido2-token -L | tee out | grep 'vendor=0x1209, product=0x0001'
 }
 
 print_random() {
@@ -57,23 +57,23 @@ print_random() {
 
 register() {
     { print_random && echo relying.example && echo alice && print_random; } >made.in
-    as_tester fido2-cred -M -r -i made.in /dev/hidraw0 >made.cred && fido2-cred -V -i made.cred >made.public &&
+    run_as_tester fido2-cred -M -r -i made.in /dev/hidraw0 >made.cred && fido2-cred -V -i made.cred >made.public &&
         sed 1d made.public >made.pem
 }
 
 sign_in() {
     { print_random && echo relying.example && head -1 made.public; } >asked
-    as_tester fido2-assert -G -i asked /dev/hidraw0 >answer && fido2-assert -V -i answer made.pem es256
+    run_as_tester fido2-assert -G -i asked /dev/hidraw0 >answer && fido2-assert -V -i answer made.pem es256
 }
 
 sign_with_ssh() {
     rm -f id id.pub text text.sig
-    echo a text >text && chown tester text && as_tester ssh-keygen -q -t ecdsa-sk -N '' -C hidlog -f id &&
-        as_tester ssh-keygen -Y sign -f id -n file text && echo "hidlog $(cat id.pub)" >signers &&
+    echo a text >text && chown tester text && run_as_tester ssh-keygen -q -t ecdsa-sk -N '' -C hidlog -f id &&
+        run_as_tester ssh-keygen -Y sign -f id -n file text && echo "hidlog $(cat id.pub)" >signers &&
         ssh-keygen -Y verify -f signers -I hidlog -n file -s text.sig <text
 }
 
-# The user, capabilities and system call filter of the service; only it may create devices.
+# Tests the user, capabilities and system call filter of the service, and that only its user may open /dev/uhid.
 is_confined() {
     start_service alice && pid=$(systemctl show -P MainPID hidlog-uhid@alice) && cat "/proc/$pid/status" || return
     [ "$(stat -c %U "/proc/$pid")" = hidlog-uhid ] && [ "$(stat -c '%a %G' /dev/uhid)" = "660 hidlog-uhid" ] &&
@@ -81,28 +81,28 @@ is_confined() {
         [ "$(stat -c '%a %U' /var/lib/hidlog-uhid/alice.state)" = "600 hidlog-uhid" ] && stop_service alice
 }
 
-# Older versions ran as root, so their files belong to root.
+# Starts the service with files owned by root, since older versions ran as root.
 start_with_root_files() {
     chown -R root:root /var/lib/hidlog-uhid /var/log/hidlog-uhid && start_service alice && sign_in && stop_service alice
 }
 
-# A script denies the first touch, and grants the second.
-deny_then_grant() {
+# Runs the service with a script that denies the first touch and grants the others.
+run_presence_script() {
     printf 'denied\ngranted\n' >/etc/hidlog-script
     echo 'HIDLOG_UHID_OPTIONS="--presence script:/etc/hidlog-script --touch 50"' >/etc/default/hidlog-uhid
-    start_service bob && is_for_plugdev && ! register && register && sign_in && stop_service bob
+    start_service bob && is_owned_by_plugdev && ! register && register && sign_in && stop_service bob
     status=$?
     rm -f /etc/default/hidlog-uhid
     return "$status"
 }
 
-# The touch, from a terminal of root.
-ask_on_terminal() {
+# Runs the bridge with --presence ask, and grants the touch by typing y.
+touch_on_terminal() {
     mkfifo typed
     hidlog-uhid --presence ask --state asked.state <typed 2>asking &
     bridge=$!
     exec 5>typed
-    wait_until is_for_plugdev || return
+    wait_until is_owned_by_plugdev || return
     { wait_until grep -q 'asks for a touch' asking && echo y >&5; } &
     register && kill "$bridge" && wait "$bridge"
 }
@@ -123,7 +123,7 @@ touch out && chown tester /home/tester /home/tester/*
 # The cases without a browser.
 run_package_cases() {
     expect_success "systemctl start hidlog-uhid@alice, of the package" start_service alice
-    expect_success "udev hands the device to the group plugdev" is_for_plugdev
+    expect_success "udev hands the device to the group plugdev" is_owned_by_plugdev
     expect_success "fido2-token -L, as a user" is_listed
     expect_success "fido2-cred register" register
     expect_success "fido2-assert signs in" sign_in
@@ -136,9 +136,9 @@ run_package_cases() {
     expect_success "the service runs as its own user, without a capability" is_confined
     expect_success "it goes on with the state of a version that ran as root" start_with_root_files
     expect_success "the second recording begins with a snapshot" check_recording alice
-    expect_success "--presence script denies once, as a user sees" deny_then_grant
+    expect_success "--presence script denies once, as a user sees" run_presence_script
     expect_success "its recording" check_recording bob
-    expect_success "--presence ask" ask_on_terminal
+    expect_success "--presence ask" touch_on_terminal
 }
 
 read -ra parts </etc/hidlog-cases

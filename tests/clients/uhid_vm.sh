@@ -77,7 +77,7 @@ unplug() {
     wait "$bridge" && wait_until is_gone
 }
 
-# Input of libfido2's tools: two client data hashes, an RP and a user.
+# Prints 32 random bytes in base64, as libfido2's tools read a client data hash or a user handle.
 print_random() {
     head -c 32 /dev/urandom | base64
 }
@@ -126,7 +126,7 @@ write_pam_file() {
         >/etc/pam.d/hidlog
 }
 
-# Tests whether the key waits for a touch, by the second recording.
+# Tests whether the key waits for a touch, according to its second recording.
 is_waiting() {
     [ "$(tail -1 second.log)" = "# need presence" ]
 }
@@ -149,12 +149,12 @@ run_with_touch() {
     wait_until is_waiting && touch_key && wait "$first"
 }
 
-# Tests whether the touch took longer than the bridge's 30 s, as on a busy machine.
+# Tests whether the last request for a touch timed out (30 s), as on a busy machine.
 has_timed_out() {
     grep '^p ' second.log | tail -1 | grep -q 'timeout$'
 }
 
-# Runs a command before the touch, and again if the touch came too late: run_before_touch COMMAND
+# Runs a command while a sign-in waits for a touch, and all of it again if the touch came too late: run_before_touch COMMAND
 run_before_touch() {
     for _ in 1 2 3 4 5; do
         begin_sign_in && "$1" && is_waiting && touch_key && wait "$first" && after_the_touch && return
@@ -164,23 +164,23 @@ run_before_touch() {
     return 1
 }
 
-# A second program sends getInfo. libfido2 locks the device, so it waits for the first one.
+# A second program sends getInfo. libfido2 locks the device, so the second waits for the first.
 request_info_concurrently() {
     fido2-token -I "$device" >second.out &
     second=$!
     after_the_touch() { wait "$second" && grep -q FIDO_2_0 second.out; }
 }
 
-# Tests whether a program has a file open: has_open PID FILE
-has_open() {
+# Tests whether a process has a file open: has_file_open PID FILE
+has_file_open() {
     for open in "/proc/$1/fd/"*; do
         [ "$(readlink "$open")" != "$2" ] || return 0
     done
     return 1
 }
 
-# Tests whether the device has sent a packet that matches: has_sent PATTERN
-has_sent() {
+# Tests whether the device has sent a packet that matches: has_sent_packet PATTERN
+has_sent_packet() {
     hexdump -ve '64/1 "%02x" "\n"' packets >seen && grep -q "$1" seen
 }
 
@@ -188,15 +188,15 @@ has_sent() {
 exchange_packet() {
     dd if="$device" bs=64 >packets 2>/dev/null &
     reader=$!
-    wait_until has_open "$reader" "$device" || return
+    wait_until has_file_open "$reader" "$device" || return
     # Writes the report number and the packet, converting its hex digits to printf escapes.
     # shellcheck disable=SC2059
     { printf "\\x00$(echo "$1" | sed 's/../\\x&/g')" && head -c 64 /dev/zero; } | head -c 65 >written
-    dd if=written of="$device" bs=65 count=1 2>/dev/null && wait_until has_sent "$2"
-    has_come=$?
+    dd if=written of="$device" bs=65 count=1 2>/dev/null && wait_until has_sent_packet "$2"
+    status=$?
     kill "$reader"
     wait "$reader"
-    return "$has_come"
+    return "$status"
 }
 
 # A second program, which doesn't lock the device, gets a channel (INIT) and sends on it (PING): the key is busy
@@ -208,21 +208,21 @@ send_without_lock() {
     exchange_packet "${channel}810001aa" "^${channel}bf000106"
 }
 
-# Two programs send requests at the same time, each until it got ten responses.
+# Sends getInfo until the key has responded ten times.
 request_info_repeatedly() {
     for _ in $(seq 10); do
         wait_until fido2-token -I "$device" || return
     done
 }
 
-take_turns() {
+request_info_from_two_programs() {
     request_info_repeatedly &
     first=$!
     request_info_repeatedly && wait "$first"
 }
 
-# Kills a program whose registration waits for a touch: no credential is made, and the next program works.
-kill_client() {
+# Kills a program whose registration waits for a touch: no credential is created, and the next program works.
+kill_waiting_client() {
     { print_random && echo relying.example && echo mallory && print_random; } >mallory.in
     fido2-cred -M -r -i mallory.in "$device" >mallory.cred 2>&1 &
     first=$!
@@ -233,7 +233,7 @@ kill_client() {
 
 # Starts the bridge as another user, with /dev/uhid open: it creates the device, responds, and ends at a signal.
 run_without_root() {
-    (exec 3<>/dev/uhid && as_nobody uhid -f 3 /tmp/other.state) 2>bridge.err &
+    (exec 3<>/dev/uhid && run_as_nobody uhid -f 3 /tmp/other.state) 2>bridge.err &
     bridge=$!
     wait_until is_listed && device=$(sed 's/:.*//' listed) && fido2-token -I "$device" | grep -q FIDO_2_0 || return
     pid=$(pidof uhid) && kill -TERM "$pid" && wait "$bridge" && wait_until is_gone && [ -s /tmp/other.state ]
@@ -245,12 +245,12 @@ configure_pam() {
     grep -q 'es256,+presence$' configured || grep -q FIDO_ERR_INVALID_ARGUMENT configured
 }
 
-has_pam() {
+has_pamtester() {
     command -v pamtester >/dev/null
 }
 
-# The real setpriv; busybox's cannot change the user.
-as_nobody() {
+# Runs a command as the user nobody, with the real setpriv, since busybox's cannot change the user: run_as_nobody COMMAND ..
+run_as_nobody() {
     /usr/bin/setpriv --reuid=65534 --regid=65534 --clear-groups "$@"
 }
 
@@ -259,7 +259,7 @@ run_all() {
     expect_success "hid-generic" insmod /modules/hid-generic.ko
     expect_failure "a machine without /dev/uhid" "modprobe uhid" uhid key.state
     expect_success "uhid" insmod /modules/uhid.ko
-    expect_failure "a user without a right to /dev/uhid" "run it as root" as_nobody uhid /tmp/key.state
+    expect_failure "a user without a right to /dev/uhid" "run it as root" run_as_nobody uhid /tmp/key.state
     expect_success "the device is found by fido2-token -L" plug_in first.log
     expect_success "fido2-token -I" fido2-token -I "$device"
     expect_success "fido2-cred registers alice, discoverable" register alice -r
@@ -275,7 +275,7 @@ run_all() {
     expect_failure "ssh-keygen -Y verify of another text" "incorrect signature" verify_other_text
     expect_failure "ssh-keygen -t ed25519-sk" "not supported" ssh-keygen -q -t ed25519-sk -N '' -f other
     expect_failure "ssh-keygen -O resident" "not supported" ssh-keygen -q -t ecdsa-sk -O resident -N '' -f other
-    if has_pam; then
+    if has_pamtester; then
         write_pam_file alice alice
         expect_success "pam_u2f.so signs in" pamtester hidlog root authenticate
         write_pam_file alice bob
@@ -288,8 +288,8 @@ run_all() {
     expect_success "fido2-assert signs in after it, the counter one higher" run_with_touch sign_in_and_check_counter
     expect_success "two programs: libfido2's second one waits for the first" run_before_touch request_info_concurrently
     expect_success "two programs without a lock: the second one is told that the key is busy" run_before_touch send_without_lock
-    expect_success "two programs take turns" take_turns
-    expect_success "a program killed while it registers: the next one is served at once" kill_client
+    expect_success "two programs take turns" request_info_from_two_programs
+    expect_success "a program killed while it registers: the next one is served at once" kill_waiting_client
     expect_success "fido2-assert signs in after it" run_with_touch sign_in alice
     kill -9 "$bridge"
     wait_until is_gone

@@ -11,7 +11,7 @@ folder=${1:?usage: tests/packages/clean.sh FOLDER [PACKAGES]}
 [ "$(id -u)" = 0 ] || { echo "debootstrap needs root; nothing was run" >&2 && exit 3; }
 [ -d "$folder/usr" ] || debootstrap --variant=minbase bookworm "$folder" >"${folder%/}.log" || exit 3
 scratch=$(mktemp -d)
-# Detaches mounts, even those in use, and removes nothing through a mount.
+# Unmounts, even if a program still uses the mount, and removes only files of this file system.
 clean_up() {
     umount -l "$scratch/system/proc" "$scratch/system/dev" 2>/dev/null || true
     rm -rf --one-file-system "$scratch"

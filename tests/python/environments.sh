@@ -4,10 +4,10 @@
 #
 #     fido2          without python-fido2, and with versions 0.9, 1.2 and 2.2 (Debian's bookworm, trixie and sid): the
 #                    tests of ceremonies, and examples/python, with warnings as errors
-#     pythons        each installed Python of 3.9 to 3.13: pip installs the wheel into an empty environment, which signs
-#                    in
+#     pythons        each installed Python of 3.9 to 3.13: pip installs the wheel into an empty environment, where
+#                    the tests of ceremonies run
 #     musl           a C client with the wheel's library, loaded by musl's loader, replays a sign-in
-#     aarch64        pip installs the wheel for aarch64 under qemu, and it signs in there
+#     aarch64        pip installs the wheel for aarch64 under qemu, where a test registers and signs in
 #
 # Missing packages are downloaded from Debian into CACHE and unpacked there, not installed; with HIDLOG_OFFLINE=1
 # nothing is downloaded. Parts with missing dependencies are skipped by name. The last line is `N passed, N failed, N
@@ -65,17 +65,17 @@ run_apt_get() {
 # Unpacks packages into a directory of CACHE, once: unpack_packages DIR SUITE PROCESSOR PACKAGE ..
 unpack_packages() {
     local to=$cache/$1 name
-    [ ! -e "$to/.whole" ] || return 0
+    [ ! -e "$to/.complete" ] || return 0
     [ -z "${HIDLOG_OFFLINE-}" ] || return 1
     mkdir -p "$to/.debs"
     (cd "$to/.debs" && run_apt_get "$2" "$3" update && run_apt_get "$2" "$3" download "${@:4}") || return 1
     for name in "$to"/.debs/*.deb; do
         dpkg-deb -x "$name" "$to" || return 1
     done
-    touch "$to/.whole"
+    touch "$to/.complete"
 }
 
-# Links modules of Debian's packages that do not depend on the interpreter into a directory.
+# Links the modules of Debian's packages that work with any interpreter into a directory.
 link_packages() {
     local name
     mkdir -p "$1"
@@ -105,7 +105,8 @@ run_ceremony_tests() {
         test_browser.py test_browser_cases.py test_threads.py test_invalid_arguments.py test_readers.py)
 }
 
-# Runs the tests of ceremonies, the comparison with python-fido2's client, and the examples, with one version of it.
+# Runs the tests of ceremonies, the comparison with python-fido2's client, and the examples, with one version of
+# python-fido2.
 test_with_fido2_version() {
     local version=$1 path=$2 python=$work/system/bin/python
     export PYTHONPATH=$path
