@@ -21,7 +21,7 @@ static uint8_t out[1 << 20];
 static struct hidlog_key key;
 static uint8_t *stack;
 
-static struct bytes read_whole(const char *path) {
+static struct bytes read_file(const char *path) {
     FILE *file = fopen(path, "rb");
     struct bytes read = {malloc(1 << 20), 0};
     if (file == NULL || read.data == NULL) {
@@ -33,20 +33,20 @@ static struct bytes read_whole(const char *path) {
     return read;
 }
 
-static void nothing(void) {}
+static void do_nothing(void) {}
 
-static void on_log(void (*command)(const uint8_t *, size_t, const uint8_t *, size_t, uint8_t *, size_t,
+static void run_on_log(void (*command)(const uint8_t *, size_t, const uint8_t *, size_t, uint8_t *, size_t,
                                    struct hidlog_result *),
-                   size_t held) {
+                   size_t snapshot_len) {
     struct hidlog_result result;
-    command(session_log.data, session_log.len, snapshot.data, held, out, sizeof out, &result);
+    command(session_log.data, session_log.len, snapshot.data, snapshot_len, out, sizeof out, &result);
 }
 
-static void replay(void) { on_log(hidlog_replay, 0); }
-static void replay_loaded(void) { on_log(hidlog_replay, snapshot.len); }
-static void live(void) { on_log(hidlog_live, 0); }
-static void check(void) { on_log(hidlog_check, 0); }
-static void quiet(void) { on_log(hidlog_quiet, 0); }
+static void replay(void) { run_on_log(hidlog_replay, 0); }
+static void replay_loaded(void) { run_on_log(hidlog_replay, snapshot.len); }
+static void replay_live(void) { run_on_log(hidlog_live, 0); }
+static void check(void) { run_on_log(hidlog_check, 0); }
+static void quiet(void) { run_on_log(hidlog_quiet, 0); }
 
 static void show(void) {
     struct hidlog_result result;
@@ -58,35 +58,35 @@ static void transactions(void) {
     hidlog_transactions(session_log.data, session_log.len, out, sizeof out, &result);
 }
 
-static void make(void) {
+static void init_key(void) {
     static const uint8_t aaguid[16];
     hidlog_key_init(&key, aaguid, 0, snapshot.data, snapshot.len);
 }
 
-static void lines(void) {
+static void replay_lines(void) {
     struct hidlog_result result;
     hidlog_key_replay_lines(&key, session_log.data, session_log.len, out, sizeof out, &result);
 }
 
 /* INIT and its response. */
-static void packet(void) {
+static void exchange_init(void) {
     uint8_t bytes[64] = {0xff, 0xff, 0xff, 0xff, 0x86, 0, 8, 0, 1, 2, 3, 4, 5, 6, 7};
     hidlog_key_write_packet(&key, 100000, bytes);
     while (hidlog_key_read_packet(&key, bytes) >= 0) {
     }
 }
 
-static void need(void) {
+static void get_need(void) {
     struct hidlog_need needed;
     hidlog_key_get_need(&key, &needed);
 }
 
-static void credential(void) {
+static void get_credential(void) {
     struct hidlog_credential found;
     hidlog_key_get_credential(&key, 0, &found);
 }
 
-static void add(void) {
+static void add_credential(void) {
     struct hidlog_credential added;
     memset(&added, 7, sizeof added);
     added.user_id_len = added.user_name_len = 1;
@@ -94,14 +94,14 @@ static void add(void) {
     hidlog_key_add_credential(&key, 200000, &added);
 }
 
-static void take_out(void) {
+static void remove_credential(void) {
     uint8_t id[32];
     memset(id, 7, sizeof id);
     hidlog_key_remove_credential(&key, 300000, id);
 }
 
-static void save(void) { hidlog_key_save_snapshot(&key, out, sizeof out); }
-static void clear(void) { hidlog_key_clear_credentials(&key, 400000); }
+static void save_snapshot(void) { hidlog_key_save_snapshot(&key, out, sizeof out); }
+static void clear_credentials(void) { hidlog_key_clear_credentials(&key, 400000); }
 
 static void *run_call(void *call) {
     (*(void (**)(void))call)();
@@ -109,17 +109,17 @@ static void *run_call(void *call) {
 }
 
 /* Returns the stack use in bytes of a thread that makes this call. */
-static size_t stack_use(void (*call)(void)) {
-    pthread_attr_t how;
+static size_t measure_stack_use(void (*call)(void)) {
+    pthread_attr_t attributes;
     pthread_t thread;
     size_t left = 0;
     memset(stack, PATTERN, STACK);
-    if (pthread_attr_init(&how) || pthread_attr_setstack(&how, stack, STACK) ||
-        pthread_create(&thread, &how, run_call, &call) || pthread_join(thread, NULL)) {
+    if (pthread_attr_init(&attributes) || pthread_attr_setstack(&attributes, stack, STACK) ||
+        pthread_create(&thread, &attributes, run_call, &call) || pthread_join(thread, NULL)) {
         fputs("cannot start a thread\n", stderr);
         exit(2);
     }
-    pthread_attr_destroy(&how);
+    pthread_attr_destroy(&attributes);
     while (left < STACK && stack[left] == PATTERN) {
         left++;
     }
@@ -133,36 +133,36 @@ int main(int count, char **words) {
     } calls[] = {
         {"hidlog_replay", replay},
         {"hidlog_replay, a snapshot", replay_loaded},
-        {"hidlog_live", live},
+        {"hidlog_live", replay_live},
         {"hidlog_check", check},
         {"hidlog_quiet", quiet},
         {"hidlog_show", show},
         {"hidlog_transactions", transactions},
-        {"hidlog_key_init", make},
-        {"hidlog_key_write_packet, hidlog_key_read_packet", packet},
-        {"hidlog_key_replay_lines", lines},
-        {"hidlog_key_get_need", need},
-        {"hidlog_key_get_credential", credential},
-        {"hidlog_key_add_credential", add},
-        {"hidlog_key_remove_credential", take_out},
-        {"hidlog_key_save_snapshot", save},
-        {"hidlog_key_clear_credentials", clear},
+        {"hidlog_key_init", init_key},
+        {"hidlog_key_write_packet, hidlog_key_read_packet", exchange_init},
+        {"hidlog_key_replay_lines", replay_lines},
+        {"hidlog_key_get_need", get_need},
+        {"hidlog_key_get_credential", get_credential},
+        {"hidlog_key_add_credential", add_credential},
+        {"hidlog_key_remove_credential", remove_credential},
+        {"hidlog_key_save_snapshot", save_snapshot},
+        {"hidlog_key_clear_credentials", clear_credentials},
     };
     size_t own;
     if (count != 3) {
         fputs("stack LOG SNAPSHOT\n", stderr);
         return 2;
     }
-    session_log = read_whole(words[1]);
-    snapshot = read_whole(words[2]);
+    session_log = read_file(words[1]);
+    snapshot = read_file(words[2]);
     key.memory = aligned_alloc(16, (hidlog_key_size() + 15) / 16 * 16);
     stack = aligned_alloc(4096, STACK);
     if (key.memory == NULL || stack == NULL) {
         return 2;
     }
-    own = stack_use(nothing);
+    own = measure_stack_use(do_nothing);
     for (size_t i = 0; i < sizeof calls / sizeof calls[0]; i++) {
-        printf("%7zu  %s\n", stack_use(calls[i].call) - own, calls[i].name);
+        printf("%7zu  %s\n", measure_stack_use(calls[i].call) - own, calls[i].name);
     }
     return 0;
 }

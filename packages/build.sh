@@ -75,7 +75,7 @@ compile_uhid() {
     fi
     (cd "$top" && gcc "${flags[@]}" -Wl,--build-id=none "-DHIDLOG_VERSION=\"$version\"" -I release -I examples/c \
         -I examples/ssh -o "$work/hidlog-uhid.program" examples/uhid/*.c examples/ssh/state.c \
-        examples/c/{held_key,private_file,software_keys,snapshot}.c release/libhidlog.a -lcrypto)
+        examples/c/{virtual_key,private_file,software_keys,snapshot}.c release/libhidlog.a -lcrypto)
 }
 
 # Installs a library's file for pkg-config into a tarball: install_pkg_config DIR NAME

@@ -105,25 +105,25 @@ struct stats authenticator_stats(void) {
 
 /* Readers of a request's members. Each returns OK if the member has the right types, or an error status. */
 
-static struct text key_of(struct reader *reader) {
+static struct text read_key(struct reader *reader) {
     struct text key;
-    return cbor_text(reader, TEXT, &key) ? key : (struct text){0};
+    return cbor_read_text(reader, TEXT, &key) ? key : (struct text){0};
 }
 
 static uint8_t read_rp(struct reader *reader, struct request *request) {
     uint64_t pairs;
-    if (!cbor_count(reader, MAP, &pairs)) {
+    if (!cbor_read_count(reader, MAP, &pairs)) {
         return UNEXPECTED_TYPE;
     }
     for (; pairs > 0; pairs--) {
-        struct text key = key_of(reader), name;
-        if (text_is(key, "id")) {
-            if (!cbor_text(reader, TEXT, &request->rp_id)) {
+        struct text key = read_key(reader), name;
+        if (text_equals(key, "id")) {
+            if (!cbor_read_text(reader, TEXT, &request->rp_id)) {
                 return UNEXPECTED_TYPE;
             }
-        } else if (!text_is(key, "name")) {
+        } else if (!text_equals(key, "name")) {
             cbor_skip(reader);
-        } else if (!cbor_text(reader, TEXT, &name)) {
+        } else if (!cbor_read_text(reader, TEXT, &name)) {
             return UNEXPECTED_TYPE;
         }
     }
@@ -132,18 +132,18 @@ static uint8_t read_rp(struct reader *reader, struct request *request) {
 
 static uint8_t read_user(struct reader *reader, struct request *request) {
     uint64_t pairs;
-    if (!cbor_count(reader, MAP, &pairs)) {
+    if (!cbor_read_count(reader, MAP, &pairs)) {
         return UNEXPECTED_TYPE;
     }
     for (; pairs > 0; pairs--) {
-        struct text key = key_of(reader), name;
-        if (text_is(key, "id")) {
-            if (!cbor_text(reader, BYTES, &request->user_id)) {
+        struct text key = read_key(reader), name;
+        if (text_equals(key, "id")) {
+            if (!cbor_read_text(reader, BYTES, &request->user_id)) {
                 return UNEXPECTED_TYPE;
             }
-        } else if (!text_is(key, "name") && !text_is(key, "displayName")) {
+        } else if (!text_equals(key, "name") && !text_equals(key, "displayName")) {
             cbor_skip(reader);
-        } else if (!cbor_text(reader, TEXT, &name)) {
+        } else if (!cbor_read_text(reader, TEXT, &name)) {
             return UNEXPECTED_TYPE;
         }
     }
@@ -154,32 +154,32 @@ static uint8_t read_algorithm(struct reader *reader, struct request *request) {
     uint64_t pairs, number = 0;
     struct text type = {0};
     enum major major = SIMPLE;
-    if (!cbor_count(reader, MAP, &pairs)) {
+    if (!cbor_read_count(reader, MAP, &pairs)) {
         return UNEXPECTED_TYPE;
     }
     for (; pairs > 0; pairs--) {
-        struct text key = key_of(reader);
-        if (text_is(key, "alg")) {
-            number = cbor_head(reader, &major);
+        struct text key = read_key(reader);
+        if (text_equals(key, "alg")) {
+            number = cbor_read_head(reader, &major);
             if (major > NEGATIVE) {
                 return UNEXPECTED_TYPE;
             }
-        } else if (!text_is(key, "type")) {
+        } else if (!text_equals(key, "type")) {
             cbor_skip(reader);
-        } else if (!cbor_text(reader, TEXT, &type)) {
+        } else if (!cbor_read_text(reader, TEXT, &type)) {
             return UNEXPECTED_TYPE;
         }
     }
     if (major == SIMPLE || type.data == NULL) {
         return MISSING_PARAMETER;
     }
-    request->has_algorithm |= major == NEGATIVE && number == 6 && text_is(type, "public-key");
+    request->has_algorithm |= major == NEGATIVE && number == 6 && text_equals(type, "public-key");
     return OK;
 }
 
 static uint8_t read_algorithms(struct reader *reader, struct request *request) {
     uint64_t items;
-    if (!cbor_count(reader, ARRAY, &items)) {
+    if (!cbor_read_count(reader, ARRAY, &items)) {
         return UNEXPECTED_TYPE;
     }
     uint8_t status = OK;
@@ -193,25 +193,25 @@ static uint8_t read_algorithms(struct reader *reader, struct request *request) {
 static uint8_t read_descriptor(struct reader *reader, struct request *request) {
     uint64_t pairs;
     struct text id = {0}, type = {0};
-    if (!cbor_count(reader, MAP, &pairs)) {
+    if (!cbor_read_count(reader, MAP, &pairs)) {
         return UNEXPECTED_TYPE;
     }
     for (; pairs > 0; pairs--) {
-        struct text key = key_of(reader);
-        if (text_is(key, "id")) {
-            if (!cbor_text(reader, BYTES, &id)) {
+        struct text key = read_key(reader);
+        if (text_equals(key, "id")) {
+            if (!cbor_read_text(reader, BYTES, &id)) {
                 return UNEXPECTED_TYPE;
             }
-        } else if (!text_is(key, "type")) {
+        } else if (!text_equals(key, "type")) {
             cbor_skip(reader);
-        } else if (!cbor_text(reader, TEXT, &type)) {
+        } else if (!cbor_read_text(reader, TEXT, &type)) {
             return UNEXPECTED_TYPE;
         }
     }
     if (id.data == NULL || type.data == NULL) {
         return MISSING_PARAMETER;
     }
-    if (text_is(type, "public-key") && request->list_len < MAX_CREDENTIALS) {
+    if (text_equals(type, "public-key") && request->list_len < MAX_CREDENTIALS) {
         request->list[request->list_len++] = id;
     }
     return OK;
@@ -219,7 +219,7 @@ static uint8_t read_descriptor(struct reader *reader, struct request *request) {
 
 static uint8_t read_list(struct reader *reader, struct request *request) {
     uint64_t items;
-    if (!cbor_count(reader, ARRAY, &items)) {
+    if (!cbor_read_count(reader, ARRAY, &items)) {
         return UNEXPECTED_TYPE;
     }
     request->has_list = items > 0;
@@ -232,21 +232,21 @@ static uint8_t read_list(struct reader *reader, struct request *request) {
 
 static uint8_t read_options(struct reader *reader, struct request *request) {
     uint64_t pairs;
-    if (!cbor_count(reader, MAP, &pairs)) {
+    if (!cbor_read_count(reader, MAP, &pairs)) {
         return UNEXPECTED_TYPE;
     }
     for (; pairs > 0; pairs--) {
-        struct text key = key_of(reader);
-        bool *option = text_is(key, "rk")   ? &request->rk
-                       : text_is(key, "up") ? &request->up
-                       : text_is(key, "uv") ? &request->uv
-                                            : NULL;
+        struct text key = read_key(reader);
+        bool *option = text_equals(key, "rk")   ? &request->rk
+                       : text_equals(key, "up") ? &request->up
+                       : text_equals(key, "uv") ? &request->uv
+                                                : NULL;
         if (option == NULL) {
             cbor_skip(reader);
             continue;
         }
         enum major major;
-        uint64_t number = cbor_head(reader, &major);
+        uint64_t number = cbor_read_head(reader, &major);
         if (major != SIMPLE || number > 21) {
             return UNEXPECTED_TYPE;
         }
@@ -265,7 +265,7 @@ static uint8_t read_flag(struct reader *reader, bool *flag) {
 static uint8_t read_make_credential_member(struct reader *reader, uint64_t member, struct request *request) {
     switch (member) {
     case 1:
-        return cbor_text(reader, BYTES, &request->client_data_hash) ? OK : UNEXPECTED_TYPE;
+        return cbor_read_text(reader, BYTES, &request->client_data_hash) ? OK : UNEXPECTED_TYPE;
     case 2:
         return read_rp(reader, request);
     case 3:
@@ -289,9 +289,9 @@ static uint8_t read_make_credential_member(struct reader *reader, uint64_t membe
 static uint8_t read_get_assertion_member(struct reader *reader, uint64_t member, struct request *request) {
     switch (member) {
     case 1:
-        return cbor_text(reader, TEXT, &request->rp_id) ? OK : UNEXPECTED_TYPE;
+        return cbor_read_text(reader, TEXT, &request->rp_id) ? OK : UNEXPECTED_TYPE;
     case 2:
-        return cbor_text(reader, BYTES, &request->client_data_hash) ? OK : UNEXPECTED_TYPE;
+        return cbor_read_text(reader, BYTES, &request->client_data_hash) ? OK : UNEXPECTED_TYPE;
     case 3:
         return read_list(reader, request);
     case 5:
@@ -309,14 +309,14 @@ typedef uint8_t read_member(struct reader *reader, uint64_t member, struct reque
 static uint8_t read_request(const uint8_t *map, size_t len, read_member *member, struct request *request) {
     struct reader reader = {map, map + len};
     uint64_t pairs;
-    if (!cbor_count(&reader, MAP, &pairs)) {
+    if (!cbor_read_count(&reader, MAP, &pairs)) {
         return UNEXPECTED_TYPE;
     }
     uint8_t status = OK;
     for (; pairs > 0 && status == OK; pairs--) {
         enum major major;
         const uint8_t *key = reader.next;
-        uint64_t number = cbor_head(&reader, &major);
+        uint64_t number = cbor_read_head(&reader, &major);
         if (major == UNSIGNED) {
             status = member(&reader, number, request);
         } else {
@@ -402,7 +402,7 @@ static struct credential *find_same_user(const struct credential *made) {
     return NULL;
 }
 
-/* SHA-256; a text that fits in one block is hashed by the block function alone. */
+/* Hashes an RP ID with SHA-256; one that fits in one block with the block function alone, which is faster. */
 static void hash_rp(struct text rp_id, uint8_t hash[HASH_BYTES]) {
     if (rp_id.len > 55) {
         SHA256(rp_id.data, rp_id.len, hash);

@@ -124,7 +124,7 @@ bool cbor_check(const uint8_t *encoded, size_t len, uint64_t *steps) {
     return is_canonical;
 }
 
-uint64_t cbor_head(struct reader *reader, enum major *major) {
+uint64_t cbor_read_head(struct reader *reader, enum major *major) {
     uint8_t first = *reader->next++, low = first & 31;
     *major = first >> 5;
     if (low < 24) {
@@ -137,16 +137,16 @@ uint64_t cbor_head(struct reader *reader, enum major *major) {
     return number;
 }
 
-bool cbor_count(struct reader *reader, enum major major, uint64_t *count) {
+bool cbor_read_count(struct reader *reader, enum major major, uint64_t *count) {
     enum major found;
-    *count = cbor_head(reader, &found);
+    *count = cbor_read_head(reader, &found);
     return found == major;
 }
 
-bool cbor_text(struct reader *reader, enum major major, struct text *text) {
+bool cbor_read_text(struct reader *reader, enum major major, struct text *text) {
     enum major found;
     const uint8_t *start = reader->next;
-    text->len = cbor_head(reader, &found);
+    text->len = cbor_read_head(reader, &found);
     text->data = reader->next;
     if (found != major) {
         reader->next = start;
@@ -159,7 +159,7 @@ bool cbor_text(struct reader *reader, enum major major, struct text *text) {
 
 void cbor_skip(struct reader *reader) {
     enum major major;
-    uint64_t number = cbor_head(reader, &major);
+    uint64_t number = cbor_read_head(reader, &major);
     if (major == BYTES || major == TEXT) {
         reader->next += number;
     }
@@ -171,6 +171,6 @@ void cbor_skip(struct reader *reader) {
     }
 }
 
-bool text_is(struct text text, const char *expected) {
+bool text_equals(struct text text, const char *expected) {
     return text.data != NULL && text.len == strlen(expected) && memcmp(text.data, expected, text.len) == 0;
 }

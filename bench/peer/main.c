@@ -39,7 +39,7 @@ static bool flush(void) {
     return true;
 }
 
-static bool decode(const uint8_t *digits, size_t len, uint8_t *out) {
+static bool decode_hex(const uint8_t *digits, size_t len, uint8_t *out) {
     for (size_t i = 0; i < len; i += 2) {
         int high = digit_values[digits[i]], low = digit_values[digits[i + 1]];
         if ((high | low) < 0) {
@@ -62,65 +62,65 @@ static bool read_time(const uint8_t *digits, size_t len, uint64_t *time_ms) {
     return len == 1 || (len > 1 && digits[0] != '0');
 }
 
-static bool field_is(const uint8_t *field, size_t len, const char *expected) {
+static bool field_equals(const uint8_t *field, size_t len, const char *expected) {
     return len == strlen(expected) && memcmp(field, expected, len) == 0;
 }
 
-static void echo(const uint8_t *line, size_t len) {
+static void copy_line(const uint8_t *line, size_t len) {
     memcpy(text + text_len, line, len);
     text[text_len + len] = '\n';
     text_len += len + 1;
 }
 
-static void advance_to(uint64_t time_ms) {
+static void advance_time(uint64_t time_ms) {
     now_ms = time_ms > now_ms ? time_ms : now_ms;
     transport_advance_time(now_ms);
 }
 
 static bool play_packet(const uint8_t *line, size_t line_len, uint64_t time_ms, const uint8_t *field, size_t len) {
     uint8_t packet[PACKET_BYTES];
-    if (len != 2 * PACKET_BYTES || !decode(field, len, packet)) {
+    if (len != 2 * PACKET_BYTES || !decode_hex(field, len, packet)) {
         return false;
     }
-    echo(line, line_len);
-    advance_to(time_ms);
+    copy_line(line, line_len);
+    advance_time(time_ms);
     transport_handle_packet(now_ms, packet);
     return true;
 }
 
 static bool play_presence(const uint8_t *line, size_t line_len, uint64_t time_ms, const uint8_t *field, size_t len) {
-    bool is_granted = field_is(field, len, "granted");
-    if (!is_granted && !field_is(field, len, "denied") && !field_is(field, len, "timeout")) {
+    bool is_granted = field_equals(field, len, "granted");
+    if (!is_granted && !field_equals(field, len, "denied") && !field_equals(field, len, "timeout")) {
         return false;
     }
-    echo(line, line_len);
-    advance_to(time_ms);
+    copy_line(line, line_len);
+    advance_time(time_ms);
     authenticator_presence(now_ms, is_granted);
     return true;
 }
 
 static bool play_key_pair(const uint8_t *line, size_t line_len, uint64_t time_ms, const uint8_t *field, size_t len) {
     uint8_t key_pair[KEY_PAIR_BYTES];
-    bool is_refused = field_is(field, len, "no");
+    bool is_refused = field_equals(field, len, "no");
     if (!is_refused &&
-        !(len == 2 * KEY_PAIR_BYTES + 2 && field[64] == ' ' && field[129] == ' ' && decode(field, 64, key_pair) &&
-          decode(field + 65, 64, key_pair + 32) && decode(field + 130, 64, key_pair + 64))) {
+        !(len == 2 * KEY_PAIR_BYTES + 2 && field[64] == ' ' && field[129] == ' ' && decode_hex(field, 64, key_pair) &&
+          decode_hex(field + 65, 64, key_pair + 32) && decode_hex(field + 130, 64, key_pair + 64))) {
         return false;
     }
-    echo(line, line_len);
-    advance_to(time_ms);
+    copy_line(line, line_len);
+    advance_time(time_ms);
     authenticator_key_pair(now_ms, is_refused ? NULL : key_pair);
     return true;
 }
 
 static bool play_signature(const uint8_t *line, size_t line_len, uint64_t time_ms, const uint8_t *field, size_t len) {
     uint8_t signature[72];
-    bool is_refused = field_is(field, len, "no");
-    if (!is_refused && (len < 2 || len > 144 || len % 2 != 0 || !decode(field, len, signature))) {
+    bool is_refused = field_equals(field, len, "no");
+    if (!is_refused && (len < 2 || len > 144 || len % 2 != 0 || !decode_hex(field, len, signature))) {
         return false;
     }
-    echo(line, line_len);
-    advance_to(time_ms);
+    copy_line(line, line_len);
+    advance_time(time_ms);
     authenticator_signature(now_ms, signature, is_refused ? 0 : len / 2);
     return true;
 }
@@ -130,8 +130,8 @@ static bool play_tick(const uint8_t *line, size_t len) {
     if (!read_time(line + 2, len - 2, &time_ms)) {
         return false;
     }
-    echo(line, len);
-    advance_to(time_ms);
+    copy_line(line, len);
+    advance_time(time_ms);
     return true;
 }
 
@@ -159,7 +159,7 @@ static bool play_input(const uint8_t *line, size_t len) {
 
 static bool play(const uint8_t *line, size_t len) {
     if (len == 0 || line[0] == '#') {
-        echo(line, len);
+        copy_line(line, len);
         return flush();
     }
     if (line[0] == '=') {
@@ -170,14 +170,14 @@ static bool play(const uint8_t *line, size_t len) {
     }
     if (line[0] == '<') {
         uint8_t packet[PACKET_BYTES];
-        return len == 2 + 2 * PACKET_BYTES && decode(line + 2, len - 2, packet);
+        return len == 2 + 2 * PACKET_BYTES && decode_hex(line + 2, len - 2, packet);
     }
     bool is_valid = line[0] == 't' ? play_tick(line, len) : play_input(line, len);
     return is_valid && flush();
 }
 
-/* Reads more of the log into the window. Returns how many bytes, or -1. */
-static ssize_t fill(void) {
+/* Reads more of the log into the window. Returns the number of bytes, 0 at the end, or -1 on an error. */
+static ssize_t refill_window(void) {
     memmove(window, window + window_start, window_len - window_start);
     window_len -= window_start;
     window_start = 0;
@@ -186,7 +186,7 @@ static ssize_t fill(void) {
     return count;
 }
 
-static bool play_all(void) {
+static bool play_log(void) {
     for (;;) {
         const uint8_t *newline = memchr(window + window_start, '\n', window_len - window_start);
         if (newline != NULL) {
@@ -200,14 +200,14 @@ static bool play_all(void) {
         if (window_len - window_start > MAX_LINE_BYTES) {
             return false;
         }
-        ssize_t count = fill();
+        ssize_t count = refill_window();
         if (count <= 0) {
             return count == 0 && (window_len == window_start || play(window + window_start, window_len - window_start));
         }
     }
 }
 
-static void fill_tables(void) {
+static void init_digit_tables(void) {
     static const char digits[] = "0123456789abcdef", capitals[] = "0123456789ABCDEF";
     memset(digit_values, -1, sizeof digit_values);
     for (int i = 0; i < 256; i++) {
@@ -219,8 +219,8 @@ static void fill_tables(void) {
 }
 
 int main(void) {
-    fill_tables();
-    if (!play_all()) {
+    init_digit_tables();
+    if (!play_log()) {
         return 1;
     }
     struct stats stats = authenticator_stats();

@@ -5,7 +5,7 @@
  * order of a request's checks, KEEPALIVEs, timeouts, busy channels, unknown channels, wrong sequence numbers, 64
  * credentials, allow and exclude lists, signature counters, CANCEL, and INIT on an allocated channel.
  *
- * Left out: getNextAssertion (a sign-in with several credentials uses the newest one, and its response has no
+ * Not implemented: getNextAssertion (a sign-in with several credentials uses the newest one, and its response has no
  * numberOfCredentials), reset, selection, users' names, snapshots, and which error a request with two errors gets. */
 #ifndef PEER_H
 #define PEER_H
@@ -63,10 +63,10 @@ struct text {
 };
 enum major { UNSIGNED, NEGATIVE, BYTES, TEXT, ARRAY, MAP, TAG, SIMPLE };
 bool cbor_check(const uint8_t *encoded, size_t len, uint64_t *steps);
-uint64_t cbor_head(struct reader *reader, enum major *major);
-bool cbor_text(struct reader *reader, enum major major, struct text *text);
-bool cbor_count(struct reader *reader, enum major major, uint64_t *count);
+uint64_t cbor_read_head(struct reader *reader, enum major *major);
+bool cbor_read_text(struct reader *reader, enum major major, struct text *text);
+bool cbor_read_count(struct reader *reader, enum major major, uint64_t *count);
 void cbor_skip(struct reader *reader);
-bool text_is(struct text text, const char *expected);
+bool text_equals(struct text text, const char *expected);
 
 #endif

@@ -86,7 +86,8 @@ static void handle_message(uint64_t now_ms, uint32_t channel, uint8_t command, c
     }
 }
 
-/* Answers INIT: on the broadcast channel it allocates a channel, on another it aborts that channel's transaction. */
+/* Responds to INIT: on the broadcast channel it allocates a channel, on another it aborts that channel's transaction.
+ */
 static void send_init_response(uint32_t channel, const uint8_t *nonce, size_t len) {
     if (message.is_open && message.channel == channel) {
         message.is_open = false;

@@ -12,55 +12,55 @@
 static const char pin[] = "1234";
 static const unsigned char blob[] = "a large blob of libfido2's";
 
-static void same(const char *what, unsigned long found, unsigned long wanted) {
+static void require_equal(const char *what, unsigned long found, unsigned long wanted) {
   if (found != wanted) {
-    printf("refused %s: %lu in place of %lu\n", what, found, wanted);
+    printf("refused %s: expected %lu, got %lu\n", what, wanted, found);
     exit(1);
   }
 }
 
-static fido_cred_t *register_stored(fido_dev_t *device, const char *at, const char *name,
+static fido_cred_t *register_with_large_blob_key(fido_dev_t *device, const char *at, const char *name,
                            const char *given) {
   fido_cred_t *cred = fido_cred_new();
-  must("type", fido_cred_set_type(cred, COSE_ES256));
-  must("hash", fido_cred_set_clientdata_hash(cred, hash, sizeof hash));
-  must("rp", fido_cred_set_rp(cred, at, "Example"));
-  must("user", fido_cred_set_user(cred, (const unsigned char *)name,
+  require_ok("type", fido_cred_set_type(cred, COSE_ES256));
+  require_ok("hash", fido_cred_set_clientdata_hash(cred, hash, sizeof hash));
+  require_ok("rp", fido_cred_set_rp(cred, at, "Example"));
+  require_ok("user", fido_cred_set_user(cred, (const unsigned char *)name,
                                   strlen(name), name, name, NULL));
-  must("rk", fido_cred_set_rk(cred, FIDO_OPT_TRUE));
-  must("uv",
+  require_ok("rk", fido_cred_set_rk(cred, FIDO_OPT_TRUE));
+  require_ok("uv",
        fido_cred_set_uv(cred, given == NULL ? FIDO_OPT_TRUE : FIDO_OPT_OMIT));
-  must("extensions", fido_cred_set_extensions(cred, FIDO_EXT_LARGEBLOB_KEY));
-  must("register", fido_dev_make_cred(device, cred, given));
-  must("uv", fido_cred_set_uv(cred, FIDO_OPT_TRUE));
-  must("verify the registration", fido_cred_verify_self(cred));
-  same("a key of large blobs", fido_cred_largeblob_key_len(cred), 32);
+  require_ok("extensions", fido_cred_set_extensions(cred, FIDO_EXT_LARGEBLOB_KEY));
+  require_ok("register", fido_dev_make_cred(device, cred, given));
+  require_ok("uv", fido_cred_set_uv(cred, FIDO_OPT_TRUE));
+  require_ok("verify the registration", fido_cred_verify_self(cred));
+  require_equal("a key of large blobs", fido_cred_largeblob_key_len(cred), 32);
   return cred;
 }
 
-static void check_list(fido_dev_t *device, const fido_cred_t *first) {
+static void check_listed_credentials(fido_dev_t *device, const fido_cred_t *first) {
   fido_credman_metadata_t *metadata = fido_credman_metadata_new();
   fido_credman_rp_t *rps = fido_credman_rp_new();
   fido_credman_rk_t *found = fido_credman_rk_new();
-  must("metadata", fido_credman_get_dev_metadata(device, metadata, pin));
-  same("credentials", fido_credman_rk_existing(metadata), 3);
-  must("the RPs", fido_credman_get_dev_rp(device, rps, pin));
-  same("RPs", fido_credman_rp_count(rps), 2);
-  must("the credentials", fido_credman_get_dev_rk(device, rp, found, pin));
-  same("credentials of the RP", fido_credman_rk_count(found), 2);
+  require_ok("metadata", fido_credman_get_dev_metadata(device, metadata, pin));
+  require_equal("credentials", fido_credman_rk_existing(metadata), 3);
+  require_ok("the RPs", fido_credman_get_dev_rp(device, rps, pin));
+  require_equal("RPs", fido_credman_rp_count(rps), 2);
+  require_ok("the credentials", fido_credman_get_dev_rk(device, rp, found, pin));
+  require_equal("credentials of the RP", fido_credman_rk_count(found), 2);
   const fido_cred_t *one = fido_credman_rk(found, 0);
   int is_first = memcmp(fido_cred_id_ptr(one), fido_cred_id_ptr(first),
                         fido_cred_id_len(first)) == 0;
   one = fido_credman_rk(found, is_first ? 0 : 1);
-  same("the id",
+  require_equal("the id",
        memcmp(fido_cred_id_ptr(one), fido_cred_id_ptr(first),
               fido_cred_id_len(first)),
        0);
-  same("the key",
+  require_equal("the key",
        memcmp(fido_cred_pubkey_ptr(one), fido_cred_pubkey_ptr(first),
               fido_cred_pubkey_len(first)),
        0);
-  same("the key of large blobs",
+  require_equal("the key of large blobs",
        memcmp(fido_cred_largeblob_key_ptr(one),
               fido_cred_largeblob_key_ptr(first), 32),
        0);
@@ -70,45 +70,45 @@ static void check_changes(fido_dev_t *device, fido_cred_t *first,
                     const fido_cred_t *second) {
   fido_cred_t *renamed = fido_cred_new();
   fido_credman_rk_t *found = fido_credman_rk_new();
-  must("id", fido_cred_set_id(renamed, fido_cred_id_ptr(first),
+  require_ok("id", fido_cred_set_id(renamed, fido_cred_id_ptr(first),
                               fido_cred_id_len(first)));
-  must("user", fido_cred_set_user(renamed, (const unsigned char *)"alice", 5,
+  require_ok("user", fido_cred_set_user(renamed, (const unsigned char *)"alice", 5,
                                   "renamed", "Renamed", NULL));
-  must("rename", fido_credman_set_dev_rk(device, renamed, pin));
-  must("delete", fido_credman_del_dev_rk(device, fido_cred_id_ptr(second),
+  require_ok("rename", fido_credman_set_dev_rk(device, renamed, pin));
+  require_ok("delete", fido_credman_del_dev_rk(device, fido_cred_id_ptr(second),
                                          fido_cred_id_len(second), pin));
-  must("the credentials", fido_credman_get_dev_rk(device, rp, found, pin));
-  same("credentials that are left", fido_credman_rk_count(found), 1);
-  same("the name",
+  require_ok("the credentials", fido_credman_get_dev_rk(device, rp, found, pin));
+  require_equal("credentials that are left", fido_credman_rk_count(found), 1);
+  require_equal("the name",
        (unsigned long)strcmp(fido_cred_user_name(fido_credman_rk(found, 0)),
                              "renamed"),
        0);
 }
 
-static void blobs(fido_dev_t *device, const fido_cred_t *first) {
+static void test_large_blobs(fido_dev_t *device, const fido_cred_t *first) {
   unsigned char *found = NULL;
   size_t length = 0;
   const unsigned char *key = fido_cred_largeblob_key_ptr(first);
-  must("write a blob",
+  require_ok("write a blob",
        fido_dev_largeblob_set(device, key, 32, blob, sizeof blob, pin));
-  must("read a blob", fido_dev_largeblob_get(device, key, 32, &found, &length));
-  same("the blob's length", length, sizeof blob);
-  same("the blob", (unsigned long)memcmp(found, blob, sizeof blob), 0);
+  require_ok("read a blob", fido_dev_largeblob_get(device, key, 32, &found, &length));
+  require_equal("the blob's length", length, sizeof blob);
+  require_equal("the blob", (unsigned long)memcmp(found, blob, sizeof blob), 0);
 }
 
-static void by_user(fido_dev_t *device) {
+static void test_user_verification(fido_dev_t *device) {
   int left;
-  must("retries", fido_dev_get_uv_retry_count(device, &left));
-  fido_cred_t *cred = register_stored(device, rp, "alice", NULL);
+  require_ok("retries", fido_dev_get_uv_retry_count(device, &left));
+  fido_cred_t *cred = register_with_large_blob_key(device, rp, "alice", NULL);
   fido_assert_t *found = fido_assert_new();
   es256_pk_t *key = es256_pk_new();
-  must("key", es256_pk_from_ptr(key, fido_cred_pubkey_ptr(cred),
+  require_ok("key", es256_pk_from_ptr(key, fido_cred_pubkey_ptr(cred),
                                 fido_cred_pubkey_len(cred)));
-  must("hash", fido_assert_set_clientdata_hash(found, hash, sizeof hash));
-  must("rp", fido_assert_set_rp(found, rp));
-  must("uv", fido_assert_set_uv(found, FIDO_OPT_TRUE));
-  must("sign in", fido_dev_get_assert(device, found, NULL));
-  must("verify the sign-in", fido_assert_verify(found, 0, COSE_ES256, key));
+  require_ok("hash", fido_assert_set_clientdata_hash(found, hash, sizeof hash));
+  require_ok("rp", fido_assert_set_rp(found, rp));
+  require_ok("uv", fido_assert_set_uv(found, FIDO_OPT_TRUE));
+  require_ok("sign in", fido_dev_get_assert(device, found, NULL));
+  require_ok("verify the sign-in", fido_assert_verify(found, 0, COSE_ES256, key));
 }
 
 int main(int count, char **words) {
@@ -116,15 +116,15 @@ int main(int count, char **words) {
   fido_init(0);
   fido_dev_t *device = open_device();
   if (count > 1) {
-    by_user(device);
+    test_user_verification(device);
   } else {
-    must("set a PIN", fido_dev_set_pin(device, pin, NULL));
-    fido_cred_t *first = register_stored(device, rp, "alice", pin),
-                *second = register_stored(device, rp, "bob", pin);
-    register_stored(device, "example.org", "alice", pin);
-    check_list(device, first);
+    require_ok("set a PIN", fido_dev_set_pin(device, pin, NULL));
+    fido_cred_t *first = register_with_large_blob_key(device, rp, "alice", pin),
+                *second = register_with_large_blob_key(device, rp, "bob", pin);
+    register_with_large_blob_key(device, "example.org", "alice", pin);
+    check_listed_credentials(device, first);
     check_changes(device, first, second);
-    blobs(device, first);
+    test_large_blobs(device, first);
   }
   printf("ok\n");
   return 0;

@@ -1,4 +1,4 @@
-// Shows a browser a hidraw device that the kernel does not have: replaces libudev, and the ioctls for a report descriptor.
+// Makes a browser see a hidraw device that the kernel does not have: replaces libudev, and the ioctls for a report descriptor.
 // For recordings on a machine without /dev/uhid.
 //
 //     gcc -shared -fPIC -Wl,-soname,libudev.so.1 -Wl,--version-script=fake_udev.map -o libudev.so.1 fake_udev.c
@@ -25,7 +25,7 @@ struct udev_device {
     bool is_parent;
 };
 
-// Without a match all subsystems are requested.
+// Without a subsystem filter all devices are listed.
 struct udev_enumerate {
     bool is_matched;
     bool wants_hidraw;

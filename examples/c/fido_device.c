@@ -5,11 +5,11 @@
 // libfido2 writes the report ID, 0, before the 64 bytes of a packet.
 enum { REPORT = 65 };
 
-static struct held_key *opened;
+static struct virtual_key *current_key;
 
 static void *open_key(const char *path) {
     (void)path;
-    return opened;
+    return current_key;
 }
 
 static void close_key(void *handle) {
@@ -17,27 +17,27 @@ static void close_key(void *handle) {
 }
 
 static int write_packet(void *handle, const unsigned char *report, size_t len) {
-    return len == REPORT && held_key_write(handle, report + 1) ? (int)len : -1;
+    return len == REPORT && virtual_key_write(handle, report + 1) ? (int)len : -1;
 }
 
-// Instead of waiting, provides what the key needs. Fails like a timeout if it would wait forever.
+// Provides what the key needs instead of waiting. Fails like a timeout if the key needs nothing and sends nothing.
 static int read_packet(void *handle, unsigned char *packet, size_t len, int ms) {
     (void)ms;
     if (len < 64) {
         return -1;
     }
-    while (!held_key_take(handle, packet)) {
-        if (!held_key_serve(handle)) {
+    while (!virtual_key_read(handle, packet)) {
+        if (!virtual_key_provide_need(handle)) {
             return -1;
         }
     }
     return 64;
 }
 
-fido_dev_t *fido_device_open(struct held_key *held) {
+fido_dev_t *fido_device_open(struct virtual_key *vkey) {
     const fido_dev_io_t io = {open_key, close_key, read_packet, write_packet};
     fido_dev_t *device = fido_dev_new();
-    opened = held;
+    current_key = vkey;
     if (device != NULL &&
         (fido_dev_set_io_functions(device, &io) != FIDO_OK || fido_dev_open(device, "hidlog") != FIDO_OK)) {
         fido_dev_free(&device);

@@ -17,7 +17,7 @@ static bool print_refusal(const char *path, const char *why) {
     return false;
 }
 
-// Prints the system error and its consequence for the file.
+// Prints the system error of a file, and what it means for the file.
 static bool print_system_error(const char *path, const char *consequence) {
     fprintf(stderr, "hidlog: %s: %s: %s\n", path, strerror(errno), consequence);
     return false;
@@ -72,7 +72,7 @@ static bool is_private(const char *path, int file, const char *contents, struct 
     return true;
 }
 
-// Whether an open file is private, and at most this long.
+// Whether an open file is private and not longer than `most` bytes.
 static bool is_readable(const char *path, int file, size_t most) {
     struct stat facts;
     return is_private(path, file, "private keys", &facts) &&
@@ -113,7 +113,7 @@ static long read_whole(int file, uint8_t *bytes, size_t most) {
 }
 
 long private_file_read(const char *path, uint8_t *bytes, size_t most) {
-    // O_NONBLOCK: do not wait for a pipe.
+    // O_NONBLOCK: opening a named pipe would wait for a writer.
     int file = open(path, O_RDONLY | O_NOFOLLOW | O_NONBLOCK | O_CLOEXEC);
     if (file < 0 && errno == ENOENT) {
         return PRIVATE_FILE_NONE;
@@ -212,7 +212,7 @@ bool private_file_replace(const char *path, const uint8_t *bytes, size_t len) {
         return false;
     }
     int folder = open_folder(path);
-    // An existing file is left over from a killed program, since the caller has the lock.
+    // An existing temporary file is left over from a killed program, since the caller has the lock.
     bool is_written = folder >= 0 && (unlink(fresh) == 0 || errno == ENOENT) && write_new(fresh, bytes, len);
     if (!is_written) {
         print_system_error(path, "nothing was saved, and the old file is kept");

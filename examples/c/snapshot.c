@@ -2,7 +2,7 @@
 
 #include <string.h>
 
-// Major types (RFC 8949), as in the first byte of an item.
+// Major types of CBOR (RFC 8949), shifted as in the first byte of an item.
 enum { NUMBER = 0x00, BYTES = 0x40, TEXT = 0x60, ARRAY = 0x80, MAP = 0xa0, NO = 0xf4 };
 
 // Writes the shortest head for an argument, as canonical CBOR requires.

@@ -37,7 +37,7 @@ const struct software_key *software_keys_make(struct software_keys *keys) {
     return key;
 }
 
-// The parameters from which libcrypto makes a key pair.
+// Returns the parameters for EVP_PKEY_fromdata.
 static OSSL_PARAM *make_parameters(const struct software_key *key, BIGNUM *secret) {
     uint8_t point[65] = {POINT_CONVERSION_UNCOMPRESSED};
     OSSL_PARAM_BLD *builder = OSSL_PARAM_BLD_new();

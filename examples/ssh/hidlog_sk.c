@@ -2,7 +2,7 @@
 //
 //     gcc -shared -fPIC -fvisibility=hidden -I release -I examples/c -o libhidlog_sk.so
 //     examples/ssh/{hidlog_sk,state}.c
-//         examples/c/{fido_device,held_key,private_file,software_keys,snapshot}.c release/libhidlog.a
+//         examples/c/{fido_device,virtual_key,private_file,software_keys,snapshot}.c release/libhidlog.a
 //         -Wl,--exclude-libs,ALL
 //         -lfido2 -lcrypto
 //     export SSH_SK_PROVIDER=$PWD/libhidlog_sk.so HIDLOG_SK_STATE=$PWD/key.state
@@ -29,10 +29,10 @@ static fido_dev_t *open_device(void) {
     if (!state_open(&state)) {
         return NULL;
     }
-    state.held.presence =
+    state.vkey.presence =
         presence != NULL && strcmp(presence, "denied") == 0 ? HIDLOG_PRESENCE_DENIED : HIDLOG_PRESENCE_GRANTED;
     fido_init(0);
-    fido_dev_t *device = fido_device_open(&state.held);
+    fido_dev_t *device = fido_device_open(&state.vkey);
     if (device == NULL) {
         state_close(&state);
     }
@@ -59,7 +59,7 @@ static int to_sk_error(int error) {
     }
 }
 
-// Copies bytes into a response.
+// Copies bytes into a new buffer of a response.
 static bool copy_bytes(uint8_t **to, size_t *to_len, const uint8_t *bytes, size_t len) {
     *to = bytes == NULL ? NULL : malloc(len);
     if (*to == NULL) {
@@ -121,7 +121,7 @@ static bool read_user(struct sk_option **options, uint8_t user[32]) {
 // Whether the key has a discoverable credential for this application and user, which a new one would replace.
 static bool has_credential(const char *application, const uint8_t user[32]) {
     struct hidlog_credential found;
-    for (size_t i = 0; hidlog_key_get_credential(&state.held.key, i, &found) == 0; i++) {
+    for (size_t i = 0; hidlog_key_get_credential(&state.vkey.key, i, &found) == 0; i++) {
         const char *owner = state_application(&state, found.id);
         if (found.discoverable && owner != NULL && strcmp(owner, application) == 0 && found.user_id_len == 32 &&
             memcmp(found.user_id, user, 32) == 0) {
@@ -269,9 +269,9 @@ int sk_load_resident_keys(const char *pin, struct sk_option **options, struct sk
     }
     *count = 0;
     *keys = calloc(SOFTWARE_KEYS, sizeof **keys);
-    for (size_t i = 0; hidlog_key_get_credential(&state.held.key, i, &credential) == 0; i++) {
+    for (size_t i = 0; hidlog_key_get_credential(&state.vkey.key, i, &credential) == 0; i++) {
         const char *application = state_application(&state, credential.id);
-        // As OpenSSH does with a device, skip credentials of other applications.
+        // Like OpenSSH with a device, skip credentials of other relying parties.
         if (*keys != NULL && credential.discoverable && application != NULL && strncmp(application, "ssh:", 4) == 0) {
             struct sk_resident_key *key = to_resident_key(&credential, application);
             if (key != NULL) {

@@ -24,8 +24,8 @@ static const struct record *find_record(const struct state *state, const uint8_t
 // correspond one to one.
 static bool add_keys(struct state *state) {
     struct hidlog_credential credential;
-    bool is_done = hidlog_key_credential_count(&state->held.key) == (int32_t)state->count;
-    for (size_t i = 0; is_done && hidlog_key_get_credential(&state->held.key, i, &credential) == 0; i++) {
+    bool is_done = hidlog_key_credential_count(&state->vkey.key) == (int32_t)state->count;
+    for (size_t i = 0; is_done && hidlog_key_get_credential(&state->vkey.key, i, &credential) == 0; i++) {
         const struct record *record = find_record(state, credential.id);
         struct software_key key = {0};
         if (record == NULL) {
@@ -35,7 +35,7 @@ static bool add_keys(struct state *state) {
         memcpy(key.x, credential.x, sizeof key.x);
         memcpy(key.y, credential.y, sizeof key.y);
         memcpy(key.secret, record->secret, sizeof key.secret);
-        is_done = software_keys_add(&state->held.keys, &key);
+        is_done = software_keys_add(&state->vkey.keys, &key);
         OPENSSL_cleanse(&key, sizeof key);
     }
     return is_done;
@@ -90,11 +90,11 @@ const char *state_read(struct state *state, const uint8_t *bytes, size_t len) {
     if (snapshot == 0) {
         return "it is no state file, or is damaged";
     }
-    if (!held_key_open(&state->held, bytes + snapshot, len - snapshot)) {
+    if (!virtual_key_open(&state->vkey, bytes + snapshot, len - snapshot)) {
         return "its credentials are damaged, or there is no memory for them";
     }
     if (!add_keys(state)) {
-        held_key_close(&state->held);
+        virtual_key_close(&state->vkey);
         return "its private keys aren't those of its credentials";
     }
     return NULL;
@@ -107,7 +107,7 @@ static bool open_locked(struct state *state) {
         return false;
     }
     if (len == PRIVATE_FILE_NONE) {
-        return held_key_open(&state->held, state->saved, 0);
+        return virtual_key_open(&state->vkey, state->saved, 0);
     }
     state->saved_len = (size_t)len;
     const char *error = state_read(state, state->saved, state->saved_len);
@@ -138,7 +138,7 @@ bool state_open(struct state *state) {
 }
 
 bool state_add(struct state *state, const uint8_t id[32], const char *application) {
-    const struct software_key *key = software_keys_find(&state->held.keys, id);
+    const struct software_key *key = software_keys_find(&state->vkey.keys, id);
     if (key == NULL || state->count == SOFTWARE_KEYS || strlen(application) >= APPLICATION) {
         return false;
     }
@@ -159,7 +159,7 @@ static void drop_records(struct state *state) {
     struct hidlog_credential credential;
     struct record kept[SOFTWARE_KEYS] = {0};
     size_t count = 0;
-    for (size_t i = 0; hidlog_key_get_credential(&state->held.key, i, &credential) == 0; i++) {
+    for (size_t i = 0; hidlog_key_get_credential(&state->vkey.key, i, &credential) == 0; i++) {
         const struct record *record = find_record(state, credential.id);
         if (record != NULL) {
             kept[count++] = *record;
@@ -177,13 +177,13 @@ size_t state_write(struct state *state, uint8_t bytes[STATE_MAX_BYTES]) {
     bytes[STATE_COUNT_AT] = (uint8_t)state->count;
     memcpy(bytes + STATE_RECORDS_AT, state->records, records);
     uint8_t *snapshot = bytes + STATE_RECORDS_AT + records;
-    size_t len = STATE_RECORDS_AT + records + snapshot_write(&state->held.key, snapshot);
+    size_t len = STATE_RECORDS_AT + records + snapshot_write(&state->vkey.key, snapshot);
     return compute_checksum(bytes, len, bytes + len) ? len + STATE_SUM : 0;
 }
 
 bool state_save(struct state *state) {
     static uint8_t bytes[STATE_MAX_BYTES];
-    if (hidlog_key_credential_count(&state->held.key) < 0) {
+    if (hidlog_key_credential_count(&state->vkey.key) < 0) {
         fprintf(stderr, "hidlog: %s: there is no key to save, and the old file is kept\n", state->path);
         return false;
     }
@@ -205,7 +205,7 @@ bool state_save(struct state *state) {
 }
 
 void state_close(struct state *state) {
-    held_key_close(&state->held);
+    virtual_key_close(&state->vkey);
     close(state->lock);
     OPENSSL_cleanse(state, sizeof *state);
 }

@@ -3,13 +3,13 @@
 #ifndef STATE_H
 #define STATE_H
 
-#include "held_key.h"
 #include "snapshot.h"
+#include "virtual_key.h"
 
 enum { APPLICATION = 64 };
 
-// What the file has of a credential besides the snapshot. The key has only the hash of an application, but OpenSSH
-// needs its name.
+// What the file stores of a credential besides the snapshot. The key stores only the hash of an application (the RP
+// ID), but OpenSSH needs the name.
 struct record {
     uint8_t id[32];
     uint8_t secret[32];
@@ -22,7 +22,7 @@ enum { STATE_COUNT_AT = 8, STATE_RECORDS_AT = 9, STATE_SUM = 32 };
 enum { STATE_MAX_BYTES = STATE_RECORDS_AT + SOFTWARE_KEYS * sizeof(struct record) + MAX_SNAPSHOT + STATE_SUM };
 
 struct state {
-    struct held_key held;
+    struct virtual_key vkey;
     struct record records[SOFTWARE_KEYS];
     size_t count;
     uint8_t saved[STATE_MAX_BYTES]; // the contents of the file

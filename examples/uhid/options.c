@@ -38,7 +38,7 @@ static bool parse_number(const char *word, uint64_t *read) {
     return *word >= '0' && *word <= '9' && *end == 0 && errno == 0 && *read <= INT_MAX;
 }
 
-static bool write_help(const char *text) {
+static bool print_help(const char *text) {
     if (fputs(text, stdout) < 0 || fflush(stdout) != 0) {
         fprintf(stderr, "hidlog-uhid: standard output: %s\n", strerror(errno));
         return false;
@@ -46,24 +46,24 @@ static bool write_help(const char *text) {
     return true;
 }
 
-static bool usage(void) {
+static bool print_usage(void) {
     fputs(help, stderr);
     return false;
 }
 
 static bool report_invalid_number(const char *option, const char *word) {
     fprintf(stderr, "hidlog-uhid: %s %s: must be a number from 0 to %d\n", option, word, INT_MAX);
-    return usage();
+    return print_usage();
 }
 
-// Option values before they are checked together.
-struct words {
+// Values that options_parse parses further once all options are known.
+struct option_values {
     const char *presence;
     uint64_t touch, descriptor;
 };
 
 // Parses one option. False if it is invalid.
-static bool parse_option(struct options *options, struct words *read, int option) {
+static bool parse_option(struct options *options, struct option_values *read, int option) {
     switch (option) {
     case 'p':
         read->presence = optarg;
@@ -79,17 +79,17 @@ static bool parse_option(struct options *options, struct words *read, int option
         options->state = optarg;
         return true;
     default:
-        return usage();
+        return print_usage();
     }
 }
 
-bool options_read(struct options *options, int count, char **words) {
-    struct words read = {"granted", 200, UINT64_MAX};
+bool options_parse(struct options *options, int count, char **words) {
+    struct option_values read = {"granted", 200, UINT64_MAX};
     memset(options, 0, sizeof *options);
     for (int option; (option = getopt_long(count, words, "p:t:r:s:f:hV", longer, NULL)) != -1;) {
         options->is_help = option == 'h' || option == 'V';
         if (options->is_help) {
-            return write_help(option == 'h' ? help : "hidlog-uhid " HIDLOG_VERSION "\n");
+            return print_help(option == 'h' ? help : "hidlog-uhid " HIDLOG_VERSION "\n");
         }
         if (!parse_option(options, &read, option)) {
             return false;
@@ -97,10 +97,10 @@ bool options_read(struct options *options, int count, char **words) {
     }
     int left = count - optind;
     if (left != (options->state == NULL ? 1 : 0)) {
-        fprintf(stderr, "hidlog-uhid: give the state file only once, as STATE or with --state\n");
-        return usage();
+        fprintf(stderr, "hidlog-uhid: the state file must be given exactly once, as STATE or with --state\n");
+        return print_usage();
     }
     options->state = left == 1 ? words[optind] : options->state;
     options->device = read.descriptor <= INT_MAX ? (int)read.descriptor : -1;
-    return user_read(&options->user, read.presence, read.touch);
+    return user_parse(&options->user, read.presence, read.touch);
 }

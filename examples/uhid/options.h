@@ -13,6 +13,6 @@ struct options {
 };
 
 // Parses the options. Prints errors and usage to standard error.
-bool options_read(struct options *options, int count, char **words);
+bool options_parse(struct options *options, int count, char **words);
 
 #endif

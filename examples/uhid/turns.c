@@ -2,7 +2,7 @@
 
 #include <string.h>
 
-// Offsets in INIT on the broadcast channel: the end of the nonce, and in the response the new channel.
+// Offsets in INIT on the broadcast channel: the end of the nonce, and in the response the new channel ID.
 enum { CHANNEL = 4, NONCE_END = 15, NEW_CHANNEL_AT = 15, INIT = 0x86 };
 
 static const uint8_t broadcast[CHANNEL] = {0xff, 0xff, 0xff, 0xff};

@@ -25,7 +25,7 @@ struct turns {
 // Adds a packet. If the queue is full, drops the last packet of the channel with most packets.
 void turns_put(struct turns *turns, const uint8_t packet[TURNS_PACKET]);
 
-// Records the channel that the key allocates in a packet it sends. Unallocated channels count as one sender.
+// Records a channel if this packet of the key allocates it. Channels that are not allocated count as one sender.
 void turns_record_channel(struct turns *turns, const uint8_t packet[TURNS_PACKET]);
 
 // Takes the next packet. False if the queue is empty.

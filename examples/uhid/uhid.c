@@ -2,7 +2,7 @@
 // it like a plugged-in key.
 //
 //     gcc -I release -I examples/c -I examples/ssh -o hidlog-uhid examples/uhid/*.c examples/ssh/state.c
-//         examples/c/{held_key,private_file,software_keys,snapshot}.c release/libhidlog.a -lcrypto
+//         examples/c/{virtual_key,private_file,software_keys,snapshot}.c release/libhidlog.a -lcrypto
 //     sudo ./hidlog-uhid --record session.log key.state
 //
 // For tests: the private keys are in the file in clear text.
@@ -57,7 +57,7 @@ static bool is_asked;   // whether the key waits for the user
 static uint64_t now_ms(void) {
     struct timespec time;
     clock_gettime(CLOCK_MONOTONIC, &time);
-    return (uint64_t)time.tv_sec * 1000 + (uint64_t)time.tv_nsec / 1000000 - state.held.powered_up;
+    return (uint64_t)time.tv_sec * 1000 + (uint64_t)time.tv_nsec / 1000000 - state.vkey.powered_up;
 }
 
 static bool print_system_error(const char *what) {
@@ -87,10 +87,10 @@ static bool send_packet(const uint8_t digits[2 * PACKET]) {
     return write_whole(device, (const uint8_t *)&event, sizeof event) || print_system_error("cannot send a packet");
 }
 
-// Saves the key. The bridge knows only the hashes of applications, not their names.
+// Saves the key. Records have no application names, since the bridge knows only their hashes.
 static bool save_state(void) {
     struct hidlog_credential credential;
-    for (size_t i = 0; hidlog_key_get_credential(&state.held.key, i, &credential) == 0; i++) {
+    for (size_t i = 0; hidlog_key_get_credential(&state.vkey.key, i, &credential) == 0; i++) {
         if (state_application(&state, credential.id) == NULL && !state_add(&state, credential.id, "")) {
             return print_system_error("a credential has no private key");
         }
@@ -98,11 +98,12 @@ static bool save_state(void) {
     return state_save(&state);
 }
 
-// Plays a log line and sends the response packets. Changes by a reply are saved first.
+// Plays a log line and sends the response packets. If the line is a reply, saves the key first, since it may have
+// changed.
 static bool play(const char *line) {
     static uint8_t text[MAX_TEXT];
     struct hidlog_result result;
-    if (hidlog_key_replay_lines(&state.held.key, (const uint8_t *)line, strlen(line), text, sizeof text, &result) !=
+    if (hidlog_key_replay_lines(&state.vkey.key, (const uint8_t *)line, strlen(line), text, sizeof text, &result) !=
         0) {
         fprintf(stderr, "hidlog-uhid: the key rejects %s", line);
         return false;
@@ -121,7 +122,7 @@ static bool play(const char *line) {
     return true;
 }
 
-// Plays a line with a letter, the timestamp and a word.
+// Plays a line of a letter, the current timestamp and, if not empty, a word.
 static bool play_word(char letter, const char *word) {
     char line[MAX_LINE + 2];
     snprintf(line, sizeof line, "%c %llu%s%s\n", letter, (unsigned long long)now_ms(), *word == 0 ? "" : " ", word);
@@ -134,10 +135,10 @@ static bool play_bytes(char letter, const uint8_t *bytes, size_t len) {
     return play_word(letter, word);
 }
 
-// Frees the key pairs without a credential.
-static void drop_pairs(void) {
+// Frees the key pairs that belong to no credential.
+static void free_unused_pairs(void) {
     for (size_t i = 0; i < SOFTWARE_KEYS; i++) {
-        struct software_key *pair = &state.held.keys.slots[i];
+        struct software_key *pair = &state.vkey.keys.slots[i];
         if (pair->pair != NULL && state_application(&state, pair->id) == NULL) {
             EVP_PKEY_free(pair->pair);
             OPENSSL_cleanse(pair, sizeof *pair);
@@ -147,8 +148,8 @@ static void drop_pairs(void) {
 
 static bool provide_key_pair(void) {
     char word[MAX_LINE];
-    drop_pairs();
-    const struct software_key *pair = software_keys_make(&state.held.keys);
+    free_unused_pairs();
+    const struct software_key *pair = software_keys_make(&state.vkey.keys);
     if (pair == NULL) {
         return play_word('k', "no");
     }
@@ -162,12 +163,12 @@ static bool provide_key_pair(void) {
 
 static bool provide_signature(const struct hidlog_need *need) {
     uint8_t signature[MAX_SIGNATURE];
-    size_t len = software_keys_sign(&state.held.keys, need->id, need->to_sign, need->to_sign_len, signature);
+    size_t len = software_keys_sign(&state.vkey.keys, need->id, need->to_sign, need->to_sign_len, signature);
     return len == 0 ? play_word('s', "no") : play_bytes('s', signature, len);
 }
 
 // Provides what the key needs. While it waits for the user, advances the time.
-static bool serve(const struct hidlog_need *need) {
+static bool provide_need(const struct hidlog_need *need) {
     const char *word;
     switch (need->kind) {
     case HIDLOG_NEED_KEY_PAIR:
@@ -190,25 +191,25 @@ static bool serve(const struct hidlog_need *need) {
 }
 
 // Plays the next packet, if any.
-static bool take_turn(void) {
+static bool play_next_packet(void) {
     uint8_t packet[PACKET];
     return !turns_take(&turns, packet) || play_bytes('>', packet, sizeof packet);
 }
 
 // The last program has closed the device: plays the packets it wrote, and ends a request that waits for the user, with
 // a timeout.
-static bool close_all(void) {
+static bool handle_close(void) {
     struct hidlog_need need;
     while (turns.count > 0) {
-        if (!take_turn()) {
+        if (!play_next_packet()) {
             return false;
         }
     }
-    return hidlog_key_get_need(&state.held.key, &need) != HIDLOG_NEED_PRESENCE || play_word('p', "timeout");
+    return hidlog_key_get_need(&state.vkey.key, &need) != HIDLOG_NEED_PRESENCE || play_word('p', "timeout");
 }
 
 // Reads a kernel event: a program wrote to the device, or the last one closed it.
-static bool take_event(void) {
+static bool handle_event(void) {
     struct uhid_event event = {0};
     ssize_t len = read(device, &event, sizeof event);
     if (len <= 0) {
@@ -216,7 +217,7 @@ static bool take_event(void) {
         return print_system_error("cannot read /dev/uhid");
     }
     if (event.type == UHID_CLOSE) {
-        return close_all();
+        return handle_close();
     }
     if (event.type != UHID_OUTPUT) {
         return true;
@@ -230,7 +231,7 @@ static bool take_event(void) {
 }
 
 // Reads the queued events, so that the kernel drops none; a limited number, in case a program floods.
-static bool take_events(void) {
+static bool handle_events(void) {
     struct pollfd file = {.fd = device, .events = POLLIN};
     for (int i = 0; i < MAX_EVENTS; i++) {
         int ready = poll(&file, 1, 0);
@@ -240,7 +241,7 @@ static bool take_events(void) {
         if (ready == 0) {
             return true;
         }
-        if (!take_event()) {
+        if (!handle_event()) {
             return false;
         }
     }
@@ -248,7 +249,7 @@ static bool take_events(void) {
 }
 
 // Returns how long to wait for events in milliseconds, or -1 for no limit.
-static int poll_timeout(uint32_t kind, bool is_idle) {
+static int poll_timeout_ms(uint32_t kind, bool is_idle) {
     if (turns.count > 0 || kind == HIDLOG_NEED_KEY_PAIR || kind == HIDLOG_NEED_SIGNATURE) {
         return 0;
     }
@@ -262,7 +263,7 @@ static int poll_timeout(uint32_t kind, bool is_idle) {
 
 // Returns what the key needs, and starts asking the user.
 static uint32_t check_need(struct hidlog_need *need) {
-    uint32_t kind = (uint32_t)hidlog_key_get_need(&state.held.key, need);
+    uint32_t kind = (uint32_t)hidlog_key_get_need(&state.vkey.key, need);
     if (kind == HIDLOG_NEED_PRESENCE && !is_asked) {
         ticked = now_ms();
         user_start_asking(&options.user, ticked);
@@ -279,8 +280,8 @@ static bool run(int signals) {
     bool is_idle = true;
     for (;;) {
         uint32_t kind = check_need(&need);
-        files[2].fd = is_asked && user_is_awaited(&options.user) ? STDIN_FILENO : -1;
-        int ready = poll(files, 3, poll_timeout(kind, is_idle));
+        files[2].fd = is_asked && user_reads_input(&options.user) ? STDIN_FILENO : -1;
+        int ready = poll(files, 3, poll_timeout_ms(kind, is_idle));
         if (ready < 0) {
             return print_system_error("poll");
         }
@@ -288,7 +289,7 @@ static bool run(int signals) {
             return true;
         }
         if (files[2].fd >= 0 && files[2].revents != 0) {
-            user_read_typed(&options.user);
+            user_read_input(&options.user);
         }
         bool is_quiet = ready == 0 && kind == HIDLOG_NEED_NONE && turns.count == 0;
         // An incomplete message ends when time passes.
@@ -296,7 +297,7 @@ static bool run(int signals) {
             return false;
         }
         is_idle = is_quiet;
-        if (!serve(&need) || (files[0].revents != 0 && !take_events()) || !take_turn()) {
+        if (!provide_need(&need) || (files[0].revents != 0 && !handle_events()) || !play_next_packet()) {
             return false;
         }
     }
@@ -328,7 +329,7 @@ static bool plug_in(void) {
 }
 
 // Whether a recording may be written to a path: it must not be the state file.
-static bool may_record(const char *path) {
+static bool is_recordable(const char *path) {
     struct stat one, other;
     bool is_there = stat(path, &one) == 0;
     if (!is_there && errno != ENOENT) {
@@ -340,7 +341,9 @@ static bool may_record(const char *path) {
     }
     bool is_one = is_there && has_state && one.st_dev == other.st_dev && one.st_ino == other.st_ino;
     if (is_one || strcmp(path, state.path) == 0) {
-        fprintf(stderr, "hidlog-uhid: %s: this is the state file; a recording would overwrite it\n", path);
+        fprintf(stderr,
+                "hidlog-uhid: %s: this is the state file, which a recording would overwrite; choose another path\n",
+                path);
         return false;
     }
     return true;
@@ -363,7 +366,7 @@ static bool overwrite_file(const char *path, int file, const uint8_t *bytes, siz
 // Opens the recording and its initial snapshot, if any. Neither is truncated unless both can be opened.
 static bool begin_recording(const char *path, const uint8_t *snapshot, size_t len) {
     char beside[PATH];
-    if (!snapshot_path(path, beside) || !may_record(path) || !may_record(beside)) {
+    if (!snapshot_path(path, beside) || !is_recordable(path) || !is_recordable(beside)) {
         return false;
     }
     recording = private_file_to_write(path);
@@ -383,9 +386,9 @@ static bool begin_recording(const char *path, const uint8_t *snapshot, size_t le
 static bool start_recording(const char *path) {
     static const uint8_t aaguid[16];
     static uint8_t snapshot[MAX_SNAPSHOT];
-    size_t len = snapshot_write(&state.held.key, snapshot);
-    hidlog_key_destroy(&state.held.key);
-    if (hidlog_key_init(&state.held.key, aaguid, 0, snapshot, len) != 0) {
+    size_t len = snapshot_write(&state.vkey.key, snapshot);
+    hidlog_key_destroy(&state.vkey.key);
+    if (hidlog_key_init(&state.vkey.key, aaguid, 0, snapshot, len) != 0) {
         fprintf(stderr, "hidlog-uhid: cannot create the key: invalid credentials\n");
         return false;
     }
@@ -422,7 +425,7 @@ static bool play_session(void) {
 }
 
 int main(int count, char **words) {
-    if (!options_read(&options, count, words)) {
+    if (!options_parse(&options, count, words)) {
         return 2;
     }
     if (options.is_help) {

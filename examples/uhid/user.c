@@ -10,7 +10,7 @@
 static const char *const words[] = {"granted", "denied", "timeout"};
 
 // Parses a line of a script: a word, and optionally milliseconds.
-static bool read_touch(char *line, uint64_t after, struct touch *touch) {
+static bool parse_touch(char *line, uint64_t after, struct touch *touch) {
     char *rest, *word = strtok_r(line, " \t\n", &rest), *number = strtok_r(NULL, " \t\n", &rest), *end = "";
     errno = 0;
     touch->word = NULL;
@@ -30,7 +30,7 @@ static bool read_lines(struct user *user, FILE *file, const char *path, uint64_t
         if (line[strspn(line, " \t\n")] == 0 || *line == '#') {
             continue;
         }
-        if (user->count == USER_TOUCHES || !read_touch(line, after, &user->touches[user->count])) {
+        if (user->count == USER_TOUCHES || !parse_touch(line, after, &user->touches[user->count])) {
             fprintf(stderr,
                     "hidlog-uhid: %s, line %u: expected granted, denied or timeout, optionally with "
                     "milliseconds, and at most %d touches\n",
@@ -58,7 +58,7 @@ static bool read_script(struct user *user, const char *path, uint64_t after) {
     return is_read;
 }
 
-bool user_read(struct user *user, const char *word, uint64_t after) {
+bool user_parse(struct user *user, const char *word, uint64_t after) {
     memset(user, 0, sizeof *user);
     if (strncmp(word, "script:", 7) == 0 && word[7] != 0) {
         return read_script(user, word + 7, after);
@@ -85,7 +85,7 @@ void user_start_asking(struct user *user, uint64_t now) {
     user->due = now + user->touches[user->next].after;
 }
 
-void user_read_typed(struct user *user) {
+void user_read_input(struct user *user) {
     size_t capacity = sizeof user->typed - user->typed_len;
     ssize_t len = read(STDIN_FILENO, user->typed + user->typed_len, capacity);
     // A line that is too long is discarded.
@@ -93,11 +93,11 @@ void user_read_typed(struct user *user) {
     user->is_gone = capacity > 0 && (len == 0 || (len < 0 && errno != EINTR && errno != EAGAIN));
 }
 
-bool user_is_awaited(const struct user *user) {
+bool user_reads_input(const struct user *user) {
     return user->kind == USER_ASKED && !user->is_gone;
 }
 
-// Removes the first typed line. Returns its meaning, or NULL if there is none.
+// Removes the first typed line. Returns the word of its reply, or NULL without a line that begins with y or n.
 static const char *take_line(struct user *user) {
     char *end = memchr(user->typed, '\n', user->typed_len);
     if (end == NULL) {

@@ -28,16 +28,16 @@ struct user {
 
 // Parses `granted`, `ask` or `script:FILE`. A touch of a script without a time takes `after` milliseconds. Errors are
 // printed to standard error.
-bool user_read(struct user *user, const char *word, uint64_t after);
+bool user_parse(struct user *user, const char *word, uint64_t after);
 
-// The key has started to ask.
+// Starts a request for a touch at `now`, in milliseconds: prints the question, or sets when the user acts.
 void user_start_asking(struct user *user, uint64_t now);
 
-// Reads what a person has typed. Standard input must be readable.
-void user_read_typed(struct user *user);
+// Reads what a person has typed from standard input, which must be ready.
+void user_read_input(struct user *user);
 
-// Whether to wait for standard input while the key asks.
-bool user_is_awaited(const struct user *user);
+// Whether the user's reply comes from standard input, which has not ended.
+bool user_reads_input(const struct user *user);
 
 // Returns what the user does, as in a log, or NULL while waiting.
 const char *user_get_reply(struct user *user, uint64_t now);

@@ -16,7 +16,7 @@ extern char **environ;
 static int argument_count;
 static char **arguments;
 
-// The C library calls the functions in the section .init_array with the arguments of main.
+// The C library passes the arguments of main to the functions in the section .init_array.
 static void keep_arguments(int count, char **words)
 {
     argument_count = count;

@@ -9,7 +9,7 @@
 #include <stdlib.h>
 #include <string.h>
 
-enum { AT = 5, INIT = 0x86, CBOR = 0x90, CONTINUED = 59, FIRST = 57 };
+enum { TIME_MS = 5, INIT = 0x86, CBOR = 0x90, CONTINUATION_DATA = 59, INITIALIZATION_DATA = 57 };
 
 // SHA-256 of "example.com".
 static const uint8_t rp_hash[32] = {0xa3, 0x79, 0xa6, 0xf6, 0xee, 0xaf, 0xb9, 0xa5, 0x5e, 0x37, 0x8c,
@@ -23,7 +23,7 @@ static void expect(int64_t found, int64_t expected, const char *what) {
     }
 }
 
-static struct hidlog_key make_key(const uint8_t *snapshot, size_t len) {
+static struct hidlog_key new_key(const uint8_t *snapshot, size_t len) {
     struct hidlog_key key = {aligned_alloc(16, (hidlog_key_size() + 15) / 16 * 16), 0};
     expect(hidlog_key_init(&key, (const uint8_t[16]){0}, 0, snapshot, len), 0, "hidlog_key_init");
     return key;
@@ -40,7 +40,7 @@ static struct hidlog_credential credential(size_t number) {
 
 // Sends a message on a channel. Returns the length of the response, skipping KEEPALIVEs.
 static size_t exchange(struct hidlog_key *key, uint32_t channel, uint8_t command, const uint8_t *message, size_t len,
-                       uint8_t *answer) {
+                       uint8_t *response) {
     uint8_t packet[64] = {(uint8_t)(channel >> 24),
                           (uint8_t)(channel >> 16),
                           (uint8_t)(channel >> 8),
@@ -48,15 +48,15 @@ static size_t exchange(struct hidlog_key *key, uint32_t channel, uint8_t command
                           command,
                           (uint8_t)(len >> 8),
                           (uint8_t)len};
-    size_t sent = len < FIRST ? len : FIRST;
+    size_t sent = len < INITIALIZATION_DATA ? len : INITIALIZATION_DATA;
     memcpy(packet + 7, message, sent);
-    hidlog_key_write_packet(key, AT, packet);
+    hidlog_key_write_packet(key, TIME_MS, packet);
     for (uint8_t number = 0; sent < len; number++) {
-        size_t part = len - sent < CONTINUED ? len - sent : CONTINUED;
+        size_t part = len - sent < CONTINUATION_DATA ? len - sent : CONTINUATION_DATA;
         memset(packet + 4, 0, 60);
         packet[4] = number;
         memcpy(packet + 5, message + sent, part);
-        hidlog_key_write_packet(key, AT, packet);
+        hidlog_key_write_packet(key, TIME_MS, packet);
         sent += part;
     }
     size_t held = 0, whole = 0;
@@ -66,18 +66,18 @@ static size_t exchange(struct hidlog_key *key, uint32_t channel, uint8_t command
             hidlog_key_read_packet(key, packet);
             if (packet[4] == command) {
                 whole = (size_t)packet[5] << 8 | packet[6];
-                memcpy(answer, packet + 7, FIRST);
-                held = FIRST;
+                memcpy(response, packet + 7, INITIALIZATION_DATA);
+                held = INITIALIZATION_DATA;
             } else if (packet[4] < 128) {
-                memcpy(answer + held, packet + 5, CONTINUED);
-                held += CONTINUED;
+                memcpy(response + held, packet + 5, CONTINUATION_DATA);
+                held += CONTINUATION_DATA;
             }
         }
         int32_t kind = hidlog_key_get_need(key, &need);
         if (kind == HIDLOG_NEED_PRESENCE) {
-            hidlog_key_provide_presence(key, AT, HIDLOG_PRESENCE_GRANTED);
+            hidlog_key_provide_presence(key, TIME_MS, HIDLOG_PRESENCE_GRANTED);
         } else if (kind == HIDLOG_NEED_SIGNATURE) {
-            hidlog_key_provide_signature(key, AT, (const uint8_t[8]){0x30, 6, 2, 1, 1, 2, 1, 1}, 8);
+            hidlog_key_provide_signature(key, TIME_MS, (const uint8_t[8]){0x30, 6, 2, 1, 1, 2, 1, 1}, 8);
         } else {
             expect(kind, HIDLOG_NEED_NONE, "what is needed");
         }
@@ -86,39 +86,41 @@ static size_t exchange(struct hidlog_key *key, uint32_t channel, uint8_t command
 }
 
 static uint32_t open_channel(struct hidlog_key *key) {
-    uint8_t answer[7700];
-    expect((int64_t)exchange(key, 0xffffffff, INIT, (const uint8_t[8]){1, 2, 3, 4, 5, 6, 7, 8}, 8, answer), 17, "INIT");
-    return (uint32_t)answer[8] << 24 | (uint32_t)answer[9] << 16 | (uint32_t)answer[10] << 8 | answer[11];
+    uint8_t response[7700];
+    expect((int64_t)exchange(key, 0xffffffff, INIT, (const uint8_t[8]){1, 2, 3, 4, 5, 6, 7, 8}, 8, response), 17,
+           "INIT");
+    return (uint32_t)response[8] << 24 | (uint32_t)response[9] << 16 | (uint32_t)response[10] << 8 | response[11];
 }
 
 // A registration of a discoverable credential for another user returns 0x28.
 static void expect_full(struct hidlog_key *key) {
-    uint8_t message[91] = {1, 0xa5, 1, 0x58, 0x20}, answer[7700];
+    uint8_t message[91] = {1, 0xa5, 1, 0x58, 0x20}, response[7700];
     static const uint8_t rest[] = "\x02\xa1\x62id\x6b"
                                   "example.com\x03\xa1\x62id\x41\x01\x04\x81\xa2\x63"
                                   "alg\x26\x64type\x6a"
                                   "public-key\x07\xa1\x62rk\xf5";
     memset(message + 5, 0x11, 32);
     memcpy(message + 37, rest, sizeof message - 37);
-    expect((int64_t)exchange(key, open_channel(key), CBOR, message, sizeof message, answer), 1, "the response length");
-    expect(answer[0], 0x28, "the status of a registration on a full key");
+    expect((int64_t)exchange(key, open_channel(key), CBOR, message, sizeof message, response), 1,
+           "the response length");
+    expect(response[0], 0x28, "the status of a registration on a full key");
 }
 
-// A sign-in without an allow list finds all: member 5 of the response, its last, is the number.
+// A sign-in without an allow list finds all credentials: numberOfCredentials is member 5 of the response, its last.
 static void expect_all_found(struct hidlog_key *key, size_t capacity) {
     uint8_t message[50] = {2, 0xa2, 1, 0x6b, 'e', 'x', 'a', 'm', 'p', 'l', 'e', '.', 'c', 'o', 'm', 2, 0x58, 0x20};
-    uint8_t answer[7700];
+    uint8_t response[7700];
     memset(message + 18, 0x22, 32);
-    size_t len = exchange(key, open_channel(key), CBOR, message, sizeof message, answer);
-    expect(answer[0], 0, "the status of a sign-in");
+    size_t len = exchange(key, open_channel(key), CBOR, message, sizeof message, response);
+    expect(response[0], 0, "the status of a sign-in");
     if (capacity < 256) {
-        expect(answer[len - 3], 5, "the last member");
-        expect(answer[len - 2], 0x18, "its head");
-        expect(answer[len - 1], (int64_t)capacity, "numberOfCredentials");
+        expect(response[len - 3], 5, "the last member");
+        expect(response[len - 2], 0x18, "its head");
+        expect(response[len - 1], (int64_t)capacity, "numberOfCredentials");
     } else {
-        expect(answer[len - 4], 5, "the last member");
-        expect(answer[len - 3], 0x19, "its head");
-        expect(answer[len - 2] << 8 | answer[len - 1], (int64_t)capacity, "numberOfCredentials");
+        expect(response[len - 4], 5, "the last member");
+        expect(response[len - 3], 0x19, "its head");
+        expect(response[len - 2] << 8 | response[len - 1], (int64_t)capacity, "numberOfCredentials");
     }
     expect(hidlog_key_pending_assertions(key), (int64_t)capacity - 1, "pending assertions");
 }
@@ -128,7 +130,7 @@ int main(int count, char **words) {
     static uint8_t saved[HIDLOG_SNAPSHOT_MAX_LEN], again[HIDLOG_SNAPSHOT_MAX_LEN];
     expect((int64_t)hidlog_key_capacity(), (int64_t)capacity, "hidlog_key_capacity");
     expect(HIDLOG_CAPACITY, (int64_t)capacity, "HIDLOG_CAPACITY");
-    struct hidlog_key key = make_key(saved, 0);
+    struct hidlog_key key = new_key(saved, 0);
     for (size_t number = 0; number < capacity; number++) {
         struct hidlog_credential made = credential(number);
         expect(hidlog_key_add_credential(&key, 0, &made), 0, "hidlog_key_add_credential");
@@ -138,7 +140,7 @@ int main(int count, char **words) {
     expect(hidlog_key_credential_count(&key), (int64_t)capacity, "hidlog_key_credential_count");
     expect_full(&key);
     int32_t len = hidlog_key_save_snapshot(&key, saved, sizeof saved);
-    struct hidlog_key other = make_key(saved, (size_t)len);
+    struct hidlog_key other = new_key(saved, (size_t)len);
     expect(hidlog_key_save_snapshot(&other, again, sizeof again), len, "a snapshot's length");
     expect(memcmp(saved, again, (size_t)len), 0, "the comparison of snapshots");
     expect_all_found(&other, capacity);

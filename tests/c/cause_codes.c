@@ -1,5 +1,5 @@
-// hidlog_key_cause: what the other codes of hidlog.h need, each in a session of its own, with expected values written
-// by hand from CTAP 2.1. Not reachable here: HIDLOG_CAUSE_NO_CHANNEL_LEFT (after 2^32 - 2 INITs) and
+// hidlog_key_cause: the codes that causes.c does not test, each in a session of its own, with expected values written by
+// hand from CTAP 2.1. Not reachable here: HIDLOG_CAUSE_NO_CHANNEL_LEFT (after 2^32 - 2 INITs) and
 // HIDLOG_CAUSE_EMPTY_REQUEST. Prints nothing and returns 0 on success.
 #include "hidlog.h"
 
@@ -8,20 +8,22 @@
 #include <stdlib.h>
 #include <string.h>
 
-#define HASH "2222222222222222222222222222222222222222222222222222222222222222"
-#define RP "a16269646b6578616d706c652e636f6d"
-#define USER "a16269644101"
+#define CLIENT_DATA_HASH "2222222222222222222222222222222222222222222222222222222222222222"
+#define RP_ENTITY "a16269646b6578616d706c652e636f6d"
+#define USER_ENTITY "a16269644101"
 #define OTHER_USER "a16269644102"
-#define ES256 "81a263616c672664747970656a7075626c69632d6b6579"
-// authenticatorMakeCredential with clientDataHash, rp, user and pubKeyCredParams, the map's head and further
-// parameters.
-#define MAKE(head, user, more) "01" head "015820" HASH "02" RP "03" user "04" ES256 more
-#define RESIDENT "07a162726bf5"
-#define ID "abababababababababababababababababababababababababababababababab"
-#define DESCRIPTORS "81a26269645820" ID "64747970656a7075626c69632d6b6579"
-#define GET "02a2016b6578616d706c652e636f6d025820" HASH
+#define ES256_PARAMETER "81a263616c672664747970656a7075626c69632d6b6579"
+// authenticatorMakeCredential: head is the head of the parameters' map, more its encoded parameters after
+// pubKeyCredParams.
+#define MAKE_CREDENTIAL(head, user, more)                                                                              \
+    "01" head "015820" CLIENT_DATA_HASH "02" RP_ENTITY "03" user "04" ES256_PARAMETER more
+#define DISCOVERABLE "07a162726bf5"
+#define CREDENTIAL_ID "abababababababababababababababababababababababababababababababab"
+#define ALLOW_LIST "81a26269645820" CREDENTIAL_ID "64747970656a7075626c69632d6b6579"
+#define GET_ASSERTION "02a2016b6578616d706c652e636f6d025820" CLIENT_DATA_HASH
 
-// An event on a channel: a packet, a message of CTAPHID_CBOR, a reply of the caller, or as many credentials as fit.
+// An event: a packet or a CTAPHID_CBOR message on a channel, a reply of the caller, or filling the key with
+// credentials.
 enum kind { END, PACKET, CBOR, PRESENCE, KEY_PAIR, NO_KEY_PAIR, SIGNATURE, NO_SIGNATURE, STORE };
 struct event {
     enum kind kind;
@@ -40,8 +42,9 @@ struct session {
     {PACKET, 1, 0xffffffff, "86000800010203040506"}, {                                                                 \
         PACKET, 2, 0xffffffff, "86000800010203040506"                                                                  \
     }
-#define MADE(user, id)                                                                                                 \
-    {CBOR, 3, 1, MAKE("a5", user, RESIDENT)}, {PRESENCE, 4, HIDLOG_PRESENCE_GRANTED, ""}, {KEY_PAIR, 5, id, ""}, {     \
+#define REGISTRATION(user, id)                                                                                         \
+    {CBOR, 3, 1, MAKE_CREDENTIAL("a5", user, DISCOVERABLE)}, {PRESENCE, 4, HIDLOG_PRESENCE_GRANTED, ""},               \
+        {KEY_PAIR, 5, id, ""}, {                                                                                       \
         SIGNATURE, 6, 0, ""                                                                                            \
     }
 
@@ -51,78 +54,85 @@ static const struct session sessions[] = {
     {{HIDLOG_CAUSE_BUSY_ELSEWHERE, 0x06, 1, 0}, {CHANNELS, {CBOR, 3, 1, "0b"}, {PACKET, 4, 2, "810001"}}},
     {{HIDLOG_CAUSE_BUSY_HERE, 0x06, 0, 0}, {CHANNELS, {CBOR, 3, 1, "0b"}, {PACKET, 4, 1, "810001"}}},
     {{HIDLOG_CAUSE_ENTRY_NOT_WHOLE, 0x14, 0x01, 0x04},
-     {CHANNELS, {CBOR, 3, 1, "01a4015820" HASH "02" RP "03" USER "0481a163616c6726"}}},
+     {CHANNELS, {CBOR, 3, 1, "01a4015820" CLIENT_DATA_HASH "02" RP_ENTITY "03" USER_ENTITY "0481a163616c6726"}}},
     {{HIDLOG_CAUSE_ENTRY_NOT_WHOLE, 0x14, 0x02, 0x03},
-     {CHANNELS, {CBOR, 3, 1, "02a3016b6578616d706c652e636f6d025820" HASH "0381a16269644101"}}},
+     {CHANNELS, {CBOR, 3, 1, "02a3016b6578616d706c652e636f6d025820" CLIENT_DATA_HASH "0381a16269644101"}}},
     {{HIDLOG_CAUSE_HASH_LENGTH, 0x03, 1, 0},
      {CHANNELS,
       {CBOR, 3, 1,
        "01a4014122"
-       "02" RP "03" USER "04" ES256}}},
+       "02" RP_ENTITY "03" USER_ENTITY "04" ES256_PARAMETER}}},
     {{HIDLOG_CAUSE_USER_ID_LENGTH, 0x03, 65, 0},
      {CHANNELS,
       {CBOR, 3, 1,
-       MAKE("a4",
-            "a1626964"
-            "5841" HASH HASH "33",
-            "")}}},
-    {{HIDLOG_CAUSE_PIN_UV_AUTH_PARAM, 0x02, 0, 0}, {CHANNELS, {CBOR, 3, 1, MAKE("a5", USER, "0840")}}},
+       MAKE_CREDENTIAL("a4",
+                       "a1626964"
+                       "5841" CLIENT_DATA_HASH CLIENT_DATA_HASH "33",
+                       "")}}},
+    {{HIDLOG_CAUSE_PIN_UV_AUTH_PARAM, 0x02, 0, 0},
+     {CHANNELS, {CBOR, 3, 1, MAKE_CREDENTIAL("a5", USER_ENTITY, "0840")}}},
     {{HIDLOG_CAUSE_NO_ALGORITHM, 0x26, 0, 0},
      {CHANNELS,
-      {CBOR, 3, 1, "01a4015820" HASH "02" RP "03" USER "0481a263616c6739010064747970656a7075626c69632d6b6579"}}},
-    {{HIDLOG_CAUSE_UV_OPTION, 0x2c, 0, 0}, {CHANNELS, {CBOR, 3, 1, MAKE("a5", USER, "07a1627576f5")}}},
-    {{HIDLOG_CAUSE_UP_OPTION, 0x2c, 0, 0}, {CHANNELS, {CBOR, 3, 1, MAKE("a5", USER, "07a1627570f4")}}},
+      {CBOR, 3, 1,
+       "01a4015820" CLIENT_DATA_HASH "02" RP_ENTITY "03" USER_ENTITY
+       "0481a263616c6739010064747970656a7075626c69632d6b6579"}}},
+    {{HIDLOG_CAUSE_UV_OPTION, 0x2c, 0, 0},
+     {CHANNELS, {CBOR, 3, 1, MAKE_CREDENTIAL("a5", USER_ENTITY, "07a1627576f5")}}},
+    {{HIDLOG_CAUSE_UP_OPTION, 0x2c, 0, 0},
+     {CHANNELS, {CBOR, 3, 1, MAKE_CREDENTIAL("a5", USER_ENTITY, "07a1627570f4")}}},
     {{HIDLOG_CAUSE_RK_OPTION, 0x2b, 0, 0},
-     {CHANNELS, {CBOR, 3, 1, "02a3016b6578616d706c652e636f6d025820" HASH "05a162726bf5"}}},
-    {{HIDLOG_CAUSE_ENTERPRISE, 0x02, 0, 0}, {CHANNELS, {CBOR, 3, 1, MAKE("a5", USER, "0a01")}}},
+     {CHANNELS, {CBOR, 3, 1, "02a3016b6578616d706c652e636f6d025820" CLIENT_DATA_HASH "05a162726bf5"}}},
+    {{HIDLOG_CAUSE_ENTERPRISE, 0x02, 0, 0}, {CHANNELS, {CBOR, 3, 1, MAKE_CREDENTIAL("a5", USER_ENTITY, "0a01")}}},
     {{HIDLOG_CAUSE_CANCELLED, 0x2d, 0, 0}, {CHANNELS, {CBOR, 3, 1, "0b"}, {PACKET, 4, 1, "910000"}}},
     {{HIDLOG_CAUSE_DENIED, 0x27, 0, 0}, {CHANNELS, {CBOR, 3, 1, "0b"}, {PRESENCE, 4, HIDLOG_PRESENCE_DENIED, ""}}},
     {{HIDLOG_CAUSE_NO_CONSENT, 0x27, 0, 0},
-     {CHANNELS, {CBOR, 3, 1, MAKE("a5", USER, RESIDENT)}, {PRESENCE, 4, HIDLOG_PRESENCE_TIMED_OUT, ""}}},
+     {CHANNELS,
+      {CBOR, 3, 1, MAKE_CREDENTIAL("a5", USER_ENTITY, DISCOVERABLE)},
+      {PRESENCE, 4, HIDLOG_PRESENCE_TIMED_OUT, ""}}},
     {{HIDLOG_CAUSE_NO_RESPONSE, 0x2f, 0, 0},
      {CHANNELS, {CBOR, 3, 1, "0b"}, {PRESENCE, 4, HIDLOG_PRESENCE_TIMED_OUT, ""}}},
     {{HIDLOG_CAUSE_EXCLUDED, 0x19, 0, 0},
      {CHANNELS,
-      MADE(USER, 0xab),
-      {CBOR, 7, 1, MAKE("a5", OTHER_USER, "05" DESCRIPTORS)},
+      REGISTRATION(USER_ENTITY, 0xab),
+      {CBOR, 7, 1, MAKE_CREDENTIAL("a5", OTHER_USER, "05" ALLOW_LIST)},
       {PRESENCE, 8, HIDLOG_PRESENCE_GRANTED, ""}}},
     {{HIDLOG_CAUSE_FULL, 0x28, 0, 0},
      {{STORE, 0, 0, ""},
       CHANNELS,
-      {CBOR, 3, 1, MAKE("a5", OTHER_USER, RESIDENT)},
+      {CBOR, 3, 1, MAKE_CREDENTIAL("a5", OTHER_USER, DISCOVERABLE)},
       {PRESENCE, 4, HIDLOG_PRESENCE_GRANTED, ""}}},
     {{HIDLOG_CAUSE_NO_KEY, 0x7f, 0, 0},
      {CHANNELS,
-      {CBOR, 3, 1, MAKE("a5", USER, RESIDENT)},
+      {CBOR, 3, 1, MAKE_CREDENTIAL("a5", USER_ENTITY, DISCOVERABLE)},
       {PRESENCE, 4, HIDLOG_PRESENCE_GRANTED, ""},
       {NO_KEY_PAIR, 5, 0, ""}}},
     {{HIDLOG_CAUSE_KEY_ID, 0x7f, 0, 0},
      {CHANNELS,
-      MADE(USER, 0xab),
-      {CBOR, 7, 1, MAKE("a5", OTHER_USER, RESIDENT)},
+      REGISTRATION(USER_ENTITY, 0xab),
+      {CBOR, 7, 1, MAKE_CREDENTIAL("a5", OTHER_USER, DISCOVERABLE)},
       {PRESENCE, 8, HIDLOG_PRESENCE_GRANTED, ""},
       {KEY_PAIR, 9, 0xab, ""}}},
     {{HIDLOG_CAUSE_NO_SIGNATURE, 0x7f, 0, 0},
      {CHANNELS,
-      {CBOR, 3, 1, MAKE("a5", USER, RESIDENT)},
+      {CBOR, 3, 1, MAKE_CREDENTIAL("a5", USER_ENTITY, DISCOVERABLE)},
       {PRESENCE, 4, HIDLOG_PRESENCE_GRANTED, ""},
       {KEY_PAIR, 5, 0xab, ""},
       {NO_SIGNATURE, 6, 0, ""}}},
-    {{HIDLOG_CAUSE_NO_CREDENTIAL, 0x2e, 0, 0}, {CHANNELS, {CBOR, 3, 1, GET}}},
+    {{HIDLOG_CAUSE_NO_CREDENTIAL, 0x2e, 0, 0}, {CHANNELS, {CBOR, 3, 1, GET_ASSERTION}}},
     {{HIDLOG_CAUSE_NO_CREDENTIAL, 0x2e, 1, 0},
-     {CHANNELS, {CBOR, 3, 1, "02a3016b6578616d706c652e636f6d025820" HASH "03" DESCRIPTORS}}},
-    {{HIDLOG_CAUSE_COUNTER, 0x15, 0, 0}, {{STORE, 0, 0xffffffff, ""}, CHANNELS, {CBOR, 3, 1, GET}}},
+     {CHANNELS, {CBOR, 3, 1, "02a3016b6578616d706c652e636f6d025820" CLIENT_DATA_HASH "03" ALLOW_LIST}}},
+    {{HIDLOG_CAUSE_COUNTER, 0x15, 0, 0}, {{STORE, 0, 0xffffffff, ""}, CHANNELS, {CBOR, 3, 1, GET_ASSERTION}}},
     {{HIDLOG_CAUSE_PENDING_ELSEWHERE, 0x30, 1, 0},
      {{STORE, 0, 0, ""},
       CHANNELS,
-      {CBOR, 3, 1, GET},
+      {CBOR, 3, 1, GET_ASSERTION},
       {PRESENCE, 4, HIDLOG_PRESENCE_GRANTED, ""},
       {SIGNATURE, 5, 0, ""},
       {CBOR, 6, 2, "08"}}},
     {{HIDLOG_CAUSE_NEXT_TOO_LATE, 0x30, 5, 30006},
      {{STORE, 0, 0, ""},
       CHANNELS,
-      {CBOR, 3, 1, GET},
+      {CBOR, 3, 1, GET_ASSERTION},
       {PRESENCE, 4, HIDLOG_PRESENCE_GRANTED, ""},
       {SIGNATURE, 5, 0, ""},
       {CBOR, 30006, 1, "08"}}},

@@ -52,14 +52,14 @@ static const struct step steps[] = {
     {"0000000190000104", 10002, {0}, ""},
 };
 
-static void expect(int is_so, const char *what) {
-    if (!is_so) {
+static void expect(int holds, const char *what) {
+    if (!holds) {
         fprintf(stderr, "causes: %s\n", what);
         exit(1);
     }
 }
 
-static void packet_of(const char *digits, uint8_t packet[64]) {
+static void parse_packet(const char *digits, uint8_t packet[64]) {
     memset(packet, 0, 64);
     for (size_t i = 0; digits[2 * i] != 0; i++) {
         unsigned byte;
@@ -68,7 +68,7 @@ static void packet_of(const char *digits, uint8_t packet[64]) {
     }
 }
 
-static void send_all(struct hidlog_key *key) {
+static void discard_packets(struct hidlog_key *key) {
     uint8_t packet[64];
     while (hidlog_key_queued_packets(key) > 0) {
         expect(hidlog_key_read_packet(key, packet) >= 0, "a queued packet");
@@ -76,7 +76,7 @@ static void send_all(struct hidlog_key *key) {
 }
 
 // Checks the cause of a timeout (0) or of the input (1).
-static void check(struct hidlog_key *key, uint32_t which, const struct hidlog_cause *expected, const char *sentence) {
+static void check_cause(struct hidlog_key *key, uint32_t which, const struct hidlog_cause *expected, const char *sentence) {
     struct hidlog_cause cause = {0};
     char text[160];
     int32_t len = hidlog_key_cause(key, which, &cause, (uint8_t *)text, sizeof text);
@@ -89,31 +89,31 @@ static void check(struct hidlog_key *key, uint32_t which, const struct hidlog_ca
     }
 }
 
-// The cause of a timeout is separate from that of the input.
-static void time_out(struct hidlog_key *key) {
+// The cause of a timeout is separate from that of the input that triggers it.
+static void test_timeout(struct hidlog_key *key) {
     static const struct hidlog_cause none, late = {HIDLOG_CAUSE_TIMED_OUT, 0x05, 20000, 20500};
     uint8_t packet[64];
-    packet_of("00000001810064", packet);
+    parse_packet("00000001810064", packet);
     expect(hidlog_key_write_packet(key, 20000, packet) == 0, "the first packet of a PING");
     expect(hidlog_key_tick(key, 20500) == 1, "the ERROR of a timeout");
-    check(key, 0, &late, "the message timed out: its last packet came at 20000 ms, 500 ms or more before 20500 ms");
-    check(key, 1, &none, "");
-    send_all(key);
+    check_cause(key, 0, &late, "the message timed out: its last packet came at 20000 ms, 500 ms or more before 20500 ms");
+    check_cause(key, 1, &none, "");
+    discard_packets(key);
 }
 
-static void invalid_calls(struct hidlog_key *key) {
+static void test_invalid_calls(struct hidlog_key *key) {
     static const struct hidlog_cause none;
     struct hidlog_cause cause = {1, 2, 3, 4};
     uint8_t packet[64], text[5];
-    packet_of("0000000190000108", packet);
+    parse_packet("0000000190000108", packet);
     expect(hidlog_key_write_packet(key, 20600, packet) == 1, "getNextAssertion");
-    send_all(key);
+    discard_packets(key);
     expect(hidlog_key_cause(key, 2, &cause, text, sizeof text) == HIDLOG_KEY_ERR_INVALID_ARGUMENT && cause.code == 1,
          "another `which`");
     expect(hidlog_key_cause(key, 1, &cause, text, sizeof text) == 5 && memcmp(text, "no as", 5) == 0, "a short buffer");
     expect(hidlog_key_cause(key, 1, &cause, text, 0) == 0 && cause.code == HIDLOG_CAUSE_NOTHING_PENDING, "no buffer");
     expect(hidlog_key_clear_credentials(key, 20700) == 0, "power-up");
-    check(key, 1, &none, "");
+    check_cause(key, 1, &none, "");
     expect(hidlog_key_destroy(key) == 0, "destroy");
     expect(hidlog_key_cause(key, 1, &cause, text, sizeof text) == HIDLOG_KEY_ERR_NOT_INITIALIZED, "a destroyed key");
 }
@@ -124,17 +124,17 @@ int main(void) {
     struct hidlog_key key = {0};
     key.memory = aligned_alloc(16, (hidlog_key_size() + 15) / 16 * 16);
     expect(key.memory != NULL && hidlog_key_init(&key, aaguid, 0, aaguid, 0) == 0, "a key");
-    check(&key, 1, &none, "");
+    check_cause(&key, 1, &none, "");
     for (size_t i = 0; i < sizeof steps / sizeof steps[0]; i++) {
         uint8_t packet[64];
-        packet_of(steps[i].digits, packet);
+        parse_packet(steps[i].digits, packet);
         expect(hidlog_key_write_packet(&key, steps[i].at, packet) >= 0, steps[i].digits);
-        check(&key, 1, &steps[i].cause, steps[i].sentence);
-        check(&key, 0, &none, "");
-        send_all(&key);
+        check_cause(&key, 1, &steps[i].cause, steps[i].sentence);
+        check_cause(&key, 0, &none, "");
+        discard_packets(&key);
     }
-    time_out(&key);
-    invalid_calls(&key);
+    test_timeout(&key);
+    test_invalid_calls(&key);
     free(key.memory);
     return 0;
 }

@@ -15,7 +15,7 @@ static struct hidlog_result result;
 static const char *folder;
 static int failures;
 
-/* Whether the result is this one. */
+/* Returns whether the result of the last command has these values. */
 static int is_result(uint32_t status, uint32_t error, uint64_t line, uint64_t packet, uint64_t written)
 {
     return result.status == status && result.error == error && result.line == line && result.packet == packet
@@ -53,7 +53,7 @@ static int run(command *command_fn, size_t log_len, size_t snapshot_len, size_t 
     return out[out_cap] == CANARY;
 }
 
-/* A worked log is its own replay, and passes the check. */
+/* Replaying a worked log writes the same log, and check passes. */
 static void test_worked_log(const char *name, const char *from)
 {
     size_t size = read_file(name, log_bytes), begins = from ? read_file(from, snapshot) : 0;
@@ -63,7 +63,7 @@ static void test_worked_log(const char *name, const char *from)
     expect(result.status == HIDLOG_OK && !memcmp(out, "same ", 5), name);
 }
 
-/* hidlog_live reports needs after each input, and its output replays to itself. */
+/* hidlog_live reports the need after each input, and replaying its output writes the same. */
 static void test_live(void)
 {
     size_t size = read_file("registration.log", log_bytes);
@@ -77,7 +77,7 @@ static void test_live(void)
     expect(result.status == HIDLOG_OK && result.written == size && !memcmp(out, log_bytes, size), "replayed");
 }
 
-/* Every buffer that is too small gives the error and the start of the text. */
+/* With each buffer that is too small, the result is an error and the buffer has the start of the text. */
 static void test_small_buffers(void)
 {
     size_t size = read_file("registration.log", log_bytes);
@@ -144,7 +144,7 @@ static void test_snapshots(void)
     expect(out[0] == CANARY, "nothing is written if the snapshot is rejected");
 }
 
-/* The message of each error that C can see; truncated in a small buffer, empty at 0. The texts are those of
+/* The message of each error of a C function, also truncated in a small buffer. The texts are those of
  * docs/use/LOG_FORMAT.md, "Faults". */
 static void test_texts(void)
 {

@@ -1,4 +1,4 @@
-// The credentials of an in-memory key: saved, removed and added. Plays a log from standard input, compares the output
+// Saves, removes and adds the credentials of an in-memory key. Plays a log from standard input, compares the output
 // of hidlog_key_save_snapshot with the program's snapshot of the same log, removes the credentials, adds them again one
 // by one, and expects the same snapshot. Also tests invalid calls.
 //

@@ -5,7 +5,7 @@
 //     key lines            with hidlog_key_replay_lines, one line per call
 //     key recorded         with hidlog_recording.h, which writes the recording: no comments and totals
 //     key snapshot FILE    like the first, with the credentials of a snapshot
-//     key mistakes         invalid calls; prints nothing and returns 0 if each fails as documented
+//     key invalid-calls    invalid calls; prints nothing and returns 0 if each fails as documented
 #include "hidlog.h"
 #include "hidlog_recording.h"
 
@@ -208,11 +208,11 @@ static void test_uninitialized_key(struct hidlog_key *key) {
     struct hidlog_need need;
     expect(hidlog_key_tick(key, 1), HIDLOG_KEY_ERR_NOT_INITIALIZED, "a tick of a key that was never initialized");
     expect(hidlog_key_read_packet(key, packet), HIDLOG_KEY_ERR_NOT_INITIALIZED,
-         "next of a key that was never initialized");
+         "read_packet of a key that was never initialized");
     expect(hidlog_key_get_need(key, &need), HIDLOG_KEY_ERR_NOT_INITIALIZED, "need of a key that was never initialized");
     expect(hidlog_key_credential_count(key), HIDLOG_KEY_ERR_NOT_INITIALIZED,
          "credentials of a key that was never initialized");
-    expect(hidlog_key_destroy(key), HIDLOG_KEY_ERR_NOT_INITIALIZED, "free of a key that was never initialized");
+    expect(hidlog_key_destroy(key), HIDLOG_KEY_ERR_NOT_INITIALIZED, "destroy of a key that was never initialized");
     expect(hidlog_key_provide_presence(key, 1, 7), HIDLOG_KEY_ERR_NOT_INITIALIZED,
          "a wrong presence of a key that was never initialized");
     expect(hidlog_key_init(key, aaguid, 0, no_snapshot, sizeof no_snapshot), HIDLOG_KEY_ERR_NOT_A_SNAPSHOT,
@@ -249,7 +249,7 @@ static void test_invalid_calls(struct hidlog_key *key) {
     expect(hidlog_key_tick(key, 9), HIDLOG_KEY_ERR_NOT_INITIALIZED, "a tick of a destroyed key");
 }
 
-static int run_mistakes(void) {
+static int test_all_invalid_calls(void) {
     struct hidlog_key key = {0};
     key.memory = aligned_alloc(16, (hidlog_key_size() + 15) / 16 * 16);
     if (key.memory == NULL) {
@@ -265,8 +265,8 @@ int main(int count, char **words) {
     static uint8_t snapshot[SNAPSHOT];
     size_t snapshot_len = 0;
     struct hidlog_key key;
-    if (count == 2 && strcmp(words[1], "mistakes") == 0) {
-        return run_mistakes();
+    if (count == 2 && strcmp(words[1], "invalid-calls") == 0) {
+        return test_all_invalid_calls();
     }
     if (count == 3 && strcmp(words[1], "snapshot") == 0) {
         FILE *file = fopen(words[2], "rb");

@@ -115,7 +115,7 @@ compare_shows() {
 run_programs() {
     echo "tests/c: $1"
     "${@:2}" "$work/commands" "$top/examples"
-    "${@:2}" "$work/key" mistakes
+    "${@:2}" "$work/key" invalid-calls
     "${@:2}" "$work/causes"
     "${@:2}" "$work/cause_codes"
     "${@:2}" "$work/capacity" 64
@@ -146,7 +146,7 @@ run_programs "the static library"
 build_programs gcc -L "$top/release" -l:libhidlog.so.1 "-Wl,-rpath,$top/release"
 run_programs "the shared library"
 build_programs gcc -DHIDLOG_CAPACITY=256 "$top/release/libhidlog-256.a"
-"$work/key" mistakes
+"$work/key" invalid-calls
 "$work/capacity" 256
 for log in "${logs[@]}"; do
     compare_replay "$log"

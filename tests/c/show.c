@@ -22,7 +22,7 @@ static uint8_t *read_log(size_t *size)
     return bytes;
 }
 
-/* Shows the log in a buffer of exactly this capacity, which a sanitizer watches, and a canary byte. */
+/* Shows the log in an allocated buffer of this capacity. Writes past it change a canary byte, or are found by a sanitizer. */
 static uint8_t *show(const uint8_t *log, size_t size, enum form form, size_t out_cap, struct hidlog_result *result)
 {
     uint8_t *out = malloc(out_cap + 1);

@@ -15,7 +15,7 @@ require_in_memory_key
 work=$(mktemp -d)
 trap 'rm -rf "$work"' EXIT
 chmod 755 "$work" # another user runs the bridge, too
-parts=("$top/examples/ssh/state.c" "$top"/examples/c/{held_key,private_file,software_keys,snapshot}.c)
+parts=("$top/examples/ssh/state.c" "$top"/examples/c/{virtual_key,private_file,software_keys,snapshot}.c)
 bridge=("$top"/examples/uhid/{uhid,turns,user,options}.c "${parts[@]}" "$library/libhidlog.a" -lcrypto)
 compile -I "$top/examples/ssh" -o "$work/uhid" "${bridge[@]}"
 compile -g -fsanitize=address,undefined -fno-sanitize-recover=all -I "$top/examples/ssh" -o "$work/uhid_checked" \

@@ -12,7 +12,7 @@ work=$(mktemp -d)
 trap 'rm -rf "$work"' EXIT
 
 parts=()
-for part in libfido2 fido_device held_key software_keys; do
+for part in libfido2 fido_device virtual_key software_keys; do
     parts+=("$top/examples/c/$part.c")
 done
 echo "$name: libfido2 $(print_version libfido2-dev), libcrypto $(print_version libssl-dev)"

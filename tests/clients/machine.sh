@@ -71,7 +71,7 @@ build_initramfs() {
     local parts module file
     find_kernel
     parts=("$top"/examples/uhid/{uhid,turns,user,options}.c "$top/examples/ssh/state.c"
-        "$top"/examples/c/{held_key,private_file,software_keys,snapshot}.c)
+        "$top"/examples/c/{virtual_key,private_file,software_keys,snapshot}.c)
     mkdir -p "$root"/{bin,dev,etc/pam.d,modules,proc,root,sys,tmp}
     # With address and undefined-behaviour sanitizers, which exit with a status of their own.
     compile -g -fsanitize=address,undefined -fno-sanitize-recover=all -I "$top/examples/ssh" -o "$root/bin/uhid" \

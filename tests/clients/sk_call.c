@@ -1,6 +1,6 @@
 // Calls OpenSSH's provider of examples/ssh as ssh-sk-helper does, for tests/clients/bridge_faults.py:
 //
-//     sk_call enroll         prints the key's handle, in hexadecimal digits
+//     sk_call enroll         prints the key handle in hex
 //     sk_call sign HANDLE    prints the signature's counter
 //
 // Exit status: 1 if the provider returns an error, which is printed.

@@ -35,7 +35,7 @@ trap stop_server EXIT
 cd "$work"
 echo "$name: OpenSSH client $(print_version openssh-client), server $(print_version openssh-server), libfido2 $(print_version libfido2-dev)"
 parts=("$top"/examples/ssh/{hidlog_sk,state}.c
-    "$top"/examples/c/{fido_device,held_key,private_file,software_keys,snapshot}.c)
+    "$top"/examples/c/{fido_device,virtual_key,private_file,software_keys,snapshot}.c)
 compile -shared -fPIC -fvisibility=hidden -o libhidlog_sk.so "${parts[@]}" "$library/libhidlog.a" \
     -Wl,--exclude-libs,ALL -lfido2 -lcrypto
 export SSH_SK_PROVIDER=$work/libhidlog_sk.so HIDLOG_SK_STATE=$work/key.state

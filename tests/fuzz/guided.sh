@@ -88,7 +88,7 @@ run_fuzzer() {
     log) run_libfuzzer log 16384 ;;
     state)
         run_libfuzzer state 29000 -I "$examples/c" -I "$examples/ssh" "$examples/ssh/state.c" \
-            "$examples"/c/{held_key,private_file,software_keys,snapshot}.c -lcrypto
+            "$examples"/c/{virtual_key,private_file,software_keys,snapshot}.c -lcrypto
         ;;
     readers) "$top/tests/fuzz/readers.py" --seconds "$seconds" --keep "$found/readers" ;;
     page) node "$top/tests/fuzz/page_state.mjs" "$seconds" ;;

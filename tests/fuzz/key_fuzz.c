@@ -1,6 +1,6 @@
 // A libFuzzer target for the functions on a key: the data is decoded as inputs, each for an in-memory key and, as a log line,
 // for `hidlog_replay` at the end. Both must send the same packets and have the same counts. Calls in a wrong state must fail
-// without an effect.
+// and change nothing.
 //
 // tests/fuzz/guided.sh builds it with an instrumented core. Without instrumentation:
 //
@@ -47,7 +47,7 @@ static void append_text(char *text, size_t *len, const char *more) {
     *len += size;
 }
 
-static void add_digits(char *text, size_t *len, const uint8_t *bytes, size_t count) {
+static void append_digits(char *text, size_t *len, const uint8_t *bytes, size_t count) {
     char digits[3];
     for (size_t i = 0; i < count; i++) {
         snprintf(digits, sizeof digits, "%02x", bytes[i]);
@@ -63,11 +63,11 @@ static void append_line_start(const char *front) {
 
 static void append_line_digits(const char *front, const uint8_t *bytes, size_t count) {
     append_line_start(front);
-    add_digits(log_text, &log_len, bytes, count);
-    add_digits(written, &written_len, bytes, count);
+    append_digits(log_text, &log_len, bytes, count);
+    append_digits(written, &written_len, bytes, count);
 }
 
-// Makes a packet, mostly valid, so that requests are complete.
+// Decodes a packet. Most are valid, so that requests become complete.
 static void make_packet(struct bytes *from, uint8_t packet[64]) {
     uint8_t kind = next_byte(from);
     if (kind < 32) {
@@ -149,7 +149,7 @@ static void write_packets(struct hidlog_key *key, int32_t waiting) {
             abort();
         }
         append_text(written, &written_len, "< ");
-        add_digits(written, &written_len, packet, 64);
+        append_digits(written, &written_len, packet, 64);
         append_text(written, &written_len, "\n");
     }
     if (hidlog_key_read_packet(key, packet) != HIDLOG_KEY_ERR_NO_PACKET) {
@@ -157,7 +157,7 @@ static void write_packets(struct hidlog_key *key, int32_t waiting) {
     }
 }
 
-// Checks the need and the stats against hidlog.h.
+// Checks that the need and the statistics have values that hidlog.h allows.
 static void check_key(struct hidlog_key *key) {
     struct hidlog_need need;
     struct hidlog_credential credential;
@@ -191,7 +191,7 @@ static void check_totals(struct hidlog_key *key) {
     }
 }
 
-// A key made from a saved snapshot saves the same.
+// Checks that a key initialized with the saved snapshot saves the same snapshot.
 static void check_saved_snapshot(struct hidlog_key *key) {
     static const uint8_t aaguid[16];
     static uint8_t saved[HIDLOG_SNAPSHOT_MAX_LEN], again[HIDLOG_SNAPSHOT_MAX_LEN];
@@ -217,7 +217,7 @@ static int has_credential(struct hidlog_key *key, const uint8_t id[32]) {
     return 0;
 }
 
-static void add_one(struct hidlog_key *key, struct bytes *from) {
+static void add_credential(struct hidlog_key *key, struct bytes *from) {
     struct hidlog_credential c = {0};
     take_bytes(from, c.rp_id_hash, 1);
     take_bytes(from, c.id, 1);
@@ -236,7 +236,7 @@ static void add_one(struct hidlog_key *key, struct bytes *from) {
     }
 }
 
-static void remove_one(struct hidlog_key *key, struct bytes *from) {
+static void remove_credential(struct hidlog_key *key, struct bytes *from) {
     uint8_t id[32] = {0};
     struct hidlog_credential credential;
     if (hidlog_key_get_credential(key, next_byte(from) % 4, &credential) == 0) {
@@ -263,9 +263,9 @@ static void change_credentials(struct hidlog_key *key, struct bytes *from) {
         if (which == 0 && hidlog_key_clear_credentials(key, 9) != 0) {
             abort();
         } else if (which < 4) {
-            remove_one(key, from);
+            remove_credential(key, from);
         } else {
-            add_one(key, from);
+            add_credential(key, from);
         }
         check_saved_snapshot(key);
     }

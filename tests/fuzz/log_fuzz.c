@@ -12,19 +12,19 @@ static uint8_t written[TEXT], again[TEXT];
 
 typedef void command(const uint8_t *, size_t, const uint8_t *, size_t, uint8_t *, size_t, struct hidlog_result *);
 
-// Runs a command and checks the result. Returns the length of the output, or 0 at a fault.
-static size_t play(command *plays, const uint8_t *log, size_t len, uint8_t *text) {
-    struct hidlog_result outcome;
-    plays(log, len, (const uint8_t *)"", 0, text, TEXT, &outcome);
-    if (outcome.status > HIDLOG_SNAPSHOT_ERROR || outcome.written > TEXT ||
-        (outcome.status == HIDLOG_OK) != (outcome.error == 0)) {
+// Runs a command and checks the result. Returns the length of the output, or 0 on an error.
+static size_t play(command *function, const uint8_t *log, size_t len, uint8_t *text) {
+    struct hidlog_result result;
+    function(log, len, (const uint8_t *)"", 0, text, TEXT, &result);
+    if (result.status > HIDLOG_SNAPSHOT_ERROR || result.written > TEXT ||
+        (result.status == HIDLOG_OK) != (result.error == 0)) {
         abort();
     }
-    return outcome.status == HIDLOG_OK ? outcome.written : 0;
+    return result.status == HIDLOG_OK ? result.written : 0;
 }
 
-static void plays_the_same(command *plays, const uint8_t *log, size_t len) {
-    size_t first = play(plays, log, len, written);
+static void check_replays_to_itself(command *function, const uint8_t *log, size_t len) {
+    size_t first = play(function, log, len, written);
     if (first == 0 || first > MAX_LOG) {
         return;
     }
@@ -34,10 +34,10 @@ static void plays_the_same(command *plays, const uint8_t *log, size_t len) {
     }
 }
 
-static void shows_no_controls(const uint8_t *log, size_t len, uint32_t explain) {
-    struct hidlog_result outcome;
-    hidlog_show(log, len, explain, written, TEXT, &outcome);
-    for (size_t i = 0; i < outcome.written; i++) {
+static void check_shown_text(const uint8_t *log, size_t len, uint32_t explain) {
+    struct hidlog_result result;
+    hidlog_show(log, len, explain, written, TEXT, &result);
+    for (size_t i = 0; i < result.written; i++) {
         if ((written[i] < ' ' && written[i] != '\n') || written[i] == 0x7f) {
             abort();
         }
@@ -48,11 +48,11 @@ int LLVMFuzzerTestOneInput(const uint8_t *data, size_t size) {
     if (size > MAX_LOG) {
         return 0;
     }
-    plays_the_same(hidlog_replay, data, size);
-    plays_the_same(hidlog_live, data, size);
+    check_replays_to_itself(hidlog_replay, data, size);
+    check_replays_to_itself(hidlog_live, data, size);
     play(hidlog_check, data, size, written);
     play(hidlog_quiet, data, size, written);
-    shows_no_controls(data, size, 0);
-    shows_no_controls(data, size, 1);
+    check_shown_text(data, size, 0);
+    check_shown_text(data, size, 1);
     return 0;
 }

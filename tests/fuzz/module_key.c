@@ -7,12 +7,12 @@
 #include <stdlib.h>
 #include <string.h>
 
-// Places in the module's memory: the key's structure, its memory, input, and output.
+// Sizes of the areas in the module's memory: the key's struct, two inputs, the output, and the guard after each.
 enum { KEY_SPACE = 64, MAX_READ = 1 << 20, MAX_MORE = 1 << 16, MAX_WRITE = 1 << 20, GUARD = 256, PAGE = 65536 };
 enum { ID = 32, GUARD_BYTE = 0xee };
 
 static Z_hidlog_instance_t module;
-static void *held; // the memory of the key that is in the module
+static void *loaded_memory; // the memory of the key that is in the module
 static u64 key_at, memory_at, read_at, more_at, write_at, outcome_at, key_size;
 
 static _Noreturn void fail(const char *what) {
@@ -20,7 +20,7 @@ static _Noreturn void fail(const char *what) {
     abort();
 }
 
-// wasm2c's code calls this when the module would trap.
+// Called by wasm2c's code when the module traps.
 _Noreturn void module_trap(wasm_rt_trap_t code) {
     fprintf(stderr, "module_key: trap %d\n", (int)code);
     abort();
@@ -74,20 +74,20 @@ static void check_guard(u64 place, const char *what) {
 
 // Copies the memory of the key in the module back to its owner, who does not read it while the key is initialized.
 static void copy_key_out(void) {
-    if (held != NULL) {
-        memcpy(held, to_address(memory_at), key_size);
-        held = NULL;
+    if (loaded_memory != NULL) {
+        memcpy(loaded_memory, to_address(memory_at), key_size);
+        loaded_memory = NULL;
     }
 }
 
 // Copies a key into the module, unless it is already there.
 static u64 load_key(const struct hidlog_key *key) {
     start_module();
-    if (held != key->memory) {
+    if (loaded_memory != key->memory) {
         copy_key_out();
         copy_in(memory_at, key->memory, key_size, key_size);
         put_guard(memory_at + key_size);
-        held = key->memory;
+        loaded_memory = key->memory;
     }
     memset(to_address(key_at), 0, KEY_SPACE);
     copy_in(key_at, &memory_at, sizeof memory_at, KEY_SPACE);
@@ -95,7 +95,7 @@ static u64 load_key(const struct hidlog_key *key) {
     return key_at;
 }
 
-// Copies its state back. No memory is kept for a key that is not initialized.
+// Copies the key's struct back; its memory too, if the key is no longer initialized.
 static int32_t store_key(struct hidlog_key *key, u32 result) {
     check_guard(memory_at + key_size, "bytes after the key's memory were written");
     memcpy(&key->state, to_address(key_at + 8), sizeof key->state);
@@ -166,7 +166,7 @@ int32_t hidlog_key_queued_packets(struct hidlog_key *key) {
 }
 
 // Calls a function that writes a structure, which is copied in and back.
-#define WRITES(call, structure)                                                                                        \
+#define DEFINE_GETTER(call, structure)                                                                                        \
     u64 entered = load_key(key), place = copy_in(read_at, structure, sizeof *(structure), MAX_READ);                         \
     put_guard(read_at + sizeof *(structure));                                                                          \
     int32_t result = store_key(key, call);                                                                                 \
@@ -176,19 +176,19 @@ int32_t hidlog_key_queued_packets(struct hidlog_key *key) {
 
 int32_t hidlog_key_read_packet(struct hidlog_key *key, uint8_t packet[64]) {
     uint8_t(*whole)[64] = (uint8_t(*)[64])packet;
-    WRITES(Z_hidlogZ_hidlog_key_read_packet(&module, entered, place), whole);
+    DEFINE_GETTER(Z_hidlogZ_hidlog_key_read_packet(&module, entered, place), whole);
 }
 
 int32_t hidlog_key_get_need(struct hidlog_key *key, struct hidlog_need *need) {
-    WRITES(Z_hidlogZ_hidlog_key_get_need(&module, entered, place), need);
+    DEFINE_GETTER(Z_hidlogZ_hidlog_key_get_need(&module, entered, place), need);
 }
 
 int32_t hidlog_key_get_credential(struct hidlog_key *key, size_t number, struct hidlog_credential *credential) {
-    WRITES(Z_hidlogZ_hidlog_key_get_credential(&module, entered, number, place), credential);
+    DEFINE_GETTER(Z_hidlogZ_hidlog_key_get_credential(&module, entered, number, place), credential);
 }
 
 int32_t hidlog_key_get_stats(struct hidlog_key *key, struct hidlog_stats *meters) {
-    WRITES(Z_hidlogZ_hidlog_key_get_stats(&module, entered, place), meters);
+    DEFINE_GETTER(Z_hidlogZ_hidlog_key_get_stats(&module, entered, place), meters);
 }
 
 int32_t hidlog_key_credential_count(struct hidlog_key *key) {
@@ -210,7 +210,7 @@ int32_t hidlog_key_clear_credentials(struct hidlog_key *key, uint64_t moment) {
 }
 
 // An output buffer, followed by guard bytes.
-static u64 make_output_space(size_t most) {
+static u64 reserve_output(size_t most) {
     if (most > MAX_WRITE) {
         fail("the output buffer is too large for the module's memory");
     }
@@ -219,7 +219,7 @@ static u64 make_output_space(size_t most) {
 }
 
 int32_t hidlog_key_save_snapshot(struct hidlog_key *key, uint8_t *out, size_t most) {
-    u64 entered = load_key(key), place = make_output_space(most);
+    u64 entered = load_key(key), place = reserve_output(most);
     int32_t len = store_key(key, Z_hidlogZ_hidlog_key_save_snapshot(&module, entered, place, most));
     check_guard(write_at + most, "bytes after the snapshot were written");
     memcpy(out, to_address(write_at), len > 0 ? (size_t)len : 0);
@@ -227,7 +227,7 @@ int32_t hidlog_key_save_snapshot(struct hidlog_key *key, uint8_t *out, size_t mo
 }
 
 // Copies the output and result of a function back.
-static void take_text(uint8_t *out, size_t most, struct hidlog_result *outcome) {
+static void copy_output(uint8_t *out, size_t most, struct hidlog_result *outcome) {
     memcpy(outcome, to_address(outcome_at), sizeof *outcome);
     check_guard(write_at + most, "bytes after the text were written");
     if (outcome->written > most) {
@@ -236,24 +236,24 @@ static void take_text(uint8_t *out, size_t most, struct hidlog_result *outcome) 
     memcpy(out, to_address(write_at), outcome->written);
 }
 
-#define PLAYS(name)                                                                                                    \
+#define DEFINE_COMMAND(name)                                                                                                    \
     void name(const uint8_t *log, size_t log_len, const uint8_t *snapshot, size_t snapshot_len, uint8_t *out,          \
               size_t most, struct hidlog_result *outcome) {                                                           \
         start_module();                                                                                                       \
         u64 lines = copy_in(read_at, log, log_len, MAX_READ), more = copy_in(more_at, snapshot, snapshot_len, MAX_MORE);     \
-        Z_hidlogZ_##name(&module, lines, log_len, more, snapshot_len, make_output_space(most), most, outcome_at);             \
-        take_text(out, most, outcome);                                                                                 \
+        Z_hidlogZ_##name(&module, lines, log_len, more, snapshot_len, reserve_output(most), most, outcome_at);             \
+        copy_output(out, most, outcome);                                                                                 \
     }
 
-PLAYS(hidlog_replay)
-PLAYS(hidlog_live)
-PLAYS(hidlog_check)
-PLAYS(hidlog_quiet)
+DEFINE_COMMAND(hidlog_replay)
+DEFINE_COMMAND(hidlog_live)
+DEFINE_COMMAND(hidlog_check)
+DEFINE_COMMAND(hidlog_quiet)
 
 void hidlog_show(const uint8_t *log, size_t log_len, uint32_t explain, uint8_t *out, size_t most,
                  struct hidlog_result *outcome) {
     start_module();
     u64 lines = copy_in(read_at, log, log_len, MAX_READ);
-    Z_hidlogZ_hidlog_show(&module, lines, log_len, explain, make_output_space(most), most, outcome_at);
-    take_text(out, most, outcome);
+    Z_hidlogZ_hidlog_show(&module, lines, log_len, explain, reserve_output(most), most, outcome_at);
+    copy_output(out, most, outcome);
 }

@@ -1,5 +1,5 @@
-// A libFuzzer target for the state files of the bridges (examples/ssh/state.c): a refused file has a reason, and an accepted
-// one is written again as the same key. tests/fuzz/guided.sh builds it.
+// A libFuzzer target for the state files of the bridges (examples/ssh/state.c): a rejected file has an error message,
+// and a valid one is written again as the same key. tests/fuzz/guided.sh builds it.
 #include "state.h"
 
 #include <openssl/crypto.h>
@@ -9,17 +9,17 @@
 static struct state state;
 
 static void close_state(void) {
-    held_key_close(&state.held);
+    virtual_key_close(&state.vkey);
     OPENSSL_cleanse(&state, sizeof state);
 }
 
-// Each credential of an accepted file has its key pair and text.
+// Checks that each credential of a valid file has a key pair and an application.
 static void check_credentials(void) {
     struct hidlog_credential credential;
-    for (size_t place = 0; hidlog_key_get_credential(&state.held.key, place, &credential) == 0; place++) {
+    for (size_t place = 0; hidlog_key_get_credential(&state.vkey.key, place, &credential) == 0; place++) {
         const char *application = state_application(&state, credential.id);
         if (application == NULL || strlen(application) >= APPLICATION ||
-            software_keys_find(&state.held.keys, credential.id) == NULL) {
+            software_keys_find(&state.vkey.keys, credential.id) == NULL) {
             abort();
         }
     }

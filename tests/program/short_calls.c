@@ -25,6 +25,6 @@ ssize_t send(int file, const void *data, size_t size, int flags) {
 }
 
 ssize_t recv(int file, void *data, size_t size, int flags) {
-    /* With MSG_PEEK, too: the bytes stay for the next call. */
+    /* Also with MSG_PEEK, which does not remove the bytes. */
     return syscall(SYS_recvfrom, file, data, halve(size), flags, NULL, NULL);
 }

@@ -1,42 +1,42 @@
 // An in-memory security key with everything it needs from its caller: a clock, a user and private keys. A client writes
 // and reads packets, as with a USB device.
-#ifndef HELD_KEY_H
-#define HELD_KEY_H
+#ifndef VIRTUAL_KEY_H
+#define VIRTUAL_KEY_H
 
 #include "hidlog.h"
 #include "software_keys.h"
 
 // One input causes at most 130 packets. If a client does not read, the oldest are lost, as with a device.
-enum { HELD_PACKETS = 512 };
+enum { VIRTUAL_KEY_PACKETS = 512 };
 
-struct held_key {
+struct virtual_key {
     struct hidlog_key key;
     struct software_keys keys;
     uint32_t
         presence; // what the user does: HIDLOG_PRESENCE_GRANTED, HIDLOG_PRESENCE_DENIED or HIDLOG_PRESENCE_TIMED_OUT
     uint64_t powered_up;
-    uint8_t packets[HELD_PACKETS][64];
+    uint8_t packets[VIRTUAL_KEY_PACKETS][64];
     size_t first;
     size_t count;
 };
 
 // Powers up a key with the credentials of a snapshot (length 0 for none). The caller adds their private keys.
-bool held_key_open(struct held_key *held, const uint8_t *snapshot, size_t snapshot_len);
-void held_key_close(struct held_key *held);
+bool virtual_key_open(struct virtual_key *vkey, const uint8_t *snapshot, size_t snapshot_len);
+void virtual_key_close(struct virtual_key *vkey);
 
 // Writes a packet from the client.
-bool held_key_write(struct held_key *held, const uint8_t packet[64]);
+bool virtual_key_write(struct virtual_key *vkey, const uint8_t packet[64]);
 
 // Reads the oldest packet from the key. False if there is none.
-bool held_key_take(struct held_key *held, uint8_t packet[64]);
+bool virtual_key_read(struct virtual_key *vkey, uint8_t packet[64]);
 
-// Advances the time: the key sends KEEPALIVE when due.
-bool held_key_tick(struct held_key *held);
+// Advances the time, so that the key sends a KEEPALIVE if one is due.
+bool virtual_key_tick(struct virtual_key *vkey);
 
 // Provides what the key needs now. False if it needs nothing.
-bool held_key_serve(struct held_key *held);
+bool virtual_key_provide_need(struct virtual_key *vkey);
 
 // Returns what the key needs: an enum hidlog_need_kind.
-int32_t held_key_needs(struct held_key *held);
+int32_t virtual_key_get_need(struct virtual_key *vkey);
 
 #endif
