@@ -8,7 +8,7 @@ use hid_packet::{BROADCAST, Fragments, Outbox};
 use std::io;
 use token_session::{Input, Session};
 
-/// authenticatorMakeCredential for user 01 of `example.com`; its client data hash is 32 times `h`.
+/// authenticatorMakeCredential for user 01 of `example.com`. The client data hash is 32 times the letter `h`.
 const REGISTRATION: &[u8] =
     b"\x01\xa4\x01\x58\x20hhhhhhhhhhhhhhhhhhhhhhhhhhhhhhhh\x02\xa1\x62id\x6bexample.com\
       \x03\xa1\x62id\x41\x01\x04\x81\xa2\x63alg\x26\x64type\x6apublic-key";

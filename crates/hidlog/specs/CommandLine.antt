@@ -95,7 +95,7 @@ task_of (Show form wide log) logs = show form wide (path_of log)
 abbrev pub is_set : List ℕ → List Row → Bool
 is_set name found = option_map_or (λ text. bytes_eq text (codes "true")) (first_of name found) false
 
--- The requested output form.
+-- The requested output format.
 abbrev pub form_of : List Row → Form
 form_of found =
     if is_set (codes "json") found then if is_set (codes "summary") found then JsonSummary else Json

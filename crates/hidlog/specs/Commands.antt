@@ -29,9 +29,9 @@ abbrev pub or_input : List (List ℕ) → List (List ℕ)
 or_input [] = codes "-" ∷ []
 or_input (log ∷ logs) = log ∷ logs
 
--- The log was shown in this form. The text for each line begins with the line's number, and no more was read than it
--- takes to find a fault. Without a fault the whole log was read, and no read or write failed. A pair is a source or a
--- target before and after.
+-- The log was shown in this format. The text for each line begins with the line's number, and no more was read than it
+-- takes to find an error. Without an error, the whole log was read, and no read or write failed. A pair is a source or
+-- a target before and after.
 abbrev pub ShowsIn : {I O : Type 0} → Form → Detail → (left : I → Option (List ℕ)) → (unread : I → ℕ) →
     (ended : I → Bool)
     → (taken : O → Option (List ℕ)) → (unput : O → ℕ) → Ended → (I × I) → (O × O) → Type 0
@@ -92,7 +92,7 @@ module _ {D I O F : Type 0} (model : Model D I O F) where
       × FlushesPending model.taken model.unput model.waits answer (put, new.output) whole
       × (new.files ≡ old.files) × (new.faults ≡ old.faults)
 
-  -- The exit status is that of the result, and a fault was reported.
+  -- The exit status is that of the result, and an error was reported.
   abbrev pub Reports : (explained : Bool) → RunResult → Status → (old new : Host D I O F) → Type 0
   Reports explained (Ok x) status old new = (status ≡ Ok tt) × (new ≡ old)
   Reports explained (Err told) status old new =

@@ -1,4 +1,4 @@
--- The message for a fault, and its exit status.
+-- The message for an error, and its exit status.
 use Rattle.std.specs.Prelude.{◌≡◌, ℕ, Bool, List, [], Option, Result, Ok, Err}
 use Rattle.session_log.specs.Command.{Status}
 use Rattle.hidlog.specs.declared.fault.ProgramFault.{ProgramFault}
@@ -12,7 +12,7 @@ code_of (Log fault) = 1
 code_of (LogOpenError path error) = 1
 code_of _ = 2
 
--- The message. That of a log's fault is not specified here.
+-- The message. That of a log error is not specified here.
 abbrev pub text_of : ProgramFault → List ℕ
 text_of Memory = no_memory
 text_of (Log fault) = []
@@ -21,7 +21,7 @@ text_of (SnapshotReadError path error) = cannot_read
 text_of (RefusedSnapshot path fault bytes) = refused fault
 text_of (SnapshotWriteError path unwritten) = cannot_write
 
--- The text that is reported for a fault: the message of a log fault, which is specified elsewhere; or a message; or a
+-- The text that is reported for an error: the message of a log error, which is specified elsewhere; or a message; or a
 -- message that is followed, with explanations, by a reason.
 pub data FaultText : Type 0 where
   of_log : FaultText
@@ -36,7 +36,7 @@ fault_message_of (SnapshotReadError path error) = reasoned 2 cannot_read
 fault_message_of (RefusedSnapshot path fault bytes) = reasoned 2 (refused fault)
 fault_message_of (SnapshotWriteError path unwritten) = reasoned 2 cannot_write
 
--- The result of working on a log: its end, or a fault.
+-- The result of working on a log: its end, or an error.
 abbrev pub RunResult : Type 0
 RunResult = Result (Unit {0}) FaultText
 
@@ -44,12 +44,12 @@ abbrev pub result_of : {A : Type 0} → Result A ProgramFault → RunResult
 result_of (Ok x) = Ok tt
 result_of (Err fault) = Err (fault_message_of fault)
 
--- The same for the result of playing a log.
+-- Converts the result of playing a log.
 abbrev pub result_from : Ended → RunResult
 result_from (Ok x) = Ok tt
 result_from (Err fault) = Err of_log
 
--- The fault was reported, and nothing else. The exit status is that of the fault. A pair is a target before and after
+-- The error was reported, and nothing else. The exit status is that of the error. A pair is a target before and after
 -- the call.
 abbrev pub WritesFault : {F : Type 0} → (explained : Bool) → (F → Option (List ℕ)) → (F → ℕ) → FaultText → Status → (F × F) →
     Type 0

@@ -17,7 +17,7 @@ IsExplained {F} taken failed target text = WriteFails taken failed target text
     ⊎ ((told : F) × WritesAll taken failed (target.0, told) text
     × ((target.1 ≡ told) ⊎ ((more : List ℕ) × IsWrittenTo taken failed (told, target.1) more)))
 
--- The message of a fault was written to a target, and nothing else unless faults are explained.
+-- The message of an error was written to a target, and nothing else unless errors are explained.
 abbrev pub IsReported : {F : Type 0} → (explained : Bool) → (F → Option (List ℕ)) → (F → ℕ) → (F × F) → List ℕ → Type 0
 IsReported explained taken failed target text =
     MatchBool explained (IsExplained taken failed target text) (IsWrittenTo taken failed target text)
@@ -33,7 +33,7 @@ abbrev pub IsWhole : {I O : Type 0} → (I → Option (List ℕ)) → (I → Boo
 IsWhole left ended unread unput input output = IsAtEndOfInput left ended input.1
     × (unread input.1 ≡ unread input.0) × (unput output.1 ≡ unput output.0)
 
--- The exit status for a log's fault or its end.
+-- The result of playing a log: its end, or an error.
 abbrev pub Ended : Type 0
 Ended = Result (Unit {0}) LogFault
 

@@ -67,7 +67,7 @@ impl Verbosity {
     }
 }
 
-/// The action, and how much its texts explain.
+/// The action, the logs, and the level of detail.
 #[derive(Drop)]
 pub struct Invocation<'a> {
     pub task: Action<'a>,
@@ -149,7 +149,7 @@ fn form_in(options: &ArgMatches<'_>) -> Form
     }
 }
 
-/// Returns how much texts explain; `--plain` overrides `--explain`.
+/// Returns the level of detail; `--plain` overrides `--explain`.
 fn manner_in(options: &ArgMatches<'_>) -> Verbosity
     ensures { result ≡ verbosity_of (rows_of (found_of options.now)) }
 {
@@ -212,8 +212,8 @@ fn task_in<'a>(
     }
 }
 
-/// Returns the action of a command without options. Avoids clap, which takes a fifth of the instructions up to the
-/// first line.
+/// Returns the action of a command without options. Doesn't use clap, whose parsing takes a fifth of the instructions
+/// up to the first line of a log.
 fn alone<'a>(alloc: Global, words: &[&str]) -> Option<Invocation<'a>>
     ensures { IfSome result (λ asked. asked_by (texts_of words.now) ≡ Some (task_and_verbosity asked)) }
 {

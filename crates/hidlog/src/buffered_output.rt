@@ -20,12 +20,12 @@ pub enum Lookahead {
     Input,
 }
 
-/// Distances from the end of the read bytes to the starts of the last complete lines, for which text may be written; 0
-/// if there is none.
+/// Where the last complete lines begin for which text may be written, as distances from the end of the bytes read; 0 if
+/// there is no such line.
 #[derive(Clone, Copy)]
 pub struct LineBoundaries {
     input: usize,
-    /// The same for a comment after the input.
+    /// The last comment or empty line after that input.
     comment: usize,
 }
 
@@ -57,8 +57,8 @@ impl LineBoundaries {
         last
     }
 
-    /// Returns how many of the last `len` bytes precede the next of these lines, and the line's kind; all of them if
-    /// there is none.
+    /// Returns how many of the last `len` bytes precede the next of these lines, and the line's kind; all of the bytes
+    /// if there is none.
     pub fn next(&self, len: usize) -> (usize, Lookahead) {
         if 0 < self.input && self.input <= len {
             (len - self.input, Lookahead::Input)

@@ -55,7 +55,7 @@ impl Written for SameLog<'_> {
     }
 }
 
-/// Reports why a line isn't a log line, or why reading failed, with this name of the log.
+/// Reports why a line isn't a log line, or why reading failed. `state` has the name of the log.
 pub fn report_cause<E: Target>(
     state: &LogState<'_>,
     name: Option<&str>,

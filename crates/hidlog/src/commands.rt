@@ -54,7 +54,7 @@ pub fn open_log<'a, L: Logs>(
 // on the stack at a time.
 
 /// Returns the program's initial session, without credentials.
-// Through this function it is created in the caller's place; calling `Session::bare` instead would copy it.
+// This function creates it in the caller's stack frame; calling `Session::bare` there would copy it.
 pub fn fresh() -> Session<CAPACITY>
     ensures { result ≡ session_of (start_with []) [] }
 {

@@ -1,4 +1,4 @@
-//! Two packets side by side, in `show`'s words.
+//! Two packets side by side, in the notation of `show`.
 use crate::split::{DIGITS, Pieces, after, count_leading, find_byte};
 use hid_packet::{Packet, View};
 use session_show::{Difference, TextBuf};
@@ -27,8 +27,8 @@ const IN_LENGTH: &[u8] =
 
 const ELSEWHERE: &[u8] = b"  byte %d of the packet is %x in the log and %x from the key:\n";
 
-/// Writes the packet's line of one side, and those lines of its message that differ from the other side's line at the
-/// same place.
+/// Writes the line of one packet, and those lines of its message that differ from the other message's line at the same
+/// position.
 fn write_side(buf: &mut TextBuf, own: &[u8], other: &[u8]) {
     let mut others = Pieces {
         rest: other,
@@ -84,7 +84,7 @@ pub fn write_first_difference(
     let Some((at, old, new)) = difference.byte() else {
         return;
     };
-    // The meaning of the byte, if it is the same in both and isn't data.
+    // The meaning of the byte, if it is the same in both packets and isn't data.
     let form = match (at, own.view(), other.view()) {
         (0..=3, _, _) => IN_CHANNEL,
         (4, View::Start { .. }, View::Start { .. }) => COMMAND,

@@ -37,8 +37,8 @@ fn begun(alloc: Global) -> Option<Box<Comparison>> {
     Box::new(alloc, Comparison::new()).ok()
 }
 
-/// Reports the differences of a log after the fault's text: explained, or all if asked for. Without differences,
-/// reports signed bytes that differ from what this key asks to sign. Reads the log again, if possible.
+/// Reports the differences of a log after the error message: with explanations, or all of them if requested. Without
+/// differences, reports signed bytes that differ from what this key asks to sign. Reads the log again, if possible.
 pub fn report_differences<D: Files, S: Source + Drop, E: Target>(
     files: &D,
     wish: &ReportOptions<'_>,
@@ -59,8 +59,8 @@ pub fn report_differences<D: Files, S: Source + Drop, E: Target>(
     compare_anew(files, wish, &mut reader, told, faults);
 }
 
-/// Compares the log on a session of its own and reports the differences. In a stack frame of its own, so that the
-/// session is on the stack only here.
+/// Compares the log on a session of its own and reports the differences. Not inlined, so that the session is on the
+/// stack only here.
 #[inline(never)]
 fn compare_anew<D: Files, S: Source, E: Target>(
     files: &D,
@@ -88,7 +88,7 @@ struct Parsed {
     has_changed: bool,
 }
 
-/// Reports the differences that were asked for.
+/// Reports the requested differences.
 fn report_each<S: Source, E: Target>(
     comparison: &mut Comparison,
     session: &mut Session<CAPACITY>,
@@ -129,7 +129,7 @@ fn report_each<S: Source, E: Target>(
     report_end(comparison, wish, reader, parsed.count, fault, faults);
 }
 
-/// Reports the number of inputs with differences, if all were asked for; or, without differences, signed bytes that
+/// Reports the number of inputs with differences, if all were requested; or, without differences, signed bytes that
 /// differ.
 fn report_end<S: Source, E: Target>(
     comparison: &mut Comparison,

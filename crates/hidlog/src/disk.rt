@@ -52,7 +52,7 @@ pub trait Disk {
     fn read(&self, path: &str, most: u64) -> io::Result<Vec<u8>>
         ensures { IfOk result (λ bytes. holds self.now path.now most bytes.items) };
 
-    /// Examines a path. A directory is refused, and so are the log and the file that is standard output.
+    /// Examines a path. Rejects a directory, the log, and the file that is standard output.
     fn look(&self, path: &str, log: Option<&str>) -> io::Result<Found>;
 
     /// Returns the inode number of the file at a path, or 0.
@@ -86,7 +86,7 @@ pub trait Disk {
         ensures { OnOk result (handed path.now bytes.now) };
 }
 
-/// The system's files. No clause states their content.
+/// The system's files. The contracts state nothing about their content.
 impl Place for File {
     ghost is_at = { λ _ _. Unit {0} };
 
@@ -113,7 +113,7 @@ impl Place for File {
     }
 }
 
-/// The system's disk. No clause states its content.
+/// The system's disk. The contracts state nothing about its content.
 #[derive(Clone, Copy)]
 pub struct HostDisk<'a>(pub &'a HostRuntime);
 
@@ -226,7 +226,8 @@ impl Disk for HostDisk<'_> {
         let Found::Pipe = found else {
             return fs::write(self.0, path, bytes);
         };
-        // Never waits for a reader: without one, it fails.
+        // Opening a pipe for both reading and writing never waits for a reader. After `both` is dropped, writing fails
+        // if there is no reader.
         let both = OpenOptions::new()
             .read(true)
             .write(true)

@@ -1,4 +1,4 @@
-//! Foreign texts and system errors within the program's texts.
+//! Untrusted texts and system errors in the program's messages.
 use crate::split::Pieces;
 use session_show::{TextBuf, Written, write_escaped};
 use std::fmt::{Display, Write};

@@ -39,7 +39,7 @@ impl ProgramFault<'_> {
         }
     }
 
-    /// Returns the message. Log errors have their own.
+    /// Returns the message. The messages of log errors are written elsewhere.
     pub fn text(&self) -> &'static [u8]
         ensures { result.now ≡ text_of self.now }
     {
@@ -102,7 +102,7 @@ pub struct ErrorDetail<'a> {
     pub fault: &'a ProgramFault<'a>,
     /// Its path.
     pub path: &'a str,
-    /// The number of an interrupted write's copy beside the snapshot, if any.
+    /// The number of the copy that an interrupted write left beside the snapshot, if any.
     pub copy: Option<u64>,
 }
 

@@ -8,7 +8,7 @@ use crate::sums::{SUMS, SumLine, are_sums};
 use std::alloc::Global;
 use std::io::{self, Error, ErrorKind};
 
-/// Why a file wasn't written, and its content then.
+/// Why writing a file failed, and what the file contains afterwards.
 #[derive(Drop)]
 pub enum SaveError {
     /// Its content is unchanged.
@@ -35,7 +35,7 @@ pub trait Files {
     /// These bytes replaced the content of the file at a path.
     ghost written: { Self → List ℕ → List ℕ → Self → Type 0 };
 
-    /// They couldn't be written. The file may have some of them.
+    /// These bytes couldn't be written to the file at a path. The file may have some of them.
     ghost unwritten: { Self → List ℕ → List ℕ → Self → Type 0 };
 
     /// The file at a path cannot be written.
@@ -51,11 +51,11 @@ pub trait Files {
     fn hold(&self, path: &str, save: &str) -> io::Result<Option<Self::Held>>
         ensures { IfErr result (λ _. unreadable self.now path.now) };
 
-    /// Checks whether a file can be written, as far as possible without writing. The log is refused.
+    /// Checks whether a file can be written, as far as possible without writing. The log itself is rejected.
     fn look(&self, path: &str, log: Option<&str>, is_held: bool) -> io::Result<()>
         ensures { IfErr result (λ _. unwritable self.now path.now) };
 
-    /// Returns the number of an interrupted write's copy beside a file, if any.
+    /// Returns the number of the copy that an interrupted write left beside a file, if any.
     fn copy(&self, path: &str) -> Option<u64>;
 
     /// Writes a whole file in place, but not over the log.
@@ -70,12 +70,12 @@ pub trait Files {
             (λ _. unwritten self.old path.now bytes.now self.new) };
 }
 
-/// The files of a disk, with the allocator of paths. No clause states why one cannot be read or written.
+/// The files of a disk, with the allocator of paths. The contracts don't state why a file cannot be read or written.
 #[derive(Drop)]
 pub struct HostFiles<D>(pub D, pub Global);
 
-/// Maximum number of bytes of a snapshot that are read: many more than the longest one, so that one of a key with more
-/// capacity is refused as such.
+/// Maximum number of bytes of a snapshot that are read. It is much larger than the longest snapshot, so that the
+/// snapshot of a key with more capacity is rejected for this reason.
 const MOST: u64 = 1 << 20;
 
 /// The system's error number for a missing path, ENOENT.
@@ -84,7 +84,7 @@ const ENOENT: i32 = 2;
 /// The suffix of a copy beside a file, followed by a dot and a number if not 0.
 pub const COPY: &str = ".hidlog-copy";
 
-/// Maximum number of copies beside a file. A name that exists isn't used: the file may be anyone's.
+/// Maximum number of copies beside a file. An existing file is never overwritten, because it may not be a copy.
 const COPIES: u64 = 100;
 
 /// The suffix of a file's checksums (src/sums.rt): a line for the content that it has or is about to have, preceded by
@@ -146,7 +146,7 @@ fn make_beside<D: Disk>(
     ))
 }
 
-/// Returns the error of a checksum file that cannot be read or has none.
+/// Returns the error of a checksum file that cannot be read or has no checksums.
 fn not_sums(kind: ErrorKind) -> Error {
     match kind {
         ErrorKind::InvalidInput => Error::new(
@@ -182,9 +182,9 @@ fn sums_of<D: Disk>(files: &HostFiles<D>, path: &str) -> io::Result<Option<Vec<u
     }
 }
 
-/// Writes the checksums of the file with this inode number that is about to be written: of the new bytes, and of its
-/// content unless that is damaged. So it can be loaded with either after an interrupted write. A file without checksums
-/// may stay without.
+/// Writes the checksums of the file with this inode number before the file itself is written: those of the new bytes,
+/// and those of its present content unless that is damaged. So the file can be loaded with either content after an
+/// interrupted write. A file without checksums may stay without them.
 fn write_sums<D: Disk>(
     files: &HostFiles<D>,
     path: &str,
@@ -213,8 +213,8 @@ fn write_sums<D: Disk>(
     }
 }
 
-/// Overwrites an open file of this length, truncates it to the new length and syncs it. What exceeds its length is
-/// written first, so that a full disk leaves the old bytes.
+/// Overwrites an open file of this length, truncates it to the new length and syncs it. The part beyond the old length
+/// is written first, so that a full disk leaves the old content unchanged.
 fn write_over<F: Place>(file: &mut F, old: u64, bytes: &[u8]) -> io::Result<()>
     ensures bytes { OnOk result (IfSome (F.bytes file.old) (λ has. length has ≡ old → F.bytes file.new ≡ Some bytes.now)) }
     ensures place { (path : List ℕ) → F.is_at path file.old → F.is_at path file.new }
@@ -230,7 +230,8 @@ fn write_over<F: Place>(file: &mut F, old: u64, bytes: &[u8]) -> io::Result<()>
     file.cut(bytes.len() as u64)
 }
 
-/// Writes and syncs a file beside a path, then renames it to another path: at any time, what is there is complete.
+/// Writes and syncs a file beside a path, then renames it to another path, so that the file at that path is always
+/// complete.
 fn write_beside<D: Disk>(
     files: &HostFiles<D>,
     path: &str,
@@ -338,7 +339,7 @@ impl<D: Disk> Files for HostFiles<D> {
     }
 
     fn read(&self, path: &str) -> io::Result<Vec<u8>> {
-        // The file may be written meanwhile, after its checksums.
+        // Another program may be writing the file, whose checksums it has already written; so this tries again.
         for _ in 0..3 {
             let bytes = self.0.read(path, MOST)?;
             let Some(sums) = sums_of(self, path)? else {

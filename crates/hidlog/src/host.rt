@@ -36,7 +36,7 @@ pub struct Host<D, L, O, E> {
     pub width: Option<usize>,
 }
 
-/// An environment, with the laws of its parts.
+/// An environment whose parts have a model for contracts.
 pub trait Modeled {
     type Files;
 
@@ -81,7 +81,7 @@ impl<D: Files, L: Logs, O: Output, E: Target> Host<D, L, O, E> {
     ghost use Rattle.hidlog.specs.Commands.{Reports};
     ghost use Rattle.hidlog.specs.Fault.{code_of, fault_message_of};
 
-    /// Writes an error message, with its reason if explained.
+    /// Writes an error message, with the reason if errors are explained.
     pub fn tell(&mut self, fault: &ProgramFault<'_>, explains: bool)
         requires { E.failed self.old.faults < 2 ^ 64 - 1 }
         ensures { Reports ⟦<Self as Modeled>⟧.model explains (Err (fault_message_of fault.now)) (Err (code_of fault.now)) self.old self.new }

@@ -69,7 +69,7 @@ pub trait OpenSource: Read + Drop {
 pub enum Stream<I, F> {
     /// Standard input.
     Standard(I),
-    /// A file that is named.
+    /// A file with a name.
     Named(F),
 }
 
@@ -86,7 +86,7 @@ impl<I: Read, F: Read> Read for Stream<I, F> {
     }
 }
 
-/// The system's streams. No clause states their content.
+/// The system's streams. The contracts state nothing about their content.
 impl OpenSource for Stream<Stdin, File> {
     ghost is_at = { λ _ _. Unit {0} };
 
@@ -155,7 +155,8 @@ pub struct HostLog<'a, S> {
     keeps: Option<Global>,
     seen: SourceStats,
     recent: RecentBytes,
-    /// The recent bytes, and those of them not yet consumed, which the output examines.
+    /// The last complete lines among the unread bytes, and the next one that isn't played yet, which the output
+    /// examines.
     last: LineBoundaries,
     ahead: &'a Cell<Lookahead>,
     ended: bool,
@@ -219,7 +220,7 @@ impl<S: OpenSource> Source for HostLog<'_, S> {
             self.last = LineBoundaries::of(read);
         }
         let last = self.last;
-        // The next of these lines, except one that begins here, is the beginning of the next bytes to consume.
+        // Reads up to the next of these lines and its first byte, so that `ahead` changes when that line is played.
         let behind = recent.unread().len().saturating_sub(1);
         let most = last.next(behind).0.saturating_add(1);
         let n = recent.take(most, out);

@@ -144,7 +144,7 @@ fn play_to<'a>(
     host.play(words)
 }
 
-/// Runs the program on its process, and reports if the output failed.
+/// Runs the program with the arguments and streams of its process, and reports a failed write to the output.
 fn main(rt: HostRuntime) -> ExitCode {
     let mut errors = RememberError {
         inner: rt.stderr(),

@@ -48,7 +48,7 @@ pub enum Note {
     Signed(SignedBytesMismatch),
 }
 
-/// A note as a line or a JSON object. None of its characters is escaped in JSON.
+/// A note as a line or a JSON object. Notes have no characters that JSON escapes.
 #[derive(Clone, Copy)]
 pub struct NoteText<'a> {
     pub wish: &'a ReportOptions<'a>,

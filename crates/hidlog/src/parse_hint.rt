@@ -43,7 +43,7 @@ const LETTERS: &[u8] = b"<>tpks";
 /// The largest timestamp.
 const LARGEST: &[u8] = b"18446744073709551615";
 
-/// A hexadecimal digit, in a form.
+/// A hexadecimal digit in a format.
 const DIGIT: u8 = b'.';
 
 const PACKET: &[u8] = &[DIGIT; 128];
@@ -123,7 +123,7 @@ fn fitting_len(line: &[u8]) -> usize {
     front.saturating_add(most)
 }
 
-/// The bytes expected where a line stops being a log line.
+/// The bytes that are expected at the first one that doesn't fit a log line.
 type Expected = (&'static [u8], Option<u64>);
 
 /// Returns the number of hexadecimal digits at the start.
@@ -136,7 +136,7 @@ fn digits_in_front(text: &[u8]) -> u64 {
     text.len() as u64
 }
 
-/// Returns the form expected of the field after the timestamp, or of a packet from the key, from its first byte on.
+/// Returns the format that is expected in the field after the timestamp, or in a packet from the key.
 fn expected_in_field(letter: u8, field: &[u8]) -> Expected {
     let digits = digits_in_front(field);
     let is_whole = digits == field.len() as u64;
@@ -160,7 +160,7 @@ fn expected_in_field(letter: u8, field: &[u8]) -> Expected {
     }
 }
 
-/// Returns the form expected of a timestamp and the rest of the line.
+/// Returns the format that is expected in a timestamp and the rest of the line.
 fn expected_in_timed(letter: u8, fields: &[u8], place: usize) -> Expected {
     let digits = count_leading(fields, DIGITS);
     if place < digits && fields.starts_with(b"0") {
@@ -179,7 +179,7 @@ fn expected_in_timed(letter: u8, fields: &[u8], place: usize) -> Expected {
     }
 }
 
-/// The first byte that doesn't fit a log line, or that the line ends too early.
+/// The first byte that doesn't fit a log line, or the end of a line that ends too early.
 #[derive(Clone, Copy)]
 pub struct ParseHint<'a> {
     line: &'a [u8],
@@ -187,7 +187,7 @@ pub struct ParseHint<'a> {
 }
 
 impl ParseHint<'_> {
-    /// Returns the hint for a kind of file that begins so, if known.
+    /// Returns the hint for a kind of file that begins with these bytes, if known.
     fn other_file(&self) -> Option<&'static str> {
         for (magic, text) in &OTHER_FILES {
             if self.line.starts_with(magic) {
@@ -197,7 +197,7 @@ impl ParseHint<'_> {
         None
     }
 
-    /// Returns the form expected at this position.
+    /// Returns the format that is expected at this position.
     fn expected(&self) -> Expected {
         let [letter, rest @ ..] = self.line else {
             return (b"expected a log line\n", None);

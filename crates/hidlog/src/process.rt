@@ -29,7 +29,7 @@ pub fn say<E: Target, W: Written>(faults: &mut E, what: &W) -> bool
     put_parts(faults, &mut TextBuf::new(Detail::Explained), what).is_ok()
 }
 
-/// Writes a text to standard error and, explained, the line with the reason.
+/// Writes an error message to standard error and, if errors are explained, the line with the details.
 pub fn report_error<E: Target>(faults: &mut E, explains: bool, text: &[u8], why: &ErrorDetail<'_>)
     requires { E.failed faults.old < 2 ^ 64 - 1 }
     ensures { IsReported explains E.taken E.failed (faults.old, faults.new) text.now }
@@ -43,7 +43,7 @@ pub fn report_error<E: Target>(faults: &mut E, explains: bool, text: &[u8], why:
     }
 }
 
-/// Writes that memory ran out. Returns the exit status, 2.
+/// Writes the message for lack of memory. Returns the exit status, 2.
 pub fn no_memory<E: Target>(faults: &mut E) -> u8
     requires { E.failed faults.old < 2 ^ 64 - 1 }
     ensures status { result ≡ 2 }
@@ -53,8 +53,8 @@ pub fn no_memory<E: Target>(faults: &mut E) -> u8
     2
 }
 
-/// Returns the program's arguments, with its name first. If one isn't UTF-8, or memory runs out, that is written, and
-/// the error is the exit status, 2.
+/// Returns the program's arguments, with its name first. If one isn't UTF-8 or memory runs out, writes a message; the
+/// error is the exit status, 2.
 pub fn program_args<E: Target>(rt: &HostRuntime, faults: &mut E) -> Result<Vec<String>, u8>
     requires { E.failed faults.old < 2 ^ 64 - 1 }
     ensures silent { OnOk result (faults.new ≡ faults.old) }

@@ -26,7 +26,7 @@ use clap::error::ErrorKind;
 use session_log::{LogFault, ReplayMode, Target, put_all};
 use session_show::{LogWriter, OutputFormat, explain, put_json_fault, show, write_log};
 
-/// The result of an action, with what else can be reported of a single log.
+/// The result of an action, and what else can be reported about a single log.
 #[derive(Drop)]
 pub struct RunOutcome<'a> {
     /// The error is the exit status.
@@ -70,8 +70,8 @@ fn put_text<O: Target>(output: &mut O, text: &[u8]) -> Result<(), LogFault>
     }
 }
 
-/// Writes the log in a format, up to its fault if any. In JSON the last object is the fault's, after those of open
-/// transactions.
+/// Writes the log in a format, up to its first error, if any. In JSON, the last object is that of the error, after
+/// those of open transactions.
 #[inline(never)]
 fn show_form<L: Logs, O: Target>(
     form: OutputFormat,
@@ -245,8 +245,8 @@ impl<D: Files, L: Logs, O: Output, E: Target> Host<D, L, O, E> {
         }
     }
 
-    /// Runs the program with these arguments, its name first. The exit status is 1 for a fault of the log, 2 for
-    /// invalid arguments, for a snapshot's file, and for lack of memory outside the log. The text was written to
+    /// Runs the program with these arguments, its name first. The exit status is 1 for an error in the log, and 2 for
+    /// invalid arguments, a snapshot that cannot be used, or lack of memory outside the log. The message is written to
     /// standard error, if possible.
     pub fn run<'a>(&mut self, words: &'a [&'a str]) -> RunOutcome<'a>
         requires { CanFail ⟦<Self as Modeled>⟧.model self.old }

@@ -10,7 +10,7 @@ use std::io::{self, Read};
 /// Capacity in bytes.
 const HELD: usize = 8192;
 
-/// Number of bytes that stay when the buffer is full. A line that is refused begins in the last 256 read.
+/// Number of bytes that are kept when the buffer is full. An invalid line begins in the last 256 bytes read.
 const KEPT: usize = 4096;
 
 /// The most recent bytes of a stream: consumed ones, then the others.
@@ -99,7 +99,7 @@ impl RecentBytes {
         }
     }
 
-    /// Drops old bytes if there are many. All were consumed.
+    /// If the buffer is full, drops old bytes, all of which were consumed.
     fn forget(&mut self)
         ensures at { self.new.at ≡ self.new.end }
         ensures space { self.new.end ≤ 4096 }

@@ -9,7 +9,7 @@ use std::alloc::Global;
 pub struct ReportOptions<'a> {
     /// The allocator for texts that are kept.
     pub alloc: Global,
-    /// Whether the reason follows an error message.
+    /// Whether the reason is written after an error message.
     pub explains: bool,
     /// The path of the snapshot that is loaded.
     pub load: Option<&'a str>,

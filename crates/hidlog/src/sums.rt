@@ -8,15 +8,15 @@ const DIGITS: usize = 64;
 /// Length of a line: the sum, a space, the file's inode number as 16 hexadecimal digits, and a line feed.
 const LINE: usize = 82;
 
-/// Maximum length: two lines.
+/// Maximum length of a checksum file: two lines.
 pub const SUMS: usize = 2 * LINE;
 
-/// The line for a file's content.
+/// A line of a checksum file: the SHA-256 hash of a snapshot and the inode number of its file.
 #[derive(Clone, Copy)]
 pub struct SumLine([u8; LINE]);
 
 impl SumLine {
-    /// Returns the line for these bytes, in the file with this inode number.
+    /// Returns the checksum line for these bytes, in the file with this inode number.
     pub fn of(bytes: &[u8], file: u64) -> Self {
         let mut line = [b'\n'; LINE];
         line[DIGITS] = b' ';
@@ -32,12 +32,12 @@ impl SumLine {
         self.0.as_slice()
     }
 
-    /// Returns whether the line is one of these.
+    /// Returns whether the checksum file has this line.
     pub fn is_in(&self, sums: &[u8]) -> bool {
         sums.starts_with(self.text()) || sums.ends_with(self.text())
     }
 
-    /// Returns whether these lines are for its file. If another file replaced it, they don't apply.
+    /// Returns whether the checksum file is for the same file. If another file replaced it, the checksums don't apply.
     pub fn is_of(&self, sums: &[u8]) -> bool {
         sums.ends_with(&self.0[DIGITS..])
     }

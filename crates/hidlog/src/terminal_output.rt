@@ -31,8 +31,8 @@ pub struct Style {
     pub numbers: usize,
 }
 
-/// Writes a line without its line feed; if it is wider than the terminal, as much as fits and two dots. A character of
-/// three or four bytes may be a wide one.
+/// Writes a line without its line feed. If it is wider than the terminal, writes as much as fits, followed by two dots.
+/// A character of three or four bytes counts as two columns, because it may be a wide one.
 fn write_cut(buf: &mut TextBuf, line: &[u8], width: usize) {
     let (mut columns, mut end) = (0_usize, 0);
     for place in 0..line.len() {
@@ -122,7 +122,7 @@ pub struct Screen<T> {
     pub line: Vec<u8>,
 }
 
-/// Writes lines in a style. In a stack frame of its own, since the buffer is zeroed at each call.
+/// Writes lines in a style. Not inlined, because the buffer in its stack frame is zeroed at each call.
 #[inline(never)]
 fn put_styled<T: Target>(target: &mut T, lines: &StyledLines<'_>) -> Result<(), Failed>
     requires { T.failed target.old < 2 ^ 64 - 1 }
@@ -132,7 +132,7 @@ fn put_styled<T: Target>(target: &mut T, lines: &StyledLines<'_>) -> Result<(), 
 }
 
 impl<T: Target> Target for Screen<T> {
-    // Without a style, text passes unchanged. With one, no clause states the output.
+    // Without a style, text passes unchanged. With a style, the contracts state nothing about the output.
     ghost taken = { λ s. if is_none s.style then T.taken s.inner else None };
 
     ghost failed = { λ s. T.failed s.inner };

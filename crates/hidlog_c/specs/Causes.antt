@@ -76,7 +76,7 @@ report_of (Transport why) = transport_report why
 report_of (Request why) = request_report why
 report_of (Command why) = command_report why
 
--- The cause of a message that timed out before the input was processed.
+-- The cause of a time-out that was handled before the input, if any.
 abbrev pub time_cause_of : Option TransportRefusal → Option Cause
 time_cause_of None = None
 time_cause_of (Some overdue) = Some (Transport overdue)
@@ -91,7 +91,7 @@ ReportsOne None report out result = (report.1 ≡ report.0) × (out.1 ≡ out.0)
 ReportsOne (Some cause) report out result = (report.1 ≡ report_of cause)
     × ((n : ℕ) × (n ≤ length out.1) × (result ≡ pos n))
 
--- 0 selects the cause of a timeout, 1 that of the input.
+-- 0 selects the cause of a time-out, 1 that of the input.
 abbrev pub which_of : ℕ → Option Bool
 which_of which = if nat_eq which 0 then Some false else if nat_eq which 1 then Some true else None
 
@@ -99,7 +99,8 @@ abbrev pub ReportsWhich : Option Bool → TwoCauses → CauseReport × CauseRepo
 ReportsWhich None causes report out result = (report.1 ≡ report.0) × (out.1 ≡ out.0) × (result ≡ ERR_INVALID_ARGUMENT)
 ReportsWhich (Some is_input) causes report out result = ReportsOne (cause_at causes is_input) report out result
 
--- A pair is the caller's memory before and after the call.
+-- The selected cause is reported, unless the key is not initialized. A pair is the caller's memory before and after the
+-- call.
 abbrev pub ReportsCause : Option DeviceState → (which : ℕ) → CauseReport × CauseReport → List ℕ × List ℕ → ℤ → Type 0
 ReportsCause None which report out result = (report.1 ≡ report.0) × (out.1 ≡ out.0) × (result ≡ ERR_NOT_INITIALIZED)
 ReportsCause (Some d) which report out result = ReportsWhich (which_of which) d.causes report out result

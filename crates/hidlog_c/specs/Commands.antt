@@ -9,8 +9,8 @@ use Rattle.session_log.specs.Session.{history, live_history, quiet_history}
 use Rattle.hidlog_c.specs.declared.{capacity.TheConstants.CAPACITY, outcome.CResult.CResult}
 use Rattle.hidlog_c.specs.{Begin.Opens, Switched.start_with, Numbers.outcome_of, Numbers.refused}
 
--- A log was played from state x: `bytes` of it were read, all but `rest`, and this text was written. The bytes after
--- a fault don't matter.
+-- A log was played from state x: `bytes` of it were read, all but `rest`, and this text was written. The bytes after an
+-- error don't matter.
 abbrev pub PlaysSliceIn : {S : Type 0} → World S → S → (bytes rest text : List ℕ) → Ending → Type 0
 PlaysSliceIn {S} world x bytes rest text ending = (later : S) × PlaysWholeLog world x later bytes text ending
     × Finds world x bytes (rest ≡ []) ending
@@ -23,9 +23,8 @@ PlaysSlice Check rows bytes rest text ending =
     PlaysSliceIn (check_history (start_with rows)) (first_comparison []) bytes rest text ending
 PlaysSlice Quiet rows bytes rest text ending = PlaysSliceIn (quiet_history (start_with rows)) [] bytes rest text ending
 
--- `bytes` of the log were read: all of it if there is no fault, and no read failed. The text is at the start of the
--- buffer; after a failed write the buffer is full. P holds of the bytes, of the unread rest, of the text and of the
--- ending.
+-- `bytes` of the log were read: all of it if there is no error, and no read failed. The text is at the start of the
+-- buffer; after a failed write the buffer is full. P holds for the bytes, the unread rest, the text and the ending.
 pub record IsWritten (log out : List ℕ) (written : ℕ) (answer : Result (Unit {0}) LogFault)
     (P : List ℕ → List ℕ → List ℕ → Ending → Type 0) : Type 0 where
   pub bytes : List ℕ
@@ -38,7 +37,7 @@ pub record IsWritten (log out : List ℕ) (written : ℕ) (answer : Result (Unit
   pub does : P bytes rest (take written out) (ending_of answer)
 
 -- The command played the log with the credentials of the snapshot, and the result is that of its answer; or the
--- snapshot is refused, and the buffer is not changed. A pair is the buffer before and after the call.
+-- snapshot is rejected, and the buffer is not changed. A pair is the buffer before and after the call.
 abbrev pub Answers : ReplayMode → (log snapshot : List ℕ) → (List ℕ × List ℕ) → CResult → Type 0
 Answers command log snapshot out outcome =
     ((rows : List Row) × (answer : Result (Unit {0}) LogFault) × Opens snapshot rows

@@ -1,4 +1,4 @@
--- What a key holds.
+-- The device of a key.
 use Rattle.std.specs.Prelude.{Option, None, if◌then◌else◌, nat_eq}
 use Rattle.hidlog_c.specs.{Key.DeviceState, declared.key.KeyHandle.KeyHandle}
 

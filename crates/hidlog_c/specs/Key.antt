@@ -26,7 +26,7 @@ served d x = record {
   causes = causes_of d.session.machine x;
 }
 
--- A key that is not initialized takes no call, and a key with queued packets takes no input.
+-- A key that is not initialized rejects each call, and a key with queued packets rejects inputs.
 abbrev pub taken_by : DeviceState → List (List ℕ) → Timed → Option DeviceState
 taken_by d [] x = Some (served d x)
 taken_by d (packet ∷ more) x = Some d
@@ -80,7 +80,7 @@ abbrev pub next_answer : Option DeviceState → ℤ
 next_answer None = ERR_NOT_INITIALIZED
 next_answer (Some d) = left_after d.waiting
 
--- A pair is the caller's packet before and after the call.
+-- The result of taking the first queued packet. A pair is the caller's packet before and after the call.
 pub record Sends (before after : Option DeviceState) (packet : List ℕ × List ℕ) (result : ℤ) : Type 0 where
   pub state : after ≡ after_next before
   pub packet_is : packet.1 ≡ first_or packet.0 (waiting_of before)

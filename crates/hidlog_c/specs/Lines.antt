@@ -14,7 +14,7 @@ abbrev pub LinesDo : SessionState → SessionState → (bytes rest text : List �
 LinesDo s t bytes rest text ending = Plays live_machine s t bytes text ending
     × Finds live_machine s bytes (rest ≡ []) ending
 
--- The same, for a history and its extension by the lines.
+-- As `LinesDo`, for a history and its extension by the inputs of the lines.
 abbrev pub HistoryDoes : Start → List Timed → List Timed → (bytes rest text : List ℕ) → Ending → Type 0
 HistoryDoes start h later bytes rest text ending = Writes (live_history start) h later bytes text ending
     × Finds (live_history start) h bytes (rest ≡ []) ending
@@ -34,7 +34,7 @@ ArePlayed s t log out outcome = (answer : Result (Unit {0}) LogFault) × (outcom
 abbrev pub played_to : DeviceState → SessionState → DeviceState
 played_to d t = record { aaguid = d.aaguid; session = t; waiting = []; causes = no_causes }
 
--- A key takes lines if no packet is queued. A pair is the caller's memory before and after the call.
+-- A key plays lines if no packet is queued. A pair is the caller's memory before and after the call.
 abbrev pub PlaysOn : DeviceState → List (List ℕ) → Option DeviceState → (log : List ℕ) → (List ℕ × List ℕ)
     → (CResult × CResult) → ℤ → Type 0
 PlaysOn d [] after log out outcome result = (t : SessionState) × (after ≡ Some (played_to d t))

@@ -6,7 +6,7 @@ use Rattle.session_log.specs.Numbers.{fault_number}
 use Rattle.session_log.specs.declared.fault.LogFault.TheVariants.{BadLine, TooLong, Differs, Read, Write, TooManyLines}
 use Rattle.hidlog_c.specs.declared.outcome.CResult.{CResult}
 
--- The line of a fault, and the packet; 0 if it has none.
+-- The line of an error, and the packet; 0 if it has none.
 abbrev pub line_of : LogFault → ℕ
 line_of (BadLine n) = n
 line_of (TooLong n) = n
@@ -31,6 +31,6 @@ outcome_of (Err f) written = record {
   written = written;
 }
 
--- The result for a refused snapshot: nothing was written.
+-- The result for a rejected snapshot: nothing was written.
 abbrev pub refused : SnapshotFault → CResult
 refused f = record { status = 2; fault = refusal_number f; line = 0; packet = 0; written = 0 }

@@ -10,8 +10,8 @@ abbrev pub wording_for : (explained : Bool) → Detail
 wording_for true = Explained
 wording_for false = Fixed
 
--- `bytes` of the log were read, all but `rest`. Without a fault every line is a log line; a fault is that of the
--- first faulty line, and the text shows the lines before it. The bytes after the faulty line don't matter.
+-- `bytes` of the log were read, all but `rest`. Without an error, every line is a log line; an error is that of the
+-- first invalid line, and the text shows the lines before it. The bytes after the invalid line don't matter.
 abbrev pub Shows : Detail → (bytes rest text : List ℕ) → Ending → Type 0
 Shows detail bytes rest text ending =
     ((lines : List ℕ) × Plays read_only_world tt tt bytes lines ending × IsTextTo (IsLineText detail) lines text ending)

@@ -31,7 +31,7 @@ abbrev pub Begins : (aaguid : List ℕ) → (moment : ℕ) → (snapshot : List 
 Begins aaguid moment snapshot after = (rows : List Row) × (d : DeviceState) × Opens snapshot rows
     × (after ≡ Some d) × IsStarted d aaguid moment rows
 
--- The snapshot is refused, and the key is not initialized.
+-- The snapshot is rejected, and the key is not initialized.
 abbrev pub IsRefused : (snapshot : List ℕ) → Option DeviceState → ℤ → Type 0
 IsRefused snapshot after result = (fault : SnapshotFault) × (snapshot ≢ []) × Refuses CAPACITY snapshot fault
     × (after ≡ None) × (result ≡ refusal fault)

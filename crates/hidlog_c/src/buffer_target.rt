@@ -4,9 +4,9 @@ ghost use Rattle.std.specs.Io.KnownBytes.{WriteAppends};
 
 use session_log::{Failed, Target};
 
-/// A target that fills the caller's buffer from its start. In contracts, what it has taken is the ghost name of the
-/// borrow, followed by the bytes written: so after a call that only appends, its caller knows that the target still
-/// fills the same buffer. After a failed call the buffer is full. `SliceOut` states neither.
+/// A target that fills the caller's buffer from its start. In contracts, the bytes taken are the ghost name of the
+/// borrow, followed by the bytes written; so after a call that only appends, the caller knows that the target still
+/// fills the same buffer. After a failed call, the buffer is full. The contract of `SliceOut` states neither.
 #[derive(Drop)]
 pub struct BufferTarget<'a> {
     buffer: &'a mut [u8],

@@ -1,4 +1,4 @@
-//! The functions on a key in C (hidlog.h). Each returns its result, or an error below 0 that leaves the key as it was
+//! The functions on a key in C (hidlog.h). Each returns its result, or an error below 0 that leaves the key unchanged
 //! (fault.rt).
 ghost use Rattle.std.specs.Prelude.{◌≡◌, None, Some, option_map};
 ghost use Rattle.token_session.specs.declared.input.Input.TheVariants as inputs;
@@ -29,7 +29,7 @@ use cred_table::SnapshotFault;
 use hid_packet::Packet;
 use token_session::Input;
 
-/// Returns the presence reply of a number.
+/// Converts a number to a user presence reply, if valid.
 fn presence_of(presence: u32) -> Option<Presence>
     ensures { result ≡ presence_of presence }
 {
@@ -87,7 +87,7 @@ pub extern "C" fn hidlog_key_tick(key: &mut KeyHandle, at: u64) -> i32
     key.take(at, Input::Tick)
 }
 
-/// Takes a host packet at `at`. Returns the number of queued packets.
+/// Processes a host packet at time `at`, in milliseconds. Returns the number of queued packets.
 #[unsafe(no_mangle)]
 pub extern "C" fn hidlog_key_write_packet(key: &mut KeyHandle, at: u64, packet: &[u8; 64]) -> i32
     ensures { Answers (held key.old) (held key.new)
@@ -96,7 +96,7 @@ pub extern "C" fn hidlog_key_write_packet(key: &mut KeyHandle, at: u64, packet: 
     key.take(at, Input::Packet(Packet(*packet)))
 }
 
-/// Takes the next queued packet, and returns the number left.
+/// Removes the next queued packet and writes it to `packet`. Returns the number of packets left.
 #[unsafe(no_mangle)]
 pub extern "C" fn hidlog_key_read_packet(key: &mut KeyHandle, packet: &mut [u8; 64]) -> i32
     ensures { Sends (held key.old) (held key.new) (packet.old, packet.new) result }
@@ -198,8 +198,8 @@ pub extern "C" fn hidlog_key_get_need(key: &mut KeyHandle, need: &mut CNeed) -> 
 }
 
 /// Writes why the key refused its last input, as numbers and as a UTF-8 sentence at the start of `out`. `which` is 1
-/// for the input, 0 for what the passage of time dropped before it. Returns the number of bytes written, 0 if nothing
-/// was refused.
+/// for the input, 0 for a message that timed out before it. Returns the number of bytes written, or 0 if nothing was
+/// refused.
 #[unsafe(no_mangle)]
 pub extern "C" fn hidlog_key_cause(
     key: &mut KeyHandle,

@@ -1,7 +1,7 @@
-//! The capacity of keys. release/build.sh builds and proves the library a second time with 256 on this one line.
+//! The capacity of keys. release/build.sh also proves and builds the library with 256 on this one line.
 
 /// Maximum number of credentials, and of pending assertions.
 pub const CAPACITY: usize = 64;
 
-/// Maximum length of a snapshot in bytes: 13, and 283 for each credential.
+/// Maximum length of a snapshot in bytes: 13, plus 283 for each credential.
 pub const SNAPSHOT_MAX_LEN: usize = 13 + 283 * CAPACITY;

@@ -115,7 +115,8 @@ pub fn report_of(cause: Cause) -> CauseReport
     }
 }
 
-/// Returns whether a C number selects the cause of the input's refusal (1), not that of a timeout before it (0).
+/// Returns whether a C number selects the cause of the input's refusal (1) or that of a time-out before it (0). Other
+/// numbers are invalid.
 pub fn which_of(which: u32) -> Option<bool>
     ensures { result ≡ which_of which }
 {
@@ -126,7 +127,7 @@ pub fn which_of(which: u32) -> Option<bool>
     }
 }
 
-/// Returns the cause of the timeout that was handled before the last input, or the cause of the input's own refusal.
+/// Returns the cause of the time-out that was handled before the last input, or the cause of the input's own refusal.
 pub fn cause_at(causes: &Causes, is_input: bool) -> Option<Cause>
     ensures { result ≡ cause_at causes.now is_input }
 {

@@ -35,7 +35,7 @@ fn number_of(error: DomError) -> i64 {
     }
 }
 
-/// Copies bytes to the front of a buffer, and returns how many, or [`ERR_BUFFER_TOO_SMALL`].
+/// Copies bytes to the beginning of a buffer, and returns their number, or [`ERR_BUFFER_TOO_SMALL`].
 fn put(bytes: &[u8], out: &mut [u8]) -> i64 {
     let Ok(length) = i64::try_from(bytes.len()) else {
         return ERR_BUFFER_TOO_SMALL;
@@ -47,7 +47,8 @@ fn put(bytes: &[u8], out: &mut [u8]) -> i64 {
     length
 }
 
-/// Returns the number of a rejection, and puts the member at fault and the reason at the front of a buffer, if both fit.
+/// Returns the number of a rejection, and writes the name of the invalid member and the reason to the beginning of a
+/// buffer, if both fit.
 fn reject(rejection: Rejection, report: &mut ClientReport, out: &mut [u8]) -> i64 {
     let (member, reason) = (rejection.member.as_bytes(), rejection.reason.as_bytes());
     let (Ok(member_len), Ok(reason_len)) = (
@@ -67,7 +68,7 @@ fn reject(rejection: Rejection, report: &mut ClientReport, out: &mut [u8]) -> i6
     number_of(rejection.error)
 }
 
-/// Returns the authenticator's abilities of these bits (enum hidlog_client_ability).
+/// Converts bits (enum hidlog_client_ability) to the authenticator's abilities.
 fn abilities_of(bits: u32) -> Abilities {
     let verification = if bits & 1 != 0 {
         Verification::Verified

@@ -65,8 +65,8 @@ impl Device {
         }
     }
 
-    /// Powers the device up again at `at`, with the credentials of the snapshot. A refused snapshot leaves it as it
-    /// was. No packet is queued.
+    /// Powers the device up again at `at`, with the credentials of the snapshot. If the snapshot is rejected, nothing
+    /// changes. No packet may be queued.
     pub fn load(&mut self, at: u64, snapshot: &[u8]) -> Result<(), SnapshotFault>
         requires idle { self.old.waiting ≡ [] }
         ensures started { OnOk result ((rows : List AnyRow) × Loads CAPACITY snapshot.now (Ok tt) rows
@@ -81,7 +81,7 @@ impl Device {
         Ok(())
     }
 
-    /// Takes an input, unless packets are queued.
+    /// Processes an input, unless packets are queued.
     pub fn take(&mut self, at: u64, input: Input) -> i32
         ensures { Answers (Some self.old) (Some self.new) (record { at = at; input = input }) result }
     {
@@ -92,7 +92,7 @@ impl Device {
         self.outbox.len() as i32
     }
 
-    /// Takes the next queued packet.
+    /// Removes the next queued packet and writes it to `packet`.
     pub fn next(&mut self, packet: &mut [u8; 64]) -> i32
         ensures { Sends (Some self.old) (Some self.new) (packet.old, packet.new) result }
     {
@@ -116,7 +116,7 @@ impl Device {
         outcome.status as i32
     }
 
-    /// Writes why the last input was refused (`which` is 1), or the cause of the timeout that was handled before it
+    /// Writes why the last input was refused (`which` is 1), or the cause of the time-out that was handled before it
     /// (0).
     pub fn cause(&self, which: u32, report: &mut CauseReport, out: &mut [u8]) -> i32
         ensures { ReportsCause (Some self.now) which (report.old, report.new) (out.old, out.new) result }
@@ -139,7 +139,7 @@ impl Device {
         self.outbox.len()
     }
 
-    /// Returns what is needed.
+    /// Returns what the session needs from the caller.
     pub fn need(&self) -> CNeed
         ensures { result ≡ need_of (needs self.now.session.machine.core.state.work) }
     {
@@ -180,7 +180,7 @@ impl Device {
         meters_of(self.session.meters())
     }
 
-    /// Returns what keeps the key from starting a new session: queued packets, or work.
+    /// Returns the error if the key can't start a new session: packets are queued, or a request is pending.
     fn busy(&self) -> Option<i32>
         ensures busy { IfSome result (λ fault. IsBusy self.now fault) }
         ensures idle { IfNone result (IsIdle self.now) }
@@ -194,7 +194,7 @@ impl Device {
         }
     }
 
-    /// Starts a new session at `at` with these credentials. No packet is queued.
+    /// Starts a new session at `at` with these credentials. No packet may be queued.
     fn start(&mut self, at: u64, rows: Store<CAPACITY>)
         requires { self.old.waiting ≡ [] }
         ensures { IsStarted self.new self.old.aaguid at (⟦<Store<CAPACITY> as Table<CAPACITY>>⟧.rows rows) }
@@ -262,7 +262,8 @@ impl Device {
         0
     }
 
-    /// Writes a snapshot of the credentials to the start of a buffer of this length, and returns its length.
+    /// Writes a snapshot of the credentials to the start of a buffer of the maximum snapshot length, and returns its
+    /// length.
     fn save_front(&self, front: &mut [u8]) -> usize
         requires { length front.old ≡ SNAPSHOT_MAX_LEN }
         ensures saved { SavesLen self.now (front.old, front.new) result }

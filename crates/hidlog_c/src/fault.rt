@@ -1,4 +1,4 @@
-//! The errors of a call on a key: each is below 0. A call that fails leaves the key as it was.
+//! The errors of a call on a key: each is below 0. A failed call leaves the key unchanged.
 
 /// The key is not initialized, or was destroyed.
 pub const ERR_NOT_INITIALIZED: i32 = -1;

@@ -29,7 +29,7 @@ impl KeyHandle {
     }
 
     /// Initializes the key with a device that powers up at `at`, with the credentials of the snapshot; none if it is
-    /// empty. Fails if the key is initialized or the snapshot is refused.
+    /// empty. Fails if the key is initialized or the snapshot is rejected.
     // The snapshot is read into the device in place: moving its 39 kB would copy them.
     pub fn make(&mut self, aaguid: [u8; 16], at: u64, snapshot: &[u8]) -> Result<(), SnapshotFault>
         requires { held self.old ≡ None }
@@ -60,7 +60,7 @@ impl KeyHandle {
         }
     }
 
-    /// Takes an input, unless packets are queued.
+    /// Processes an input, unless packets are queued.
     pub fn take(&mut self, at: u64, input: Input) -> i32
         ensures { Answers (held self.old) (held self.new) (record { at = at; input = input }) result }
     {
@@ -81,7 +81,7 @@ impl KeyHandle {
         }
     }
 
-    /// Takes the next queued packet.
+    /// Removes the next queued packet and writes it to `packet`.
     pub fn next(&mut self, packet: &mut [u8; 64]) -> i32
         ensures { Sends (held self.old) (held self.new) (packet.old, packet.new) result }
     {
@@ -101,7 +101,7 @@ impl KeyHandle {
         self.memory.device().play(log, out, outcome)
     }
 
-    /// Writes why the last input was refused, or the cause of the timeout that was handled before it.
+    /// Writes why the last input was refused, or the cause of the time-out that was handled before it.
     pub fn cause(&mut self, which: u32, report: &mut CauseReport, out: &mut [u8]) -> i32
         ensures same { held self.new ≡ held self.old }
         ensures cause { ReportsCause (held self.old) which (report.old, report.new) (out.old, out.new) result }
@@ -123,7 +123,7 @@ impl KeyHandle {
         self.memory.device().waiting() as i32
     }
 
-    /// Writes what is needed, and returns its kind.
+    /// Writes what the session needs from the caller, and returns its kind.
     pub fn need(&mut self, need: &mut CNeed) -> i32
         ensures same { held self.new ≡ held self.old }
         ensures need { ReportsNeed (held self.old) (need.old, need.new) result }

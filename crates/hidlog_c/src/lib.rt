@@ -71,7 +71,7 @@ pub extern "C" fn hidlog_quiet(log: &[u8], snapshot: &[u8], out: &mut [u8], outc
     *outcome = run(ReplayMode::Quiet, log, snapshot, out);
 }
 
-/// Returns the level of detail for a C number; 0 explains nothing.
+/// Converts a C number to a level of detail; 0 is the fixed text.
 fn wording_for(explain: u32) -> Detail
     ensures { result ≡ wording_for (not (explain == 0)) }
 {
@@ -82,7 +82,7 @@ fn wording_for(explain: u32) -> Detail
     }
 }
 
-/// Shows the log in its fixed text, or explained if `explain` isn't 0, in the start of `out`.
+/// Writes the log's fixed text, or its explanation if `explain` isn't 0, to the start of `out`.
 #[unsafe(no_mangle)]
 pub extern "C" fn hidlog_show(log: &[u8], explain: u32, out: &mut [u8], outcome: &mut CResult)
     ensures { IsShown (wording_for (not (explain == 0))) log.now out.new outcome.new }

@@ -8,7 +8,7 @@ use arrayvec::ArrayVec;
 use session_log::LogFault;
 use std::io::Write;
 
-/// Returns the log fault of a result.
+/// Returns the log error of a result, if any.
 fn fault_in(outcome: &CResult) -> Option<LogFault>
     ensures { (fault : AnyFault) (written : ℕ) → outcome.now ≡ outcome_of {A = Unit {0}} (Err fault) written → result ≡ Some fault }
 {

@@ -9,19 +9,19 @@ use session_log::LogFault;
 #[derive(Clone, Copy)]
 #[repr(C)]
 pub struct CResult {
-    /// 0 for success, 1 for a fault of the log, 2 for a refused snapshot.
+    /// 0 for success, 1 for an error in the log, 2 for a rejected snapshot.
     pub status: u32,
-    /// The number of the log fault or snapshot error; 0 if there is none.
+    /// The number of the log error or snapshot error; 0 if there is none.
     pub fault: u32,
-    /// The fault's line, or 0.
+    /// The error's line, or 0.
     pub line: u64,
-    /// The packet that differs, from 1; 0 for other faults.
+    /// The packet that differs, from 1; 0 for other errors.
     pub packet: u64,
     /// Number of bytes written to the buffer.
     pub written: u64,
 }
 
-/// Returns the line and the packet of a fault, 0 without.
+/// Returns the line and the packet of an error, or 0 if it has none.
 fn place_of(fault: &LogFault) -> (u64, u64)
     ensures line { result.0 ≡ line_of fault.now }
     ensures packet { result.1 ≡ packet_of fault.now }
@@ -37,7 +37,7 @@ fn place_of(fault: &LogFault) -> (u64, u64)
 }
 
 impl CResult {
-    /// Returns the result of a command that returned this and wrote `len` bytes.
+    /// Converts the result of a command that wrote `written` bytes.
     pub fn new<A: Drop>(answer: Result<A, LogFault>, written: usize) -> Self
         ensures { result ≡ outcome_of answer written }
     {
@@ -56,7 +56,7 @@ impl CResult {
         outcome
     }
 
-    /// Returns the result for a refused snapshot.
+    /// Converts the error of a rejected snapshot.
     pub fn refused(fault: SnapshotFault) -> Self
         ensures { result ≡ refused fault }
     {

@@ -19,14 +19,14 @@ pub fn new_session(aaguid: [u8; 16], start: u64, rows: Store<CAPACITY>) -> Sessi
 }
 
 /// Returns a session without credentials, with AAGUID zero, that begins at time 0.
-// Through this function it is created in the caller's place; calling `Session::bare` instead would copy it.
+// This function creates it in the caller's stack frame; calling `Session::bare` there would copy it.
 pub fn fresh() -> Session<CAPACITY>
     ensures { result ≡ session_of (start_with []) [] }
 {
     Session::bare([0; 16], 0)
 }
 
-/// Loads the credentials of the snapshot into such a session, none if it is empty.
+/// Loads the credentials of the snapshot into a session of `fresh`. An empty snapshot has no credentials.
 pub fn open(session: &mut Session<CAPACITY>, snapshot: &[u8]) -> Result<(), SnapshotFault>
     requires fresh { session.old ≡ session_of (start_with []) [] }
     ensures begins { OnOk result ((rows : List AnyRow) × Opens snapshot.now rows

@@ -1,4 +1,4 @@
-//! The C structs that a key reports.
+//! The C structs that calls on a key write.
 ghost use Rattle.std.specs.Prelude.{◌≡◌, ◌≤◌, ◌++◌, ◌-◌, drop, length, replicate};
 ghost use Rattle.authn_core.specs.Needs.{IsNeed};
 ghost use Rattle.authn_core.specs.Views.{needed_reply};
@@ -62,7 +62,7 @@ pub struct CStats {
     pub unused: u32,
 }
 
-/// Copies the bytes to the start.
+/// Copies the bytes to the beginning of the buffer.
 fn put_front(out: &mut [u8], bytes: &[u8])
     requires { length bytes.now ≤ length out.old }
     ensures { out.new ≡ bytes.now ++ drop (length bytes.now) out.old }
@@ -70,7 +70,7 @@ fn put_front(out: &mut [u8], bytes: &[u8])
     out[..bytes.len()].copy_from_slice(bytes);
 }
 
-/// Returns the bytes, padded with zeros.
+/// Returns the bytes, padded with zeros to `N` bytes.
 fn with_zeros<const N: usize>(bytes: &[u8]) -> [u8; N]
     requires { length bytes.now ≤ N }
     ensures { result ≡ bytes.now ++ replicate (N - length bytes.now) 0 }
@@ -92,7 +92,7 @@ fn plain_need(kind: u32) -> CNeed
     }
 }
 
-/// Returns what is needed.
+/// Converts a need to a C struct.
 pub fn need_of(need: Need<'_>) -> CNeed
     requires { IsNeed (needed_reply need) }
     ensures { result ≡ need_of (needed_reply need.entry) }
@@ -110,7 +110,7 @@ pub fn need_of(need: Need<'_>) -> CNeed
     }
 }
 
-/// Returns the credential of a row.
+/// Converts a row to a C struct.
 pub fn credential_of(row: &Row) -> Credential
     ensures { result ≡ credential_of row.now }
 {
@@ -130,7 +130,7 @@ pub fn credential_of(row: &Row) -> Credential
     }
 }
 
-/// Returns the meters.
+/// Converts meters to a C struct.
 pub fn meters_of(meters: Meters) -> CStats
     ensures { result ≡ meters_of meters }
 {

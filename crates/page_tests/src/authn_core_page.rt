@@ -1,4 +1,4 @@
-//! The example on the page of `authn_core`.
+//! The example in the documentation of `authn_core`.
 
 use authn_core::{Config, Core, Presence, Turn};
 use cred_table::Store;

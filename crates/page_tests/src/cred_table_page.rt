@@ -1,4 +1,4 @@
-//! The example on the page of `cred_table`.
+//! The example in the documentation of `cred_table`.
 
 use cred_table::{Row, Store, Table, load, save};
 use std::test::Fail;

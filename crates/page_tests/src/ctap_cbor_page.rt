@@ -1,4 +1,4 @@
-//! The example on the page of `ctap_cbor`, in two parts.
+//! The example in the documentation of `ctap_cbor`, in two parts.
 
 use ctap_cbor::{Cursor, Item, Sink, check, decode_value, encode_value};
 use std::test::Fail;

@@ -1,4 +1,4 @@
-//! The example on the page of `ctap_message`.
+//! The example in the documentation of `ctap_message`.
 
 use ctap_message::{Answer, Request, Status, read_request, write_info};
 

@@ -1,4 +1,4 @@
-//! The example on the page of `fido_authdata`.
+//! The example in the documentation of `fido_authdata`.
 
 use fido_authdata::{AuthData, to_sign};
 

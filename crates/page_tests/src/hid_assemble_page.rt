@@ -1,4 +1,4 @@
-//! The example on the page of `hid_assemble`.
+//! The example in the documentation of `hid_assemble`.
 
 use hid_assemble::{Assembler, Verdict};
 use hid_packet::Outbox;

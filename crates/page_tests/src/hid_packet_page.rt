@@ -1,4 +1,4 @@
-//! The example on the page of `hid_packet`.
+//! The example in the documentation of `hid_packet`.
 
 use hid_packet::laws::written_packets_are_the_fewest;
 use hid_packet::{Outbox, View, command};

@@ -1,5 +1,6 @@
-//! The examples on the libraries' pages, as tests. They are apart, as in Cargo's folder `tests/`, since a check of a
-//! crate's tests proves the whole crate once more. Other tests of the libraries run without a proof (tests/unit).
+//! The examples in the libraries' documentation, as tests. They are in a crate of their own, like the tests in Cargo's
+//! folder `tests/`, because testing a crate proves it once more. The libraries' other tests run without a proof
+//! (tests/unit).
 #![tactic(auto)]
 
 #[cfg(test)]

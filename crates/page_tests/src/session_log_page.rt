@@ -1,4 +1,4 @@
-//! The example on the page of `session_log`.
+//! The example in the documentation of `session_log`.
 
 use session_log::{SliceIn, SliceOut, replay};
 use token_session::Session;

@@ -1,4 +1,4 @@
-//! The example on the page of `token_session`.
+//! The example in the documentation of `token_session`.
 
 use hid_packet::{BROADCAST, Fragments, Outbox, View, command};
 use token_session::{Input, Session};

@@ -133,7 +133,8 @@ impl<'a> Client<'a> {
         }
     }
 
-    /// Appends the page's response for the authenticator's response map, one canonical item.
+    /// Appends the page's response, converted from the authenticator's response map, which must be one item in
+    /// canonical CBOR.
     fn response(&self, map: &[u8], out: &mut Response) -> Result<(), Rejection>
         ensures { OnOk result ((t : Tree) × IsCanonical t map.now) }
     {
@@ -151,8 +152,8 @@ impl<'a> Client<'a> {
         }
     }
 
-    /// Appends the page's response as JSON, from the authenticator's response, or from that for the selected account if
-    /// there are several.
+    /// Appends the page's response as JSON, converted from the authenticator's response; if there were several, from
+    /// the one for the selected account.
     pub fn answer(&self, answer: &[u8], out: &mut Response) -> Result<(), Rejection>
         ensures { OnOk result ((map : List ℕ) × (answer.now ≡ 0 ∷ map) × ((t : Tree) × IsCanonical t map)) }
     {

@@ -190,7 +190,7 @@ pub fn check_creation(
     Ok(())
 }
 
-/// Returns whether a string is present and not empty.
+/// Returns whether a value is a string that isn't empty.
 fn is_text_there(value: Option<&[u8]>) -> bool {
     match value {
         Some(value) => !is_word(value, ""),

@@ -11,7 +11,7 @@ use crate::number::count;
 use crate::rejection::{DomError, Rejection, not_allowed, type_error};
 use crate::text::{Text, is_word, text_of};
 
-/// The outcome of the user verification requirement.
+/// Whether the authenticator verifies the user: it can't, it does, or verification fails.
 #[derive(Clone, Copy, Debug, PartialEq, Eq)]
 pub enum Verification {
     None,

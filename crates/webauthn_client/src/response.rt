@@ -24,7 +24,7 @@ type Attestation = ArrayVec<u8, 7680>;
 const SPKI: &[u8] =
     b"\x30\x59\x30\x13\x06\x07\x2a\x86\x48\xce\x3d\x02\x01\x06\x08\x2a\x86\x48\xce\x3d\x03\x01\x07\x03\x42\x00\x04";
 
-/// The members of a response map by number: the whole encoding of each, and its content if it is a string.
+/// A member of a response map: its whole encoding, and its content if it is a string.
 #[derive(Clone, Copy)]
 struct Part<'a> {
     whole: &'a [u8],
@@ -112,7 +112,7 @@ fn push_end(out: &mut Response, abilities: Abilities) -> Result<(), Rejection> {
     }
 }
 
-/// Appends the P-256 public key from authenticator data, if any, to an unfinished JSON string.
+/// Ends an unfinished JSON string, and appends the public key and its algorithm if the COSE key is on P-256.
 fn push_public_key(out: &mut Response, cose: &[u8]) -> Result<(), Rejection> {
     push(out, b"\"")?;
     if cose.len() < 77 || &cose[..10] != b"\xa5\x01\x02\x03\x26\x20\x01\x21\x58\x20".as_slice() {
