@@ -83,7 +83,7 @@ answers_assertion event answer = false
 abbrev pub answered_assertions : AssertionSeries → List Exchange
 answered_assertions s = filter (λ x. answers_assertion x.event x.answer) s.since
 
--- At most 30,000 ms after the last one (CTAP 2.1, section 6.3).
+-- At most 30,000 ms after the last assertion (CTAP 2.1, section 6.3).
 abbrev pub is_in_time : (now : ℕ) → List Exchange → Bool
 is_in_time now [] = false
 is_in_time now (x ∷ older) = nat_le now (x.at + 30000)

@@ -18,7 +18,7 @@ pub record Exchange : Type 0 where
 abbrev pub rows_after : Start → List Exchange → List Row
 rows_after start past = rows_after_changes start.rows (map (λ x. x.did) past)
 
--- A pending request: its channel, parameters, replies, newest first, KEEPALIVE status, and the history before it.
+-- A pending request: its channel, parameters, replies (newest first), KEEPALIVE status, and the history before it.
 pub record PendingRequest : Type 0 where
   pub cid : ℕ
   pub asked : RequestParameters

@@ -12,7 +12,7 @@ use Rattle.authn_core.specs.Refusals.{not_granted}
 use Rattle.sha2.specs.Sha256.{sha256}
 use Rattle.authn_core.specs.State.{MakeState, AwaitMakePresence, AwaitKeyPair, AwaitMakeSignature, TurnResult, respond, respond_refusal, await_reply}
 
--- Some ID is that of a credential of the RP.
+-- One of the IDs is that of a credential of the RP.
 abbrev pub names_one : (rp : List ℕ) → List Row → List (List ℕ) → Bool
 names_one rp rows ids = list_any (λ id. is_some (find (is_named rp id) rows)) ids
 
@@ -36,7 +36,7 @@ make_after_presence capacity rows pending cid m false Granted =
     if has_capacity capacity m rows then await_reply rows pending cid (AwaitKeyPair m) else respond_refusal rows pending because.Full
 make_after_presence capacity rows pending cid m false reply = respond_refusal rows pending (not_granted reply)
 
--- A new credential ID that doesn't exist yet needs a signature (WebAuthn Level 2, section 8.2).
+-- If the new credential ID doesn't exist yet, a signature is needed (WebAuthn Level 2, section 8.2).
 abbrev pub make_after_key : (aaguid : List ℕ) → List Row → Option PendingAssertions → (cid : ℕ) → MakeState → Option NewKey → TurnResult
 make_after_key aaguid rows pending cid m None = respond_refusal rows pending because.KeyRefused
 make_after_key aaguid rows pending cid m (Some key) =

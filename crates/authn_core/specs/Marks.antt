@@ -34,7 +34,7 @@ is_incremented (Some id) r = bytes_eq r.id id
 abbrev pub is_kept : List CredentialChange → Row → Bool
 is_kept later r = not (list_any (λ m. m.resets) later) && not (list_any (λ m. is_replaced_by m.made r) later)
 
--- The later increments of its counter are added.
+-- The row, with the later increments of its counter.
 abbrev pub with_increments : List CredentialChange → Row → Row
 with_increments later r = record r { counter = r.counter + length (filter (λ m. is_incremented m.raises r) later) }
 
@@ -137,8 +137,8 @@ abbrev pub task_counter : Task → ℕ
 task_counter (AwaitAssertSignature a counter signed) = counter
 task_counter task = 0
 
--- The bytes that an assertion signs: the credential's ID, how often a credential with this ID was created, and the
--- signature counter.
+-- What distinguishes the bytes that assertions sign: the credential's ID, how often a credential with this ID was
+-- created, and the signature counter.
 pub record SignedText : Type 0 where
   pub id : List ℕ
   pub making : ℕ

@@ -33,7 +33,8 @@ SignsItsAnswer aaguid (AwaitMakeSignature m k signed) = IsConcatenation signed (
 SignsItsAnswer aaguid (AwaitAssertSignature a counter signed) = IsConcatenation signed (assertion_bytes a.rp a.presence counter) a.hash 37
 SignsItsAnswer aaguid task = Unit {0}
 
--- The same for the pending task, if any.
+-- The bytes that the pending task signs, if any, are the authenticator data in its response followed by the client data
+-- hash.
 abbrev pub WorkSignsItsAnswer : (aaguid : List ℕ) → Option PendingTask → Type 0
 WorkSignsItsAnswer aaguid None = Unit {0}
 WorkSignsItsAnswer aaguid (Some work) = SignsItsAnswer aaguid work.task

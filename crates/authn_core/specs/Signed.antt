@@ -120,7 +120,7 @@ TaskSigns aaguid h rows (AwaitAssertSignature a counter signed) = AssertsFor h.a
     × (signed ≡ assertion_bytes a.rp a.presence counter ++ a.hash) × (a.presence ≡ true → h.granted ≡ true)
 TaskSigns aaguid h rows task = Unit {0}
 
--- The same for the pending task, if any.
+-- The bytes that the pending task signs, if any, are for the newest request.
 abbrev pub WorkSigns : (aaguid : List ℕ) → LatestRequests → List Row → Option PendingTask → Type 0
 WorkSigns aaguid h rows None = Unit {0}
 WorkSigns aaguid h rows (Some work) = TaskSigns aaguid h rows work.task
@@ -140,12 +140,12 @@ abbrev pub IsGranted : (granted : Bool) → Option PendingAssertions → Type 0
 IsGranted granted None = Unit {0}
 IsGranted granted (Some w) = w.presence ≡ true → granted ≡ true
 
--- If the task's assertion has the UP flag, the user consented, or is being asked.
+-- If the pending assertions have the UP flag, the user consented, or the task asks for user presence.
 abbrev pub TaskGranted : (granted : Bool) → Option PendingAssertions → Task → Type 0
 TaskGranted granted p (AwaitAssertPresence a) = Unit {0}
 TaskGranted granted p task = IsGranted granted p
 
--- The same for the pending task, if any.
+-- If the pending assertions have the UP flag, the user consented, or the pending task, if any, asks for user presence.
 abbrev pub WorkGranted : (granted : Bool) → Option PendingAssertions → Option PendingTask → Type 0
 WorkGranted granted p None = IsGranted granted p
 WorkGranted granted p (Some work) = TaskGranted granted p work.task

@@ -59,7 +59,7 @@ fn put_front(out: &mut [u8], bytes: &[u8])
 }
 
 impl Signature {
-    /// Returns the signature with these bytes, or `None` exactly if there are none or more than 72.
+    /// Returns the signature with these bytes, or `None` if there are none or more than 72.
     pub fn new(bytes: &[u8]) -> Option<Signature>
         ensures exactly { IsSome result ↔ ((1 ≤ length bytes.now) × (length bytes.now ≤ 72)) }
         ensures value { IfSome result (λ s. s ≡ bytes.now) }

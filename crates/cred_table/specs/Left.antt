@@ -1,4 +1,4 @@
--- The rows of a table that an iterator has still to return.
+-- The rows of a table that an iterator still has to return.
 use Rattle.std.specs.{Prelude.List, Prelude.map, Slice.Iter.iter_rest}
 use Rattle.cred_table.specs.declared.row.Row.{Row}
 use Rattle.cred_table.specs.declared.rows.RowsLeft.{RowsLeft, TheVariants.Listed, TheVariants.Chained}

@@ -35,7 +35,7 @@ fn read_map(cursor: &mut Cursor, level: u8, count: u64) -> Option<()>
     map_of(take(cursor, level), count)
 }
 
-/// Reads this unsigned integer, as a key.
+/// Reads a map key, which must be this unsigned integer.
 fn read_key(cursor: &mut Cursor, level: u8, key: u8) -> Option<()>
     requires low { 1 ≤ level }
     requires high { level ≤ 5 }

@@ -36,7 +36,7 @@ impl From<AllocError> for SnapshotFault {
     }
 }
 
-/// States the bounds that a row's type implies. Does nothing.
+/// States the bounds that a row's type implies, for proofs. Has no effect.
 fn known_row(row: &Row)
     ensures { IsRow true row.now }
 {

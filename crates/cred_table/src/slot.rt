@@ -34,7 +34,7 @@ pub(crate) enum ChainKind {
 impl Slot {
     ghost use Rattle.cred_table.specs.Slots.{link_of};
 
-    /// Returns the link of one kind.
+    /// Returns the link of this kind.
     pub(crate) fn link(&self, along: ChainKind) -> Link
         ensures { result ≡ link_of along self.now }
     {
@@ -49,7 +49,7 @@ impl Slot {
 impl Slot {
     ghost use Rattle.cred_table.specs.Slots.{with_link};
 
-    /// Changes the link of one kind.
+    /// Changes the link of this kind.
     fn set_link(&mut self, along: ChainKind, to: Link)
         ensures { self.new ≡ with_link along to self.old }
     {

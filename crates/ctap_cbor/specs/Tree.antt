@@ -1,4 +1,4 @@
--- Data items as trees (RFC 8949, section 2), how deep they are, and what they hold.
+-- Data items as trees (RFC 8949, section 2), with their depth and content.
 use Rattle.std.specs.Prelude.{ℕ, ◌+◌, ◌^◌, ℤ, pos, Bool, true, false, nat_lt, List, Option, Some, None, if◌then◌else◌}
 use Rattle.std.specs.Prelude.{max}
 

@@ -49,7 +49,7 @@ pub record WritesKey (t : Tree) (old new : List ℕ) : Type 0 where
   pub flat : depth t ≤ 0
   pub appended : new ≡ old ++ text t
 
--- Encoding failed, with this error or because an allocation failed. What was appended is incomplete.
+-- Encoding failed, with this error or because an allocation failed. The appended bytes are incomplete.
 abbrev pub FailsWith : Kind → Option Kind → List ℕ → List ℕ → Type 0
 FailsWith kind refusal old new = (kind ≢ Memory → refusal ≡ Some kind) × Extends old new
 

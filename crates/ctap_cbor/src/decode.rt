@@ -43,7 +43,7 @@ impl<T: Drop> From<AllocFailed<T>> for Fault {
 /// Decodes one data item in canonical encoding.
 ///
 /// Fails with the error that [`check`](crate::check) returns, or with [`Kind::Memory`] at position 0 if an allocation
-/// fails. Allocates as items are read, not by the counts in heads.
+/// fails. Allocates as items are read, never according to the counts in heads.
 pub fn decode_value(alloc: Global, bytes: &[u8]) -> Result<Value, Fault>
     ensures ok { IfOk result (λ v. IsCanonical (tree_of v) bytes.now) }
     ensures err { IfErr result (λ f. UnlessMemory f ((o : Outcome) × IsOutcome bytes.now o

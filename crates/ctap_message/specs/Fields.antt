@@ -22,8 +22,8 @@ is_complete_descriptor d = is_some d.id && is_some d.credential_type
 abbrev pub id_of_public_key : Descriptor → Option (List ℕ)
 id_of_public_key d = if is_public_key d.credential_type then d.id else None
 
--- The summary of a list of descriptors: whether each entry has an ID and a type, and the entries. A missing list has
--- none.
+-- The summary of a list of descriptors: whether each entry has an ID and a type, and the entries. An absent list has no
+-- entries.
 pub record DescriptorList : Type 0 where
   pub is_whole : Bool
   pub entries : Trees

@@ -62,7 +62,7 @@ abbrev pub is_some_and : {A : Type 0} → (A → Bool) → Option A → Bool
 is_some_and test None = false
 is_some_and test (Some x) = test x
 
--- ---- types: tests of trees
+-- ---- types, as tests of trees
 
 abbrev pub is_bytes : Tree → Bool
 is_bytes t = is_some (as_bytes t)

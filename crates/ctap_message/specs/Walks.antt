@@ -5,7 +5,7 @@ use Rattle.ctap_cbor.specs.{Tree.Tree, Tree.Array, Tree.Map, Tree.Trees, Tree.Pa
 use Rattle.ctap_cbor.specs.Collecting.{ReadsMap}
 use Rattle.ctap_message.specs.Members.{MemberKey, all_pairs, all_entries, suits}
 
--- The cursor read a tree, whose value by `f` is this one.
+-- The cursor read a tree `t`, and `value` is `f t`.
 abbrev pub Reads : {V : Type 0} → (Tree → V) → ℕ → V → Reading → Reading → Type 0
 Reads f levels value old new = (t : Tree) × Passes levels t old new × (value ≡ f t)
 

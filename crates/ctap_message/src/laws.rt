@@ -41,8 +41,8 @@ pub fn assertion_is_canonical()
         (drop 1 (assertion_answer id auth sig user credentials)) }
 {}
 
-/// States that iterating over a list of n bytes takes at most 2 * n steps: those of checking its bytes, without the
-/// step that finds their end.
+/// States that iterating over a list of n bytes takes at most 2 * n steps, and that these are the steps so far at its
+/// end.
 pub fn walks_are_bounded()
     ensures bound { (ts : Trees) (l : List ℕ) → IsCanonical (Array ts) l → list_steps ts ≤ 2 * length l }
     ensures ended { (w : DescriptorWalk) → left_of w ≡ no_trees → walked_steps w ≡ min (list_steps (list_of w)) LARGEST }

@@ -31,7 +31,8 @@ fn missing<'a>(command: u8, parameter: u8) -> Result<Request<'a>, RequestFault>
     Err(RequestFault::Missing { command, parameter })
 }
 
-/// Returns the first check that a makeCredential with clientDataHash, rp.id and user.id fails.
+/// Returns the first further check that an authenticatorMakeCredential request with clientDataHash, rp.id and user.id
+/// fails.
 fn fault_of_make(make: &Make, hash: &[u8], user_id: &[u8]) -> Option<RequestFault>
     ensures { result ≡ fault_of_make (shown_make make.now).0 hash.now user_id.now }
 {
@@ -72,7 +73,7 @@ fn fault_of_make(make: &Make, hash: &[u8], user_id: &[u8]) -> Option<RequestFaul
     None
 }
 
-/// Returns the request of a makeCredential, or the first check that it fails.
+/// Returns the authenticatorMakeCredential request, or the first check that it fails.
 pub(crate) fn validate_make_credential<'a>(
     typed: bool,
     make: Make<'a>,
@@ -108,7 +109,7 @@ pub(crate) fn validate_make_credential<'a>(
     }))
 }
 
-/// Returns the request of a getAssertion, or the first check that it fails.
+/// Returns the authenticatorGetAssertion request, or the first check that it fails.
 pub(crate) fn validate_get_assertion<'a>(
     typed: bool,
     assert: Assert<'a>,

@@ -31,7 +31,8 @@ is_overdue (Some m) at = nat_le (m.last + MESSAGE_TIMEOUT) at
 abbrev pub still_open : Option Open → ℕ → Option Open
 still_open current at = if is_overdue current at then None else current
 
--- The data bytes stored of the incomplete message: 57 of its initialization packet, and 59 of each continuation packet.
+-- The number of data bytes stored of the incomplete message: 57 of its initialization packet, and 59 of each
+-- continuation packet.
 abbrev pub held_bytes : Option Open → ℕ
 held_bytes None = 0
 held_bytes (Some m) = data_capacity m.kept

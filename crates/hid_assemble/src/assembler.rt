@@ -61,7 +61,8 @@ fn put_data(message: &mut [u8], held: usize, part: &[u8])
     message[held..held + part.len()].copy_from_slice(part);
 }
 
-/// Returns the verdict for an INIT with this data on the channel `on`; a pending request there must be dropped.
+/// Returns the verdict for an INIT with this data on the channel `on`. If a request is pending there, it must be
+/// dropped.
 fn greet(on: u32, channel: u32, part: &[u8], working: Option<u32>) -> Verdict
     requires { 8 ≤ length part.now }
     ensures { result ≡ (if is_on working on then Verdict.GreetAndDrop on channel (take 8 part.now)

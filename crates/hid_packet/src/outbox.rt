@@ -37,7 +37,7 @@ impl Model for Outbox {
     ghost invariant = { λ o. IsQueued o.entries.items o.ring o.len };
 }
 
-/// Removes the first entry, which is most often the only one.
+/// Removes the first entry, which is usually the only one.
 fn drop_first(entries: &mut Entries)
     requires { 1 ≤ array_vec_len entries.old }
     ensures { entries.new.items ≡ remove entries.old.items 0 }
@@ -129,7 +129,7 @@ impl Outbox {
     {
         let left = bytes.len() as u16;
         if bytes.len() <= INIT_PACKET_DATA {
-            // Its packet is created now, since storing few bytes for later takes longer.
+            // The packet of a short message is created now, because storing its bytes for later takes longer.
             let mut packet = [0; 64];
             write_init_packet(&mut packet, cid, cmd, left, bytes);
             return self.put_packet(Packet(packet));
@@ -142,7 +142,7 @@ impl Outbox {
     }
 }
 
-/// Takes the packets, in order.
+/// Yields the packets in order, and removes them.
 impl Iterator for Outbox {
     type Item = Packet;
 

@@ -53,7 +53,7 @@ rule_for parameter = rule_as parameter.form parameter.word.now
 abbrev pub command_for : CommandEntry → Shape
 command_for entry = command entry.word.now (map rule_for entry.parameters.now)
 
--- The five commands, of which one is required; clap adds `help` and `--version`.
+-- The five commands; one of them is required. clap adds `help` and `--version`.
 abbrev pub grammar : App
 grammar = record {
   top = record (new_shape (codes "hidlog")) { has_version = true; subcommand_required = true; is_leaf = false };

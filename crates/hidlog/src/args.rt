@@ -50,7 +50,7 @@ pub enum Verbosity {
     Explained,
     /// For programs: the fixed texts.
     Fixed,
-    /// For people if the output is a terminal.
+    /// Explained if the output is a terminal, otherwise fixed.
     ByTerminal,
 }
 
@@ -137,7 +137,7 @@ fn is_set(options: &ArgMatches<'_>, name: &str) -> bool
     }
 }
 
-/// Returns the format that was asked for.
+/// Returns the requested format.
 fn form_in(options: &ArgMatches<'_>) -> Form
     ensures { result ≡ form_of (rows_of (found_of options.now)) }
 {
@@ -254,7 +254,7 @@ pub fn parse_args<'a>(alloc: Global, words: &'a [&'a str]) -> Result<Invocation<
     drop(matches);
     match asked? {
         Some(asked) => Ok(asked),
-        // Clap refuses arguments without a command.
+        // clap rejects arguments without a command.
         None => unreachable!(),
     }
 }

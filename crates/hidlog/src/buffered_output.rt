@@ -16,7 +16,7 @@ pub enum Lookahead {
     Nothing,
     /// A comment or an empty line.
     Comment,
-    /// Another line: an input, or a line that is refused.
+    /// Another line: an input, or an invalid line.
     Input,
 }
 

@@ -194,7 +194,7 @@ impl<D: Files, L: Logs, O: Output, E: Target> Host<D, L, O, E> {
         }
     }
 
-    /// Checks one of several logs, and reports the result with its path; as JSON if asked for. The error is the exit
+    /// Checks one of several logs, and reports the result with its path; as JSON if requested. The error is the exit
     /// status.
     fn check_one<'a>(&mut self, wish: &ReportOptions<'a>, path: &'a str) -> Result<(), u8>
         requires { CanFail ⟦<Self as Modeled>⟧.model self.old }

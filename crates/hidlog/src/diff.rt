@@ -12,7 +12,7 @@ const SPACES: &[u8] = b"                                                     ";
 /// Maximum depth of nested members that are named.
 const LEVELS: usize = 3;
 
-/// The first byte that differs in two packets, with both values.
+/// Formats for the first byte in which two packets differ, with both values.
 const IN_CHANNEL: &[u8] =
     b"  byte %d of the packet, in the channel, is %x in the log and %x from the key:\n";
 

@@ -19,7 +19,7 @@ pub enum ProgramFault<'a> {
     LogOpenError(&'a str, io::Error),
     /// The snapshot cannot be read.
     SnapshotReadError(&'a str, io::Error),
-    /// The snapshot with these bytes is refused.
+    /// The snapshot with these bytes is rejected.
     RefusedSnapshot(&'a str, SnapshotFault, Vec<u8>),
     /// The snapshot cannot be written.
     SnapshotWriteError(&'a str, SaveError),
@@ -106,7 +106,7 @@ pub struct ErrorDetail<'a> {
     pub copy: Option<u64>,
 }
 
-/// Writes why a snapshot with these bytes is refused.
+/// Writes why a snapshot with these bytes is rejected.
 fn write_refusal(buf: &mut TextBuf, fault: SnapshotFault, bytes: &[u8]) {
     match fault {
         SnapshotFault::TooMany => buf.format(b"more than %d credentials", &[Some(CAPACITY as u64)]),

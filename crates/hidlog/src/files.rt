@@ -264,8 +264,8 @@ fn write_new<D: Disk>(files: &HostFiles<D>, path: &str, bytes: &[u8]) -> io::Res
     written
 }
 
-/// Overwrites a file. Meanwhile a copy of the bytes is beside it, if the directory allows that; if the write fails, the
-/// file gets its old content back.
+/// Overwrites a file. While it is written, a copy of the new bytes is beside it, if the directory allows that; if the
+/// write fails, the file gets its old content back.
 fn replace<D: Disk>(
     files: &HostFiles<D>,
     path: &str,

@@ -60,7 +60,7 @@ enum Reply {
     Other,
 }
 
-/// Returns the kind of reply that a packet is.
+/// Returns the kind of reply in a packet.
 fn reply_in(packet: &Option<Packet>) -> Reply {
     let Some(packet) = packet else {
         return Reply::Other;

@@ -24,7 +24,7 @@ pub trait Logs: Source {
     /// The file at a path cannot be opened.
     ghost unopenable: { Self → List ℕ → Type 0 };
 
-    /// Opens the file at a path, or standard input. If that fails, the source stays as it is.
+    /// Opens the file at a path, or standard input. On failure, the source is unchanged.
     fn open(&mut self, path: Option<&str>) -> io::Result<()>
         ensures opens { IfSome path.entry (λ path. MatchResult result (λ _. opened self.old path.now self.new)
             (λ _. unopenable self.old path.now × (self.new ≡ self.old))) }
@@ -132,7 +132,7 @@ const AWAITED: &[u8] = b"hidlog: reading a log from the terminal; end it with Ct
 /// The progress shown at a terminal while a log is read.
 #[derive(Clone, Copy, Default)]
 pub struct ProgressMode {
-    /// Whether a note says that input is awaited.
+    /// Whether a note says that the program waits for input.
     pub is_told: bool,
     /// Whether the progress of a long log is shown.
     pub sees_progress: bool,
@@ -147,7 +147,7 @@ pub struct HostLog<'a, S> {
     stream: S,
     /// The error at which reading failed.
     failure: Option<Error>,
-    /// Whether a note at the terminal says that input is awaited.
+    /// Whether a note at the terminal says that the program waits for input.
     is_told: bool,
     /// Whether that note is still to be written for this log.
     is_awaited: bool,
@@ -164,8 +164,8 @@ pub struct HostLog<'a, S> {
 }
 
 impl<'a, S: OpenSource> HostLog<'a, S> {
-    /// Returns the log on standard input, or an allocation error. With `is_kept`, a short log that cannot be read
-    /// again is kept. `audience` says what is shown at a terminal.
+    /// Returns the log on standard input, or an allocation error. With `is_kept`, a short log that cannot be read again
+    /// is kept. `audience` determines what is shown at a terminal.
     pub fn new(
         rt: &'a HostRuntime,
         is_kept: bool,

@@ -94,7 +94,7 @@ impl<D: Files, L: Logs, O: Output, E: Target> Host<D, L, O, E> {
     fn play<'a>(&mut self, words: &'a [&'a str]) -> RunOutcome<'a>
         requires { CanFail ⟦<Self as Modeled>⟧.model self.old }
         ensures status { IfErr result.status (λ code. (code ≡ 1) ⊎ (code ≡ 2)) }
-        // The action is complete. At most one text is written to standard error after it.
+        // The action was carried out. At most one text is written to standard error after it.
         ensures played { Plays ⟦<Self as Modeled>⟧.model (texts_of words.now) result.status self.old self.new }
     {
         let outcome = self.run(words);

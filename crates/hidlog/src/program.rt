@@ -251,7 +251,7 @@ impl<D: Files, L: Logs, O: Output, E: Target> Host<D, L, O, E> {
     pub fn run<'a>(&mut self, words: &'a [&'a str]) -> RunOutcome<'a>
         requires { CanFail ⟦<Self as Modeled>⟧.model self.old }
         ensures status { IfErr result.status (λ code. (code ≡ 1) ⊎ (code ≡ 2)) }
-        // The action is complete.
+        // The action was carried out.
         ensures answered { Answers ⟦<Self as Modeled>⟧.model (texts_of words.now) result.status self.old self.new }
     {
         let alloc = self.alloc;

@@ -14,7 +14,7 @@ const MEGABYTE: u64 = 1_000_000;
 /// Spaces that clear the last line.
 const CLEAR_LINE: &[u8] = b"\r                              \r";
 
-/// Shows the progress, if asked for.
+/// Shows the progress, if requested.
 #[derive(Clone, Copy)]
 pub struct Progress {
     pub is_shown: bool,

@@ -19,8 +19,8 @@ pub struct SourceStats {
 }
 
 impl SourceStats {
-    /// Returns the statistics before the first byte of a log with this length, if it can be read again. Otherwise it is
-    /// kept if there is an allocator. With `is_shown`, progress is shown.
+    /// Returns the statistics before the first byte. `size` is the log's length if it can be read again; otherwise its
+    /// bytes are kept if there is an allocator. With `is_shown`, progress is shown.
     pub fn new(is_shown: bool, size: Option<u64>, keeps: Option<Global>) -> Self {
         SourceStats {
             len: 0,

@@ -33,14 +33,14 @@ impl<'a> Iterator for Pieces<'a> {
     }
 }
 
-/// Returns the offset of the first byte of a kind, or the text's length.
+/// Returns the offset of the first byte with this value, or the text's length.
 pub fn find_byte(text: &[u8], wanted: u8) -> usize
     ensures { result ≤ length text.now }
 {
     memchr(wanted, text).unwrap_or(text.len())
 }
 
-/// Returns how many of these bytes a text begins with.
+/// Returns the number of bytes at the beginning of a text that are among `bytes`.
 pub fn count_leading(text: &[u8], bytes: &[u8]) -> usize {
     for place in 0..text.len() {
         if !bytes.contains(&text[place]) {

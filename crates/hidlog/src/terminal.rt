@@ -10,7 +10,7 @@ use std::io::IsTerminal;
 /// The width of a terminal that doesn't report one.
 const COLUMNS: usize = 80;
 
-/// The widths at which lines may be truncated.
+/// The minimum and the maximum width at which lines are truncated.
 const FEWEST: usize = 20;
 
 const MOST: usize = 1000;
@@ -33,7 +33,7 @@ pub struct TerminalInfo {
     pub width: Option<usize>,
 }
 
-/// Returns the terminals of the process, for these arguments.
+/// Examines the terminals of the process, for these arguments.
 pub fn terminal_info(rt: &HostRuntime, words: &[&str]) -> TerminalInfo {
     let terminals = TerminalFlags {
         output: rt.stdout().is_terminal(),

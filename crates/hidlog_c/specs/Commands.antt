@@ -36,7 +36,7 @@ pub record IsWritten (log out : List ℕ) (written : ℕ) (answer : Result (Unit
   pub full : write_fails (ending_of answer) ≡ true → written ≡ length out
   pub does : P bytes rest (take written out) (ending_of answer)
 
--- The command played the log with the credentials of the snapshot, and the result is that of its answer; or the
+-- The command played the log with the credentials of the snapshot, and `outcome` is the corresponding C result; or the
 -- snapshot is rejected, and the buffer is not changed. A pair is the buffer before and after the call.
 abbrev pub Answers : ReplayMode → (log snapshot : List ℕ) → (List ℕ × List ℕ) → CResult → Type 0
 Answers command log snapshot out outcome =

@@ -17,7 +17,7 @@ Shows detail bytes rest text ending =
     ((lines : List ℕ) × Plays read_only_world tt tt bytes lines ending × IsTextTo (IsLineText detail) lines text ending)
     × Finds read_only_world tt bytes (rest ≡ []) ending
 
--- The log was shown, and the result is that of the answer.
+-- The log was shown, and `outcome` is the corresponding C result.
 abbrev pub IsShown : Detail → (log out : List ℕ) → CResult → Type 0
 IsShown detail log out outcome = (answer : Result (Unit {0}) LogFault) × (outcome ≡ outcome_of answer outcome.written)
     × IsWritten log out outcome.written answer (Shows detail)

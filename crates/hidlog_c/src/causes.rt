@@ -9,7 +9,7 @@ use hid_assemble::Refusal as TransportRefusal;
 use session_show::{Detail, TextBuf, write_cause};
 use token_session::{Cause, Causes};
 
-/// Why a key refused something.
+/// The cause of a refusal, as numbers.
 #[derive(Clone, Copy)]
 #[repr(C)]
 pub struct CauseReport {

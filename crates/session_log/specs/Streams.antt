@@ -30,7 +30,7 @@ abbrev pub WriteFails : {F : Type 0} → (F → Option (List ℕ)) → (F → �
 WriteFails taken failed target text = WritesPrefixOnly (taken target.0) (taken target.1) text
     × (failed target.1 ≡ failed target.0 + 1)
 
--- Writing a text: on Ok all of it was taken, on an error only a beginning.
+-- Writing a text: on success all of it was taken, on an error only a beginning.
 abbrev pub Puts : {F A E : Type 0} → (F → Option (List ℕ)) → (F → ℕ) → (F × F) → List ℕ → Result A E → Type 0
 Puts taken failed target text r = MatchResult r (λ x. WritesAll taken failed target text)
     (λ e. WriteFails taken failed target text)

@@ -8,6 +8,6 @@ presence_word Granted = codes "granted"
 presence_word Denied = codes "denied"
 presence_word TimedOut = codes "timeout"
 
--- `no`: there is no key pair, or no signature.
+-- `no`: the caller refuses a key pair or a signature.
 abbrev pub refusal_word : List ℕ
 refusal_word = codes "no"

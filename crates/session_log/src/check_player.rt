@@ -178,7 +178,7 @@ pub fn check<S: Source, T: Target, const C: usize>(
         × PlaysThrough check_machine (first_comparison session.old)
         (λ bytes text. PlaysWholeLog check_machine (first_comparison session.old) later bytes text (ending_of result)) S.left S.failed
         S.ended T.taken T.failed result (reader.old, reader.new) (writer.old, writer.new) }
-    // The same after any history, in terms of the history instead of the session's state.
+    // For each history that leads to the session's state, this is the result that the definitions give for the history.
     ensures history { (start : Start) (h : List OneInput) → StandsAfter session.old start h
         → PlaysLog commands.Check start h S.left S.failed S.ended T.taken T.failed result session.new (reader.old, reader.new)
         (writer.old, writer.new) }

@@ -65,7 +65,8 @@ impl ReplayMode {
     ) -> Result<(), LogFault>
         requires reads { S.failed reader.old < 2 ^ 64 - 1 }
         requires writes { T.failed writer.old < 2 ^ 64 - 1 }
-        // The same for each history that leads to the session's state.
+        // For each history that leads to the session's state, this is the result that the definitions give for the
+        // history.
         ensures plays { (start : Start) (h : List OneInput) → StandsAfter session.old start h
             → PlaysLog self start h S.left S.failed S.ended T.taken T.failed result session.new
             (reader.old, reader.new) (writer.old, writer.new) }

@@ -23,7 +23,7 @@ pub enum LogFault {
     Differs {
         /// The input's line.
         line: u64,
-        /// The first packet that differs, is missing or is superfluous.
+        /// The first packet that differs, is missing or is one too many.
         packet: u64,
     },
     /// 4: reading this line failed.

@@ -3,7 +3,7 @@ ghost use Rattle.std.specs.Prelude.{◌≡◌, ◌++◌, ◌*◌, ℕ, true, len
 ghost use Rattle.hex.specs.Hex.{encode_lower, hex_digit_value};
 ghost use Rattle.session_log.specs.Parsed.{bytes_of};
 
-/// Returns whether all of eight bytes are this one.
+/// Returns whether all eight bytes equal `byte`.
 fn are_all(piece: &[u8; 8], byte: u8) -> bool
     ensures { result ≡ true → piece.now ≡ replicate 8 byte }
 {

@@ -109,7 +109,7 @@ pub fn play_live_lines<S: Source, T: Target, const C: usize>(
     ensures end { OnOk result (IsAtEndOfInput S.left S.ended reader.new) }
     ensures reach { ReadsTo live_machine session.old (S.left reader.old) (S.left reader.new)
         (IsAtEndOfInput S.left S.ended reader.new) (ending_of result) }
-    // The same after any history, in terms of the history instead of the session's state.
+    // For each history that leads to the session's state, this is the result that the definitions give for the history.
     ensures history { (start : Start) (h : List OneInput) → StandsAfter session.old start h
         → (later : List OneInput) × StandsAfter session.new start later
         × Moves (S.left reader.old) (S.left reader.new) (T.taken writer.old) (T.taken writer.new)
@@ -144,7 +144,7 @@ pub fn live<S: Source, T: Target, const C: usize>(
     ensures again { OnOk result (RepeatsIn live_machine (T.taken writer.old) (T.taken writer.new) session.old) }
     // So does replaying it on an equal session.
     ensures replays { OnOk result (Repeats (T.taken writer.old) (T.taken writer.new) session.old) }
-    // The same after any history, in terms of the history instead of the session's state.
+    // For each history that leads to the session's state, this is the result that the definitions give for the history.
     ensures history { (start : Start) (h : List OneInput) → StandsAfter session.old start h
         → (later : List OneInput) × StandsAfter session.new start later
         × PlaysThrough (live_history start) h (λ bytes text. Logs (live_history start) h later bytes text result)

@@ -104,7 +104,7 @@ pub fn quiet<S: Source, T: Target, const C: usize>(
     ensures made { PlaysThrough quiet_machine session.old
         (λ bytes text. PlaysWholeLog quiet_machine session.old session.new bytes text (ending_of result)) S.left S.failed S.ended
         T.taken T.failed result (reader.old, reader.new) (writer.old, writer.new) }
-    // The same after any history, with the inputs that are ignored after it.
+    // For each history that leads to the session's state, this is the result that the definitions give for the history.
     ensures history { (start : Start) (h : List OneInput) → StandsAfter session.old start h
         → PlaysLog commands.Quiet start h S.left S.failed S.ended T.taken T.failed result session.new (reader.old, reader.new)
         (writer.old, writer.new) }

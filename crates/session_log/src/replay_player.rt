@@ -102,12 +102,13 @@ pub fn replay<S: Source, T: Target, const C: usize>(
         result (reader.old, reader.new) (writer.old, writer.new) }
     // Replaying the output on an equal session gives the same output.
     ensures again { OnOk result (Repeats (T.taken writer.old) (T.taken writer.new) session.old) }
-    // The same after any history, in terms of the history instead of the session's state.
+    // For each history that leads to the session's state, this is the result that the definitions give for the history.
     ensures history { (start : Start) (h : List OneInput) → StandsAfter session.old start h
         → (later : List OneInput) × StandsAfter session.new start later
         × PlaysThrough (history start) h (λ bytes text. Logs (history start) h later bytes text result)
         S.left S.failed S.ended T.taken T.failed result (reader.old, reader.new) (writer.old, writer.new) }
-    // The same in terms of the history's events and responses, without the authenticator's state.
+    // So it is by the definitions on events and responses, without an authenticator's state, if the history's start is
+    // valid.
     ensures told { (start : Start) (h : List OneInput) → FollowsFrom session.old start h
         → (later : List OneInput) × FollowsFrom session.new start later
         × PlaysThrough (exchange_history start) h (λ bytes text. Logs (exchange_history start) h later bytes text result)

@@ -76,7 +76,7 @@ pub record ShownLine : Type 0 where
   pub line : List ℕ
   pub text : List ℕ
 
--- From line n on, the statement holds of each line's text.
+-- From line n on, the statement holds for the text of each line.
 abbrev pub AreShownBy : LineTextRule → ℕ → List ShownLine → Type 0
 AreShownBy shows n [] = Unit {0}
 AreShownBy shows n (t ∷ more) = shows n (Some t.line) t.text × AreShownBy shows (n + 1) more

@@ -10,7 +10,7 @@ use session_log::{Failed, Target, put_all};
 /// Maximum number of chunks of a text, which is never reached, because a line shows one message of at most 7609 bytes.
 const PARTS: usize = 1 << 32;
 
-/// Something with a text form.
+/// A value that can be written as text.
 pub trait Written {
     /// Writes the text, the same on each call.
     fn write(&self, buf: &mut TextBuf);

@@ -32,7 +32,7 @@ pub struct Difference {
     pub sent: Option<Packet>,
     /// The reply that the session waits for at this point.
     pub awaited: Option<AwaitedReply>,
-    /// The kind of reply that the input is, if the session didn't wait for it.
+    /// If the input is a reply that the session didn't wait for, its kind.
     pub reply: Option<AwaitedReply>,
     /// Whether the input is a continuation packet outside any open message.
     pub last_was_stray: bool,
@@ -156,7 +156,7 @@ impl Comparison {
         }
     }
 
-    /// Drops the line that ends here, with its line feed if any.
+    /// Removes the line that ends at this offset from the window, with its line feed if any.
     fn drop_line(&mut self, end: usize) {
         let held = self.window.len();
         self.window.drop_front(end.saturating_add(1).min(held));
@@ -287,7 +287,7 @@ impl Comparison {
     }
 }
 
-/// Writes a text, unless the target failed too often to count another failure.
+/// Writes a text, unless the count of failed writes has reached its maximum.
 fn put_counted<T: Target, W: Written>(
     writer: &mut T,
     buf: &mut TextBuf,

@@ -1,4 +1,4 @@
-//! Explains why the key sends other packets than the log has, from the preceding lines.
+//! Explains, from the preceding lines, why the key's packets differ from those of the log.
 
 use crate::cause::write_cause;
 use crate::chunked::Written;
@@ -23,7 +23,7 @@ pub struct Reason<'a> {
 }
 
 impl Written for Reason<'_> {
-    /// Writes a line with the reason that the key sends nothing or refuses, if known.
+    /// Writes a line with the reason why the key sends nothing or refuses, if known.
     fn write(&self, buf: &mut TextBuf) {
         let Some(sent) = &self.difference.sent else {
             match self.due() {

@@ -18,7 +18,7 @@ pub struct ReplayedLog {
     pub walk: TransactionTracker,
     /// The tracker of the log's inputs and the session's packets.
     pub key: TransactionTracker,
-    /// Packets of the session that `key` hasn't taken yet.
+    /// Packets of the session that `key` hasn't processed yet.
     pub outbox: Outbox,
     /// Line of the last input, or 0 before the first.
     input: u64,
@@ -26,13 +26,13 @@ pub struct ReplayedLog {
     compared: u64,
     /// Whether one of them differed; the others aren't compared then.
     has_differed: bool,
-    /// The packets that differed, until the trackers take them.
+    /// The packets that differed, until the trackers process them.
     last: Option<Difference>,
     /// Whether the log has a packet from the key.
     pub has_sent: bool,
     /// The reply that the session waits for.
     awaited: Option<AwaitedReply>,
-    /// The kind of reply that the last input is, if the session didn't wait for it.
+    /// If the last input is a reply that the session didn't wait for, its kind.
     reply: Option<AwaitedReply>,
     /// Whether the last input is a continuation packet outside any open message.
     last_was_stray: bool,
@@ -203,7 +203,7 @@ impl ReplayedLog {
         }
     }
 
-    /// Returns a difference at this line.
+    /// Records a difference at this line, and returns it.
     fn differ(&mut self, line: u64, logged: Option<Packet>, sent: Option<Packet>) -> Difference {
         self.has_differed = true;
         let difference = Difference {

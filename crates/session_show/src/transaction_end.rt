@@ -8,7 +8,7 @@ pub struct EndFormats {
     pub row: &'static [u8],
     /// In JSON.
     pub json: &'static [u8],
-    /// For the page; the first number is the line that the transaction began at.
+    /// For the web page; the first number is the line at which the transaction began.
     pub page: &'static [u8],
     /// In the explained text if its message is complete; the first numbers are the line of the end and that of the
     /// beginning. Empty for a response or an ERROR to a complete message, which have lines of their own.

@@ -52,7 +52,7 @@ pub record Follows (lines : List Line) (walk : TransactionTracker) : Type 0 wher
 abbrev pub MIN_TIMEOUT_MS : ℕ
 MIN_TIMEOUT_MS = 100
 
--- The ambiguity of a continuation packet that may be too late.
+-- The ambiguous packet after a continuation packet, if that may have arrived too late.
 abbrev pub ambiguity_of : ℕ → Line → Option ContinuationMatch → Option Ambiguous → Option Ambiguous
 ambiguity_of number parsed None before = before
 ambiguity_of number parsed (Some c) before =

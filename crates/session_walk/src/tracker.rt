@@ -156,7 +156,7 @@ impl TransactionTracker {
     // ---- inputs
 
     /// Handles a reply of the caller. It belongs to the message that waits for it according to a KEEPALIVE, or else to
-    /// the one without a response. With two such messages it is unknown which.
+    /// the one without a response. If there are two such messages, it is unknown which one.
     fn on_reply(&mut self, input: &Input)
         ensures pool { self.new.pool ≡ self.old.pool }
         ensures completed { self.new.completed ≡ self.old.completed }

@@ -1,6 +1,6 @@
--- The packets of a history, defined by its inputs alone (CTAP 2.1, section 11.2.5). For each input it is determined
--- whether it begins a message, the authenticator takes a turn for its event, and packets are sent. The transport is
--- defined by positions, filters and lists of inputs, the authenticator by its state after each turn.
+-- The packets of a history, defined by its inputs alone (CTAP 2.1, section 11.2.5): for each input, whether it begins a
+-- message, the authenticator's turn for its event, and the packets sent. The transport is defined on lists of inputs,
+-- with positions and filters; the authenticator by its state after each turn.
 use Rattle.std.specs.Prelude.{ℕ, Bool, not, ◌&&◌, ◌||◌, ◌==◌, nat_le, List, [], ◌∷◌, ◌++◌, max, Option, Some, None}
 use Rattle.std.specs.Prelude.{option_map, is_some, is_none, if◌then◌else◌, length, unwrap_or}
 use Rattle.std.specs.List.{list_any}
@@ -117,6 +117,6 @@ unfoldable pub sent : Start → List ReceivedInput → List (List ℕ)
 sent start [] = []
 sent start (e ∷ past) = sent start past ++ sent_at start e past
 
--- The received data bytes of the open message.
+-- The number of data bytes received of the open message.
 unfoldable pub held : Start → List ReceivedInput → ℕ
 held start h = unwrap_or (option_map (λ b. data_capacity (length b.own)) (open_at h (latest_time start h))) 0

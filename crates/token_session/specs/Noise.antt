@@ -37,7 +37,7 @@ is_noise_after start e past = is_noise_among (channels_allocated past) (option_m
     (core start past) e.input
 
 -- Whether the authenticator ignores a reply. The next definition describes noise by its result: a packet that is
--- turned away, or a reply that is ignored.
+-- ignored or refused because of its channel, or a reply that is ignored.
 abbrev pub is_ignored : Answer → Bool
 is_ignored Ignored = true
 is_ignored answer = false
@@ -84,7 +84,8 @@ quiet_sent start [] g = []
 quiet_sent start (x ∷ h) [] = []
 quiet_sent start (x ∷ h) (y ∷ g) = quiet_sent start h g ++ quiet_now start h x y
 
--- The same for the inputs of a list after a history, with their numbers.
+-- The packets that the inputs of a list send after a history, without those for inputs that the second list replaces by
+-- ticks, in order, each with the number of its input.
 abbrev pub quiet_from : ℕ → Start → (h xs ys : List Timed) → List (ℕ × List ℕ)
 quiet_from n start h [] ys = []
 quiet_from n start h (x ∷ xs) [] = []

@@ -17,7 +17,7 @@ pub enum Cause {
     Command(Refusal),
 }
 
-/// The causes for one input: the passage of time may drop a message before the input is processed.
+/// The causes for one input: a message may time out before the input is processed.
 #[derive(Clone, Copy, Debug, PartialEq, Eq)]
 pub struct Causes {
     pub time: Option<hid_assemble::Refusal>,

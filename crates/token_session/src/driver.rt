@@ -74,14 +74,14 @@ fn take_all<const N: usize>(outbox: &mut Outbox, number: u64, sent: &mut ArrayVe
     }
 }
 
-/// States that a packet has 64 bytes. Does nothing.
+/// States that a packet has 64 bytes, for proofs. Has no effect.
 fn known_packet(packet: &Packet)
     ensures { length packet.now.0 ≡ 64 }
 {
     let _bytes = packet.0.as_slice();
 }
 
-/// States that the packet of an input, if it is one, has 64 bytes. Does nothing.
+/// States that the packet of an input, if it is one, has 64 bytes, for proofs. Has no effect.
 fn known_input(input: &Input)
     ensures { IsWhole input.now }
 {

@@ -167,12 +167,13 @@ impl<const C: usize> Session<C> {
             → StandsAfter self.new start (record { at = at; input = input } ∷ h) }
         ensures sent { (start : Start) (h : List OneInput) → StandsAfter self.old start h
             → outbox.new ≡ sent_now start h (record { at = at; input = input }) }
-        // The same for histories whose packets are defined without an authenticator's state.
+        // If the history's start is valid, exactly the packets are sent that are defined without an authenticator's
+        // state.
         ensures follows { (start : Start) (h : List OneInput) → FollowsFrom self.old start h
             → FollowsFrom self.new start (record { at = at; input = input } ∷ h) }
         ensures told { (start : Start) (h : List OneInput) → FollowsFrom self.old start h
             → outbox.new ≡ packets_sent_now start h (record { at = at; input = input }) }
-        // The cause of a refusal.
+        // The causes of refusals are those of the composed machine, and those that the history defines.
         ensures why { result ≡ causes_of self.old.machine (record { at = at; input = input }) }
         ensures named { (start : Start) (h : List OneInput) → StandsAfter self.old start h
             → result ≡ causes_after start h (record { at = at; input = input }) }
