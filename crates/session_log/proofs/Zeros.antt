@@ -57,36 +57,21 @@ decode-trim_zeros digits used n size len is =
     let all = length-append used (encode_lower (replicate n 0)) in
     search (arith, length-replicate, length-take, decode_sized-twice, decode_of-even, drop-replicate, decode-zeros)
 
--- the last element, and the last two
-pub last_is : (xs : List ℕ) (x : ℕ) → 1 ≤ length xs → slice_index_or xs (length xs - 1) 0 ≡ x →
-    xs ≡ take (length xs - 1) xs ++ x ∷ []
-last_is xs x some is = search (arith, drop_of_length-le, take-append-drop, drop_more)
-
-pub last_two_are : (xs : List ℕ) (x y : ℕ) → 2 ≤ length xs → slice_index_or xs (length xs - 2) 0 ≡ x →
-    slice_index_or xs (length xs - 1) 0 ≡ y
-    → xs ≡ take (length xs - 2) xs ++ x ∷ y ∷ []
-last_two_are xs x y some first second = search (arith, drop_of_length-le, drop_more, take-append-drop, first)
-
-pub zero_pair : (n : ℕ) → 48 ∷ 48 ∷ encode_lower (replicate n 0) ≡ encode_lower (replicate (suc n) 0)
-unfolding encode_with
-zero_pair n = refl
-
-pub written : (bytes used digits out : List ℕ) (n : ℕ) (r : Result (Unit {0}) FromHexError) →
-    bytes ≡ used ++ replicate n 0
+-- the digits of the bytes before the zeros, and those of the zeros
+pub written : (bytes used digits : List ℕ) (n : ℕ) → bytes ≡ used ++ replicate n 0
     → digits ≡ replicate (2 * length bytes) 48
-    → (length (take (2 * length used) digits) ≡ 2 * length used → IsOk r) → OnOk r (out ≡ encode_lower used)
-    → out ++ drop (2 * length used) digits ≡ encode_lower bytes
-written bytes used digits out n r is zeros fits wrote_all =
-    search (arith, length-append, length-replicate, length-take, drop-replicate, encode-zeros, encode-append)
+    → encode_lower used ++ drop (2 * length used) digits ≡ encode_lower bytes
+written bytes used digits n is zeros =
+    search (arith, length-append, length-replicate, drop-replicate, encode-zeros, encode-append)
 
--- eight bytes more at the end are all the same
-pub eight_more : (used front last : List ℕ) (k n byte : ℕ) → front ≡ take k used → last ≡ drop k used
-    → last ≡ replicate 8 byte → used ++ replicate (8 * n) byte ≡ front ++ replicate (8 * (n + 1)) byte
-eight_more used front last k n byte is_front is_last same =
+-- sixteen bytes more at the end are all the same
+pub sixteen_more : (used front last : List ℕ) (k n byte : ℕ) → front ≡ take k used → last ≡ drop k used
+    → last ≡ replicate 16 byte → used ++ replicate (16 * n) byte ≡ front ++ replicate (16 * (n + 1)) byte
+sixteen_more used front last k n byte is_front is_last same =
     let cut = take-append-drop k used in
-    let both = replicate-append-replicate 8 (8 * n) byte in
-    grind (arith, append_assoc front (replicate 8 byte) (replicate (8 * n) byte))
+    let both = replicate-append-replicate 16 (16 * n) byte in
+    grind (arith, append_assoc front (replicate 16 byte) (replicate (16 * n) byte))
 
--- zeros as digits, eight at a time
-pub digits_of_eights : (n : ℕ) → replicate (8 * n) 48 ≡ encode_lower (replicate (4 * n) 0)
-digits_of_eights n = ap (λ (m : ℕ). replicate m 48) (omega arith) ∙ sym (encode-zeros (4 * n))
+-- zeros as digits, sixteen at a time
+pub digits_of_zeros : (n : ℕ) → replicate (16 * n) 48 ≡ encode_lower (replicate (8 * n) 0)
+digits_of_zeros n = ap (λ (m : ℕ). replicate m 48) (omega arith) ∙ sym (encode-zeros (8 * n))

@@ -1,21 +1,23 @@
-//! Hexadecimal digits. Most packets end in many zeros, which are skipped eight digits or bytes at a time.
-ghost use Rattle.std.specs.Prelude.{◌≡◌, ◌++◌, ◌*◌, ℕ, true, length, replicate, None, Some, MatchOption};
-ghost use Rattle.hex.specs.Hex.{encode_lower, hex_digit_value};
+//! Hexadecimal digits. Most packets end in many zeros, which are skipped sixteen digits or bytes at a time. The loops
+//! over digits have no branches, so that they compile to vector instructions; those of the crate `hex` do not.
+ghost use Rattle.std.specs.Prelude.{◌≡◌, ◌++◌, ◌*◌, ◌<◌, ℕ, true, length, replicate, slice_index};
+ghost use Rattle.std.specs.Prelude.{None, Some, MatchOption, if◌then◌else◌, nat_lt};
+ghost use Rattle.hex.specs.Hex.{encode_lower, hex_digit_value, lower_digits};
 ghost use Rattle.session_log.specs.Parsed.{bytes_of};
 
-/// Returns whether all eight bytes equal `byte`.
-fn are_all(piece: &[u8; 8], byte: u8) -> bool
-    ensures { result ≡ true → piece.now ≡ replicate 8 byte }
+/// Returns whether all sixteen bytes equal `byte`.
+fn are_all(group: &[u8; 16], byte: u8) -> bool
+    ensures { result ≡ true → group.now ≡ replicate 16 byte }
 {
-    u64::from_be_bytes(*piece) == u64::from_be_bytes([byte; 8])
+    *group == [byte; 16]
 }
 
-/// Returns the bytes without trailing groups of eight bytes that all equal `byte`.
-fn trim_zero_words(bytes: &[u8], byte: u8) -> &[u8]
-    ensures { (n : ℕ) × (bytes.now ≡ result.now ++ replicate (8 * n) byte) }
+/// Returns the bytes without trailing groups of sixteen bytes that all equal `byte`.
+fn trim_groups(bytes: &[u8], byte: u8) -> &[u8]
+    ensures { (n : ℕ) × (bytes.now ≡ result.now ++ replicate (16 * n) byte) }
 {
     let mut used = bytes;
-    while let Some((front, last)) = used.split_last_chunk::<8>()
+    while let Some((front, last)) = used.split_last_chunk::<16>()
         && are_all(last, byte)
     {
         used = front;
@@ -23,48 +25,19 @@ fn trim_zero_words(bytes: &[u8], byte: u8) -> &[u8]
     used
 }
 
-/// Returns the bytes without trailing zeros.
-fn trim_zeros(bytes: &[u8]) -> &[u8]
-    ensures { (n : ℕ) × (bytes.now ≡ result.now ++ replicate n 0) }
-{
-    let mut used = trim_zero_words(bytes, 0);
-    while let [front @ .., last] = used
-        && *last == 0
-    {
-        used = front;
-    }
-    used
-}
-
-/// Returns the digits without trailing pairs of `0`.
-fn trim_zero_pairs(digits: &[u8]) -> &[u8]
-    ensures { (n : ℕ) × (digits.now ≡ result.now ++ encode_lower (replicate n 0)) }
-{
-    let mut used = trim_zero_words(digits, b'0');
-    while let [front @ .., high, low] = used
-        && *high == b'0'
-        && *low == b'0'
-    {
-        used = front;
-    }
-    used
-}
-
-/// Returns the value of a hexadecimal digit, in either case.
-// The crate `hex` tests for letters first, but most digits of a log are decimal.
-fn digit_value(digit: u8) -> Option<u8>
-    ensures { result ≡ hex_digit_value digit }
+/// Returns the value of a hexadecimal digit in either case, or 255 for any other byte.
+fn digit_value(digit: u8) -> u8
+    ensures { hex_digit_value digit ≡ (if nat_lt result 16 then Some result else None) }
 {
     match digit {
-        b'0'..=b'9' => Some(digit - b'0'),
-        b'a'..=b'f' => Some(digit - b'a' + 10),
-        b'A'..=b'F' => Some(digit - b'A' + 10),
-        _ => None,
+        b'0'..=b'9' => digit - b'0',
+        b'a'..=b'f' => digit - b'a' + 10,
+        b'A'..=b'F' => digit - b'A' + 10,
+        _ => 255,
     }
 }
 
-/// Decodes hexadecimal digits in either case, two for each byte of `bytes`. After `None`, `bytes` has unspecified
-/// content.
+/// Decodes hexadecimal digits in either case, two for each byte. After `None` the bytes are unspecified.
 pub fn decode_digits(digits: &[u8], bytes: &mut [u8]) -> Option<()>
     ensures { MatchOption result (bytes_of (length bytes.old) digits.now ≡ None)
         (λ _. bytes_of (length bytes.old) digits.now ≡ Some bytes.new) }
@@ -72,12 +45,14 @@ pub fn decode_digits(digits: &[u8], bytes: &mut [u8]) -> Option<()>
     if digits.len() != 2 * bytes.len() {
         return None;
     }
+    let mut are_digits = true;
     'pairs: for i in 0..bytes.len() {
-        let high = digit_value(digits[2 * i])?;
-        let low = digit_value(digits[2 * i + 1])?;
-        bytes[i] = high * 16 + low;
+        let high = digit_value(digits[2 * i]);
+        let low = digit_value(digits[2 * i + 1]);
+        are_digits &= (high < 16) & (low < 16);
+        bytes[i] = high.wrapping_mul(16).wrapping_add(low);
     }
-    Some(())
+    if are_digits { Some(()) } else { None }
 }
 
 /// Decodes `2 * N` hexadecimal digits, in either case.
@@ -88,9 +63,32 @@ pub fn read_bytes<const N: usize>(digits: &[u8]) -> Option<[u8; N]>
     if digits.len() != 2 * N {
         return None;
     }
-    let used = trim_zero_pairs(digits);
+    let used = trim_groups(digits, b'0');
     decode_digits(used, &mut bytes[..used.len() / 2])?;
     Some(bytes)
+}
+
+/// Returns the lowercase digit of a value below 16.
+fn lower_digit(value: u8) -> u8
+    requires { value < 16 }
+    ensures { result ≡ slice_index lower_digits value }
+{
+    if value < 10 {
+        b'0' + value
+    } else {
+        b'a' - 10 + value
+    }
+}
+
+/// Encodes bytes as lowercase hexadecimal digits, two for each byte.
+pub fn encode_digits(bytes: &[u8], digits: &mut [u8])
+    requires { length digits.old ≡ 2 * length bytes.now }
+    ensures { digits.new ≡ encode_lower bytes.now }
+{
+    'bytes: for i in 0..bytes.len() {
+        digits[2 * i] = lower_digit(bytes[i] >> 4);
+        digits[2 * i + 1] = lower_digit(bytes[i] & 15);
+    }
 }
 
 /// Encodes bytes as lowercase hexadecimal digits, into a buffer of twice their length that is filled with `0` digits.
@@ -98,6 +96,6 @@ pub fn write_digits(bytes: &[u8], digits: &mut [u8])
     requires { digits.old ≡ replicate (2 * length bytes.now) 48 }
     ensures { digits.new ≡ encode_lower bytes.now }
 {
-    let used = trim_zeros(bytes);
-    let _ = hex::encode_to_slice(used, &mut digits[..2 * used.len()]);
+    let used = trim_groups(bytes, 0);
+    encode_digits(used, &mut digits[..2 * used.len()]);
 }

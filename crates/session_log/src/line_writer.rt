@@ -11,7 +11,7 @@ ghost use Rattle.session_log.specs.Text.{ArePackets, IsPacket, ended, sent_text,
 ghost use Rattle.session_log.specs.Streams.{PutsLine};
 
 use crate::fault::LogFault;
-use crate::hex_digits::write_digits;
+use crate::hex_digits::{encode_digits, write_digits};
 use crate::target::{Target, put_all};
 use arrayvec::ArrayVec;
 use authn_core::Need;
@@ -77,7 +77,7 @@ fn push_digits(text: &mut Text, bytes: &[u8])
 {
     let mut digits = [0; 2 * PIECE];
     let used = digits.split_at_mut(2 * bytes.len()).0;
-    let _ = hex::encode_to_slice(bytes, used);
+    encode_digits(bytes, used);
     let _ = text.try_extend_from_slice(used);
 }
 

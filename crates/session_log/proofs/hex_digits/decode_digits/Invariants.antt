@@ -1,8 +1,5 @@
-use Rattle.std.proofs.Common.{◌≡◌, ◌*◌, take, drop}
-use Rattle.hex.specs.Hex.{decode_pairs}
-use Rattle.hex.proofs.Pairs.{prepend}
+use Rattle.session_log.proofs.Decoding.{Decoded}
 use Rattle.session_log.proofs.hex_digits.decode_digits.Given as goal
 
 abbrev pub invariant-pairs : goal.invariant-pairs
-invariant-pairs l =
-    decode_pairs 0 l.digits ≡ prepend (take l.i l.bytes) (decode_pairs (2 * l.i) (drop (2 * l.i) l.digits))
+invariant-pairs l = Decoded l.are_digits l.digits l.bytes l.i

@@ -1,13 +1,13 @@
 use Rattle.std.proofs.Common.{◌+◌, ◌∙◌, length, ◌-◌}
-use Rattle.session_log.proofs.Zeros.{eight_more}
-use Rattle.session_log.proofs.hex_digits.trim_zero_words.Goals as goal
+use Rattle.session_log.proofs.Zeros.{sixteen_more}
+use Rattle.session_log.proofs.hex_digits.trim_groups.Goals as goal
 
 pub loop-front-preserved : goal.loop-front-preserved
 loop-front-preserved c =
     let split = c.in-Some.ensures.cases in (
       c.loop-front.invariant.0 + 1,
       c.loop-front.invariant.1
-          ∙ eight_more c.loop-front.used.now c.in-Some.front.now c.in-Some.last.now (length c.loop-front.used.now - 8) _
+          ∙ sixteen_more c.loop-front.used.now c.in-Some.front.now c.in-Some.last.now (length c.loop-front.used.now - 16) _
           _
           split.0 split.1 (c.are_all.ensures c.if-are_all.true),
     )

@@ -1,8 +1,0 @@
-use Rattle.std.proofs.Common.{◌≡◌, ◌++◌, ℕ, length, replicate}
-use Rattle.session_log.proofs.hex_digits.trim_zeros.Given as goal
-
-abbrev pub invariant-loop-used : goal.invariant-loop-used
-invariant-loop-used l = (n : ℕ) × (l.bytes ≡ l.used ++ replicate n 0)
-
-abbrev pub decreases-loop-used : goal.decreases-loop-used
-decreases-loop-used l = length l.used
