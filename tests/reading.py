@@ -66,7 +66,7 @@ APART = ("pending", "carried", "steps")
 # A definition whose value is only stored in this field. It and what only it needs have a section after those of APART.
 ASIDE = {"cut": "name"}
 # A definition, and the law that is read instead: a function of src/laws.rt in the definition's crate.
-LAWS = {"canonical_tree": "trees_are_told", "outcome_of": "bytes_tell"}
+LAWS = {"canonical_tree": "trees_are_computed", "outcome_of": "outcomes_are_computed"}
 LAWS |= {name: "answers_follow_history" for name in ("sent", "received", "core")}
 # The laws on the first two pages. The third page has the others.
 PAGE_LAWS = {"canonical_tree"}

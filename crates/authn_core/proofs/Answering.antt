@@ -5,9 +5,9 @@ use Rattle.std.proofs.lemmas.{Slice.Eq.bytes_eq-Decides, Grind.flat_map-append}
 use Rattle.std.specs.{List.find, List.list_any, Str.bytes_eq}
 use Rattle.cred_table.specs.{declared.row.Row.Row, Rows.is_named, Rows.is_user}
 use Rattle.authn_core.specs.{State.MakeState, Assertions.applicable_ids, Answers.is_excluded, Answers.is_full}
-use Rattle.authn_core.specs.MakeCredential.{has_capacity, names_one}
+use Rattle.authn_core.specs.MakeCredential.{has_capacity, has_listed_credential}
 use Rattle.authn_core.specs.GetAssertion.{applicable_rows, find_allowed}
-use Rattle.authn_core.specs.Marks.{CredentialChange, takes_place, row_if_kept, apply_change, rows_among, rows_after_changes}
+use Rattle.authn_core.specs.Marks.{CredentialChange, replaces_credential, row_if_kept, apply_change, rows_among, rows_after_changes}
 use Rattle.authn_core.proofs.Histories.{all_left, none_later}
 
 -- ---- rows
@@ -45,13 +45,13 @@ none_named rp [] = refl
 none_named rp (r ∷ rows) = grind (arith, none_named rp rows)
 
 pub excluded_named : (rp : List ℕ) (rows : List Row) (ids : List (List ℕ)) →
-    names_one rp rows ids ≡ is_excluded rows rp ids
+    has_listed_credential rp rows ids ≡ is_excluded rows rp ids
 excluded_named rp rows [] = sym (none_named rp rows)
 excluded_named rp rows (id ∷ ids) = rw (named_first rp id ids rows, excluded_named rp rows ids) refl
 
 -- a row is replaced where one of the RP and user is found
 replaced_found : (rp user : List ℕ) (discoverable : Bool) (rows : List Row)
-    → list_any (takes_place rp user discoverable) rows ≡ (discoverable && is_some (find (is_user rp user) rows))
+    → list_any (replaces_credential rp user discoverable) rows ≡ (discoverable && is_some (find (is_user rp user) rows))
 replaced_found rp user false rows = any_false rows
 replaced_found rp user true [] = refl
 replaced_found rp user true (r ∷ rows) = grind (arith, replaced_found rp user true rows)

@@ -13,9 +13,9 @@ use Rattle.authn_core.specs.State.{Setup, AwaitAssertSignature, PendingTask, Sta
 use Rattle.authn_core.specs.Turn.{CoreState, core_after, request_turn, turn}
 use Rattle.authn_core.specs.{Ready.Ready, Ready.PendingReady, Views.needs, Views.sign}
 use Rattle.authn_core.specs.Marks.{CredentialChange, change_by, apply_change, is_replaced_by, is_incremented, is_kept, row_if_kept, rows_among, TimedEvent, MayComeNow}
-use Rattle.authn_core.specs.Marks.{Orderly, SignedText, core_at, changes, creates_id, creation_count, incremented_by, signs_by, text_of}
-use Rattle.authn_core.specs.Marks.{texts, same_text, all_differ}
-use Rattle.authn_core.specs.Rising.{above_all, all_rise, IsTextOf, IsNewest}
+use Rattle.authn_core.specs.Marks.{Orderly, SignedAssertion, core_at, changes, creates_id, creation_count, incremented_by, signs_by, signed_after_change}
+use Rattle.authn_core.specs.Marks.{signed_assertions, is_same_assertion, all_differ}
+use Rattle.authn_core.specs.Rising.{exceeds_all, counters_increase, IsPendingSignature, IsNewest}
 use Rattle.authn_core.proofs.Readiness.{all_along, all_found, applicable_there, core_sound, find_raised, found}
 
 -- ---- what a mark does
@@ -91,7 +91,7 @@ signed_of None = []
 signed_of (Some w) = elim w.task as (λ k. List ℕ) [ AwaitAssertSignature a n d ↦ d | k ↦ [] ]
 
 -- A text that a turn adds is of the row that it raises, with the raised counter.
-pub record IsAdded (h : List CredentialChange) (rows : List Row) (s : State) (t : SignedText) : Type 0 where
+pub record IsAdded (h : List CredentialChange) (rows : List Row) (s : State) (t : SignedAssertion) : Type 0 where
   pub making : t.making ≡ creation_count t.id h
   pub there : is_some (find (has_id t.id) rows) ≡ true
   pub counter : t.counter ≡ counter_of t.id rows + 1
@@ -99,18 +99,18 @@ pub record IsAdded (h : List CredentialChange) (rows : List Row) (s : State) (t 
   pub needed : needs s.work ≡ sign t.id (signed_of s.work)
 
 -- Where it adds none, a state that waits for an assertion's signature is the one before.
-abbrev pub Adds : (h : List CredentialChange) (before now : State) → Option SignedText → Type 0
+abbrev pub Adds : (h : List CredentialChange) (before now : State) → Option SignedAssertion → Type 0
 Adds h before now None = (id : List ℕ) → signs_by id now.work ≡ true → now ≡ before
 Adds h before now (Some t) = IsAdded h before.rows now t
 
 requested_adds : (h : List CredentialChange) (u : Setup) (s : State) (t cid : ℕ) (read : Result RequestParameters ℕ)
     → PendingReady s.rows s.pending
     → let x = (request_turn u s.rows s.pending t cid read).state in
-    Adds h (record s { work = None }) x (text_of h (incremented_by None x.work) x.work)
+    Adds h (record s { work = None }) x (signed_after_change h (incremented_by None x.work) x.work)
 requested_adds h u s t cid read p = search (rules, arith, applicable_there)
 
 pub turn_adds : (h : List CredentialChange) (u : Setup) (s : State) (t : ℕ) (e : Event) → MayComeNow s.work e → Ready u.capacity s
-    → let x = (turn u s t e).state in Adds h s x (text_of h (incremented_by s.work x.work) x.work)
+    → let x = (turn u s t e).state in Adds h s x (signed_after_change h (incremented_by s.work x.work) x.work)
 unfolding turn
 turn_adds h u s t e c r = grind (arith, raises_none, requested_adds)
 
@@ -127,17 +127,17 @@ above_marked id n m [] e h = grind arith
 above_marked id n m (r ∷ rows) e h = grind (arith, above_marked id n m rows e h.1)
 
 -- A text is of an earlier making, or the rows with its id are above it.
-pub record Bounded (h : List CredentialChange) (rows : List Row) (t : SignedText) : Type 0 where
+pub record Bounded (h : List CredentialChange) (rows : List Row) (t : SignedAssertion) : Type 0 where
   pub earlier : t.making ≤ creation_count t.id h
   pub above : t.making ≡ creation_count t.id h → AllAbove t.id t.counter rows
 
-bounded_more : (h : List CredentialChange) (rows : List Row) (m : CredentialChange) (t : SignedText) → Bounded h rows t
+bounded_more : (h : List CredentialChange) (rows : List Row) (m : CredentialChange) (t : SignedAssertion) → Bounded h rows t
     → Bounded (m ∷ h) (apply_change m rows) t
 bounded_more h rows m t b = grind (arith, above_marked)
 
-new_above : (h : List CredentialChange) (rows : List Row) (id : List ℕ) (ts : List SignedText) → is_some (find (has_id id) rows) ≡ true
+new_above : (h : List CredentialChange) (rows : List Row) (id : List ℕ) (ts : List SignedAssertion) → is_some (find (has_id id) rows) ≡ true
     → AllByRecursion (Bounded h rows) ts →
-    above_all (record { id = id; making = creation_count id h; counter = counter_of id rows + 1 }) ts ≡ true
+    exceeds_all (record { id = id; making = creation_count id h; counter = counter_of id rows + 1 }) ts ≡ true
 new_above h rows id [] e b = refl
 new_above h rows id (t ∷ ts) e b =
     let counters = found (λ r. has_id t.id r ≡ true → t.counter ≤ r.counter) (has_id id) rows in
@@ -146,15 +146,15 @@ new_above h rows id (t ∷ ts) e b =
 -- ---- what holds of the texts of every history
 
 -- `work` is that of the start.
-pub record Tells (work : Option PendingTask) (h : List CredentialChange) (s : State) (ts : List SignedText) : Type 0 where
+pub record Tells (work : Option PendingTask) (h : List CredentialChange) (s : State) (ts : List SignedAssertion) : Type 0 where
   pub bounded : AllByRecursion (Bounded h s.rows) ts
-  pub rise : all_rise ts ≡ true
+  pub rise : counters_increase ts ≡ true
   pub newest : work ≡ None → (id : List ℕ) → signs_by id s.work ≡ true → IsNewest ts s
 
-text_is : (h : List CredentialChange) (rows : List Row) (s : State) (t : SignedText) → IsAdded h rows s t → IsTextOf t s
+text_is : (h : List CredentialChange) (rows : List Row) (s : State) (t : SignedAssertion) → IsAdded h rows s t → IsPendingSignature t s
 text_is h rows s t a = grind (arith, find_raised, same_bytes)
 
-tells_more : (work : Option PendingTask) (h : List CredentialChange) (s x : State) (m : CredentialChange) (o : Option SignedText) (ts : List SignedText)
+tells_more : (work : Option PendingTask) (h : List CredentialChange) (s x : State) (m : CredentialChange) (o : Option SignedAssertion) (ts : List SignedAssertion)
     → x.rows ≡ apply_change m s.rows → no_two same_id x.rows ≡ true → Adds h s x o → Tells work h s ts
     → Tells work (m ∷ h) x (option_to_list o ++ ts)
 tells_more work h s x m None ts e d a b = grind (arith, all_along, bounded_more)
@@ -168,26 +168,26 @@ tells_more work h s x m (Some t) ts e d a b = record {
 
 pub history_tells : (start : CoreState) (h : List TimedEvent) → Ready start.setup.capacity start.state
     → ValidRows start.setup.capacity start.state.rows
-    → Orderly start h → Tells start.state.work (changes start h) (core_at start h).state (texts start h)
-unfolding core_at changes texts Orderly
+    → Orderly start h → Tells start.state.work (changes start h) (core_at start h).state (signed_assertions start h)
+unfolding core_at changes signed_assertions Orderly
 history_tells start [] r l o = record { bounded = tt; rise = refl; newest = λ n id w. grind arith }
 history_tells start (x ∷ past) r l o =
     let k = core_at start past in
-    tells_more start.state.work (changes start past) k.state (core_after k x.at x.event).state _ _ (texts start past)
+    tells_more start.state.work (changes start past) k.state (core_after k x.at x.event).state _ _ (signed_assertions start past)
     (turn_marked k.setup k.state x.at x.event o.0) (core_sound start (x ∷ past) r l).lawful.distinct
     (turn_adds (changes start past) k.setup k.state x.at x.event o.0 (core_sound start past r l).ready)
     (history_tells start past r l o.1)
 
 -- texts that rise differ
-none_same : (t : SignedText) (ts : List SignedText) → above_all t ts ≡ true → list_any (same_text t) ts ≡ false
+none_same : (t : SignedAssertion) (ts : List SignedAssertion) → exceeds_all t ts ≡ true → list_any (is_same_assertion t) ts ≡ false
 none_same t [] h = refl
 none_same t (x ∷ ts) h = grind (arith, none_same t ts)
 
-pub rise_differ : (ts : List SignedText) → all_rise ts ≡ true → all_differ ts ≡ true
+pub rise_differ : (ts : List SignedAssertion) → counters_increase ts ≡ true → all_differ ts ≡ true
 rise_differ [] h = refl
 rise_differ (t ∷ ts) h = grind (arith, none_same, rise_differ ts)
 
-pub told : (h : List CredentialChange) (before now : State) (o : Option SignedText) (ts : List SignedText) (t : SignedText) → Adds h before now o
-    → option_to_list o ++ ts ≡ t ∷ ts → IsTextOf t now
+pub told : (h : List CredentialChange) (before now : State) (o : Option SignedAssertion) (ts : List SignedAssertion) (t : SignedAssertion) → Adds h before now o
+    → option_to_list o ++ ts ≡ t ∷ ts → IsPendingSignature t now
 told h before now None ts t a e = absurd (let n : length ts ≡ length (t ∷ ts) = ap length e in omega arith)
-told h before now (Some x) ts t a e = subst (λ v. IsTextOf v now) (cc) (text_is h before.rows now x a)
+told h before now (Some x) ts t a e = subst (λ v. IsPendingSignature v now) (cc) (text_is h before.rows now x a)

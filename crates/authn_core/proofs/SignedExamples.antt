@@ -1,7 +1,7 @@
 -- What came, what has to be signed and what is answered, by computation.
 use Rattle.std.proofs.Common.{◌≡◌, ℕ, List, [], ◌∷◌, ◌++◌, true, false, Some, None, replicate, refl}
 use Rattle.ctap_message.specs.{Asked.Selection, Answers.assertion_answer, Requests.read_of}
-use Rattle.authn_core.specs.{Marks.TimedEvent, Marks.SignedText, Rising.all_rise, Signed.requests_of, Turn.turn, Views.needs, Views.sign}
+use Rattle.authn_core.specs.{Marks.TimedEvent, Marks.SignedAssertion, Rising.counters_increase, Signed.requests_of, Turn.turn, Views.needs, Views.sign}
 use Rattle.authn_core.specs.State.{State, Event, Request, SignatureIs, Cancel, Answered}
 use Rattle.authn_core.proofs.Examples.{setup, row, waiting}
 
@@ -35,17 +35,17 @@ answered_is : (turn setup (turn setup pending 1200 (Request 1 (0x08 ∷ []))).st
 answered_is = unfold turn read_of in refl
 
 -- counters that rise, stay or fall; another credential's, and one of an id that was made again
-abbrev text : (id making counter : ℕ) → SignedText
+abbrev text : (id making counter : ℕ) → SignedAssertion
 text id making counter = record { id = id ∷ []; making = making; counter = counter }
 
-rising : all_rise (text 1 0 3 ∷ text 2 0 9 ∷ text 1 0 2 ∷ []) ≡ true
+rising : counters_increase (text 1 0 3 ∷ text 2 0 9 ∷ text 1 0 2 ∷ []) ≡ true
 rising = refl
 
-staying : all_rise (text 1 0 2 ∷ text 2 0 9 ∷ text 1 0 2 ∷ []) ≡ false
+staying : counters_increase (text 1 0 2 ∷ text 2 0 9 ∷ text 1 0 2 ∷ []) ≡ false
 staying = refl
 
-falling : all_rise (text 1 0 1 ∷ text 2 0 9 ∷ text 1 0 2 ∷ []) ≡ false
+falling : counters_increase (text 1 0 1 ∷ text 2 0 9 ∷ text 1 0 2 ∷ []) ≡ false
 falling = refl
 
-made_again : all_rise (text 1 1 1 ∷ text 1 0 2 ∷ []) ≡ true
+made_again : counters_increase (text 1 1 1 ∷ text 1 0 2 ∷ []) ≡ true
 made_again = refl

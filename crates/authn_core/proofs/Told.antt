@@ -10,7 +10,7 @@ use Rattle.authn_core.specs.{declared.replies.Presence.TheVariants.Granted, Read
 use Rattle.authn_core.specs.State.{AssertState, Task, AwaitResetPresence, AwaitSelectionPresence, AwaitMakePresence, AwaitKeyPair, AwaitMakeSignature, AwaitAssertPresence}
 use Rattle.authn_core.specs.State.{AwaitAssertSignature, PendingTask, State, Event, PresenceIs, KeyIs, SignatureIs, Answer}
 use Rattle.authn_core.specs.State.{Waits, Ignored, status, await_reply}
-use Rattle.authn_core.specs.MakeCredential.{new_make_state, names_one}
+use Rattle.authn_core.specs.MakeCredential.{new_make_state, has_listed_credential}
 use Rattle.authn_core.specs.{Turn.Start, Turn.first_state, Turn.task_reply_turn, Marks.CredentialChange, Marks.apply_change}
 use Rattle.authn_core.specs.Exchanges.{Exchange, PendingRequest, rows_after}
 use Rattle.authn_core.specs.Assertions.{AssertionSeries, applicable_ids, continues_series, answers_assertion, answered_assertions, assertion_for}
@@ -26,7 +26,7 @@ abbrev pub TaskTold : List Row → Task → RequestParameters → (took : List E
 TaskTold rows AwaitResetPresence Reset [] a = a ≡ None
 TaskTold rows AwaitSelectionPresence Selection [] a = a ≡ None
 TaskTold rows (AwaitMakePresence m excluded) (MakeCredential hash rp_id user_id user_name rk exclude) [] a =
-    (a ≡ None) × (m ≡ new_make_state hash rp_id user_id user_name rk) × (excluded ≡ names_one m.rp rows (ids_of exclude))
+    (a ≡ None) × (m ≡ new_make_state hash rp_id user_id user_name rk) × (excluded ≡ has_listed_credential m.rp rows (ids_of exclude))
 TaskTold rows (AwaitKeyPair m) (MakeCredential hash rp_id user_id user_name rk exclude) (PresenceIs reply ∷ []) a =
     (a ≡ None) × (m ≡ new_make_state hash rp_id user_id user_name rk)
 TaskTold rows (AwaitMakeSignature m key signed) (MakeCredential hash rp_id user_id user_name rk exclude)

@@ -11,7 +11,7 @@ use Rattle.ctap_message.specs.{Descriptors.ids_of, Requests.read_of}
 use Rattle.sha2.specs.Sha256.{sha256}
 use Rattle.authn_core.specs.declared.replies.{Presence.Presence, NewKey.NewKey}
 use Rattle.authn_core.specs.declared.replies.Presence.TheVariants.{Granted, Denied, TimedOut}
-use Rattle.authn_core.specs.{Marks.CredentialChange, Marks.TimedEvent, Marks.takes_place, Turn.Start}
+use Rattle.authn_core.specs.{Marks.CredentialChange, Marks.TimedEvent, Marks.replaces_credential, Turn.Start}
 use Rattle.authn_core.specs.State.{AssertState, Event, Request, PresenceIs, KeyIs, SignatureIs, Cancel, Drop, Answer}
 use Rattle.authn_core.specs.State.{Answered, Waits, Ignored, Nothing}
 use Rattle.authn_core.specs.Exchanges.{Exchange, PendingRequest, begin_pending_request, rows_after, pending_request}
@@ -50,7 +50,7 @@ is_excluded rows rp exclude = list_any (λ r. bytes_eq r.rp rp && list_any (byte
 -- There is no capacity for a new credential, and it replaces none.
 abbrev pub is_full : (capacity : ℕ) → List Row → (rp user : List ℕ) (discoverable : Bool) → Bool
 is_full capacity rows rp user discoverable =
-    nat_le capacity (length rows) && not (list_any (takes_place rp user discoverable) rows)
+    nat_le capacity (length rows) && not (list_any (replaces_credential rp user discoverable) rows)
 
 -- The user consented.
 abbrev pub is_granted : Presence → Bool

@@ -8,7 +8,7 @@ use Rattle.ctap_message.specs.Answers.{assertion_answer}
 use Rattle.authn_core.specs.declared.replies.Presence.{Presence, TheVariants.Granted}
 use Rattle.authn_core.specs.declared.refusal.Refusal.{Refusal}
 use Rattle.authn_core.specs.declared.refusal.Refusal.TheVariants as because
-use Rattle.authn_core.specs.Refusals.{not_granted}
+use Rattle.authn_core.specs.Refusals.{presence_refusal}
 use Rattle.authn_core.specs.State.{AssertState, AwaitAssertPresence, TurnResult, respond, respond_refusal, await_reply, await_signature}
 
 -- The RP's credential with the first listed ID that exists.
@@ -44,7 +44,7 @@ assertion_turn rows now cid hash rp presence given (id ∷ others) =
 -- Continues only if the user consents.
 abbrev pub assertion_after_presence : List Row → Option PendingAssertions → (cid : ℕ) → AssertState → Presence → TurnResult
 assertion_after_presence rows pending cid a Granted = await_signature rows pending cid a
-assertion_after_presence rows pending cid a reply = respond_refusal rows None (not_granted reply)
+assertion_after_presence rows pending cid a reply = respond_refusal rows None (presence_refusal reply)
 
 -- The user handle of a discoverable credential.
 abbrev pub user_handle_in : Option Row → Option (List ℕ)

@@ -8,13 +8,13 @@ use Rattle.fido_authdata.specs.AuthData.{created_bytes}
 use Rattle.ctap_message.specs.Answers.{created_answer}
 use Rattle.authn_core.specs.declared.replies.{Presence.Presence, Presence.TheVariants.Granted, NewKey.NewKey}
 use Rattle.authn_core.specs.declared.refusal.Refusal.TheVariants as because
-use Rattle.authn_core.specs.Refusals.{not_granted}
+use Rattle.authn_core.specs.Refusals.{presence_refusal}
 use Rattle.sha2.specs.Sha256.{sha256}
 use Rattle.authn_core.specs.State.{MakeState, AwaitMakePresence, AwaitKeyPair, AwaitMakeSignature, TurnResult, respond, respond_refusal, await_reply}
 
 -- One of the IDs is that of a credential of the RP.
-abbrev pub names_one : (rp : List ℕ) → List Row → List (List ℕ) → Bool
-names_one rp rows ids = list_any (λ id. is_some (find (is_named rp id) rows)) ids
+abbrev pub has_listed_credential : (rp : List ℕ) → List Row → List (List ℕ) → Bool
+has_listed_credential rp rows ids = list_any (λ id. is_some (find (is_named rp id) rows)) ids
 
 -- The parameters of the credential to create.
 abbrev pub new_make_state : (hash rp_id user_id user_name : List ℕ) (rk : Bool) → MakeState
@@ -23,7 +23,7 @@ new_make_state hash rp_id user_id name rk =
 
 -- Asks for user presence, even if a credential is excluded.
 abbrev pub make_turn : List Row → (cid : ℕ) → MakeState → (exclude : List (List ℕ)) → TurnResult
-make_turn rows cid m exclude = await_reply rows None cid (AwaitMakePresence m (names_one m.rp rows exclude))
+make_turn rows cid m exclude = await_reply rows None cid (AwaitMakePresence m (has_listed_credential m.rp rows exclude))
 
 -- There is capacity, or the new credential replaces one.
 abbrev pub has_capacity : (capacity : ℕ) → MakeState → List Row → Bool
@@ -34,7 +34,7 @@ abbrev pub make_after_presence : ℕ → List Row → Option PendingAssertions �
 make_after_presence capacity rows pending cid m true reply = respond_refusal rows pending because.Excluded
 make_after_presence capacity rows pending cid m false Granted =
     if has_capacity capacity m rows then await_reply rows pending cid (AwaitKeyPair m) else respond_refusal rows pending because.Full
-make_after_presence capacity rows pending cid m false reply = respond_refusal rows pending (not_granted reply)
+make_after_presence capacity rows pending cid m false reply = respond_refusal rows pending (presence_refusal reply)
 
 -- If the new credential ID doesn't exist yet, a signature is needed (WebAuthn Level 2, section 8.2).
 abbrev pub make_after_key : (aaguid : List ℕ) → List Row → Option PendingAssertions → (cid : ℕ) → MakeState → Option NewKey → TurnResult

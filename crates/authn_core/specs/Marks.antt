@@ -16,14 +16,14 @@ pub record CredentialChange : Type 0 where
   pub resets : Bool
 
 -- A new discoverable credential replaces the discoverable one of the same RP and user (CTAP 2.1, section 6.1.2).
-abbrev pub takes_place : (rp user : List ℕ) (discoverable : Bool) → Row → Bool
-takes_place rp user discoverable r =
+abbrev pub replaces_credential : (rp user : List ℕ) (discoverable : Bool) → Row → Bool
+replaces_credential rp user discoverable r =
     discoverable && (r.discoverable && (bytes_eq r.rp rp && bytes_eq r.user.items user))
 
 -- The new credential replaces this one.
 abbrev pub is_replaced_by : Option Row → Row → Bool
 is_replaced_by None r = false
-is_replaced_by (Some new) r = takes_place new.rp new.user.items new.discoverable r
+is_replaced_by (Some new) r = replaces_credential new.rp new.user.items new.discoverable r
 
 -- This counter is incremented.
 abbrev pub is_incremented : Option (List ℕ) → Row → Bool
@@ -139,7 +139,7 @@ task_counter task = 0
 
 -- What distinguishes the bytes that assertions sign: the credential's ID, how often a credential with this ID was
 -- created, and the signature counter.
-pub record SignedText : Type 0 where
+pub record SignedAssertion : Type 0 where
   pub id : List ℕ
   pub making : ℕ
   pub counter : ℕ
@@ -153,23 +153,23 @@ abbrev pub creation_count : List ℕ → List CredentialChange → ℕ
 creation_count id h = length (filter (λ m. creates_id id m) h)
 
 -- The bytes to sign after a change, if an assertion signature becomes pending.
-abbrev pub text_of : List CredentialChange → Option (List ℕ) → Option PendingTask → Option SignedText
-text_of past (Some id) (Some w) = Some (record { id = id; making = creation_count id past; counter = task_counter w.task })
-text_of past r w = None
+abbrev pub signed_after_change : List CredentialChange → Option (List ℕ) → Option PendingTask → Option SignedAssertion
+signed_after_change past (Some id) (Some w) = Some (record { id = id; making = creation_count id past; counter = task_counter w.task })
+signed_after_change past r w = None
 
 -- The bytes to sign of a history, newest first.
-unfoldable pub texts : CoreState → List TimedEvent → List SignedText
-texts start [] = []
-texts start (x ∷ past) =
-    option_to_list (text_of (changes start past) (incremented_by (core_at start past).state.work
+unfoldable pub signed_assertions : CoreState → List TimedEvent → List SignedAssertion
+signed_assertions start [] = []
+signed_assertions start (x ∷ past) =
+    option_to_list (signed_after_change (changes start past) (incremented_by (core_at start past).state.work
     (core_at start (x ∷ past)).state.work) (core_at start (x ∷ past)).state.work)
-    ++ texts start past
+    ++ signed_assertions start past
 
 -- The two have the same credential ID, creation count and signature counter.
-abbrev pub same_text : SignedText → SignedText → Bool
-same_text a b = bytes_eq a.id b.id && (a.making == b.making && a.counter == b.counter)
+abbrev pub is_same_assertion : SignedAssertion → SignedAssertion → Bool
+is_same_assertion a b = bytes_eq a.id b.id && (a.making == b.making && a.counter == b.counter)
 
 -- No two entries of the list are equal.
-abbrev pub all_differ : List SignedText → Bool
+abbrev pub all_differ : List SignedAssertion → Bool
 all_differ [] = true
-all_differ (t ∷ ts) = not (list_any (same_text t) ts) && all_differ ts
+all_differ (t ∷ ts) = not (list_any (is_same_assertion t) ts) && all_differ ts

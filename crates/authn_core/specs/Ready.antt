@@ -28,16 +28,16 @@ pub record IsConcatenation (signed front hash : List ℕ) (n : ℕ) : Type 0 whe
 
 -- The bytes that the task signs are the authenticator data in its response (164 or 37 bytes) followed by the client
 -- data hash.
-abbrev pub SignsItsAnswer : (aaguid : List ℕ) → Task → Type 0
-SignsItsAnswer aaguid (AwaitMakeSignature m k signed) = IsConcatenation signed (created_bytes m.rp aaguid k.id k.x k.y) m.hash 164
-SignsItsAnswer aaguid (AwaitAssertSignature a counter signed) = IsConcatenation signed (assertion_bytes a.rp a.presence counter) a.hash 37
-SignsItsAnswer aaguid task = Unit {0}
+abbrev pub SignsItsResponse : (aaguid : List ℕ) → Task → Type 0
+SignsItsResponse aaguid (AwaitMakeSignature m k signed) = IsConcatenation signed (created_bytes m.rp aaguid k.id k.x k.y) m.hash 164
+SignsItsResponse aaguid (AwaitAssertSignature a counter signed) = IsConcatenation signed (assertion_bytes a.rp a.presence counter) a.hash 37
+SignsItsResponse aaguid task = Unit {0}
 
 -- The bytes that the pending task signs, if any, are the authenticator data in its response followed by the client data
 -- hash.
-abbrev pub WorkSignsItsAnswer : (aaguid : List ℕ) → Option PendingTask → Type 0
-WorkSignsItsAnswer aaguid None = Unit {0}
-WorkSignsItsAnswer aaguid (Some work) = SignsItsAnswer aaguid work.task
+abbrev pub WorkSignsItsResponse : (aaguid : List ℕ) → Option PendingTask → Type 0
+WorkSignsItsResponse aaguid None = Unit {0}
+WorkSignsItsResponse aaguid (Some work) = SignsItsResponse aaguid work.task
 
 -- Each ID is that of a credential.
 abbrev pub AllHaveRows : List Row → List (List ℕ) → Type 0

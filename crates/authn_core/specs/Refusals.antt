@@ -28,6 +28,6 @@ status_of (NextTooLate since at) = 0x30  -- NOT_ALLOWED
 status_of (ResetTooLate since at) = 0x30  -- NOT_ALLOWED
 
 -- The error if the user doesn't consent to creating or using a credential.
-abbrev pub not_granted : Presence → Refusal
-not_granted UserDenied = Denied
-not_granted reply = NoConsentInTime
+abbrev pub presence_refusal : Presence → Refusal
+presence_refusal UserDenied = Denied
+presence_refusal reply = NoConsentInTime

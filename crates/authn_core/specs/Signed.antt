@@ -101,22 +101,22 @@ creation_asked (Some (MakeCredential hash rp_id user_id user_name discoverable e
 creation_asked asked = None
 
 -- The assertion is for the newest request.
-abbrev pub AssertsFor : Option RequestParameters → List Row → AssertState → Type 0
-AssertsFor asked rows a = (assertion_asked asked ≡ Some (record { rp = a.rp; presence = a.presence; hash = a.hash }))
+abbrev pub IsAssertionFor : Option RequestParameters → List Row → AssertState → Type 0
+IsAssertionFor asked rows a = (assertion_asked asked ≡ Some (record { rp = a.rp; presence = a.presence; hash = a.hash }))
     × (rp_of a.id rows ≡ Some a.rp)
 
 -- The new credential is for the newest request.
-abbrev pub MakesFor : Option RequestParameters → MakeState → Type 0
-MakesFor asked m = creation_asked asked ≡ Some (m.rp, m.hash)
+abbrev pub IsCreationFor : Option RequestParameters → MakeState → Type 0
+IsCreationFor asked m = creation_asked asked ≡ Some (m.rp, m.hash)
 
 -- The bytes that the task signs are for the newest request.
 abbrev pub TaskSigns : (aaguid : List ℕ) → LatestRequests → List Row → Task → Type 0
-TaskSigns aaguid h rows (AwaitMakePresence m excluded) = MakesFor h.asked m
-TaskSigns aaguid h rows (AwaitKeyPair m) = MakesFor h.asked m × (h.granted ≡ true)
-TaskSigns aaguid h rows (AwaitMakeSignature m key signed) = MakesFor h.asked m × IsAmong key h.keys
+TaskSigns aaguid h rows (AwaitMakePresence m excluded) = IsCreationFor h.asked m
+TaskSigns aaguid h rows (AwaitKeyPair m) = IsCreationFor h.asked m × (h.granted ≡ true)
+TaskSigns aaguid h rows (AwaitMakeSignature m key signed) = IsCreationFor h.asked m × IsAmong key h.keys
     × (signed ≡ created_bytes m.rp aaguid key.id key.x key.y ++ m.hash) × (h.granted ≡ true)
-TaskSigns aaguid h rows (AwaitAssertPresence a) = AssertsFor h.asked rows a
-TaskSigns aaguid h rows (AwaitAssertSignature a counter signed) = AssertsFor h.asked rows a × (counter ≡ counter_of a.id rows)
+TaskSigns aaguid h rows (AwaitAssertPresence a) = IsAssertionFor h.asked rows a
+TaskSigns aaguid h rows (AwaitAssertSignature a counter signed) = IsAssertionFor h.asked rows a × (counter ≡ counter_of a.id rows)
     × (signed ≡ assertion_bytes a.rp a.presence counter ++ a.hash) × (a.presence ≡ true → h.granted ≡ true)
 TaskSigns aaguid h rows task = Unit {0}
 

@@ -10,7 +10,7 @@ use Rattle.authn_core.specs.State.{Answer, Nothing, TurnResult, status, respond,
 use Rattle.authn_core.specs.declared.refusal.Refusal.{Refusal}
 use Rattle.authn_core.specs.declared.refusal.Refusal.TheVariants as because
 use Rattle.authn_core.specs.Asking.{reset_turn, presence_turn}
-use Rattle.authn_core.specs.MakeCredential.{new_make_state, names_one, make_after_presence, make_after_key, make_after_signature}
+use Rattle.authn_core.specs.MakeCredential.{new_make_state, has_listed_credential, make_after_presence, make_after_key, make_after_signature}
 use Rattle.authn_core.specs.GetAssertion.{applicable_rows, assertion_turn, assertion_after_presence, assertion_after_signature, next_assertion_turn}
 
 -- The result of a request. Each request clears the pending assertions, except a getNextAssertion that becomes pending.
@@ -21,7 +21,7 @@ request_turn u rows pending now cid (Ok Reset) = reset_turn rows u.began now cid
 request_turn u rows pending now cid (Ok Selection) = await_reply rows None cid AwaitSelectionPresence
 request_turn u rows pending now cid (Ok (MakeCredential hash rp_id user_id user_name discoverable exclude)) =
     let m = new_make_state hash rp_id user_id user_name discoverable in
-    await_reply rows None cid (AwaitMakePresence m (names_one m.rp rows (ids_of exclude)))
+    await_reply rows None cid (AwaitMakePresence m (has_listed_credential m.rp rows (ids_of exclude)))
 request_turn u rows pending now cid (Ok (GetAssertion hash rp_id allow presence)) =
     let rp = sha256 rp_id in let given = has_entries allow in
     assertion_turn rows now cid hash rp presence given (map (λ row. row.id) (applicable_rows rows rp given (ids_of allow)))

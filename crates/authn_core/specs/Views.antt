@@ -10,7 +10,7 @@ use Rattle.authn_core.specs.declared.work.KeepaliveStatus.TheVariants.{Processin
 use Rattle.authn_core.specs.declared.work.Work.{Work as WaitingWork}
 use Rattle.authn_core.specs.declared.event.Event.{Event as Happening}
 use Rattle.authn_core.specs.declared.event.Event.TheVariants as happening
-use Rattle.ctap_message.specs.Requests.{steps_of, LARGEST}
+use Rattle.ctap_message.specs.Requests.{steps_of, MAX_STEPS}
 use Rattle.authn_core.specs.Turn.{Work, CoreContents, Start, core_after, core_answer, first_state}
 use Rattle.authn_core.specs.declared.task.MakeState.{MakeState as MakingKept}
 use Rattle.authn_core.specs.declared.task.AssertState.{AssertState as AssertingKept}
@@ -80,7 +80,7 @@ event_of happening.Drop = Drop
 
 -- The steps of parsing the last request, after an event.
 abbrev pub steps_after : ℕ → Event → ℕ
-steps_after steps (Request cid bytes) = min (steps_of bytes) LARGEST
+steps_after steps (Request cid bytes) = min (steps_of bytes) MAX_STEPS
 steps_after steps e = steps
 
 -- The code handled an event: its state and answer are those of `turn` at the latest timestamp.

@@ -113,7 +113,7 @@ pub struct Core<T: Table<C>, const C: usize> {
 impl<T: Table<C>, const C: usize> Model for Core<T, C> {
     ghost use Rattle.std.specs.Prelude.{◌≤◌, option_map};
     ghost use Rattle.authn_core.specs.Turn.{CoreContents};
-    ghost use Rattle.authn_core.specs.Ready.{Ready, WorkSignsItsAnswer};
+    ghost use Rattle.authn_core.specs.Ready.{Ready, WorkSignsItsResponse};
     ghost use Rattle.authn_core.specs.Views.{channel_task};
 
     ghost Value = { CoreContents };
@@ -128,7 +128,7 @@ impl<T: Table<C>, const C: usize> Model for Core<T, C> {
     } };
 
     ghost invariant = { λ s. (s.began ≤ s.latest) × Ready C (record { rows = T.rows s.table; pending = s.pending; work = option_map channel_task s.work })
-        × WorkSignsItsAnswer s.config.aaguid (option_map channel_task s.work) };
+        × WorkSignsItsResponse s.config.aaguid (option_map channel_task s.work) };
 }
 
 impl<T: Table<C>, const C: usize> Core<T, C> {
@@ -227,7 +227,7 @@ impl<T: Table<C>, const C: usize> Core<T, C> {
                 self.serve(*cid, request, answer)
             }
             Event::Presence(_) | Event::Key(_) | Event::Signature(_) => self.reply(event, answer),
-            Event::Cancel => self.refuse_all(Refusal::Cancelled, answer),
+            Event::Cancel => self.refuse_and_clear(Refusal::Cancelled, answer),
             Event::Drop => {
                 self.pending.clear();
                 self.work = None;

@@ -3,7 +3,7 @@
 ghost use Rattle.std.specs.Prelude.{None};
 ghost use Rattle.ctap_message.specs.Shown.{examined_result, IsFresh, HasLengths};
 ghost use Rattle.authn_core.specs.State.{respond_refusal, await_reply};
-ghost use Rattle.authn_core.specs.Ready.{TaskReady, SignsItsAnswer};
+ghost use Rattle.authn_core.specs.Ready.{TaskReady, SignsItsResponse};
 ghost use Rattle.authn_core.specs.Turn.{request_turn, reply_turn};
 ghost use Rattle.authn_core.specs.Views.{TakesTurn, TakesWork, event_of, task_of};
 
@@ -32,7 +32,7 @@ impl<T: Table<C>, const C: usize> Core<T, C> {
         match read {
             Err(fault) => {
                 let status = fault.status().0;
-                self.refuse_all(Refusal::BadRequest { status }, answer)
+                self.refuse_and_clear(Refusal::BadRequest { status }, answer)
             }
             Ok(Request::Make(make)) => Turn::Waits(self.begin_make(cid, make)),
             Ok(Request::Assert(assert)) => self.begin_assert(cid, assert, answer),
@@ -54,7 +54,7 @@ impl<T: Table<C>, const C: usize> Core<T, C> {
     }
 
     /// Ends the request with the status of a refusal, and clears the pending assertions.
-    pub(crate) fn refuse_all(&mut self, why: Refusal, answer: &mut Answer) -> Turn
+    pub(crate) fn refuse_and_clear(&mut self, why: Refusal, answer: &mut Answer) -> Turn
         ensures { TakesTurn self.old self.new result answer.new.items (respond_refusal self.old.core.state.rows None why) }
     {
         self.pending.clear();
@@ -64,7 +64,7 @@ impl<T: Table<C>, const C: usize> Core<T, C> {
     /// Begins or continues a request, and returns its KEEPALIVE status.
     pub(crate) fn wait(&mut self, cid: u32, task: Task) -> KeepaliveStatus
         requires ready { TaskReady self.old.core.setup.capacity self.old.core.state.rows (task_of task) }
-        requires signs { SignsItsAnswer self.old.core.setup.aaguid (task_of task) }
+        requires signs { SignsItsResponse self.old.core.setup.aaguid (task_of task) }
         ensures { TakesWork self.old self.new result (await_reply self.old.core.state.rows self.old.core.state.pending cid
             (task_of task)) }
     {

@@ -10,16 +10,16 @@ ghost use Rattle.authn_core.specs.CoseTree.{cose_key_tree};
 ghost use Rattle.authn_core.specs.State.{Setup, State, Event as AnyEvent, SignatureIs};
 ghost use Rattle.authn_core.specs.Turn.{CoreState, Start, core_answer, first_state, turn, waiting};
 ghost use Rattle.authn_core.specs.Ready.{Ready};
-ghost use Rattle.authn_core.specs.Rising.{all_rise, IsTextOf, IsNewest};
+ghost use Rattle.authn_core.specs.Rising.{counters_increase, IsPendingSignature, IsNewest};
 ghost use Rattle.authn_core.specs.Signed.{LatestRequests, Signs as SignsFor, IsNeeded, IsSigned, with_event, requests_of};
 ghost use Rattle.authn_core.specs.Views.{needs, sign};
 ghost use Rattle.authn_core.specs.Exchanges.{rows_after, pending_request, work_of_request};
 ghost use Rattle.authn_core.specs.Answers.{answer_to, exchanges};
-ghost use Rattle.authn_core.specs.Marks.{TimedEvent, MayComeNow, Orderly, core_at, changes, rows_after_changes, signs_by, texts, all_differ, SignedText};
+ghost use Rattle.authn_core.specs.Marks.{TimedEvent, MayComeNow, Orderly, core_at, changes, rows_after_changes, signs_by, signed_assertions, all_differ, SignedAssertion};
 
 /// States that every event keeps the state valid: every pending ID has a credential, and the pending request can
 /// continue.
-pub fn turns_keep_ready()
+pub fn turns_keep_the_invariant()
     ensures { (u : Setup) (s : State) (now : ℕ) (e : AnyEvent) → Ready u.capacity s → Ready u.capacity (turn u s now e).state }
 {}
 
@@ -40,26 +40,26 @@ pub fn rows_follow_history()
 
 /// States that no two assertions signed with one credential have the same counter: the counters increase strictly. The
 /// bytes to sign have the credential's counter. While an assertion's signature is pending, its bytes are the newest.
-pub fn texts_to_sign_differ()
+pub fn signed_bytes_differ()
     ensures differ { (start : CoreState) (h : List TimedEvent) → Ready start.setup.capacity start.state
         → ValidRows start.setup.capacity start.state.rows
-        → Orderly start h → all_differ (texts start h) ≡ true }
+        → Orderly start h → all_differ (signed_assertions start h) ≡ true }
     ensures rise { (start : CoreState) (h : List TimedEvent) → Ready start.setup.capacity start.state
         → ValidRows start.setup.capacity start.state.rows
-        → Orderly start h → all_rise (texts start h) ≡ true }
-    ensures told { (start : CoreState) (h : List TimedEvent) (x : TimedEvent) (t : SignedText) → Ready start.setup.capacity start.state
+        → Orderly start h → counters_increase (signed_assertions start h) ≡ true }
+    ensures told { (start : CoreState) (h : List TimedEvent) (x : TimedEvent) (t : SignedAssertion) → Ready start.setup.capacity start.state
         → ValidRows start.setup.capacity start.state.rows → Orderly start (x ∷ h)
-        → texts start (x ∷ h) ≡ t ∷ texts start h → IsTextOf t (core_at start (x ∷ h)).state }
+        → signed_assertions start (x ∷ h) ≡ t ∷ signed_assertions start h → IsPendingSignature t (core_at start (x ∷ h)).state }
     ensures newest { (start : CoreState) (h : List TimedEvent) (id : List ℕ) → start.state.work ≡ None
         → Ready start.setup.capacity start.state → ValidRows start.setup.capacity start.state.rows → Orderly start h
-        → signs_by id (core_at start h).state.work ≡ true → IsNewest (texts start h) (core_at start h).state }
+        → signs_by id (core_at start h).state.work ≡ true → IsNewest (signed_assertions start h) (core_at start h).state }
 {}
 
 /// States that the signed bytes are the bytes in the response. For an assertion these are the authenticator data, with
 /// the RP ID hash, the requested UP flag and the credential's counter, and the client data hash of the newest request;
 /// for a registration they have the ID and public key that the caller supplied. If UP is set, the user consented since
 /// that request. The response to a signature has exactly the authenticator data that were signed.
-pub fn what_is_signed_is_answered()
+pub fn signed_bytes_are_in_the_response()
     ensures kept { (u : Setup) (s : State) (now : ℕ) (e : AnyEvent) (h : LatestRequests) → MayComeNow s.work e
         → ValidRows u.capacity s.rows → SignsFor u.aaguid h s → SignsFor u.aaguid (with_event e h) (turn u s now e).state }
     ensures signed { (start : Start) (h : List TimedEvent) → ValidRows start.capacity start.rows → Orderly (first_state start) h

@@ -1,6 +1,6 @@
 //! Errors of commands.
 ghost use Rattle.std.specs.Prelude.{◌≡◌};
-ghost use Rattle.authn_core.specs.Refusals.{status_of, not_granted};
+ghost use Rattle.authn_core.specs.Refusals.{status_of, presence_refusal};
 
 use crate::replies::Presence;
 use ctap_message::Status;
@@ -66,8 +66,8 @@ impl Refusal {
 }
 
 /// Returns the error for a reply that doesn't grant user presence.
-pub(crate) fn not_granted(reply: Presence) -> Refusal
-    ensures { result ≡ not_granted reply }
+pub(crate) fn presence_refusal(reply: Presence) -> Refusal
+    ensures { result ≡ presence_refusal reply }
 {
     match reply {
         Presence::Denied => Refusal::Denied,

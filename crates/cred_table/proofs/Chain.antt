@@ -12,7 +12,7 @@ use Rattle.cred_table.specs.Slots.{relinked, slot_at, blank, within, bucket, num
 use Rattle.cred_table.proofs.Basics.{all_stay}
 use Rattle.cred_table.specs.declared.{slot.Slot.Slot, slot.ChainKind.ChainKind, chains.Chains.Chains}
 use Rattle.cred_table.specs.declared.slot.ChainKind.TheVariants.{Next, Newer, Older}
-use Rattle.cred_table.specs.Linked.{row_at, Linked, age, free_slots, id_slots, head}
+use Rattle.cred_table.specs.Linked.{row_at, Linked, slots_by_age, free_slots, id_slots, head}
 
 -- ---- numbers
 
@@ -298,7 +298,7 @@ pub record Holds {C : ℕ} (away : List ℕ) (chains : Chains C) (held spare : L
   pub all : length (away ++ held) + length spare ≡ length chains.slots
 
 pub opened : {C : ℕ} (away : List ℕ) (chains : Chains C) → Linked away chains →
-    Holds away chains (age chains) (free_slots chains) (λ b. id_slots b chains)
+    Holds away chains (slots_by_age chains) (free_slots chains) (λ b. id_slots b chains)
 opened away chains l = search (rules, arith, walked)
 
 pub closed : {C : ℕ} (away : List ℕ) (chains : Chains C) (held spare : List ℕ) (ids : ℕ → List ℕ) →
@@ -306,7 +306,7 @@ pub closed : {C : ℕ} (away : List ℕ) (chains : Chains C) (held spare : List 
 closed away chains held spare ids h = search (rules, arith, chain_is)
 
 pub age_is : {C : ℕ} (away : List ℕ) (chains : Chains C) (held spare : List ℕ) (ids : ℕ → List ℕ) →
-    Holds away chains held spare ids → age chains ≡ held
+    Holds away chains held spare ids → slots_by_age chains ≡ held
 age_is away chains held spare ids h = (chain_is (links Newer chains.slots) chains.oldest held h.aged).0
 
 -- the newest slot is the last one

@@ -6,18 +6,18 @@ use Rattle.ctap_cbor.specs.Tree.{Int, Tree, Plain, Array, Map, Trees, no_trees, 
 use Rattle.ctap_cbor.specs.{Tree.count_pairs, Head.head, Grammar.IsCanonical, Reading.Reading, Reading.rest_of}
 use Rattle.ctap_cbor.specs.Grammar.{text, texts, pair_texts, scalar_text, IsLawful, AreLawful, AreLawfulPairs}
 use Rattle.ctap_cbor.specs.Parts.{One, OpensArray, OpensMap}
-use Rattle.ctap_cbor.specs.Laws.{NoEncodingIsAPrefix, NoItemBeginsAnother}
+use Rattle.ctap_cbor.specs.Laws.{NoEncodingIsAPrefix, NoHeadIsAPrefix}
 use Rattle.cred_table.specs.{declared.row.Row.Row, declared.fault.SnapshotFault.SnapshotFault, Rows.ValidRows}
 use Rattle.cred_table.specs.declared.fault.SnapshotFault.TheVariants.{NotSnapshot, TooMany, RowBroken, Memory}
 use Rattle.cred_table.specs.Snapshots.{number, version, IsRow, row_tree, rows_then, snapshot_of, IsSnapshot, Holds}
 use Rattle.cred_table.specs.Snapshots.{Refuses, Loads}
-use Rattle.cred_table.specs.Parsing.{Reads, heads_text, row_text, rows_text, TakesRows, StopsAtRow, ReadsRows}
+use Rattle.cred_table.specs.Parsing.{Reads, header_text, row_text, rows_text, TakesRows, StopsAtRow, ReadsRows}
 use Rattle.cred_table.proofs.{Entries.IsHeads, RowTrees.row_lawful}
 
 -- No tree's encoding begins another's, and no item's head does.
 pub record Apart : Type 0 where
   pub trees : NoEncodingIsAPrefix
-  pub items : NoItemBeginsAnother
+  pub items : NoHeadIsAPrefix
 
 -- of one text only one tree stands at the front
 pub trees_same : (none : NoEncodingIsAPrefix) (t u : Tree) (x y : List ℕ) → IsLawful t → IsLawful u →
@@ -115,11 +115,11 @@ two_pairs apart named n (pair k v (pair j w no_pairs)) rest fits two lawful e =
     }
 
 has_entries : (apart : Apart) → (named : Bool) (n : ℕ) (t : Tree) (b rest : List ℕ) → n < 2 ^ 64 → IsCanonical t b →
-    b ≡ heads_text (named, n) ++ rest → HasEntries named n b rest
+    b ≡ header_text (named, n) ++ rest → HasEntries named n b rest
 has_entries apart named n t b rest fits is e =
     let inner = scalar_text (Int (pos 1)) ++ (scalar_text (Int (pos (version named))) ++
     (scalar_text (Int (pos 2)) ++ (head 4 n ++ rest))) in
-    let front : heads_text (named, n) ++ rest ≡ head 5 2 ++ inner = simp append_assoc refl in
+    let front : header_text (named, n) ++ rest ≡ head 5 2 ++ inner = simp append_assoc refl in
     let m = opened_map apart 2 t [] inner (omega arith) is.enc.lawful (append-nil (text t) ∙ sym is.enc.spelled ∙ e
     ∙ front) in
     let p = two_pairs apart named n m.pairs rest fits m.number m.lawful (sym (append-nil (pair_texts m.pairs))
@@ -138,13 +138,13 @@ has_entries apart named n t b rest fits is e =
 -- ---- what the text of a snapshot begins with
 
 pub heads_of : (named : Bool) (entries : Trees) →
-    text (snapshot_of named entries) ≡ heads_text (named, count entries) ++ texts entries
+    text (snapshot_of named entries) ≡ header_text (named, count entries) ++ texts entries
 heads_of named entries = simp (append_assoc, append-nil) refl
 
 pub no_heads : (capacity : ℕ) (b : List ℕ) (c new : Reading) → c ≡ record { bytes = b; place = 0; steps = 0 } →
-    Reads IsHeads heads_text c new None → Refuses capacity b NotSnapshot
+    Reads IsHeads header_text c new None → Refuses capacity b NotSnapshot
 no_heads capacity b c new e r named entries holds =
-    let there : rest_of c ≡ heads_text (named, count entries) ++ texts entries = ap rest_of e ∙ holds.enc.spelled
+    let there : rest_of c ≡ header_text (named, count entries) ++ texts entries = ap rest_of e ∙ holds.enc.spelled
     ∙ heads_of named entries in
     let no = (r.found (named, count entries) (texts entries) holds.enc.lawful.2.2.1.0 there).0 in
     cc
@@ -233,7 +233,7 @@ broken_at apart named capacity n place b a h few k =
 pub rows_load : (apart : Apart) → (named : Bool) (capacity n : ℕ) (t : Tree) (b : List ℕ) (a c : Reading)
     (rows : List Row)
     (r : Result (Unit {0}) SnapshotFault) →
-    n < 2 ^ 64 → n ≤ capacity → IsCanonical t b → b ≡ heads_text (named, n) ++ rest_of a → ValidRows capacity rows →
+    n < 2 ^ 64 → n ≤ capacity → IsCanonical t b → b ≡ header_text (named, n) ++ rest_of a → ValidRows capacity rows →
     ReadsRows named capacity n a c rows r → Loads capacity b r rows
 rows_load apart named capacity n t b a c rows (Ok u) fits few is e lawful k =
     (named, all_load apart named capacity n b a c rows lawful (has_entries apart named n t b (rest_of a) fits is e) k)
@@ -246,6 +246,6 @@ rows_load apart named capacity n t b a c rows (Err Memory) fits few is e lawful 
 -- there are too many
 pub too_many : (apart : Apart) → (named : Bool) (capacity n : ℕ) (t : Tree) (b rest : List ℕ) → n < 2 ^ 64 →
     capacity < n →
-    IsCanonical t b → b ≡ heads_text (named, n) ++ rest → Refuses capacity b TooMany
+    IsCanonical t b → b ≡ header_text (named, n) ++ rest → Refuses capacity b TooMany
 too_many apart named capacity n t b rest fits many is e = let h = has_entries apart named n t b rest fits is e in
     (named, h.entries, h.holds, omega (arith, h.number))

@@ -4,8 +4,8 @@ use Rattle.std.{proofs.Common.append_assoc, specs.Prelude.pos, specs.Prelude.⊤
 use Rattle.ctap_cbor.specs.{Tree.Int, Tree.Bytes, Tree.Flag, Head.head, Reading.Reading, Reading.rest_of}
 use Rattle.ctap_cbor.specs.Parts.{Part, One, OpensArray}
 use Rattle.cred_table.specs.declared.row.Row.{Row}
-use Rattle.cred_table.specs.Snapshots.{IsHash, IsShort, IsName, IsRow, version}
-use Rattle.cred_table.specs.Parsing.{Reads, ReadsMember, member_text, name_text, members_of, row_text, heads_text}
+use Rattle.cred_table.specs.Snapshots.{IsHash, IsUserHandle, IsName, IsRow, version}
+use Rattle.cred_table.specs.Parsing.{Reads, ReadsMember, member_text, name_text, members_of, row_text, header_text}
 
 -- ---- any values, read part by part
 
@@ -122,11 +122,11 @@ pub no_y : {named : Bool} {start a b : Reading} → RowStands named start a beyo
 no_y {named} s r = grind arith
 
 pub user_then : {named : Bool} {start a b : Reading} {w : List ℕ} → RowStands named start a beyond_y →
-    ReadsMember {W = List ℕ} IsShort bytes_part 5 a b (Some w) → RowStands named start b after_user
+    ReadsMember {W = List ℕ} IsUserHandle bytes_part 5 a b (Some w) → RowStands named start b after_user
 user_then {named} s r = grind arith
 
 pub no_user : {named : Bool} {start a b : Reading} → RowStands named start a beyond_y →
-    ReadsMember {W = List ℕ} IsShort bytes_part 5 a b None → Reads (IsRow named) (row_text named) start b None
+    ReadsMember {W = List ℕ} IsUserHandle bytes_part 5 a b None → Reads (IsRow named) (row_text named) start b None
 no_user {named} s r = grind arith
 
 pub flag_then : {named : Bool} {start a b : Reading} {w : Bool} → RowStands named start a after_user →
@@ -161,7 +161,7 @@ pub row_read : {named : Bool} {n : ℕ} {c0 c1 c2 c3 c4 c5 c6 c7 c8 c9 : Reading
     HeadRead n c0 c1 (Some tt) → ReadsMember IsHash bytes_part 1 c1 c2 (Some row.rp) →
     ReadsMember IsHash bytes_part 2 c2 c3 (Some row.id) →
     ReadsMember IsHash bytes_part 3 c3 c4 (Some row.x) → ReadsMember IsHash bytes_part 4 c4 c5 (Some row.y) →
-    ReadsMember IsShort bytes_part 5 c5 c6 (Some row.user.items) →
+    ReadsMember IsUserHandle bytes_part 5 c5 c6 (Some row.user.items) →
     ReadsMember {W = Bool} (λ _. ⊤) flag_part 6 c6 c7 (Some row.discoverable) →
     ReadsMember {W = ℕ} (λ n. n < 2 ^ 32) number_part 7 c7 c8 (Some row.counter) →
     Reads (IsName named) (name_text named) c8 c9 (Some row.name) →
@@ -195,9 +195,9 @@ abbrev pub beyond_map : Bool × ℕ → List ℕ → List ℕ
 beyond_map h rest = member_text 1 (number_part (version h.0)) ++ beyond_version h rest
 
 abbrev pub HeadsStand : Reading → Reading → (Bool × ℕ → List ℕ → List ℕ) → Type 0
-HeadsStand start here tail = Stands IsHeads heads_text start here tail
+HeadsStand start here tail = Stands IsHeads header_text start here tail
 
-heads_front : (h : Bool × ℕ) (rest : List ℕ) → heads_text h ++ rest ≡ head 5 2 ++ beyond_map h rest
+heads_front : (h : Bool × ℕ) (rest : List ℕ) → header_text h ++ rest ≡ head 5 2 ++ beyond_map h rest
 heads_front h rest = simp append_assoc refl
 
 heads_begun : {a : Reading} → HeadsStand a a (λ h rest. head 5 2 ++ beyond_map h rest)
@@ -206,7 +206,7 @@ heads_begun = record { stands = λ h rest is e. e ∙ heads_front h rest }
 pub map_then : {a b : Reading} → HeadRead 2 a b (Some tt) → HeadsStand a b beyond_map
 map_then r = next {W = Unit {0}} (λ _. ⊤) (λ _. head 5 2) (λ _. tt) beyond_map (λ v is. tt) heads_begun r
 
-pub no_map : {a b : Reading} → HeadRead 2 a b None → Reads IsHeads heads_text a b None
+pub no_map : {a b : Reading} → HeadRead 2 a b None → Reads IsHeads header_text a b None
 no_map r = missed {W = Unit {0}} (λ _. ⊤) (λ _. head 5 2) (λ _. tt) beyond_map (λ v is. tt) heads_begun r
 
 abbrev pub version_part : Bool → Part
@@ -217,7 +217,7 @@ pub version_then : {start a b : Reading} {w : Bool} → HeadsStand start a beyon
 version_then s r = grind arith
 
 pub no_version : {start a b : Reading} → HeadsStand start a beyond_map →
-    ReadsMember {W = Bool} (λ _. ⊤) version_part 1 a b None → Reads IsHeads heads_text start b None
+    ReadsMember {W = Bool} (λ _. ⊤) version_part 1 a b None → Reads IsHeads header_text start b None
 no_version s r = grind arith
 
 count_then : {start a b : Reading} {w : ℕ} → HeadsStand start a beyond_version →
@@ -225,13 +225,13 @@ count_then : {start a b : Reading} {w : ℕ} → HeadsStand start a beyond_versi
 count_then s r = grind arith
 
 pub no_count : {start a b : Reading} → HeadsStand start a beyond_version →
-    ReadsMember {W = ℕ} (λ n. n < 2 ^ 64) OpensArray 2 a b None → Reads IsHeads heads_text start b None
+    ReadsMember {W = ℕ} (λ n. n < 2 ^ 64) OpensArray 2 a b None → Reads IsHeads header_text start b None
 no_count s r = grind arith
 
 pub heads_read : {c0 c1 c2 c3 : Reading} (named : Bool) (count : ℕ) → HeadRead 2 c0 c1 (Some tt) →
     ReadsMember {W = Bool} (λ _. ⊤) version_part 1 c1 c2 (Some named) →
     ReadsMember {W = ℕ} (λ n. n < 2 ^ 64) OpensArray 2 c2 c3 (Some count) →
-    Reads IsHeads heads_text c0 c3 (Some (named, count))
+    Reads IsHeads header_text c0 c3 (Some (named, count))
 heads_read {c0} {c1} {c2} {c3} named count h v n =
     let stands = count_then (version_then (map_then h) v) n in
     record {

@@ -8,7 +8,7 @@ use Rattle.cred_table.specs.declared.{slot.Slot.Slot, slot.ChainKind.ChainKind, 
 use Rattle.cred_table.specs.declared.slot.ChainKind.TheVariants.{Next, Newer, Older}
 use Rattle.cred_table.specs.Slots.{links, slot_at, is_among, next_free, chain, is_chain, distinct, relinked, first_link, within}
 use Rattle.cred_table.specs.Slots.{bucket, link_of, slot_incremented}
-use Rattle.cred_table.specs.Linked.{Linked, age, free_slots, id_slots, head, row_at, rows_in, raised_at}
+use Rattle.cred_table.specs.Linked.{Linked, slots_by_age, free_slots, id_slots, head, row_at, rows_in, raised_at}
 use Rattle.cred_table.proofs.Chain.{Leads, lt_is, link_at, length-links, closed, Leads-once, eq_is, chain_step}
 use Rattle.cred_table.proofs.Chain.{slot_read, Holds, opened, Leads-first, Leads-set, Leads-push, Leads-distinct}
 use Rattle.cred_table.proofs.Chain.{EndsWith, led, links-set, links-led_other, length-led, row-set_same, row-set_other}
@@ -105,10 +105,10 @@ take_free chains k place slot l f p =
     let read : next ≡ (slot_at chains.slots k).next = ap (λ (s : Slot). s.next)
     (slot_read chains.slots k place slot (omega arith) p) in
     let spare : free_slots chains ≡ k ∷ rest = ap (chain to) f ∙ step.2 in
-    let h = subst (λ (ks : List ℕ). Holds [] chains (age chains) ks (λ b. id_slots b chains)) spare
+    let h = subst (λ (ks : List ℕ). Holds [] chains (slots_by_age chains) ks (λ b. id_slots b chains)) spare
     (opened [] chains l) in
-    closed (k ∷ []) (record chains { free = next }) (age chains) rest (λ b. id_slots b chains)
-    (taken chains k (age chains) rest (λ b. id_slots b chains) next h read)
+    closed (k ∷ []) (record chains { free = next }) (slots_by_age chains) rest (λ b. id_slots b chains)
+    (taken chains k (slots_by_age chains) rest (λ b. id_slots b chains) next h read)
 
 -- A row is put into a slot that is away.
 
@@ -250,7 +250,7 @@ pub fill : {C : ℕ} (chains : Chains C) (k : ℕ) (row : Row) → Linked (k ∷
     bucket row.id < length chains.heads →
     Linked [] (filled chains k row) × (rows_in (filled chains k row) ≡ rows_in chains ++ row ∷ [])
 fill chains k row l bound =
-    let held = age chains in
+    let held = slots_by_age chains in
     let r = holds chains k row held (free_slots chains) (λ b. id_slots b chains) (opened (k ∷ []) chains l) bound in
     let after = (filled chains k row).slots in
     let ids = joined k (bucket row.id) (λ b. id_slots b chains) in (
@@ -285,8 +285,8 @@ links_same along slots k l =
     ∙ (ap (set (links along slots) k) (linked_same along (slot_at slots k) ∙ sym (link_at along slots k l))
     ∙ set-get_or (links along slots) k None)
 
-pub raise : {C : ℕ} (chains : Chains C) (k : ℕ) (slots : List Slot) → Linked [] chains → is_among k (age chains) ≡ true →
+pub raise : {C : ℕ} (chains : Chains C) (k : ℕ) (slots : List Slot) → Linked [] chains → is_among k (slots_by_age chains) ≡ true →
     slots ≡ set chains.slots k (slot_incremented (slot_at chains.slots k)) →
     Linked [] (record chains { slots = slots })
-    × (rows_in (record chains { slots = slots }) ≡ map (raised_at k chains.slots) (age chains))
+    × (rows_in (record chains { slots = slots }) ≡ map (raised_at k chains.slots) (slots_by_age chains))
 raise {C = C} chains k slots l is_held is = grind (arith, length-set, links_same, row-set_other, row-set_same)

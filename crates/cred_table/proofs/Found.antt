@@ -6,7 +6,7 @@ use Rattle.std.specs.List.{find, list_any, filter}
 use Rattle.cred_table.specs.declared.{row.Row.Row, slot.Slot.Slot, chains.Chains.Chains}
 use Rattle.cred_table.specs.Rows.{has_id, same_id, no_two, without, rows_incremented, row_incremented, counter_in, counter_of}
 use Rattle.cred_table.specs.Slots.{slot_at, numbered, is_among, bucket, without_slot}
-use Rattle.cred_table.specs.Linked.{Linked, age, id_slots, row_at, rows_in, raised_at}
+use Rattle.cred_table.specs.Linked.{Linked, slots_by_age, id_slots, row_at, rows_in, raised_at}
 use Rattle.cred_table.proofs.{Basics.bytes_from, Chain.eq_is, Chain.map_same}
 
 -- An item of a walk as clauses see it.
@@ -70,15 +70,15 @@ found_alike chains test id l d imp = go (find test (map row near)) refl
     go : (o : Option Row) → find test (map row near) ≡ o → o ≡ find test (rows_in chains)
     go (Some r) e =
         let f = find_some row test near r e in
-        let held = (and_parts (is_among f.0 (age chains)) (nat_eq (bucket (row f.0).id) (bucket id))
+        let held = (and_parts (is_among f.0 (slots_by_age chains)) (nat_eq (bucket (row f.0).id) (bucket id))
         (sym (l.by_id (bucket id) f.0) ∙ f.1)).0 in
-        ap (λ (x : Row). Some x) (sym f.2) ∙ sym (find_only row test id (age chains) f.0 imp d held f.3)
+        ap (λ (x : Row). Some x) (sym f.2) ∙ sym (find_only row test id (slots_by_age chains) f.0 imp d held f.3)
     go None e = none (find test (rows_in chains)) refl
       where
         none : (o : Option Row) → find test (rows_in chains) ≡ o → None ≡ o
         none None f = refl
         none (Some r) f =
-            let s = find_some row test (age chains) r f in
+            let s = find_some row test (slots_by_age chains) r f in
             let same : (row s.0).id ≡ id = bytes_from (row s.0).id id (imp (row s.0) s.3) in
             let in_near : is_among s.0 near ≡ true = l.by_id (bucket id) s.0
             ∙ rw (s.1, eq_is (bucket (row s.0).id) (bucket id) (ap bucket same)) refl in
@@ -98,11 +98,11 @@ pub slot_found : {C : ℕ} (chains : Chains C) (id : List ℕ) (o : Option (ℕ 
     Linked [] chains → o ≡ Some item →
     option_map seen o ≡ find (λ (found : ℕ × Slot). has_id id found.1.row)
     (numbered chains.slots (id_slots (bucket id) chains)) →
-    (is_among item.0 (age chains) ≡ true) × (has_id id (row_at chains.slots item.0) ≡ true)
+    (is_among item.0 (slots_by_age chains) ≡ true) × (has_id id (row_at chains.slots item.0) ≡ true)
 slot_found chains id o item l s e =
     let f = numbered_some chains.slots (id_slots (bucket id) chains) (has_id id) (seen item) (sym e
     ∙ ap (option_map seen) s) in
-    ((and_parts (is_among item.0 (age chains)) (nat_eq (bucket (row_at chains.slots item.0).id) (bucket id)) (sym (l.by_id (bucket id) item.0) ∙ f.0)).0, f.1)
+    ((and_parts (is_among item.0 (slots_by_age chains)) (nat_eq (bucket (row_at chains.slots item.0).id) (bucket id)) (sym (l.by_id (bucket id) item.0) ∙ f.0)).0, f.1)
 
 -- a row that is there is found in the chain of its id
 pub slot_there : {C : ℕ} (chains : Chains C) (id : List ℕ) (o : Option (ℕ × Bor Slot)) → Linked [] chains →
@@ -121,7 +121,7 @@ slot_there chains id o l t e = go o (found_row chains.slots (id_slots (bucket id
         is_some p ≡ false
     none n None f = refl
     none n (Some r) f =
-        let s = find_some row (has_id id) (age chains) r f in
+        let s = find_some row (has_id id) (slots_by_age chains) r f in
         let same : (row s.0).id ≡ id = bytes_from (row s.0).id id s.3 in
         let in_near : is_among s.0 near ≡ true = l.by_id (bucket id) s.0
         ∙ rw (s.1, eq_is (bucket (row s.0).id) (bucket id) (ap bucket same)) refl in

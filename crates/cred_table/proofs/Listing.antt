@@ -61,11 +61,11 @@ filter-reverse p (r ∷ rows) = grind (arith, common_steps, filter-reverse p row
 
 -- all slots from the newest on list what the rows list
 pub listed_all : {C : ℕ} (rp : List ℕ) (chains : Chains C) →
-    listed_left rp (numbered chains.slots (reverse (age chains))) ≡ ids (discoverable_rows rp (rows_in chains))
+    listed_left rp (numbered chains.slots (reverse (slots_by_age chains))) ≡ ids (discoverable_rows rp (rows_in chains))
 listed_all rp chains = search (rules, arith, filter-reverse, map-reverse, rows_numbered)
 
 pub listed_begun : {C : ℕ} (rp : List ℕ) (chains : Chains C) (out : List (List ℕ)) (items : List (ℕ × Slot)) →
-    out ≡ [] → items ≡ numbered chains.slots (reverse (age chains)) →
+    out ≡ [] → items ≡ numbered chains.slots (reverse (slots_by_age chains)) →
     out ++ listed_left rp items ≡ ids (discoverable_rows rp (rows_in chains))
 listed_begun rp chains out items o i = rw (o, i) (listed_all rp chains)
 

@@ -6,8 +6,8 @@ use Rattle.ctap_cbor.specs.Tree.{Int, Null, Tree, Plain, Array, Trees, no_trees,
 use Rattle.cred_table.{specs.declared.row.Row.Row, proofs.Copied.free_before}
 use Rattle.cred_table.specs.declared.fault.SnapshotFault.TheVariants.{NotSnapshot, TooMany, RowBroken, Memory}
 use Rattle.cred_table.specs.Rows.{has_id, replaces, ValidRows}
-use Rattle.cred_table.specs.Snapshots.{version, IsRow, row_tree, rows_then, snapshot_of, Holds, clashes, FirstBroken}
-use Rattle.cred_table.specs.Laws.{SameRows, SnapshotsAreOne, RefusedIsNone, OneRefusal}
+use Rattle.cred_table.specs.Snapshots.{version, IsRow, row_tree, rows_then, snapshot_of, Holds, clashes, FirstInvalid}
+use Rattle.cred_table.specs.Laws.{SameRows, SnapshotsAreUnique, RejectedIsNoSnapshot, OneSnapshotError}
 use Rattle.cred_table.proofs.RowTrees.{pairs_in, first_of_pairs, beyond_first, bytes_in, flag_in}
 use Rattle.ctap_cbor.specs.Laws.{NoEncodingIsAPrefix}
 use Rattle.cred_table.proofs.Contents.{trees_same, count_then}
@@ -50,8 +50,8 @@ nameless_same [] (b ∷ others) p q e = cc
 nameless_same (a ∷ rows) [] p q e = cc
 nameless_same (a ∷ rows) (b ∷ others) p q e = grind (arith, nameless_same rows others)
 
-pub snapshots_are_one : NoEncodingIsAPrefix → SnapshotsAreOne
-snapshots_are_one none named other capacity space rows others text p q = grind (arith, holds_same, nameless_same)
+pub snapshots_are_unique : NoEncodingIsAPrefix → SnapshotsAreUnique
+snapshots_are_unique none named other capacity space rows others text p q = grind (arith, holds_same, nameless_same)
 
 -- ---- what is refused
 
@@ -113,7 +113,7 @@ all_at P (r ∷ front) row back all = all_at P front row back all.1
 -- no entry is broken that is the tree of one of lawful rows
 none_broken : (named : Bool) (capacity place : ℕ) (rows : List Row) (entries others : Trees) →
     AllByRecursion (IsRow named) rows → ValidRows capacity rows → entries ≡ rows_then named rows others →
-    FirstBroken named capacity entries place → place < length rows → ⊥
+    FirstInvalid named capacity entries place → place < length rows → ⊥
 none_broken named capacity place rows entries others typed lawful e b lt =
     let s = split_at named rows b.before others b.entry b.after (omega (arith, b.place_is)) (sym e ∙ b.split) in
     let row_is = all_at (IsRow named) s.front s.row s.back (subst (AllByRecursion (IsRow named)) s.is typed) in
@@ -125,30 +125,30 @@ none_broken named capacity place rows entries others typed lawful e b lt =
     cc
 
 -- a broken entry is among the entries
-place_below : (named : Bool) (capacity place : ℕ) (entries : Trees) → FirstBroken named capacity entries place →
+place_below : (named : Bool) (capacity place : ℕ) (entries : Trees) → FirstInvalid named capacity entries place →
     place < count entries
 place_below named capacity place entries b = search (rules, arith, count_then)
 
-pub refused_is_none : NoEncodingIsAPrefix → RefusedIsNone
-refused_is_none none capacity text NotSnapshot r named rows is = r named (rows_then named rows no_trees) is.canonical
-refused_is_none none capacity text TooMany r named rows is =
+pub rejected_is_no_snapshot : NoEncodingIsAPrefix → RejectedIsNoSnapshot
+rejected_is_no_snapshot none capacity text NotSnapshot r named rows is = r named (rows_then named rows no_trees) is.canonical
+rejected_is_no_snapshot none capacity text TooMany r named rows is =
     let same = (holds_same none r.0 named r.1 (rows_then named rows no_trees) text r.2 is.canonical).1 in
     absurd (omega (arith, r.3, ap count same, count_then named rows no_trees, is.lawful.few))
-refused_is_none none capacity text (RowBroken place) r named rows is =
+rejected_is_no_snapshot none capacity text (RowBroken place) r named rows is =
     let same = holds_same none r.0 named r.1 (rows_then named rows no_trees) text r.2 is.canonical in
-    let b = subst (λ n. FirstBroken n capacity r.1 place) same.0 r.4 in
+    let b = subst (λ n. FirstInvalid n capacity r.1 place) same.0 r.4 in
     none_broken named capacity place rows r.1 no_trees is.typed is.lawful same.1 b
     (omega (arith, place_below named capacity place r.1 b, ap count same.1, count_then named rows no_trees))
-refused_is_none none capacity text Memory r named rows is = r
+rejected_is_no_snapshot none capacity text Memory r named rows is = r
 
 -- ---- one refusal
 
-not_before : (named : Bool) (capacity i j : ℕ) (entries : Trees) → FirstBroken named capacity entries i →
-    FirstBroken named capacity entries j → i < j → ⊥
+not_before : (named : Bool) (capacity i j : ℕ) (entries : Trees) → FirstInvalid named capacity entries i →
+    FirstInvalid named capacity entries j → i < j → ⊥
 not_before named capacity i j entries a b lt = search (rules, arith, none_broken)
 
-one_place : (named : Bool) (capacity i j : ℕ) (entries : Trees) → FirstBroken named capacity entries i →
-    FirstBroken named capacity entries j → i ≡ j
+one_place : (named : Bool) (capacity i j : ℕ) (entries : Trees) → FirstInvalid named capacity entries i →
+    FirstInvalid named capacity entries j → i ≡ j
 one_place named capacity i j entries a b = go (nat_lt i j) (nat_lt j i) refl refl
   where
     go : (p q : Bool) → nat_lt i j ≡ p → nat_lt j i ≡ q → i ≡ j
@@ -156,22 +156,22 @@ one_place named capacity i j entries a b = go (nat_lt i j) (nat_lt j i) refl ref
     go false true e f = absurd (not_before named capacity j i entries b a (grind arith))
     go false false e f = grind arith
 
-pub one_refusal : NoEncodingIsAPrefix → OneRefusal
-one_refusal none capacity text NotSnapshot NotSnapshot r s = refl
-one_refusal none capacity text NotSnapshot TooMany r s = absurd (r s.0 s.1 s.2)
-one_refusal none capacity text NotSnapshot (RowBroken j) r s = absurd (r s.0 s.1 s.2)
-one_refusal none capacity text TooMany NotSnapshot r s = absurd (s r.0 r.1 r.2)
-one_refusal none capacity text (RowBroken i) NotSnapshot r s = absurd (s r.0 r.1 r.2)
-one_refusal none capacity text TooMany TooMany r s = refl
-one_refusal none capacity text TooMany (RowBroken j) r s =
+pub one_snapshot_error : NoEncodingIsAPrefix → OneSnapshotError
+one_snapshot_error none capacity text NotSnapshot NotSnapshot r s = refl
+one_snapshot_error none capacity text NotSnapshot TooMany r s = absurd (r s.0 s.1 s.2)
+one_snapshot_error none capacity text NotSnapshot (RowBroken j) r s = absurd (r s.0 s.1 s.2)
+one_snapshot_error none capacity text TooMany NotSnapshot r s = absurd (s r.0 r.1 r.2)
+one_snapshot_error none capacity text (RowBroken i) NotSnapshot r s = absurd (s r.0 r.1 r.2)
+one_snapshot_error none capacity text TooMany TooMany r s = refl
+one_snapshot_error none capacity text TooMany (RowBroken j) r s =
     let same = (holds_same none r.0 s.0 r.1 s.1 text r.2 s.2).1 in
     absurd (omega (arith, r.3, s.3, ap count same))
-one_refusal none capacity text (RowBroken i) TooMany r s =
+one_snapshot_error none capacity text (RowBroken i) TooMany r s =
     let same = (holds_same none r.0 s.0 r.1 s.1 text r.2 s.2).1 in
     absurd (omega (arith, r.3, s.3, ap count same))
-one_refusal none capacity text (RowBroken i) (RowBroken j) r s =
+one_snapshot_error none capacity text (RowBroken i) (RowBroken j) r s =
     let same = holds_same none r.0 s.0 r.1 s.1 text r.2 s.2 in
-    ap RowBroken (one_place s.0 capacity i j s.1 (subst (λ n. FirstBroken n capacity s.1 i) same.0
-    (subst (λ es. FirstBroken r.0 capacity es i) same.1 r.4)) s.4)
-one_refusal none capacity text Memory g r s = absurd r
-one_refusal none capacity text f Memory r s = absurd s
+    ap RowBroken (one_place s.0 capacity i j s.1 (subst (λ n. FirstInvalid n capacity s.1 i) same.0
+    (subst (λ es. FirstInvalid r.0 capacity es i) same.1 r.4)) s.4)
+one_snapshot_error none capacity text Memory g r s = absurd r
+one_snapshot_error none capacity text f Memory r s = absurd s

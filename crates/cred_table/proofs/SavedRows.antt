@@ -6,7 +6,7 @@ use Rattle.std.specs.{List.AllByRecursion, Prelude.OnErr}
 use Rattle.ctap_cbor.specs.{Reading.Reading, declared.sink.Sink.Sink, Writing.Appends, Head.head, Head.head_len}
 use Rattle.cred_table.specs.{declared.row.Row.Row, Rows.ValidRows, Saving.AppendsUpTo, Saving.SavesInto, Saving.longest}
 use Rattle.cred_table.specs.Snapshots.{IsRow, rows_then, snapshot, IsSnapshot, Saves, saved_len}
-use Rattle.cred_table.specs.Parsing.{row_text, rows_text, TakesRow, TakesRows, heads_text}
+use Rattle.cred_table.specs.Parsing.{row_text, rows_text, TakesRow, TakesRows, header_text}
 use Rattle.ctap_cbor.specs.{Tree.no_trees, Tree.depth_all, Tree.count, Grammar.text, Grammar.AreLawful}
 use Rattle.cred_table.proofs.{RowTrees.row_lawful, RowTrees.row_flat, Contents.count_then}
 use Rattle.ctap_cbor.specs.Composing.{done, then}
@@ -54,12 +54,12 @@ pub record Written (rows left : List Row) (old new : List ℕ) : Type 0 where
   pub done : List Row
   pub all : done ++ left ≡ rows
   pub typed : AllByRecursion (IsRow true) done
-  pub spelled : new ≡ old ++ (heads_text (true, length rows) ++ rows_text true done)
+  pub spelled : new ≡ old ++ (header_text (true, length rows) ++ rows_text true done)
 
 pub one_written : (rows left rest : List Row) (row : Row) (old between new : List ℕ) → left ≡ row ∷ rest →
     IsRow true row → Written rows left old between → new ≡ between ++ row_text true row → Written rows rest old new
 one_written rows left rest row old between new first is w e =
-    let front : List ℕ = heads_text (true, length rows) in
+    let front : List ℕ = header_text (true, length rows) in
     record {
       done = w.done ++ row ∷ [];
       all = append_assoc w.done (row ∷ []) rest ∙ ap (λ l. w.done ++ l) (sym first) ∙ w.all;
@@ -72,18 +72,18 @@ one_written rows left rest row old between new first is w e =
     }
 
 -- the rows' snapshot, as it is written
-pub whole_is : (rows : List Row) → text (snapshot true rows) ≡ heads_text (true, length rows) ++ rows_text true rows
+pub whole_is : (rows : List Row) → text (snapshot true rows) ≡ header_text (true, length rows) ++ rows_text true rows
 whole_is rows = grind (arith, common_steps, count_then)
 
 -- what is written next is a part of it
 pub heads_within : (rows : List Row) (count : ℕ) → count ≡ length rows →
-    length (heads_text (true, count)) ≤ saved_len rows
+    length (header_text (true, count)) ≤ saved_len rows
 heads_within rows count is = grind (arith, length-append, whole_is)
 
 pub row_within : (rows left rest : List Row) (row : Row) (old between : List ℕ) → left ≡ row ∷ rest →
     Written rows left old between → length between + length (row_text true row) ≤ length old + saved_len rows
 row_within rows left rest row old between first w =
-    let front : List ℕ = heads_text (true, length rows) in
+    let front : List ℕ = header_text (true, length rows) in
     let whole = ap length (whole_is rows) ∙ length-append front (rows_text true rows) in
     let all = ap (λ l. length (rows_text true l)) (sym w.all ∙ ap (λ l. w.done ++ l) first)
     ∙ rows_joined w.done (row ∷ rest) in
@@ -131,12 +131,12 @@ pub record Put (rows left : List Row) (old new : Sink) : Type 0 where
   pub done : List Row
   pub all : done ++ left ≡ rows
   pub typed : AllByRecursion (IsRow true) done
-  pub appends : AppendsUpTo old new (heads_text (true, length rows) ++ rows_text true done) (13 + 283 * length done)
+  pub appends : AppendsUpTo old new (header_text (true, length rows) ++ rows_text true done) (13 + 283 * length done)
 
 pub one_put : (rows left rest : List Row) (row : Row) (old between new : Sink) → left ≡ row ∷ rest → IsRow true row →
     Put rows left old between → AppendsUpTo between new (row_text true row) 283 → Put rows rest old new
 one_put rows left rest row old between new first is w p =
-    let front : List ℕ = heads_text (true, length rows) in
+    let front : List ℕ = header_text (true, length rows) in
     let more = length-append w.done (row ∷ []) in
     record {
       done = w.done ++ row ∷ [];

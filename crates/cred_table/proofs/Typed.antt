@@ -6,8 +6,8 @@ use Rattle.ctap_cbor.specs.Tree.{Int, Bytes, Text, Flag}
 use Rattle.ctap_cbor.specs.{Grammar.scalar_text, Faults.AnItem, Head.head, Reading.Reading, Reading.rest_of}
 use Rattle.ctap_cbor.specs.Parts.{Part, item_text, Suits, One, OpensArray, OpensMap}
 use Rattle.cred_table.specs.Parsing.{Given, and_then, Reads, ReadsPart, member_text, ReadsMember, map_in, key_in}
-use Rattle.cred_table.specs.Parsing.{hash_in, short_in, flag_in, counter_in, name_in, count_in, has_names_in}
-use Rattle.cred_table.specs.Snapshots.{IsHash, IsShort, IsName, version}
+use Rattle.cred_table.specs.Parsing.{hash_in, handle_in, flag_in, counter_in, name_in, count_in, has_names_in}
+use Rattle.cred_table.specs.Snapshots.{IsHash, IsUserHandle, IsName, version}
 
 pub item_missed : (capacity : ℕ) (old new : Reading) → ((k : Part) (rest : List ℕ) → Suits capacity AnItem k →
     rest_of old ≡ item_text k ++ rest → ⊥) → ReadsPart capacity item_text old new None
@@ -99,13 +99,13 @@ pub hash_complete : (capacity : ℕ) (w : List ℕ) → IsHash w → Suits capac
     × (hash_in (One (Bytes w)) ≡ Some w)
 hash_complete capacity w is = grind arith
 
-pub short_sound : (capacity : ℕ) (i : Part) (w : List ℕ) → Suits capacity AnItem i → short_in i ≡ Some w →
+pub short_sound : (capacity : ℕ) (i : Part) (w : List ℕ) → Suits capacity AnItem i → handle_in i ≡ Some w →
     (i ≡ One (Bytes w))
-    × IsShort w
+    × IsUserHandle w
 short_sound capacity i w suits e = grind arith
 
-pub short_complete : (capacity : ℕ) (w : List ℕ) → IsShort w → Suits capacity AnItem (One (Bytes w))
-    × (short_in (One (Bytes w)) ≡ Some w)
+pub short_complete : (capacity : ℕ) (w : List ℕ) → IsUserHandle w → Suits capacity AnItem (One (Bytes w))
+    × (handle_in (One (Bytes w)) ≡ Some w)
 short_complete capacity w is = grind arith
 
 pub name_sound : (capacity : ℕ) (i : Part) (w : List ℕ) → Suits capacity AnItem i → name_in i ≡ Some w →
@@ -171,9 +171,9 @@ hash_read key old new m r p e = rw e (value_reads IsHash (λ s. One (Bytes s)) h
     (hash_sound 1) (hash_complete 1) p)
 
 pub short_read : (key : ℕ) (old new : Reading) (m : Option Part) (r : Option (List ℕ)) →
-    ReadsPart 1 (member_text key) old new m → r ≡ and_then short_in m →
-    ReadsMember IsShort (λ s. One (Bytes s)) key old new r
-short_read key old new m r p e = rw e (value_reads IsShort (λ s. One (Bytes s)) short_in 1 (member_text key) old new m
+    ReadsPart 1 (member_text key) old new m → r ≡ and_then handle_in m →
+    ReadsMember IsUserHandle (λ s. One (Bytes s)) key old new r
+short_read key old new m r p e = rw e (value_reads IsUserHandle (λ s. One (Bytes s)) handle_in 1 (member_text key) old new m
     (short_sound 1) (short_complete 1) p)
 
 pub name_read : (key : ℕ) (old new : Reading) (m : Option Part) (r : Option (List ℕ)) →

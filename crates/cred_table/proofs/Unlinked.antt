@@ -7,9 +7,9 @@ use Rattle.std.proofs.Math.Bool.{or-true, and-false, and-true}
 use Rattle.std.proofs.lemmas.Bool.{or_parts, and_parts, and_from}
 use Rattle.cred_table.specs.declared.{slot.Slot.Slot, slot.ChainKind.ChainKind, chains.Chains.Chains, row.Row.Row}
 use Rattle.cred_table.specs.declared.slot.ChainKind.TheVariants.{Next, Newer, Older}
-use Rattle.cred_table.specs.Slots.{links, is_among, slot_at, numbered, leads_to, before, without_slot, within, distinct, relinked}
+use Rattle.cred_table.specs.Slots.{links, is_among, slot_at, numbered, points_to, before, without_slot, within, distinct, relinked}
 use Rattle.cred_table.specs.Slots.{first_link, bucket}
-use Rattle.cred_table.specs.Linked.{Linked, id_slots, head, age, free_slots, row_at, rows_in}
+use Rattle.cred_table.specs.Linked.{Linked, id_slots, head, slots_by_age, free_slots, row_at, rows_in}
 use Rattle.cred_table.proofs.Chain.{Leads, walked, EndsWith, eq_is, link_at, length-links, Leads-set, led, eq_test}
 use Rattle.cred_table.proofs.Chain.{ne_test, lt_is, has-push, Leads-split, Leads-without, Leads-distinct, has-split}
 use Rattle.cred_table.proofs.Chain.{distinct-split, but_is, links-led, links-led_other, length-led, row-led, map_same}
@@ -18,7 +18,7 @@ use Rattle.std.proofs.lemmas.List.{reverse-append, length-append, length-map, ge
 
 -- the slot that leads to one is the one before
 pub leader_is : (slots : List Slot) (at : Option ℕ) (ks : List ℕ) (k : ℕ) → Leads (links Next slots) at ks None →
-    option_map (λ (found : ℕ × Slot). found.0) (find (leads_to k) (numbered slots ks)) ≡ before k ks
+    option_map (λ (found : ℕ × Slot). found.0) (find (points_to k) (numbered slots ks)) ≡ before k ks
 leader_is slots at [] k h = refl
 leader_is slots at (i ∷ []) k h = grind (arith, length-links, link_at)
 leader_is slots at (i ∷ j ∷ ks) k h =
@@ -46,7 +46,7 @@ before_ends (j ∷ l ∷ fs) k rs h i =
     more (Some p) g = (j ∷ g.0, ap (λ (ls : List ℕ). j ∷ ls) g.1)
 
 pub before_is : {C : ℕ} (chains : Chains C) (b k : ℕ) → Linked [] chains →
-    option_map (λ (found : ℕ × Slot). found.0) (find (leads_to k) (numbered chains.slots (id_slots b chains))) ≡ before
+    option_map (λ (found : ℕ × Slot). found.0) (find (points_to k) (numbered chains.slots (id_slots b chains))) ≡ before
     k (id_slots b chains)
 before_is chains b k l = leader_is chains.slots (head b chains) (id_slots b chains) k
     (walked (length (links Next chains.slots)) (links Next chains.slots) (head b chains) (l.found b))
@@ -299,15 +299,15 @@ holds {C = C} chains k prior held spare ids h is_held bound is_prior = (
     distinct_left = ap distinct held_left ∙ Leads-distinct (led slot.older slot.newer newer)
         (first_link slot.older slot.newer chains.oldest) (fs ++ rs) newer_after
 
-pub unlink : {C : ℕ} (chains : Chains C) (k : ℕ) (prior : Option ℕ) → Linked [] chains → is_among k (age chains) ≡ true →
+pub unlink : {C : ℕ} (chains : Chains C) (k : ℕ) (prior : Option ℕ) → Linked [] chains → is_among k (slots_by_age chains) ≡ true →
     bucket (row_at chains.slots k).id < length chains.heads →
     prior ≡ before k (id_slots (bucket (row_at chains.slots k).id) chains) →
     Linked (k ∷ []) (unlinked chains k (slot_at chains.slots k) prior)
-    × (rows_in (unlinked chains k (slot_at chains.slots k) prior) ≡ map (row_at chains.slots) (without_slot k (age chains)))
+    × (rows_in (unlinked chains k (slot_at chains.slots k) prior) ≡ map (row_at chains.slots) (without_slot k (slots_by_age chains)))
     × (within prior chains.slots ≡ true) × (within (slot_at chains.slots k).older chains.slots ≡ true)
     × (within (slot_at chains.slots k).newer chains.slots ≡ true)
 unlink chains k prior l i bound p =
-    let held = age chains in
+    let held = slots_by_age chains in
     let b = bucket (row_at chains.slots k).id in
     let r = holds chains k prior held (free_slots chains) (λ c. id_slots c chains) (opened [] chains l) i bound p in
     let after = unlinked chains k (slot_at chains.slots k) prior in
@@ -322,11 +322,11 @@ unlink chains k prior l i bound p =
 
 -- as the code reads the slot
 pub unlink_read : {C : ℕ} (chains : Chains C) (k place b : ℕ) (any : Slot) (prior : Option ℕ) → Linked [] chains →
-    is_among k (age chains) ≡ true → place ≡ k → b ≡ bucket (get_or chains.slots place any).row.id →
+    is_among k (slots_by_age chains) ≡ true → place ≡ k → b ≡ bucket (get_or chains.slots place any).row.id →
     b < length chains.heads → prior ≡ before k (id_slots (bucket (row_at chains.slots k).id) chains) →
     (get_or chains.slots place any ≡ slot_at chains.slots k)
     × Linked (k ∷ []) (unlinked chains k (slot_at chains.slots k) prior)
-    × (rows_in (unlinked chains k (slot_at chains.slots k) prior) ≡ map (row_at chains.slots) (without_slot k (age chains)))
+    × (rows_in (unlinked chains k (slot_at chains.slots k) prior) ≡ map (row_at chains.slots) (without_slot k (slots_by_age chains)))
     × (within prior chains.slots ≡ true) × (within (get_or chains.slots place any).older chains.slots ≡ true)
     × (within (get_or chains.slots place any).newer chains.slots ≡ true)
 unlink_read chains k place b any prior l i p h bound e =
@@ -350,16 +350,16 @@ pub within_led : (o : Option ℕ) (along : ChainKind) (prior next : Option ℕ) 
     after ≡ relinked along prior next slots → within o slots ≡ true → within o after ≡ true
 within_led o along prior next slots after e h = grind (arith, length-led)
 
-pub one_less : {C : ℕ} (chains : Chains C) (k : ℕ) → Linked [] chains → is_among k (age chains) ≡ true →
-    length (map (row_at chains.slots) (without_slot k (age chains))) + 1 ≡ length (rows_in chains)
+pub one_less : {C : ℕ} (chains : Chains C) (k : ℕ) → Linked [] chains → is_among k (slots_by_age chains) ≡ true →
+    length (map (row_at chains.slots) (without_slot k (slots_by_age chains))) + 1 ≡ length (rows_in chains)
 one_less chains k l i =
     let h = opened [] chains l in
-    let s = has-split k (age chains) i in
+    let s = has-split k (slots_by_age chains) i in
     let kept = ap length (ap (without_slot k) s.2 ∙ but_is (links Newer chains.slots) chains.oldest s.0 k s.1
     (subst (λ (ks : List ℕ). Leads (links Newer chains.slots) chains.oldest ks None) s.2 h.aged)) in
     let whole = ap length s.2 in
     let a = length-append s.0 s.1 in
     let b = length-append s.0 (k ∷ s.1) in
-    let m = length-map (without_slot k (age chains)) (row_at chains.slots) in
-    let n = length-map (age chains) (row_at chains.slots) in
+    let m = length-map (without_slot k (slots_by_age chains)) (row_at chains.slots) in
+    let n = length-map (slots_by_age chains) (row_at chains.slots) in
     omega arith

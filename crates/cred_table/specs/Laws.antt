@@ -9,16 +9,16 @@ abbrev pub SameRows : List Row → List Row → Type 0
 SameRows rows others = rows_then true rows no_trees ≡ rows_then true others no_trees
 
 -- A byte string is the snapshot of at most one list of rows, in one version.
-abbrev pub SnapshotsAreOne : Type 0
-SnapshotsAreOne = (named other : Bool) (capacity space : ℕ) (rows others : List Row) (text : List ℕ)
+abbrev pub SnapshotsAreUnique : Type 0
+SnapshotsAreUnique = (named other : Bool) (capacity space : ℕ) (rows others : List Row) (text : List ℕ)
     → IsSnapshot named capacity rows text → IsSnapshot other space others text → (named ≡ other) × SameRows rows others
 
 -- Rejected bytes aren't a snapshot of rows that fit the capacity.
-abbrev pub RefusedIsNone : Type 0
-RefusedIsNone = (capacity : ℕ) (text : List ℕ) (fault : SnapshotFault) → Refuses capacity text fault
+abbrev pub RejectedIsNoSnapshot : Type 0
+RejectedIsNoSnapshot = (capacity : ℕ) (text : List ℕ) (fault : SnapshotFault) → Refuses capacity text fault
     → (named : Bool) (rows : List Row) → IsSnapshot named capacity rows text → ⊥
 
 -- Rejected bytes have exactly one error.
-abbrev pub OneRefusal : Type 0
-OneRefusal = (capacity : ℕ) (text : List ℕ) (f g : SnapshotFault) → Refuses capacity text f → Refuses capacity text g →
+abbrev pub OneSnapshotError : Type 0
+OneSnapshotError = (capacity : ℕ) (text : List ℕ) (f g : SnapshotFault) → Refuses capacity text f → Refuses capacity text g →
     f ≡ g

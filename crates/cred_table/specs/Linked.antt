@@ -6,8 +6,8 @@ use Rattle.cred_table.specs.declared.slot.ChainKind.TheVariants.{Next, Newer, Ol
 use Rattle.cred_table.specs.Slots.{links, slot_at, chain, is_chain, is_among, distinct, bucket, row_plus_one}
 
 -- The slots with rows, oldest first.
-abbrev pub age : {C : ℕ} → Chains C → List ℕ
-age chains = chain (links Newer chains.slots) chains.oldest
+abbrev pub slots_by_age : {C : ℕ} → Chains C → List ℕ
+slots_by_age chains = chain (links Newer chains.slots) chains.oldest
 
 -- The free slots.
 abbrev pub free_slots : {C : ℕ} → Chains C → List ℕ
@@ -27,23 +27,23 @@ row_at slots k = (slot_at slots k).row
 
 -- The rows, oldest first.
 abbrev pub rows_in : {C : ℕ} → Chains C → List Row
-rows_in chains = map (row_at chains.slots) (age chains)
+rows_in chains = map (row_at chains.slots) (slots_by_age chains)
 
 -- The invariant of the links: each slot except those in `away` is either in the free list, or once in the age list
 -- and once in the chain of its ID; and the backward links match the forward ones.
 pub record Linked {C : ℕ} (away : List ℕ) (chains : Chains C) : Type 0 where
   pub aged : is_chain (links Newer chains.slots) chains.oldest ≡ true
   pub back : is_chain (links Older chains.slots) chains.newest ≡ true
-  pub turned : chain (links Older chains.slots) chains.newest ≡ reverse (age chains)
+  pub turned : chain (links Older chains.slots) chains.newest ≡ reverse (slots_by_age chains)
   pub freed : is_chain (links Next chains.slots) chains.free ≡ true
   pub found : (b : ℕ) → is_chain (links Next chains.slots) (head b chains) ≡ true
   pub by_id : (b k : ℕ) → is_among k (id_slots b chains) ≡
-      (is_among k (age chains) && nat_eq (bucket (row_at chains.slots k).id) b)
+      (is_among k (slots_by_age chains) && nat_eq (bucket (row_at chains.slots k).id) b)
   pub in_free : (k : ℕ) → is_among k (free_slots chains) ≡
-      (not (is_among k (away ++ age chains)) && nat_lt k (length chains.slots))
-  pub apart : distinct (away ++ age chains) ≡ true
-  pub inside : (k : ℕ) → is_among k (away ++ age chains) ≡ true → k < length chains.slots
-  pub all : length (away ++ age chains) + length (free_slots chains) ≡ length chains.slots
+      (not (is_among k (away ++ slots_by_age chains)) && nat_lt k (length chains.slots))
+  pub apart : distinct (away ++ slots_by_age chains) ≡ true
+  pub inside : (k : ℕ) → is_among k (away ++ slots_by_age chains) ≡ true → k < length chains.slots
+  pub all : length (away ++ slots_by_age chains) + length (free_slots chains) ≡ length chains.slots
 
 -- The row in a slot, after the counter of one slot's row was incremented.
 abbrev pub raised_at : ℕ → List Slot → ℕ → Row

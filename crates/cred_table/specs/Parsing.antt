@@ -48,9 +48,9 @@ hash_in (One (Bytes s)) = if nat_eq (length s) 32 then Some s else None
 hash_in _ = None
 
 -- A byte string of at most 64 bytes.
-abbrev pub short_in : Part → Option (List ℕ)
-short_in (One (Bytes s)) = if nat_le (length s) 64 then Some s else None
-short_in _ = None
+abbrev pub handle_in : Part → Option (List ℕ)
+handle_in (One (Bytes s)) = if nat_le (length s) 64 then Some s else None
+handle_in _ = None
 
 -- A Boolean.
 abbrev pub flag_in : Part → Option Bool
@@ -101,8 +101,8 @@ abbrev pub row_text : (named : Bool) → Row → List ℕ
 row_text named row = text (row_tree named row)
 
 -- The encoding of a snapshot up to its first entry: the version and the number of entries.
-abbrev pub heads_text : Bool × ℕ → List ℕ
-heads_text h = head 5 2 ++ (member_text 1 (One (Int (pos (version h.0)))) ++ member_text 2 (OpensArray h.1))
+abbrev pub header_text : Bool × ℕ → List ℕ
+header_text h = head 5 2 ++ (member_text 1 (One (Int (pos (version h.0)))) ++ member_text 2 (OpensArray h.1))
 
 -- The encodings of rows, concatenated.
 abbrev pub rows_text : (named : Bool) → List Row → List ℕ

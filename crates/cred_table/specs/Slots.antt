@@ -113,8 +113,8 @@ is_to k None = false
 is_to k (Some j) = nat_eq j k
 
 -- The chain link of the slot points to this slot.
-abbrev pub leads_to : ℕ → (ℕ × Slot) → Bool
-leads_to k slot = is_to k slot.1.next
+abbrev pub points_to : ℕ → (ℕ × Slot) → Bool
+points_to k slot = is_to k slot.1.next
 
 -- The link of a slot if all slots are free, in order.
 abbrev pub next_free : (capacity k : ℕ) → Option ℕ

@@ -40,8 +40,8 @@ row_tree named row =
 abbrev pub IsHash : List ℕ → Type 0
 IsHash s = (length s ≡ 32) × AreBytes s
 
-abbrev pub IsShort : List ℕ → Type 0
-IsShort s = (length s ≤ 64) × AreBytes s
+abbrev pub IsUserHandle : List ℕ → Type 0
+IsUserHandle s = (length s ≤ 64) × AreBytes s
 
 -- The user's name: at most 64 bytes of UTF-8 in version 2, empty in version 1.
 abbrev pub IsName : (named : Bool) → List ℕ → Type 0
@@ -54,7 +54,7 @@ pub record IsRow (named : Bool) (row : Row) : Type 0 where
   pub id : IsHash row.id
   pub x : IsHash row.x
   pub y : IsHash row.y
-  pub user : IsShort row.user.items
+  pub user : IsUserHandle row.user.items
   pub counter : row.counter < 2 ^ 32
   pub name : IsName named row.name
 
@@ -104,7 +104,7 @@ clashes row rows = list_any (has_id row.id) rows || list_any (replaces row) rows
 
 -- The entry at this index, counted from 0, is the first invalid one: it isn't the map of a row, or that row conflicts
 -- with an earlier one.
-pub record FirstBroken (named : Bool) (capacity : ℕ) (entries : Trees) (place : ℕ) : Type 0 where
+pub record FirstInvalid (named : Bool) (capacity : ℕ) (entries : Trees) (place : ℕ) : Type 0 where
   pub before : List Row
   pub entry : Tree
   pub after : Trees
@@ -121,7 +121,7 @@ Refuses capacity text NotSnapshot = (named : Bool) (entries : Trees) → Holds n
 Refuses capacity text TooMany = (named : Bool) × (entries : Trees) × Holds named entries text
     × (capacity < count entries)
 Refuses capacity text (RowBroken place) = (named : Bool) × (entries : Trees) × Holds named entries text
-    × (count entries ≤ capacity) × FirstBroken named capacity entries place
+    × (count entries ≤ capacity) × FirstInvalid named capacity entries place
 Refuses capacity text Memory = ⊥
 
 -- The result of loading a snapshot from these bytes: either its rows, or an error.

@@ -4,7 +4,7 @@ ghost use Rattle.std.specs.Prelude.{◌≡◌, ◌<◌, ◌≤◌, ◌+◌, ◌-
 ghost use Rattle.std.specs.List.{find};
 ghost use Rattle.cred_table.specs.Slots.{numbered, is_among, without_slot, bucket, before};
 ghost use Rattle.cred_table.specs.Rows.{has_id};
-ghost use Rattle.cred_table.specs.Linked.{Linked, raised_at, age, id_slots, rows_in, row_at};
+ghost use Rattle.cred_table.specs.Linked.{Linked, raised_at, slots_by_age, id_slots, rows_in, row_at};
 
 use crate::row::Row;
 use crate::slot::{self, ChainKind, ChainWalk, Link, Slot};
@@ -37,7 +37,7 @@ impl<const C: usize> Chains<C> {
             oldest: None,
             newest: None,
         };
-        slot::chain_all(&mut chains.slots);
+        slot::link_all(&mut chains.slots);
         chains
     }
 
@@ -48,7 +48,7 @@ impl<const C: usize> Chains<C> {
         ensures linked { Linked [] self.new }
         ensures rows { rows_in self.new ≡ [] }
     {
-        slot::chain_all(&mut self.slots);
+        slot::link_all(&mut self.slots);
         self.heads = [None; 32];
         self.free = Some(0);
         self.oldest = None;
@@ -69,7 +69,7 @@ impl<const C: usize> Chains<C> {
     pub(crate) fn number(&self, id: &[u8; 32]) -> u16
         requires linked { Linked [] self.now }
         requires there { IsSome (find (has_id id.now) (rows_in self.now)) }
-        ensures held { is_among result (age self.now) ≡ true }
+        ensures held { is_among result (slots_by_age self.now) ≡ true }
         ensures named { has_id id.now (row_at self.now.slots result) ≡ true }
     {
         self.like(id).find(|item| item.1.row.id == *id).unwrap().0
@@ -78,10 +78,10 @@ impl<const C: usize> Chains<C> {
     /// Increments the signature counter of the row in a slot, and returns the new value.
     pub(crate) fn raise(&mut self, number: u16) -> u32
         requires linked { Linked [] self.old }
-        requires held { is_among number (age self.old) ≡ true }
+        requires held { is_among number (slots_by_age self.old) ≡ true }
         requires below { (row_at self.old.slots number).counter < 2 ^ 32 - 1 }
         ensures linked { Linked [] self.new }
-        ensures rows { rows_in self.new ≡ map (raised_at number self.old.slots) (age self.old) }
+        ensures rows { rows_in self.new ≡ map (raised_at number self.old.slots) (slots_by_age self.old) }
         ensures value { result ≡ (row_at self.old.slots number).counter + 1 }
     {
         slot::raise(&mut self.slots, number)
@@ -102,7 +102,7 @@ impl<const C: usize> Chains<C> {
     /// Returns the rows, oldest first.
     pub(crate) fn oldest_first(&self) -> ChainWalk<'_>
         requires { Linked [] self.now }
-        ensures { result ≡ numbered self.now.slots (age self.now) }
+        ensures { result ≡ numbered self.now.slots (slots_by_age self.now) }
     {
         ChainWalk {
             slots: &self.slots,
@@ -114,7 +114,7 @@ impl<const C: usize> Chains<C> {
     /// Returns the rows, newest first.
     pub(crate) fn newest_first(&self) -> ChainWalk<'_>
         requires { Linked [] self.now }
-        ensures { result ≡ numbered self.now.slots (reverse (age self.now)) }
+        ensures { result ≡ numbered self.now.slots (reverse (slots_by_age self.now)) }
     {
         ChainWalk {
             slots: &self.slots,
@@ -138,19 +138,19 @@ impl<const C: usize> Chains<C> {
     /// Returns the predecessor of a slot in the chain of its ID.
     fn before(&self, number: u16) -> Link
         requires linked { Linked [] self.now }
-        requires there { is_among number (age self.now) ≡ true }
+        requires there { is_among number (slots_by_age self.now) ≡ true }
         ensures { result ≡ before number (id_slots (bucket (row_at self.now.slots number).id) self.now) }
     {
         let id = &self.slots[usize::from(number)].row.id;
-        self.like(id).leader(number)
+        self.like(id).find_predecessor(number)
     }
 
     /// Removes a slot from the age list and from the chain of its ID.
     pub(crate) fn unlink(&mut self, number: u16)
         requires linked { Linked [] self.old }
-        requires there { is_among number (age self.old) ≡ true }
+        requires there { is_among number (slots_by_age self.old) ≡ true }
         ensures linked { Linked (number ∷ []) self.new }
-        ensures rows { rows_in self.new ≡ map (row_at self.old.slots) (without_slot number (age self.old)) }
+        ensures rows { rows_in self.new ≡ map (row_at self.old.slots) (without_slot number (slots_by_age self.old)) }
         ensures one_less { length (rows_in self.new) + 1 ≡ length (rows_in self.old) }
     {
         let before = self.before(number);

@@ -8,10 +8,10 @@ ghost use Rattle.cred_table.specs.Parsing.{ReadsEntry, ReadsRows};
 use crate::copy::copy_row;
 use crate::fault::SnapshotFault;
 use crate::listed::Listed;
-use crate::parse::{read_heads, read_row};
+use crate::parse::{read_header, read_row};
 use crate::row::Row;
 use crate::table::Table;
-use ctap_cbor::laws::{no_item_begins_another, none_begins_another};
+use ctap_cbor::laws::{no_head_is_a_prefix, no_encoding_is_a_prefix};
 use ctap_cbor::{Cursor, check};
 
 /// Returns whether a row conflicts with one of a table: both have the same ID, or both are discoverable with the same
@@ -48,7 +48,7 @@ fn read_entry<const C: usize>(cursor: &mut Cursor, named: bool, rows: &mut Liste
     requires capacity { length rows.old.list.items < C }
     ensures { ReadsEntry named cursor.old cursor.new rows.old.list.items rows.new.list.items result }
 {
-    none_begins_another();
+    no_encoding_is_a_prefix();
     match read_row(cursor, named) {
         Some(row) => put_new(rows, row),
         None => false,
@@ -82,10 +82,10 @@ fn read_snapshot<const C: usize>(bytes: &[u8], rows: &mut Listed<C>) -> Result<(
     if check(bytes).result.is_err() {
         return Err(SnapshotFault::NotSnapshot);
     }
-    none_begins_another();
-    no_item_begins_another();
+    no_encoding_is_a_prefix();
+    no_head_is_a_prefix();
     let mut cursor = Cursor::new(bytes);
-    match read_heads(&mut cursor) {
+    match read_header(&mut cursor) {
         None => Err(SnapshotFault::NotSnapshot),
         Some((_, count)) if count > C as u64 => Err(SnapshotFault::TooMany),
         Some((named, count)) => read_rows(&mut cursor, named, count as usize, rows),

@@ -5,9 +5,9 @@ ghost use Rattle.ctap_cbor.specs.Tree.{Int, Bytes, Flag};
 ghost use Rattle.ctap_cbor.specs.Head.{head};
 ghost use Rattle.ctap_cbor.specs.Grammar.{scalar_text};
 ghost use Rattle.ctap_cbor.specs.Parts.{One, OpensArray, item_text};
-ghost use Rattle.cred_table.specs.Snapshots.{IsHash, IsShort, IsName, IsRow, version};
+ghost use Rattle.cred_table.specs.Snapshots.{IsHash, IsUserHandle, IsName, IsRow, version};
 ghost use Rattle.ctap_cbor.specs.Views.{part_of};
-ghost use Rattle.cred_table.specs.Parsing.{Reads, ReadsPart, ReadsMember, member_text, map_in, key_in, and_then, hash_in, short_in, flag_in, counter_in, name_in, count_in, has_names_in, name_text, heads_text, row_text, members_of};
+ghost use Rattle.cred_table.specs.Parsing.{Reads, ReadsPart, ReadsMember, member_text, map_in, key_in, and_then, hash_in, handle_in, flag_in, counter_in, name_in, count_in, has_names_in, name_text, header_text, row_text, members_of};
 
 use crate::name::Name;
 use crate::row::Row;
@@ -85,8 +85,8 @@ fn hash_of(item: Option<Item>) -> Option<[u8; 32]>
 }
 
 /// Checks for a byte string of at most 64 bytes.
-fn short_of(item: Option<Item>) -> Option<ArrayVec<u8, 64>>
-    ensures { option_map (λ v. v.items) result ≡ and_then short_in (option_map part_of item.entry) }
+fn handle_of(item: Option<Item>) -> Option<ArrayVec<u8, 64>>
+    ensures { option_map (λ v. v.items) result ≡ and_then handle_in (option_map part_of item.entry) }
 {
     match item {
         Some(Item::Bytes(bytes)) if bytes.len() <= 64 => {
@@ -157,10 +157,10 @@ fn read_hash(cursor: &mut Cursor, key: u8) -> Option<[u8; 32]>
 }
 
 /// Reads a member of at most 64 bytes.
-fn read_short(cursor: &mut Cursor, key: u8) -> Option<ArrayVec<u8, 64>>
-    ensures { ReadsMember IsShort (λ s. One (Bytes s)) key cursor.old cursor.new (option_map (λ v. v.items) result) }
+fn read_handle(cursor: &mut Cursor, key: u8) -> Option<ArrayVec<u8, 64>>
+    ensures { ReadsMember IsUserHandle (λ s. One (Bytes s)) key cursor.old cursor.new (option_map (λ v. v.items) result) }
 {
-    short_of(read_member(cursor, 4, key))
+    handle_of(read_member(cursor, 4, key))
 }
 
 /// Reads a Boolean member.
@@ -202,8 +202,8 @@ fn read_count(cursor: &mut Cursor) -> Option<u64>
 }
 
 /// Reads the beginning of a snapshot. Returns whether its rows have user names, and the number of entries.
-pub(crate) fn read_heads(cursor: &mut Cursor) -> Option<(bool, u64)>
-    ensures { Reads (λ h. h.1 < 2 ^ 64) heads_text cursor.old cursor.new result }
+pub(crate) fn read_header(cursor: &mut Cursor) -> Option<(bool, u64)>
+    ensures { Reads (λ h. h.1 < 2 ^ 64) header_text cursor.old cursor.new result }
 {
     read_map(cursor, 1, 2)?;
     let named = read_version(cursor)?;
@@ -220,7 +220,7 @@ pub(crate) fn read_row(cursor: &mut Cursor, named: bool) -> Option<Row>
     let id = read_hash(cursor, 2)?;
     let x = read_hash(cursor, 3)?;
     let y = read_hash(cursor, 4)?;
-    let user = read_short(cursor, 5)?;
+    let user = read_handle(cursor, 5)?;
     let discoverable = read_flag(cursor, 6)?;
     let counter = read_counter(cursor, 7)?;
     let name = read_name(cursor, named)?;

@@ -6,8 +6,8 @@ ghost use Rattle.ctap_cbor.specs.Tree.{Int, Bytes, Text};
 ghost use Rattle.ctap_cbor.specs.Grammar.{scalar_text, text};
 ghost use Rattle.ctap_cbor.specs.Writing.{space_of, Appends, SameBuffer};
 ghost use Rattle.cred_table.specs.declared.fault.SnapshotFault.TheVariants.{Memory};
-ghost use Rattle.cred_table.specs.Snapshots.{IsRow, IsHash, IsShort, IsName, Saves, saved_len, snapshot};
-ghost use Rattle.cred_table.specs.Parsing.{row_text, heads_text};
+ghost use Rattle.cred_table.specs.Snapshots.{IsRow, IsHash, IsUserHandle, IsName, Saves, saved_len, snapshot};
+ghost use Rattle.cred_table.specs.Parsing.{row_text, header_text};
 ghost use Rattle.cred_table.specs.Saving.{AppendsUpTo, Extends, SavesInto, longest};
 
 use crate::fault::SnapshotFault;
@@ -16,14 +16,14 @@ use crate::row::Row;
 use crate::table::Table;
 use arrayvec::ArrayVec;
 use ctap_cbor::Sink;
-use ctap_cbor::laws::known_bytes;
+use ctap_cbor::laws::byte_bounds;
 use std::alloc::AllocError;
 
 /// Maximum length of an encoded row, in bytes.
-const LONGEST_ROW: usize = 283;
+const MAX_ROW_LEN: usize = 283;
 
 /// Maximum length of a snapshot without its rows, in bytes.
-const LONGEST_HEADS: usize = 13;
+const MAX_HEADER_LEN: usize = 13;
 
 /// The version that is written, whose rows have user names.
 const VERSION: u64 = 2;
@@ -37,31 +37,31 @@ impl From<AllocError> for SnapshotFault {
 }
 
 /// States the bounds that a row's type implies, for proofs. Has no effect.
-fn known_row(row: &Row)
+fn row_bounds(row: &Row)
     ensures { IsRow true row.now }
 {
-    known_hash(&row.rp);
-    known_hash(&row.id);
-    known_hash(&row.x);
-    known_hash(&row.y);
-    known_short(&row.user);
-    known_name(&row.name);
+    hash_bounds(&row.rp);
+    hash_bounds(&row.id);
+    hash_bounds(&row.x);
+    hash_bounds(&row.y);
+    handle_bounds(&row.user);
+    name_bounds(&row.name);
     let _counter = row.counter;
 }
 
-fn known_hash(hash: &[u8; 32])
+fn hash_bounds(hash: &[u8; 32])
     ensures { IsHash hash.now }
 {
-    known_bytes(hash);
+    byte_bounds(hash);
 }
 
-fn known_short(bytes: &ArrayVec<u8, 64>)
-    ensures { IsShort bytes.now.items }
+fn handle_bounds(bytes: &ArrayVec<u8, 64>)
+    ensures { IsUserHandle bytes.now.items }
 {
-    known_bytes(bytes.as_slice());
+    byte_bounds(bytes.as_slice());
 }
 
-fn known_name(name: &Name)
+fn name_bounds(name: &Name)
     ensures { IsName true name.now }
 {
     let _text = name.as_str();
@@ -77,7 +77,7 @@ fn put_hash(sink: &mut Sink<'_>, hash: &[u8; 32])
 }
 
 /// Writes at most 64 bytes.
-fn put_short(sink: &mut Sink<'_>, bytes: &[u8])
+fn put_handle(sink: &mut Sink<'_>, bytes: &[u8])
     requires short { length bytes.now ≤ 64 }
     requires space { 66 ≤ space_of sink.old }
     ensures appends { AppendsUpTo sink.old sink.new (scalar_text (Bytes bytes.now)) 66 }
@@ -110,8 +110,8 @@ fn put_counter(sink: &mut Sink<'_>, counter: u32)
 
 /// Writes a row's map, its members in ascending order of their keys.
 fn put_row(sink: &mut Sink<'_>, row: &Row)
-    requires { LONGEST_ROW ≤ space_of sink.old }
-    ensures appends { AppendsUpTo sink.old sink.new (row_text true row.now) LONGEST_ROW }
+    requires { MAX_ROW_LEN ≤ space_of sink.old }
+    ensures appends { AppendsUpTo sink.old sink.new (row_text true row.now) MAX_ROW_LEN }
     ensures same { SameBuffer sink.old sink.new }
 {
     sink.map(8);
@@ -124,7 +124,7 @@ fn put_row(sink: &mut Sink<'_>, row: &Row)
     sink.uint(4);
     put_hash(sink, &row.y);
     sink.uint(5);
-    put_short(sink, &row.user);
+    put_handle(sink, &row.user);
     sink.uint(6);
     sink.flag(row.discoverable);
     sink.uint(7);
@@ -135,8 +135,8 @@ fn put_row(sink: &mut Sink<'_>, row: &Row)
 
 /// Writes a row's map to the beginning of a buffer, and returns its length.
 fn row_into(buffer: &mut [u8], row: &Row) -> usize
-    requires { LONGEST_ROW ≤ length buffer.old }
-    ensures within { result ≤ LONGEST_ROW }
+    requires { MAX_ROW_LEN ≤ length buffer.old }
+    ensures within { result ≤ MAX_ROW_LEN }
     ensures front { take result buffer.new ≡ row_text true row.now }
 {
     let mut sink = Sink::new(buffer);
@@ -145,9 +145,9 @@ fn row_into(buffer: &mut [u8], row: &Row) -> usize
 }
 
 /// Writes the beginning of a snapshot: the version and the number of entries.
-fn put_heads(sink: &mut Sink<'_>, count: u64)
-    requires { LONGEST_HEADS ≤ space_of sink.old }
-    ensures appends { AppendsUpTo sink.old sink.new (heads_text (true, count)) LONGEST_HEADS }
+fn put_header(sink: &mut Sink<'_>, count: u64)
+    requires { MAX_HEADER_LEN ≤ space_of sink.old }
+    ensures appends { AppendsUpTo sink.old sink.new (header_text (true, count)) MAX_HEADER_LEN }
     ensures same { SameBuffer sink.old sink.new }
 {
     sink.map(2);
@@ -158,13 +158,13 @@ fn put_heads(sink: &mut Sink<'_>, count: u64)
 }
 
 /// Writes the beginning of a snapshot to the beginning of a buffer, and returns its length.
-fn heads_into(buffer: &mut [u8], count: u64) -> usize
-    requires { LONGEST_HEADS ≤ length buffer.old }
-    ensures within { result ≤ LONGEST_HEADS }
-    ensures front { take result buffer.new ≡ heads_text (true, count) }
+fn header_into(buffer: &mut [u8], count: u64) -> usize
+    requires { MAX_HEADER_LEN ≤ length buffer.old }
+    ensures within { result ≤ MAX_HEADER_LEN }
+    ensures front { take result buffer.new ≡ header_text (true, count) }
 {
     let mut sink = Sink::new(buffer);
-    put_heads(&mut sink, count);
+    put_header(&mut sink, count);
     sink.len()
 }
 
@@ -175,9 +175,9 @@ fn put_snapshot<T: Table<C>, const C: usize>(sink: &mut Sink<'_>, table: &T)
     ensures same { SameBuffer sink.old sink.new }
     ensures typed { AllByRecursion (IsRow true) (T.rows table.now) }
 {
-    put_heads(sink, table.len() as u64);
+    put_header(sink, table.len() as u64);
     for row in table.iter() {
-        known_row(row);
+        row_bounds(row);
         put_row(sink, row);
     }
 }
@@ -203,7 +203,7 @@ fn snapshot_into<T: Table<C>, const C: usize>(buffer: &mut [u8], table: &T) -> u
 pub fn save_into<T: Table<C>, const C: usize>(table: &T, out: &mut [u8]) -> Option<usize>
     ensures { SavesInto C (T.rows table.now) out.old out.new result }
 {
-    if out.len() < LONGEST_HEADS + LONGEST_ROW * C {
+    if out.len() < MAX_HEADER_LEN + MAX_ROW_LEN * C {
         return None;
     }
     Some(snapshot_into(out, table))
@@ -216,20 +216,20 @@ fn write_row(row: &Row, out: &mut Vec<u8>) -> Result<(), AllocError>
     ensures full { OnErr result (vec_capacity out.old < length out.old.items + length (row_text true row.now)) }
     ensures space { vec_capacity out.old ≤ vec_capacity out.new }
 {
-    let mut buffer = [0; LONGEST_ROW];
+    let mut buffer = [0; MAX_ROW_LEN];
     let len = row_into(&mut buffer, row);
     out.extend_from_slice(&buffer[..len])
 }
 
 /// Appends the beginning of a snapshot.
-fn write_heads(count: u64, out: &mut Vec<u8>) -> Result<(), AllocError>
-    ensures ok { OnOk result (out.new.items ≡ out.old.items ++ heads_text (true, count)) }
+fn write_header(count: u64, out: &mut Vec<u8>) -> Result<(), AllocError>
+    ensures ok { OnOk result (out.new.items ≡ out.old.items ++ header_text (true, count)) }
     ensures err { OnErr result (out.new.items ≡ out.old.items) }
-    ensures full { OnErr result (vec_capacity out.old < length out.old.items + length (heads_text (true, count))) }
+    ensures full { OnErr result (vec_capacity out.old < length out.old.items + length (header_text (true, count))) }
     ensures space { vec_capacity out.old ≤ vec_capacity out.new }
 {
-    let mut buffer = [0; LONGEST_HEADS];
-    let len = heads_into(&mut buffer, count);
+    let mut buffer = [0; MAX_HEADER_LEN];
+    let len = header_into(&mut buffer, count);
     out.extend_from_slice(&buffer[..len])
 }
 
@@ -243,9 +243,9 @@ fn write_rows<T: Table<C>, const C: usize>(
     ensures extends { OnErr result (Extends out.old.items out.new.items) }
     ensures full { OnErr result (vec_capacity out.old < length out.old.items + saved_len (T.rows table.now)) }
 {
-    write_heads(table.len() as u64, out)?;
+    write_header(table.len() as u64, out)?;
     for row in table.iter() {
-        known_row(row);
+        row_bounds(row);
         write_row(row, out)?;
     }
     Ok(())

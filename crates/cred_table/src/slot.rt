@@ -79,7 +79,7 @@ impl Slot {
     ghost use Rattle.cred_table.specs.Slots.{is_to};
 
     /// Returns whether this slot's chain link points to the slot `number`.
-    fn leads_to(&self, number: u16) -> bool
+    fn points_to(&self, number: u16) -> bool
         ensures { result ≡ is_to number self.now.next }
     {
         match self.next {
@@ -121,7 +121,7 @@ pub(crate) fn raise(slots: &mut [Slot], number: u16) -> u32
 }
 
 /// Links all slots in order.
-pub(crate) fn chain_all(slots: &mut [Slot])
+pub(crate) fn link_all(slots: &mut [Slot])
     requires { length slots.old ≤ 256 }
     ensures { EachIndex slots.new (λ k. (slot_at slots.new k).next ≡ next_free (length slots.new) k) }
 {
@@ -169,13 +169,13 @@ impl<'a> Model for ChainWalk<'a> {
 impl<'a> ChainWalk<'a> {
     ghost use Rattle.std.specs.Prelude.{option_map};
     ghost use Rattle.std.specs.List.{find};
-    ghost use Rattle.cred_table.specs.Slots.{leads_to};
+    ghost use Rattle.cred_table.specs.Slots.{points_to};
 
     /// Returns the first slot whose chain link points to the slot `number`.
-    pub(crate) fn leader(mut self, number: u16) -> Link
-        ensures { result ≡ option_map (λ found. found.0) (find (leads_to number) self.entry) }
+    pub(crate) fn find_predecessor(mut self, number: u16) -> Link
+        ensures { result ≡ option_map (λ found. found.0) (find (points_to number) self.entry) }
     {
-        let found = self.find(|item| item.1.leads_to(number))?;
+        let found = self.find(|item| item.1.points_to(number))?;
         Some(found.0)
     }
 }

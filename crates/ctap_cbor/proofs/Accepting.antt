@@ -4,8 +4,8 @@ use Rattle.std.proofs.{Common.◌∙◌, lemmas.Bool.ne_eqb}
 use Rattle.std.specs.Prelude.{if◌then◌else◌, nat_lt, nat_eq}
 use Rattle.ctap_cbor.specs.declared.fault.Kind.{Kind, TheVariants.TooDeep}
 use Rattle.ctap_cbor.specs.Tree.{Scalar, Tree, Plain, Array, Map, Trees, no_trees, tree, Pairs, no_pairs, pair, depth}
-use Rattle.ctap_cbor.specs.{Tree.depth_all, Tree.depth_pairs, Laws.RefusedHasNoText, Refusals.refusal_pairs}
-use Rattle.ctap_cbor.specs.Grammar.{text, Fits, IsKey, IsAbove, Rises, IsLawful, AreLawful, AreLawfulPairs}
+use Rattle.ctap_cbor.specs.{Tree.depth_all, Tree.depth_pairs, Laws.RejectedHasNoEncoding, Refusals.refusal_pairs}
+use Rattle.ctap_cbor.specs.Grammar.{text, Fits, IsKey, IsAbove, KeysAscend, IsLawful, AreLawful, AreLawfulPairs}
 use Rattle.ctap_cbor.specs.Refusals.{range_refusal, own_refusal, order_refusal, or_else, refusal, refusal_all}
 
 pub below : (n m : ℕ) → n < m → nat_lt n m ≡ true
@@ -37,7 +37,7 @@ mutual
       (accepted levels t h.0 (omega arith))
       ∙ accepted_all levels ts h.1 (omega arith)
 
-  accepted_pairs : (levels : ℕ) (last : Option (List ℕ)) (ps : Pairs) → Rises last ps → AreLawfulPairs ps →
+  accepted_pairs : (levels : ℕ) (last : Option (List ℕ)) (ps : Pairs) → KeysAscend last ps → AreLawfulPairs ps →
       depth_pairs ps ≤ levels → refusal_pairs levels last ps ≡ None
   accepted_pairs levels last no_pairs r h d = refl
   accepted_pairs levels last (pair k v ps) r h d =
@@ -48,6 +48,6 @@ mutual
       ∙ ap (λ x. or_else x (refusal_pairs levels (Some (text k)) ps)) (accepted levels v h.1 (omega arith))
       ∙ accepted_pairs levels (Some (text k)) ps r.2 h.2 (omega arith)
 
-pub refused_has_no_text : RefusedHasNoText
-refused_has_no_text t kind e b c = absurd (let f : ◌≡◌ {A = Option Kind} (Some kind) None = sym e
+pub rejected_has_no_encoding : RejectedHasNoEncoding
+rejected_has_no_encoding t kind e b c = absurd (let f : ◌≡◌ {A = Option Kind} (Some kind) None = sym e
     ∙ accepted 4 t c.enc.lawful c.flat in cc)

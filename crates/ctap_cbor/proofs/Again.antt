@@ -4,7 +4,7 @@ use Rattle.std.proofs.Common.{None, Ok, refl, arith, ap, ◌∙◌, append_assoc
 use Rattle.ctap_cbor.specs.{declared.fault.Kind.Kind, Head.head, Parse.parse, Grammar.AreLawful, Grammar.AreLawfulPairs}
 use Rattle.ctap_cbor.specs.Tree.{Scalar, Tree, Plain, Array, Map, Trees, no_trees, tree, Pairs, no_pairs, pair, depth}
 use Rattle.ctap_cbor.specs.Tree.{depth_all, depth_pairs, count, count_pairs}
-use Rattle.ctap_cbor.specs.Grammar.{scalar_text, text, texts, pair_texts, Fits, IsKey, IsAbove, Rises, IsLawful}
+use Rattle.ctap_cbor.specs.Grammar.{scalar_text, text, texts, pair_texts, Fits, IsKey, IsAbove, KeysAscend, IsLawful}
 use Rattle.ctap_cbor.specs.Faults.{AnItem, AKey, fault}
 use Rattle.ctap_cbor.specs.Outcome.{Enclosing, InArray, AtKey, AtValue, fronts, last_key, FailsIn}
 use Rattle.ctap_cbor.specs.Parts.{One, OpensArray, OpensMap, read}
@@ -114,7 +114,7 @@ mutual
       (omega arith))
       ∙ ap (before t) (items_again ts levels n rest h.1 (omega arith))
 
-  pub pairs_again : (ps : Pairs) (levels n : ℕ) (last : Option (List ℕ)) (rest : List ℕ) → Rises last ps →
+  pub pairs_again : (ps : Pairs) (levels n : ℕ) (last : Option (List ℕ)) (rest : List ℕ) → KeysAscend last ps →
       AreLawfulPairs ps → depth_pairs ps ≤ levels →
       pairs (parse levels) levels (count_pairs ps + n) last (pair_texts ps ++ rest) ≡ pairs_before ps
       (pairs (parse levels) levels n (last_key last ps) rest)

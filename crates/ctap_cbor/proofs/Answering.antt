@@ -5,9 +5,9 @@ use Rattle.std.specs.Prelude.{MatchResult, ◌⊎◌, IsOk, ◌↔◌}
 use Rattle.std.proofs.lemmas.List.{append-nil, drop_at}
 use Rattle.ctap_cbor.specs.declared.fault.{Kind.TheVariants.Trailing, Fault.Fault}
 use Rattle.ctap_cbor.specs.{Tree.Tree, Head.AreBytes, Faults.fault_steps, Grammar.text, Grammar.IsCanonical}
-use Rattle.ctap_cbor.proofs.Uniqueness.{each_text_is_one}
-use Rattle.ctap_cbor.specs.Outcome.{fronts, Outcome, Whole, Longer, Stopped, IsOutcome, Answers, result_of}
-use Rattle.ctap_cbor.specs.Reading.{Reading, rest_of, PassesOne, Fails, Ends, GoesOn}
+use Rattle.ctap_cbor.proofs.Uniqueness.{encodings_are_unique}
+use Rattle.ctap_cbor.specs.Outcome.{fronts, Outcome, Whole, Longer, Stopped, IsOutcome, IsCheckResult, result_of}
+use Rattle.ctap_cbor.specs.Reading.{Reading, rest_of, PassesOne, Fails, HasNoByteLeft, HasTrailingBytes}
 
 abbrev pub start : List ℕ → Reading
 start b = record { bytes = b; place = 0; steps = 0 }
@@ -19,9 +19,9 @@ abbrev place_at : Reading → ℕ
 place_at r = r.place
 
 abbrev pub Found : List ℕ → Result (Unit {0}) Fault → ℕ → Type 0
-Found b r n = (o : Outcome) × IsOutcome b o × Answers b o r n
+Found b r n = (o : Outcome) × IsOutcome b o × IsCheckResult b o r n
 
-pub found_whole : (b : List ℕ) (middle new : Reading) (u : Unit {0}) → PassesOne 4 (start b) middle → Ends middle new →
+pub found_whole : (b : List ℕ) (middle new : Reading) (u : Unit {0}) → PassesOne 4 (start b) middle → HasNoByteLeft middle new →
     Found b (Ok u) new.steps
 found_whole b middle new u p e =
     let t : Tree = p.0 in
@@ -29,7 +29,7 @@ found_whole b middle new u p e =
     (Whole t, record { enc = record { lawful = p.1.lawful; spelled = spelled }; flat = p.1.flat }, (refl, omega (arith, ap length spelled, ap steps_at e.moved, ap steps_at p.1.moved)))
 
 pub found_longer : (b : List ℕ) (middle new : Reading) (f : Fault) → PassesOne 4 (start b) middle →
-    GoesOn middle new f.at f.kind → Found b (Err f) new.steps
+    HasTrailingBytes middle new f.at f.kind → Found b (Err f) new.steps
 found_longer b middle new f p e =
     let t : Tree = p.0 in
     let at : length (text t) ≡ f.at = omega (arith, e.place, ap place_at p.1.moved) in (
@@ -50,8 +50,8 @@ found_stopped b new f h =
     )
 
 abbrev Whole-read : Reading → Reading → Result (Unit {0}) Fault → Type 0
-Whole-read old new r = MatchResult r (λ _. (middle : Reading) × PassesOne 4 old middle × Ends middle new)
-    (λ f. Fails 4 old new f.at f.kind ⊎ ((middle : Reading) × PassesOne 4 old middle × GoesOn middle new f.at f.kind))
+Whole-read old new r = MatchResult r (λ _. (middle : Reading) × PassesOne 4 old middle × HasNoByteLeft middle new)
+    (λ f. Fails 4 old new f.at f.kind ⊎ ((middle : Reading) × PassesOne 4 old middle × HasTrailingBytes middle new f.at f.kind))
 
 found_from : (b : List ℕ) (new : Reading) (r : Result (Unit {0}) Fault) → Whole-read (start b) new r →
     Found b r new.steps
@@ -65,8 +65,8 @@ found b old new r n e h len = subst (Found b r) (sym len) (found_from b new r (s
 
 -- a text is one outcome, so the answer is that of every outcome that it is
 pub only : (b : List ℕ) (r : Result (Unit {0}) Fault) (n : ℕ) → AreBytes b → Found b r n → (o : Outcome) →
-    IsOutcome b o → Answers b o r n
-only b r n fits h o is = search (rules, arith, each_text_is_one)
+    IsOutcome b o → IsCheckResult b o r n
+only b r n fits h o is = search (rules, arith, encodings_are_unique)
 
 whole_of : (b : List ℕ) (o : Outcome) → IsOutcome b o → result_of o ≡ None → (t : Tree) × IsCanonical t b
 whole_of b o h e = search (rules, arith)

@@ -3,7 +3,7 @@ use Rattle.std.proofs.Common.{arith, rules, ◌≡◌, ℕ, ◌<◌, Bool, true,
 use Rattle.std.proofs.{Common.Err, Common.refl, lemmas.Bool.leb-false}
 use Rattle.ctap_cbor.specs.{declared.fault.Kind.Kind, declared.item.Item.Item, Head.info, Parts.read}
 use Rattle.ctap_cbor.specs.Faults.{Expected, first_of, first_faults, passed}
-use Rattle.ctap_cbor.specs.Views.{Finds, FindsRest, due_of}
+use Rattle.ctap_cbor.specs.Views.{IsDecodedItem, IsDecodedItemRest, due_of}
 
 first_some : (ts us : List (Bool × Kind)) (kind : Kind) → first_of ts ≡ Some kind → first_of (ts ++ us) ≡ Some kind
 first_some [] us kind e = absurd cc
@@ -35,7 +35,7 @@ unfolding first_faults passed
 passed_first levels due first rest kind e = grind arith
 
 pub found_rest : (levels : ℕ) (is_key : Bool) (first : ℕ) (rest : List ℕ) (r : Result (Item × ℕ) (Kind × ℕ)) →
-    first_of (first_faults levels (due_of is_key) first) ≡ None → FindsRest first rest r →
-    Finds (first ∷ rest) r (read levels (due_of is_key) (first ∷ rest))
+    first_of (first_faults levels (due_of is_key) first) ≡ None → IsDecodedItemRest first rest r →
+    IsDecodedItem (first ∷ rest) r (read levels (due_of is_key) (first ∷ rest))
 unfolding read passed
 found_rest levels is_key first rest r e h = grind (arith, first_none)

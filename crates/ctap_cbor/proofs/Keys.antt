@@ -5,7 +5,7 @@ use Rattle.std.specs.Prelude.{not}
 use Rattle.ctap_cbor.specs.declared.fault.Kind.{Kind, TheVariants.KeyOrder}
 use Rattle.ctap_cbor.specs.{Head.AreBytes, Faults.fault_steps, Views.end_steps_of, Parts.Part, Parts.One, Parts.read}
 use Rattle.ctap_cbor.specs.Faults.{Expected, AKey, is_above, first_of, first_faults, body_faults, fault, item_len, passed}
-use Rattle.ctap_cbor.specs.Reading.{Reading, rest_of, advance, compared, Refuses, GivesKey}
+use Rattle.ctap_cbor.specs.Reading.{Reading, rest_of, advance, compared, HasItemError, GivesKey}
 use Rattle.ctap_cbor.proofs.Items.{Reads, read_sound, read_again, read_fault, fault_read, front_is}
 use Rattle.ctap_cbor.proofs.Taking.{InOrder, in_order_steps, rest_beyond, read_len}
 
@@ -73,13 +73,13 @@ key_taken old new last rest i n m e fits h cost moved above = grind (arith, part
 pub key_below : (old new : Reading) (last : Option (List ℕ)) (at : ℕ) (rest : List ℕ) (i : Part) (n m : ℕ) →
     rest ≡ rest_of old → (read 0 (AKey None) rest ≡ Ok (i, drop n rest)) × (n ≤ length rest)
     × (n ≡ passed KeyOrder rest) → m ≡ compared last n → new ≡ advance old n (n + m) →
-    is_above (AKey last) (take n rest) ≡ false → at ≡ old.place → Refuses 0 (AKey last) old new at KeyOrder
+    is_above (AKey last) (take n rest) ≡ false → at ≡ old.place → HasItemError 0 (AKey last) old new at KeyOrder
 unfolding fault_steps
 key_below old new last at rest i n m e h cost moved below place = grind (arith, key_out)
 
 pub key_refused : (old new : Reading) (last : Option (List ℕ)) (at : ℕ) (rest : List ℕ) (kind : Kind) (n end : ℕ) →
     rest ≡ rest_of old → (read 0 (AKey None) rest ≡ Err kind) × (n ≡ passed kind rest) × (n ≤ length rest) →
-    end ≡ end_steps_of kind → new ≡ advance old n (n + end) → at ≡ old.place → Refuses 0 (AKey last) old new at kind
+    end ≡ end_steps_of kind → new ≡ advance old n (n + end) → at ≡ old.place → HasItemError 0 (AKey last) old new at kind
 key_refused old new last at rest kind n end e h is moved place =
     grind (arith, fault_read, in_order_steps, key_fault, key_in_order)
 
@@ -92,5 +92,5 @@ key_given last old new i bytes k =
     ∙ ap (λ x. Ok (x, rest_of new)) (sym k.part_is)
 
 pub key_not_given : (last : Option (List ℕ)) (old new : Reading) (at : ℕ) (kind : Kind) →
-    Refuses 0 (AKey last) old new at kind → read 0 (AKey last) (rest_of old) ≡ Err kind
+    HasItemError 0 (AKey last) old new at kind → read 0 (AKey last) (rest_of old) ≡ Err kind
 key_not_given last old new at kind h = read_fault 0 (AKey last) (rest_of old) kind h.is

@@ -5,7 +5,7 @@ use Rattle.std.proofs.Common.{arith, sym, ap, subst, ◌∙◌, append_assoc, le
 use Rattle.ctap_cbor.specs.{declared.fault.Kind.Kind, Head.head, Grammar.AreLawfulPairs}
 use Rattle.ctap_cbor.specs.Tree.{push, push_pair, Tree, Plain, Trees, no_trees, tree, Pairs, no_pairs, pair, Scalar}
 use Rattle.ctap_cbor.specs.Tree.{depth, depth_all, depth_pairs, count, count_pairs}
-use Rattle.ctap_cbor.specs.Grammar.{text, texts, pair_texts, scalar_text, IsKey, IsAbove, Rises, IsLawful, AreLawful}
+use Rattle.ctap_cbor.specs.Grammar.{text, texts, pair_texts, scalar_text, IsKey, IsAbove, KeysAscend, IsLawful, AreLawful}
 use Rattle.ctap_cbor.specs.Faults.{AKey, first_faults, fault}
 use Rattle.ctap_cbor.specs.{Parts.OpensArray, Parts.OpensMap, Outcome.later_in_pairs, Outcome.later_key}
 use Rattle.ctap_cbor.specs.Outcome.{InArray, AtKey, AtValue, fronts, last_key, later_keys, later_in_all, later_in_map}
@@ -42,7 +42,7 @@ record PushedPair (last : Option (List ℕ)) (ps : Pairs) (k v : Tree) (qs : Pai
   number : count_pairs qs ≡ count_pairs ps + 1
   flat : depth_pairs qs ≡ max (depth_pairs ps) (max (depth k) (depth v))
   lawful : AreLawfulPairs ps → IsLawful k → IsLawful v → AreLawfulPairs qs
-  rises : Rises last ps → IsKey k → IsAbove (last_key last ps) (text k) → Rises last qs
+  rises : KeysAscend last ps → IsKey k → IsAbove (last_key last ps) (text k) → KeysAscend last qs
   last_is : last_key last qs ≡ Some (text k)
   later : later_in_pairs qs ≡ later_in_pairs ps + (length (text k) + later_keys v)
 

@@ -4,9 +4,9 @@ use Rattle.std.specs.Prelude.{MatchResult}
 use Rattle.ctap_cbor.specs.declared.{fault.Fault.Fault, fault.Kind.Kind, item.Item.Item}
 use Rattle.ctap_cbor.specs.{Tree.Tree, Grammar.text, Outcome.later_keys, Views.part_of, Views.ReadsItem}
 use Rattle.ctap_cbor.specs.{Faults.AnItem, Parse.Done, Parse.parse}
-use Rattle.ctap_cbor.specs.Laws.{NoItemBeginsAnother, OneTreePasses, CanonicalIsAccepted}
+use Rattle.ctap_cbor.specs.Laws.{NoHeadIsAPrefix, CursorReadsOneTree, CanonicalIsAccepted}
 use Rattle.ctap_cbor.specs.Parts.{Part, item_text, Suits, read}
-use Rattle.ctap_cbor.specs.Reading.{Reading, rest_of, advance, Passes, PassesAs, Fails, Only}
+use Rattle.ctap_cbor.specs.Reading.{Reading, rest_of, advance, Passes, PassesAs, Fails, IsOnlyResult}
 use Rattle.ctap_cbor.proofs.{Items.read_again, Again.parse_again, Again.halt_again}
 use Rattle.ctap_cbor.proofs.Uniqueness.{tree_of, rest_from}
 
@@ -28,15 +28,15 @@ pub item_never : (levels : ℕ) (i : Part) (rest : List ℕ) (old : Reading) (ki
     rest_of old ≡ item_text i ++ rest → read levels AnItem (rest_of old) ≡ Err kind → ⊥
 item_never levels i rest old kind suits e is = search (rules, arith, read_again)
 
-pub no_item_begins_another : NoItemBeginsAnother
-no_item_begins_another levels i j x y p q e =
+pub no_head_is_a_prefix : NoHeadIsAPrefix
+no_head_is_a_prefix levels i j x y p q e =
     let same : ◌≡◌ {A = Result (Part × List ℕ) Kind} (Ok (i, x)) (Ok (j, y)) = sym (read_again levels AnItem i x p)
     ∙ ap (read levels AnItem) e ∙ read_again levels AnItem j y q in
     (ap (part_in i) same, ap rest_in same)
 
 -- ---- trees
 
-pub passes_only : OneTreePasses
+pub passes_only : CursorReadsOneTree
 passes_only levels t u x a c lawful flat e p =
     let same : Done u (rest_of c) ≡ Done t x = sym (parse_again u levels (rest_of c) p.lawful p.flat)
     ∙ ap (parse levels) (sym p.spelled ∙ e) ∙ parse_again t levels x lawful flat in
@@ -65,14 +65,14 @@ abbrev fault_at : ℕ → Kind → Result (Unit {0}) Fault
 fault_at at kind = Err record { at = at; kind = kind }
 
 -- what passes an item, or finds where it halts, passes or finds nothing else
-pub only_passes : (levels : ℕ) (old new : Reading) (t : Tree) → Passes levels t old new → Only levels old new (Ok tt)
+pub only_passes : (levels : ℕ) (old new : Reading) (t : Tree) → Passes levels t old new → IsOnlyResult levels old new (Ok tt)
 only_passes levels old new t p = record {
   passed = λ u r q. (refl, passes_same levels u t old r new q p);
   halted = λ at kind r h. absurd (halts_never levels t (rest_of new) old r at kind p.lawful p.flat p.spelled h);
 }
 
 pub only_halts : (levels : ℕ) (old new : Reading) (f : Fault) → Fails levels old new f.at f.kind →
-    Only levels old new (Err f)
+    IsOnlyResult levels old new (Err f)
 only_halts levels old new f h = record {
   passed = λ u r q. absurd (halts_never levels u (rest_of r) old new f.at f.kind q.lawful q.flat q.spelled h);
   halted = λ at kind r k.
@@ -81,6 +81,6 @@ only_halts levels old new f h = record {
 }
 
 pub only_matches : (levels : ℕ) (part : Part) (old new : Reading) (r : Result (Unit {0}) Fault) →
-    MatchResult r (λ _. PassesAs levels part old new) (λ f. Fails levels old new f.at f.kind) → Only levels old new r
+    MatchResult r (λ _. PassesAs levels part old new) (λ f. Fails levels old new f.at f.kind) → IsOnlyResult levels old new r
 only_matches levels part old new (Ok tt) h = only_passes levels old new h.0 h.1
 only_matches levels part old new (Err f) h = only_halts levels old new f h

@@ -3,16 +3,16 @@ use Rattle.std.proofs.Common.{rules, ◌≡◌, ℕ, List, ◌++◌, length, dro
 use Rattle.std.proofs.lemmas.List.{append-nil, drop_at}
 use Rattle.ctap_cbor.specs.{declared.fault.Kind.Kind, declared.fault.Kind.TheVariants.Trailing, Tree.Tree, Head.AreBytes, Grammar.text, Faults.fault_steps}
 use Rattle.ctap_cbor.specs.Outcome.{Outcome, Whole, Longer, Stopped, fronts, IsOutcome, result_of, steps}
-use Rattle.ctap_cbor.specs.{Telling.outcome_of, Telling.whole_tree, Laws.ReadsTree, Laws.ReadsNoTree, Laws.WholeReadings}
-use Rattle.ctap_cbor.specs.Reading.{Reading, at_front, rest_of, counted, Passes, Fails, Ends, GoesOn}
-use Rattle.ctap_cbor.proofs.{Moves.at, Telling.bytes_tell}
+use Rattle.ctap_cbor.specs.{Telling.outcome_of, Telling.whole_tree, Laws.ReadsTree, Laws.ReadsNoTree, Laws.CursorAgreesWithCheck}
+use Rattle.ctap_cbor.specs.Reading.{Reading, at_front, rest_of, add_steps, Passes, Fails, HasNoByteLeft, HasTrailingBytes}
+use Rattle.ctap_cbor.proofs.{Moves.at, Telling.outcomes_are_computed}
 
 -- the outcome is this one
 is : (b : List ℕ) (o : Outcome) → AreBytes b → IsOutcome b o → outcome_of b ≡ o
-is b o fits h = bytes_tell.only b o fits h
+is b o fits h = outcomes_are_computed.only b o fits h
 
 passed : (b : List ℕ) (t : Tree) (s : ℕ) (middle new : Reading) → AreBytes b → Passes 4 t (at_front b s) middle →
-    Ends middle new → ReadsTree b s t new
+    HasNoByteLeft middle new → ReadsTree b s t new
 passed b t s middle new fits p e =
     let spelled : b ≡ text t = p.spelled ∙ ap (λ x. text t ++ x) e.at_end ∙ append-nil (text t) in
     let told : outcome_of b ≡ Whole t =
@@ -21,7 +21,7 @@ passed b t s middle new fits p e =
     let place : new.place ≡ length b =
     omega (arith, ap length spelled, ap (λ (r : Reading). r.place) e.moved, ap (λ (r : Reading). r.place) p.moved)
     in
-    let count : new.steps ≡ counted s (steps b (outcome_of b)) =
+    let count : new.steps ≡ add_steps s (steps b (outcome_of b)) =
     omega (arith, cost, ap length spelled, ap (λ (r : Reading). r.steps) e.moved, ap (λ (r : Reading). r.steps) p.moved)
     in
     record {
@@ -31,7 +31,7 @@ passed b t s middle new fits p e =
     }
 
 longer : (b : List ℕ) (t : Tree) (s : ℕ) (middle new : Reading) (place : ℕ) (kind : Kind) → AreBytes b →
-    Passes 4 t (at_front b s) middle → GoesOn middle new place kind → ReadsNoTree b s new place kind
+    Passes 4 t (at_front b s) middle → HasTrailingBytes middle new place kind → ReadsNoTree b s new place kind
 longer b t s middle new place kind fits p e =
     let told : outcome_of b ≡ Longer t = is b (Longer t) fits
     (text t, rest_of middle, record { enc = record { lawful = p.lawful; spelled = refl }; flat = p.flat }, e.left, p.spelled) in
@@ -59,5 +59,5 @@ stopped b s new place kind fits h =
       steps_are = omega (arith, ap (steps b) told, ap (fault_steps kind) tail, ap (λ (r : Reading). r.steps) h.moved);
     }
 
-pub whole_readings : (b : List ℕ) → AreBytes b → WholeReadings b
-whole_readings b fits = search (rules, arith, longer, passed, stopped)
+pub cursor_agrees_with_check : (b : List ℕ) → AreBytes b → CursorAgreesWithCheck b
+cursor_agrees_with_check b fits = search (rules, arith, longer, passed, stopped)

@@ -6,7 +6,7 @@ use Rattle.ctap_cbor.specs.declared.item.Item.TheVariants as item
 use Rattle.ctap_cbor.specs.Tree.{push_pair, Tree, Trees, Pairs, Array, Map, Plain, Scalar}
 use Rattle.ctap_cbor.specs.{Faults.AnItem, Faults.AKey, Views.part_of}
 use Rattle.ctap_cbor.specs.Parts.{Part, One, OpensArray, OpensMap}
-use Rattle.ctap_cbor.specs.Reading.{Reading, Takes, Refuses, Passes, PassesAs, PassesSome, Fails, PassesAll, FailsInArray}
+use Rattle.ctap_cbor.specs.Reading.{Reading, Takes, HasItemError, Passes, PassesAs, PassesSome, Fails, PassesAll, FailsInArray}
 use Rattle.ctap_cbor.specs.Reading.{PassesPairs, PassesSomePairs, FailsInPairs, GivesKey}
 use Rattle.ctap_cbor.proofs.Moves.{pairs_more, array_halts, key_halts, value_halts}
 
@@ -52,7 +52,7 @@ pub map_whole : (level n : ℕ) (a b c : Reading) → Takes (5 - level) a b (Ope
 map_whole level n a b c t h = (Map h.0, map_then level n h.0 h.1 a b c t h.2, ap OpensMap (sym h.2.number))
 
 -- an item that is refused at once
-pub refused_halts : (levels : ℕ) (a b : Reading) (at : ℕ) (kind : Kind) → Refuses levels AnItem a b at kind →
+pub refused_halts : (levels : ℕ) (a b : Reading) (at : ℕ) (kind : Kind) → HasItemError levels AnItem a b at kind →
     Fails levels a b at kind
 refused_halts levels a b at kind h = search (rules, arith)
 
@@ -71,7 +71,7 @@ value_stops levels n i ps last a b c d part bytes at kind lt h k p = search (rul
 
 pub key_stops : (levels n i : ℕ) (ps : Pairs) (last : Option (List ℕ)) (a b c : Reading) (at : ℕ) (kind : Kind) →
     i < n →
-    PassesPairs levels i ps last a b → Refuses 0 (AKey last) b c at kind → FailsInPairs levels n a c at kind
+    PassesPairs levels i ps last a b → HasItemError 0 (AKey last) b c at kind → FailsInPairs levels n a c at kind
 key_stops levels n i ps last a b c at kind lt h k = search (rules, arith)
 
 pub item_stops : (levels n i : ℕ) (ts : Trees) (a b c : Reading) (at : ℕ) (kind : Kind) → i < n →

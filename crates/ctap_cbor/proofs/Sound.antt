@@ -3,7 +3,7 @@ use Rattle.std.proofs.{lemmas.Grind.common_steps, Common.refl, Common.arith, Com
 use Rattle.std.proofs.Common.{rules, ◌≡◌, ℕ, zero, suc, ◌^◌, ◌<◌, ◌≤◌, List, ◌++◌, Option, Some, None, Result, Ok, Err}
 use Rattle.ctap_cbor.specs.{declared.fault.Kind.Kind, Head.AreBytes, Head.head}
 use Rattle.ctap_cbor.specs.Tree.{Scalar, Null, Plain, depth, depth_all, depth_pairs, count, count_pairs}
-use Rattle.ctap_cbor.specs.Grammar.{scalar_text, text, texts, pair_texts, Fits, IsKey, IsAbove, Rises, IsLawful}
+use Rattle.ctap_cbor.specs.Grammar.{scalar_text, text, texts, pair_texts, Fits, IsKey, IsAbove, KeysAscend, IsLawful}
 use Rattle.ctap_cbor.specs.{Grammar.AreLawful, Grammar.AreLawfulPairs, Faults.AnItem, Faults.AKey, Faults.fault}
 use Rattle.ctap_cbor.specs.Outcome.{fronts, last_key, FailsIn}
 use Rattle.ctap_cbor.specs.Parts.{Part, One, OpensArray, OpensMap, read}
@@ -22,12 +22,12 @@ IsRun levels n bytes (Broke done os kind rest) = AreLawful done × (depth_all do
     × (bytes ≡ texts done ++ (fronts os ++ rest)) × FailsIn levels AnItem os kind rest × (count done < n)
 
 abbrev pub IsWalk : ℕ → ℕ → Option (List ℕ) → List ℕ → Walk → Type 0
-IsWalk levels n last bytes (Walked ps rest) = Rises last ps × AreLawfulPairs ps × (depth_pairs ps ≤ levels)
+IsWalk levels n last bytes (Walked ps rest) = KeysAscend last ps × AreLawfulPairs ps × (depth_pairs ps ≤ levels)
     × (bytes ≡ pair_texts ps ++ rest) × AreBytes rest × (count_pairs ps ≡ n)
-IsWalk levels n last bytes (BadKey done kind rest) = Rises last done × AreLawfulPairs done × (depth_pairs done ≤ levels)
+IsWalk levels n last bytes (BadKey done kind rest) = KeysAscend last done × AreLawfulPairs done × (depth_pairs done ≤ levels)
     × (bytes ≡ pair_texts done ++ rest) × (fault levels (AKey (last_key last done)) rest ≡ Some kind)
     × (count_pairs done < n)
-IsWalk levels n last bytes (BadValue done key os kind rest) = Rises last done × AreLawfulPairs done
+IsWalk levels n last bytes (BadValue done key os kind rest) = KeysAscend last done × AreLawfulPairs done
     × (depth_pairs done ≤ levels) × (bytes ≡ pair_texts done ++ (text key ++ (fronts os ++ rest)))
     × FailsIn levels AnItem os kind rest × (count_pairs done < n) × IsKey key × IsLawful key
     × IsAbove (last_key last done) (text key)

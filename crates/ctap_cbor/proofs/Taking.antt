@@ -5,7 +5,7 @@ use Rattle.std.proofs.lemmas.List.{drop-drop, length-append, length-drop}
 use Rattle.ctap_cbor.specs.declared.fault.Kind.{Kind, TheVariants.KeyOrder}
 use Rattle.ctap_cbor.specs.{Head.AreBytes, Views.end_steps_of, Parts.Part, Parts.item_text, Parts.read}
 use Rattle.ctap_cbor.specs.Faults.{AnItem, first_faults, body_faults, fault, passed, fault_steps}
-use Rattle.ctap_cbor.specs.Reading.{Reading, rest_of, advance, Takes, Refuses}
+use Rattle.ctap_cbor.specs.Reading.{Reading, rest_of, advance, Takes, HasItemError}
 use Rattle.ctap_cbor.proofs.Items.{read_sound, fault_read}
 
 pub all_bytes : (bs : List ℕ) → ((i : ℕ) → get_or bs i 0 < 256) → AreBytes bs
@@ -49,7 +49,7 @@ in_order_steps kind bytes h = search (rules, arith)
 item_refused_at : (levels : ℕ) (old new : Reading) (at n : ℕ) (kind : Kind) →
     read levels AnItem (rest_of old) ≡ Err kind →
     n ≡ passed kind (rest_of old) → new ≡ advance old n (n + end_steps_of kind) → at ≡ old.place →
-    Refuses levels AnItem old new at kind
+    HasItemError levels AnItem old new at kind
 item_refused_at levels old new at n kind e len moved place = grind (arith, fault_read, in_order_steps, item_in_order)
 
 -- the same, of a list that is the rest
@@ -62,7 +62,7 @@ item_taken levels old new rest i n e fits h moved =
 
 pub item_refused : (levels : ℕ) (old new : Reading) (at : ℕ) (rest : List ℕ) (kind : Kind) (n end : ℕ) →
     rest ≡ rest_of old → read levels AnItem rest ≡ Err kind × (n ≡ passed kind rest) × (n ≤ length rest) →
-    end ≡ end_steps_of kind → new ≡ advance old n (n + end) → at ≡ old.place → Refuses levels AnItem old new at kind
+    end ≡ end_steps_of kind → new ≡ advance old n (n + end) → at ≡ old.place → HasItemError levels AnItem old new at kind
 item_refused levels old new at rest kind n end e h end-is moved place =
     let k = subst (λ x. read levels AnItem x ≡ Err kind × (n ≡ passed kind x) × (n ≤ length x)) e h in
     item_refused_at levels old new at n kind k.0 k.1 (moved ∙ ap (λ x. advance old n (n + x)) end-is) place

@@ -3,7 +3,7 @@ use Rattle.std.proofs.Common.{rules, ◌≡◌, ℕ, ◌+◌, List, [], ◌++◌
 use Rattle.std.proofs.lemmas.List.{append-nil}
 use Rattle.ctap_cbor.specs.{Tree.Tree, Tree.depth, Grammar.text}
 use Rattle.ctap_cbor.specs.Outcome.{Outcome, Whole, Longer, Stopped, IsOutcome, result_of}
-use Rattle.ctap_cbor.specs.Laws.{EncodingsAreUnique, NoEncodingIsAPrefix, WrittenIsReadAgain, EncodedIsDecoded}
+use Rattle.ctap_cbor.specs.Laws.{EncodingsAreUnique, NoEncodingIsAPrefix, EncodedTreesAreDecoded, EncodedIsDecoded}
 use Rattle.ctap_cbor.specs.Parse.{Parse, Done, Halt, parse, outcome_by}
 use Rattle.ctap_cbor.proofs.{Again.parse_again, Again.halt_again, Sound.IsParse, Sound.parse_sound}
 
@@ -16,12 +16,12 @@ outcome_only b (Whole t) h = ap (λ x. outcome_by (parse 4 x)) (h.enc.spelled �
 outcome_only b (Longer t) h = search (rules, arith, parse_again)
 outcome_only b (Stopped os kind) h = ap (λ x. outcome_by (parse 4 x)) h.2 ∙ ap outcome_by (halt_again os 4 kind h.0 h.1)
 
-pub each_text_is_one : EncodingsAreUnique
-each_text_is_one b fits =
+pub encodings_are_unique : EncodingsAreUnique
+encodings_are_unique b fits =
     (outcome_by (parse 4 b), outcome_sound b (parse 4 b) (parse_sound 4 b fits), λ p h. sym (outcome_only b p h))
 
-pub written_is_read_again : WrittenIsReadAgain
-written_is_read_again t b c o is = sym (outcome_only b o is) ∙ outcome_only b (Whole t) c
+pub encoded_trees_are_decoded : EncodedTreesAreDecoded
+encoded_trees_are_decoded t b c o is = sym (outcome_only b o is) ∙ outcome_only b (Whole t) c
 
 abbrev pub tree_of : Tree → Parse → Tree
 tree_of d (Done t rest) = t
@@ -31,8 +31,8 @@ abbrev pub rest_from : Parse → List ℕ
 rest_from (Done t rest) = rest
 rest_from (Halt os kind rest) = rest
 
-pub none_begins_another : NoEncodingIsAPrefix
-none_begins_another t u b c x y f g e =
+pub no_encoding_is_a_prefix : NoEncodingIsAPrefix
+no_encoding_is_a_prefix t u b c x y f g e =
     let levels : ℕ = depth t + depth u in
     let p : parse levels (b ++ x) ≡ Done t x = ap (λ z. parse levels (z ++ x)) f.spelled
     ∙ parse_again t levels x f.lawful (omega arith) in
@@ -44,6 +44,6 @@ none_begins_another t u b c x y f g e =
 
 pub encoded_is_decoded : EncodedIsDecoded
 encoded_is_decoded t b c = (
-  λ u d. (none_begins_another u t b b [] [] d.enc c.enc refl).0,
-  λ o is. ap result_of (written_is_read_again t b c o is),
+  λ u d. (no_encoding_is_a_prefix u t b b [] [] d.enc c.enc refl).0,
+  λ o is. ap result_of (encoded_trees_are_decoded t b c o is),
 )

@@ -8,7 +8,7 @@ use Rattle.ctap_cbor.specs.{declared.value.Value.Value, Parts.Part, Views.part_o
 use Rattle.ctap_cbor.specs.Tree.{push, push_pair, Tree, Plain}
 use Rattle.ctap_cbor.specs.Faults.{Expected, first_faults, body_faults, fault}
 use Rattle.ctap_cbor.specs.Outcome.{Outcome, IsOutcome, result_of}
-use Rattle.ctap_cbor.specs.Reading.{Reading, Takes, Refuses, Passes, PassesAll, PassesPairs, GivesKey, Fails, GoesOn}
+use Rattle.ctap_cbor.specs.Reading.{Reading, Takes, HasItemError, Passes, PassesAll, PassesPairs, GivesKey, Fails, HasTrailingBytes}
 use Rattle.ctap_cbor.specs.Values.{trees, pairs, tree_of, pair_of, trees_of, pairs_of, IsScalarOf, UnlessMemory}
 use Rattle.ctap_cbor.proofs.Answering.{start, found_stopped, found_longer}
 use Rattle.ctap_cbor.proofs.{Moves.passes_more, Skipping.given_more, Skipping.one_passes}
@@ -69,7 +69,7 @@ unfolding first_faults body_faults
 fault_not_memory levels due bytes kind e = search (rules, arith)
 
 pub refuses_not_memory : (levels : ℕ) (due : Expected) (a b : Reading) (at : ℕ) (kind : Kind) →
-    Refuses levels due a b at kind →
+    HasItemError levels due a b at kind →
     kind ≢ Memory
 refuses_not_memory levels due a b at kind h = fault_not_memory levels due _ kind h.is
 
@@ -90,7 +90,7 @@ stopped_outcome b old new f e h =
     (k.0, k.1, k.2.0)
 
 pub longer_outcome : (b : List ℕ) (old middle new : Reading) (f : Fault) (t : Tree) → old ≡ start b →
-    Passes 4 t old middle → GoesOn middle new f.at f.kind →
+    Passes 4 t old middle → HasTrailingBytes middle new f.at f.kind →
     UnlessMemory f ((o : Outcome) × IsOutcome b o × (result_of o ≡ Some (f.at, f.kind)))
 longer_outcome b old middle new f t e p g =
     let k = found_longer b middle new f (t, subst (λ r. Passes 4 t r middle) e p) g in

@@ -8,7 +8,7 @@ use Rattle.ctap_cbor.specs.declared.{encode.Span.Span, value.Value.Value}
 use Rattle.ctap_cbor.specs.declared.fault.Kind.{Kind, TheVariants.Memory}
 use Rattle.ctap_cbor.specs.Tree.{Tree, Array, Map, Trees, no_trees, tree, Pairs, pair, depth_all, depth_pairs, count}
 use Rattle.ctap_cbor.specs.{Tree.count_pairs, Head.head, Writes.last_text, Faults.AKey, Faults.is_above}
-use Rattle.ctap_cbor.specs.Grammar.{text, texts, pair_texts, Rises, AreLawful, AreLawfulPairs}
+use Rattle.ctap_cbor.specs.Grammar.{text, texts, pair_texts, KeysAscend, AreLawful, AreLawfulPairs}
 use Rattle.ctap_cbor.specs.Refusals.{own_refusal, refusal, refusal_all, refusal_pairs}
 use Rattle.ctap_cbor.specs.Values.{tree_of, trees_of, pairs_of}
 use Rattle.ctap_cbor.specs.Writes.{Extends, Writes, WritesAll, WritesPairs, WritesKey, FailsWith, IsShort, text_at}
@@ -36,7 +36,7 @@ items_end levels all start now h = search (rules, arith)
 pub record PairsLeft (levels : ℕ) (all rest : Pairs) (last : Option (List ℕ)) (start now : List ℕ) : Type 0 where
   pub spelled : now ++ pair_texts rest ≡ start ++ pair_texts all
   pub refused : refusal_pairs levels last rest ≡ refusal_pairs levels None all
-  pub rises : Rises last rest → Rises None all
+  pub rises : KeysAscend last rest → KeysAscend None all
   pub lawful : AreLawfulPairs rest → AreLawfulPairs all
   pub flat : depth_pairs rest ≤ levels → depth_pairs all ≤ levels
   pub extends : Extends start now

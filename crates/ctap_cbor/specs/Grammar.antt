@@ -53,16 +53,16 @@ IsAbove None key = Unit {0}
 IsAbove (Some before) key = slice_cmp nat_cmp before key ≡ Less
 
 -- The keys of a map are in canonical order, without duplicates (CTAP 2.1, section 8).
-abbrev pub Rises : Option (List ℕ) → Pairs → Type 0
-Rises before no_pairs = Unit {0}
-Rises before (pair k v ps) = IsKey k × IsAbove before (text k) × Rises (Some (text k)) ps
+abbrev pub KeysAscend : Option (List ℕ) → Pairs → Type 0
+KeysAscend before no_pairs = Unit {0}
+KeysAscend before (pair k v ps) = IsKey k × IsAbove before (text k) × KeysAscend (Some (text k)) ps
 
 -- The trees that have an encoding, at any depth of nesting.
 abbrev mutual
   pub IsLawful : Tree → Type 0
   IsLawful (Plain s) = Fits s
   IsLawful (Array ts) = (count ts < 2 ^ 64) × AreLawful ts
-  IsLawful (Map ps) = (count_pairs ps < 2 ^ 64) × Rises None ps × AreLawfulPairs ps
+  IsLawful (Map ps) = (count_pairs ps < 2 ^ 64) × KeysAscend None ps × AreLawfulPairs ps
 
   pub AreLawful : Trees → Type 0
   AreLawful no_trees = Unit {0}

@@ -6,7 +6,7 @@ use Rattle.ctap_cbor.specs.Grammar.{text, texts, IsLawful, AreLawful, IsEncoding
 use Rattle.ctap_cbor.specs.Outcome.{Outcome, Whole, IsOutcome, result_of, steps}
 use Rattle.ctap_cbor.specs.Parts.{Part, item_text, Suits}
 use Rattle.ctap_cbor.specs.Telling.{outcome_of, canonical_tree, check_steps, items_at}
-use Rattle.ctap_cbor.specs.Reading.{Reading, at_front, rest_of, counted, Passes, Fails, Ends, GoesOn}
+use Rattle.ctap_cbor.specs.Reading.{Reading, at_front, rest_of, add_steps, Passes, Fails, HasNoByteLeft, HasTrailingBytes}
 
 -- Each byte string is the encoding of exactly one tree, or has exactly one first error.
 abbrev pub EncodingsAreUnique : Type 0
@@ -18,8 +18,8 @@ NoEncodingIsAPrefix = (t u : Tree) (b c x y : List ℕ) → IsEncoding t b → I
     → (t ≡ u) × (b ≡ c) × (x ≡ y)
 
 -- No head, with the content of a string, is a proper prefix of another, and no two items have the same one.
-abbrev pub NoItemBeginsAnother : Type 0
-NoItemBeginsAnother = (levels : ℕ) (i j : Part) (x y : List ℕ) → Suits levels AnItem i → Suits levels AnItem j
+abbrev pub NoHeadIsAPrefix : Type 0
+NoHeadIsAPrefix = (levels : ℕ) (i j : Part) (x y : List ℕ) → Suits levels AnItem i → Suits levels AnItem j
     → item_text i ++ x ≡ item_text j ++ y → (i ≡ j) × (x ≡ y)
 
 -- Decoding n bytes takes at most 2 * n + 1 steps.
@@ -27,12 +27,12 @@ abbrev pub StepsAreBounded : Type 0
 StepsAreBounded = (b : List ℕ) (o : Outcome) → IsOutcome b o → steps b o ≤ 2 * length b + 1
 
 -- Decoding a canonical encoding returns its tree.
-abbrev pub WrittenIsReadAgain : Type 0
-WrittenIsReadAgain = (t : Tree) (b : List ℕ) → IsCanonical t b → (o : Outcome) → IsOutcome b o → o ≡ Whole t
+abbrev pub EncodedTreesAreDecoded : Type 0
+EncodedTreesAreDecoded = (t : Tree) (b : List ℕ) → IsCanonical t b → (o : Outcome) → IsOutcome b o → o ≡ Whole t
 
 -- If a tree's encoding is at a cursor's position, the cursor can read no other tree there.
-abbrev pub OneTreePasses : Type 0
-OneTreePasses = (levels : ℕ) (t u : Tree) (rest : List ℕ) (old new : Reading) → IsLawful t → depth t ≤ levels
+abbrev pub CursorReadsOneTree : Type 0
+CursorReadsOneTree = (levels : ℕ) (t u : Tree) (rest : List ℕ) (old new : Reading) → IsLawful t → depth t ≤ levels
     → rest_of old ≡ text t ++ rest → Passes levels u old new → (u ≡ t) × (rest_of new ≡ rest)
 
 -- If a tree's encoding is at a cursor's position, no error is found there.
@@ -46,8 +46,8 @@ EncodedIsDecoded = (t : Tree) (b : List ℕ) → IsCanonical t b
     → ((u : Tree) → IsCanonical u b → u ≡ t) × ((o : Outcome) → IsOutcome b o → result_of o ≡ None)
 
 -- A tree that the encoder rejects has no canonical encoding.
-abbrev pub RefusedHasNoText : Type 0
-RefusedHasNoText = (t : Tree) (kind : Kind) → refusal 4 t ≡ Some kind → (b : List ℕ) → IsCanonical t b → ⊥
+abbrev pub RejectedHasNoEncoding : Type 0
+RejectedHasNoEncoding = (t : Tree) (kind : Kind) → refusal 4 t ≡ Some kind → (b : List ℕ) → IsCanonical t b → ⊥
 
 -- `outcome_of` is the outcome of each byte string.
 pub record BytesDetermineTree : Type 0 where
@@ -61,30 +61,30 @@ TreesAreComputed = (b : List ℕ) (t : Tree) → AreBytes b → (canonical_tree 
 -- A cursor at the first of these bytes read this tree up to their end: the bytes are its canonical encoding.
 pub record ReadsTree (b : List ℕ) (s : ℕ) (t : Tree) (new : Reading) : Type 0 where
   pub tree_is : canonical_tree b ≡ Some t
-  pub moved : new ≡ record { bytes = b; place = length b; steps = counted s (check_steps b) }
+  pub moved : new ≡ record { bytes = b; place = length b; steps = add_steps s (check_steps b) }
 
 -- A cursor at the first of these bytes found this error: they are no tree's canonical encoding.
 pub record ReadsNoTree (b : List ℕ) (s : ℕ) (new : Reading) (at : ℕ) (kind : Kind) : Type 0 where
   pub none : canonical_tree b ≡ None
   pub fault_is : result_of (outcome_of b) ≡ Some (at, kind)
   pub bytes_stay : new.bytes ≡ b
-  pub steps_are : new.steps ≡ counted s (check_steps b)
+  pub steps_are : new.steps ≡ add_steps s (check_steps b)
 
 -- Reading all of these bytes returns their tree or first error, and takes the steps that `check_steps` computes,
 -- whatever the step count was before.
-pub record WholeReadings (b : List ℕ) : Type 0 where
-  pub passed : (t : Tree) (s : ℕ) (middle new : Reading) → Passes 4 t (at_front b s) middle → Ends middle new
+pub record CursorAgreesWithCheck (b : List ℕ) : Type 0 where
+  pub passed : (t : Tree) (s : ℕ) (middle new : Reading) → Passes 4 t (at_front b s) middle → HasNoByteLeft middle new
       → ReadsTree b s t new
   pub stopped : (s : ℕ) (new : Reading) (at : ℕ) (kind : Kind) → Fails 4 (at_front b s) new at kind
       → ReadsNoTree b s new at kind
   pub longer : (t : Tree) (s : ℕ) (middle new : Reading) (at : ℕ) (kind : Kind) → Passes 4 t (at_front b s) middle
-      → GoesOn middle new at kind → ReadsNoTree b s new at kind
+      → HasTrailingBytes middle new at kind → ReadsNoTree b s new at kind
 
 -- Checking n bytes takes at most 2 * n + 1 steps.
 abbrev pub CheckStepsAreBounded : Type 0
 CheckStepsAreBounded = (b : List ℕ) → check_steps b ≤ 2 * length b + 1
 
 -- `items_at` returns the items that are encoded one after another.
-abbrev pub ItemsAreFound : Type 0
-ItemsAreFound = (levels : ℕ) (ts : Trees) → AreLawful ts → depth_all ts ≤ levels →
+abbrev pub ItemsAreDecoded : Type 0
+ItemsAreDecoded = (levels : ℕ) (ts : Trees) → AreLawful ts → depth_all ts ≤ levels →
     items_at levels (count ts) (texts ts) ≡ ts

@@ -4,7 +4,7 @@ use Rattle.std.specs.Prelude.{Some, None, Result, Ok, Err}
 use Rattle.ctap_cbor.specs.declared.fault.{Fault.Fault, Kind.Kind, Kind.TheVariants.Trailing}
 use Rattle.ctap_cbor.specs.Tree.{Tree, Plain, Array, Map, Trees, no_trees, tree, Pairs, no_pairs, pair, depth_all}
 use Rattle.ctap_cbor.specs.{Tree.depth_pairs, Tree.count, Tree.count_pairs, Head.head, Grammar.IsCanonical}
-use Rattle.ctap_cbor.specs.Grammar.{text, texts, pair_texts, IsKey, IsAbove, Rises, IsLawful, AreLawful, AreLawfulPairs}
+use Rattle.ctap_cbor.specs.Grammar.{text, texts, pair_texts, IsKey, IsAbove, KeysAscend, IsLawful, AreLawful, AreLawfulPairs}
 use Rattle.ctap_cbor.specs.Faults.{Expected, AnItem, AKey, fault, fault_steps}
 
 -- An unfinished array or map: the count in its head, and its complete items so far.
@@ -33,9 +33,9 @@ last_key before (pair k v ps) = last_key (Some (text k)) ps
 abbrev pub IsOpen : ℕ → Enclosing → Type 0
 IsOpen levels (InArray total done) = (total < 2 ^ 64) × (count done < total) × AreLawful done
     × (depth_all done ≤ levels)
-IsOpen levels (AtKey total done) = (total < 2 ^ 64) × (count_pairs done < total) × Rises None done × AreLawfulPairs done
+IsOpen levels (AtKey total done) = (total < 2 ^ 64) × (count_pairs done < total) × KeysAscend None done × AreLawfulPairs done
     × (depth_pairs done ≤ levels)
-IsOpen levels (AtValue total done key) = (total < 2 ^ 64) × (count_pairs done < total) × Rises None done
+IsOpen levels (AtValue total done key) = (total < 2 ^ 64) × (count_pairs done < total) × KeysAscend None done
     × AreLawfulPairs done × (depth_pairs done ≤ levels) × IsKey key × IsLawful key
     × IsAbove (last_key None done) (text key)
 
@@ -119,6 +119,6 @@ result_of (Longer t) = Some (length (text t), Trailing)
 result_of (Stopped os kind) = Some (length (fronts os), kind)
 
 -- The result of `check` for an outcome. The step count saturates at 2^64-1.
-abbrev pub Answers : List ℕ → Outcome → Result (Unit {0}) Fault → ℕ → Type 0
-Answers b o (Ok _) n = (result_of o ≡ None) × (n ≡ min (steps b o) 18446744073709551615)
-Answers b o (Err f) n = (result_of o ≡ Some (f.at, f.kind)) × (n ≡ min (steps b o) 18446744073709551615)
+abbrev pub IsCheckResult : List ℕ → Outcome → Result (Unit {0}) Fault → ℕ → Type 0
+IsCheckResult b o (Ok _) n = (result_of o ≡ None) × (n ≡ min (steps b o) 18446744073709551615)
+IsCheckResult b o (Err f) n = (result_of o ≡ Some (f.at, f.kind)) × (n ≡ min (steps b o) 18446744073709551615)

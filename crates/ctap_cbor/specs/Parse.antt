@@ -91,6 +91,6 @@ outcome_by (Done t (x ∷ rest)) = Longer t
 outcome_by (Halt os kind rest) = Stopped os kind
 
 -- The items that were parsed.
-abbrev pub ran_by : Run → Trees
-ran_by (Ran ts rest) = ts
-ran_by (Broke done os kind rest) = done
+abbrev pub parsed_items : Run → Trees
+parsed_items (Ran ts rest) = ts
+parsed_items (Broke done os kind rest) = done

@@ -36,13 +36,13 @@ item_of m first rest = One (if nat_eq (info first) 20 then Flag false else if na
     else Null)
 
 -- The error if any, or else the item and the bytes after it.
-abbrev pub unless : Option Kind → Part → List ℕ → Result (Part × List ℕ) Kind
-unless None i rest = Ok (i, rest)
-unless (Some kind) i rest = Err kind
+abbrev pub item_or_error : Option Kind → Part → List ℕ → Result (Part × List ℕ) Kind
+item_or_error None i rest = Ok (i, rest)
+item_or_error (Some kind) i rest = Err kind
 
 unfoldable pub read : ℕ → Expected → List ℕ → Result (Part × List ℕ) Kind
 read levels due [] = Err Truncated
-read levels due (first ∷ rest) = unless (fault levels due (first ∷ rest)) (item_of (major first) first rest)
+read levels due (first ∷ rest) = item_or_error (fault levels due (first ∷ rest)) (item_of (major first) first rest)
     (drop (item_len first rest) (first ∷ rest))
 
 -- An array or map may be opened here: it isn't a key, and the nesting limit isn't reached.

@@ -4,7 +4,7 @@ use Rattle.std.specs.Prelude.{Ok, Err, ◌⊎◌}
 use Rattle.ctap_cbor.specs.declared.fault.{Fault.Fault, Kind.Kind, Kind.TheVariants.Trailing}
 use Rattle.ctap_cbor.specs.Tree.{Tree, Plain, Array, Map, Trees, Pairs, Scalar, depth, depth_all, depth_pairs, count}
 use Rattle.ctap_cbor.specs.{Tree.count_pairs, Outcome.later_in_open}
-use Rattle.ctap_cbor.specs.Grammar.{text, texts, pair_texts, scalar_text, Rises, IsLawful, AreLawful, AreLawfulPairs}
+use Rattle.ctap_cbor.specs.Grammar.{text, texts, pair_texts, scalar_text, KeysAscend, IsLawful, AreLawful, AreLawfulPairs}
 use Rattle.ctap_cbor.specs.Faults.{Expected, AnItem, AKey, fault, passed, fault_steps}
 use Rattle.ctap_cbor.specs.Parts.{Part, One, OpensArray, OpensMap, item_text, Suits}
 use Rattle.ctap_cbor.specs.Outcome.{Enclosing, fronts, last_key, FailsIn, later_keys, later_in_all, later_in_map}
@@ -24,12 +24,12 @@ abbrev pub rest_of : Reading → List ℕ
 rest_of r = drop r.place r.bytes
 
 -- The step count `n` plus `more`, saturating at 2^64-1.
-abbrev pub counted : ℕ → ℕ → ℕ
-counted n more = max n (min (n + more) 18446744073709551615)
+abbrev pub add_steps : ℕ → ℕ → ℕ
+add_steps n more = max n (min (n + more) 18446744073709551615)
 
 -- The cursor after this many bytes and steps.
 abbrev pub advance : Reading → ℕ → ℕ → Reading
-advance r n s = record { bytes = r.bytes; place = r.place + n; steps = counted r.steps s }
+advance r n s = record { bytes = r.bytes; place = r.place + n; steps = add_steps r.steps s }
 
 -- The position and the step count don't decrease.
 pub record MovesOn (old new : Reading) : Type 0 where
@@ -44,7 +44,7 @@ pub record Takes (levels : ℕ) (old new : Reading) (part : Part) : Type 0 where
   pub moved : new ≡ advance old (length (item_text part)) (length (item_text part))
 
 -- The item at the position has an error.
-pub record Refuses (levels : ℕ) (due : Expected) (old new : Reading) (at : ℕ) (kind : Kind) : Type 0 where
+pub record HasItemError (levels : ℕ) (due : Expected) (old new : Reading) (at : ℕ) (kind : Kind) : Type 0 where
   pub is : fault levels due (rest_of old) ≡ Some kind
   pub place : at ≡ old.place
   pub moved : new ≡ advance old (passed kind (rest_of old)) (fault_steps kind (rest_of old))
@@ -104,7 +104,7 @@ pub record FailsInArray (levels n : ℕ) (old new : Reading) (at : ℕ) (kind : 
 
 -- The cursor read this many pairs of a map; `last` is the encoding of the last key, if any.
 pub record PassesPairs (levels n : ℕ) (done : Pairs) (last : Option (List ℕ)) (old new : Reading) : Type 0 where
-  pub rises : Rises None done
+  pub rises : KeysAscend None done
   pub lawful : AreLawfulPairs done
   pub flat : depth_pairs done ≤ levels
   pub number : count_pairs done ≡ n
@@ -120,7 +120,7 @@ pub record FailsAtKey (levels n : ℕ) (old new : Reading) (at : ℕ) (kind : Ki
   pub between : Reading
   pub done : Pairs
   pub passes : PassesPairs levels before done last old between
-  pub refuses : Refuses 0 (AKey last) between new at kind
+  pub refuses : HasItemError 0 (AKey last) between new at kind
 
 -- The cursor read fewer pairs than the map's count, and then a key, and found an error in its value.
 pub record FailsAtValue (levels n : ℕ) (old new : Reading) (at : ℕ) (kind : Kind) : Type 0 where
@@ -163,18 +163,18 @@ FailsInPairs levels n old new at kind = FailsAtKey levels n old new at kind ⊎ 
 
 -- The result is the only possible one: a tree whose encoding is at the position is the one that was read, and an error
 -- is the first.
-pub record Only (levels : ℕ) (old new : Reading) (result : Result (Unit {0}) Fault) : Type 0 where
+pub record IsOnlyResult (levels : ℕ) (old new : Reading) (result : Result (Unit {0}) Fault) : Type 0 where
   pub passed : (t : Tree) (r : Reading) → Passes levels t old r → (result ≡ Ok tt) × (new ≡ r)
   pub halted : (at : ℕ) (kind : Kind) (r : Reading) → Fails levels old r at kind
       → (result ≡ Err record { at = at; kind = kind }) × (new ≡ r)
 
 -- No byte is left. Detecting this takes one step.
-pub record Ends (old new : Reading) : Type 0 where
+pub record HasNoByteLeft (old new : Reading) : Type 0 where
   pub at_end : rest_of old ≡ []
   pub moved : new ≡ advance old 0 1
 
 -- Bytes are left after the item.
-pub record GoesOn (old new : Reading) (at : ℕ) (kind : Kind) : Type 0 where
+pub record HasTrailingBytes (old new : Reading) (at : ℕ) (kind : Kind) : Type 0 where
   pub left : 0 < length (rest_of old)
   pub place : at ≡ old.place
   pub is_trailing : kind ≡ Trailing

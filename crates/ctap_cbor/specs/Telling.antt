@@ -1,9 +1,9 @@
 -- The outcome of decoding as functions of the bytes, so that other definitions can refer to the tree of a message and
--- to the steps of reading it. The law `bytes_tell` states that this is the outcome that Outcome.antt defines.
+-- to the steps of reading it. The law `outcomes_are_computed` states that this is the outcome that Outcome.antt defines.
 use Rattle.std.specs.Prelude.{ℕ, Bool, true, ◌&&◌, List, [], ◌∷◌, Option, Some, None, if◌then◌else◌, nat_lt}
 use Rattle.ctap_cbor.specs.{declared.fault.Kind.TheVariants.Reserved, Tree.Tree, Tree.Trees}
 use Rattle.ctap_cbor.specs.Outcome.{Outcome, Whole, Stopped, steps}
-use Rattle.ctap_cbor.specs.Parse.{outcome_by, ran_by, items, parse}
+use Rattle.ctap_cbor.specs.Parse.{outcome_by, parsed_items, items, parse}
 
 -- Whether each number is below 256.
 abbrev pub are_bytes : List ℕ → Bool
@@ -30,4 +30,4 @@ check_steps b = steps b (outcome_of b)
 
 -- The items that these bytes encode one after another, each of at most `levels` levels.
 unfoldable pub items_at : (levels n : ℕ) → List ℕ → Trees
-items_at levels n b = ran_by (items (parse levels) n b)
+items_at levels n b = parsed_items (items (parse levels) n b)

@@ -34,10 +34,10 @@ ReadsItem levels old new result =
     → IsOkAnd result (λ j. (part_of j ≡ i) × (rest_of new ≡ rest))
 
 -- The code's result equals that of the definition `read`.
-abbrev pub Finds : List ℕ → Result (Item × ℕ) (Kind × ℕ) → Result (Part × List ℕ) Kind → Type 0
-Finds bytes (Ok (i, len)) read = (read ≡ Ok (part_of i, drop len bytes)) × (len ≤ length bytes)
+abbrev pub IsDecodedItem : List ℕ → Result (Item × ℕ) (Kind × ℕ) → Result (Part × List ℕ) Kind → Type 0
+IsDecodedItem bytes (Ok (i, len)) read = (read ≡ Ok (part_of i, drop len bytes)) × (len ≤ length bytes)
     × (len ≡ passed KeyOrder bytes)
-Finds bytes (Err (kind, n)) read = (read ≡ Err kind) × (n ≡ passed kind bytes) × (n ≤ length bytes)
+IsDecodedItem bytes (Err (kind, n)) read = (read ≡ Err kind) × (n ≡ passed kind bytes) × (n ≤ length bytes)
 
 -- What is expected: a key, or any item.
 abbrev pub due_of : Bool → Expected
@@ -54,10 +54,10 @@ item_with_head m i n = One (if nat_eq i 20 then tree.Flag false else if nat_eq i
 
 -- The result of reading the rest of an item after a valid initial byte: the item and its length, or the first error
 -- and the number of bytes read.
-abbrev pub FindsRest : ℕ → List ℕ → Result (Item × ℕ) (Kind × ℕ) → Type 0
-FindsRest first rest (Ok (i, len)) = (first_of (later_faults AnItem first rest) ≡ None)
+abbrev pub IsDecodedItemRest : ℕ → List ℕ → Result (Item × ℕ) (Kind × ℕ) → Type 0
+IsDecodedItemRest first rest (Ok (i, len)) = (first_of (later_faults AnItem first rest) ≡ None)
     × (part_of i ≡ item_of (major first) first rest) × (len ≡ item_len first rest) × (len ≤ suc (length rest))
-FindsRest first rest (Err (kind, n)) = (first_of (later_faults AnItem first rest) ≡ Some kind)
+IsDecodedItemRest first rest (Err (kind, n)) = (first_of (later_faults AnItem first rest) ≡ Some kind)
     × (n ≡ passed kind (first ∷ rest)) × (n ≤ suc (length rest))
 
 -- The steps for finding the end of the input, by the kind of error.

@@ -3,7 +3,7 @@ use Rattle.std.specs.Prelude.{◌≡◌, ◌≢◌, ℕ, ◌+◌, ◌-◌, ◌<�
 use Rattle.ctap_cbor.specs.declared.fault.Kind.{Kind, TheVariants.Memory}
 use Rattle.ctap_cbor.specs.{declared.encode.Span.Span, Grammar.AreLawfulPairs}
 use Rattle.ctap_cbor.specs.Tree.{Scalar, Tree, Trees, Pairs, depth, depth_all, depth_pairs}
-use Rattle.ctap_cbor.specs.Grammar.{text, texts, pair_texts, scalar_text, Fits, Rises, IsKey, IsLawful, AreLawful}
+use Rattle.ctap_cbor.specs.Grammar.{text, texts, pair_texts, scalar_text, Fits, KeysAscend, IsKey, IsLawful, AreLawful}
 use Rattle.ctap_cbor.specs.Refusals.{refusal, refusal_all, refusal_pairs, own_refusal}
 
 -- The second list begins with the first.
@@ -36,7 +36,7 @@ pub record WritesAll (levels : ℕ) (ts : Trees) (old new : List ℕ) : Type 0 w
 -- The pairs of a map were encoded and appended.
 pub record WritesPairs (levels : ℕ) (ps : Pairs) (old new : List ℕ) : Type 0 where
   pub accepted : refusal_pairs levels None ps ≡ None
-  pub rises : Rises None ps
+  pub rises : KeysAscend None ps
   pub lawful : AreLawfulPairs ps
   pub flat : depth_pairs ps ≤ levels
   pub appended : new ≡ old ++ pair_texts ps

@@ -59,7 +59,7 @@ pub fn read_map<'a, M: Members<'a>>(
     let count = match cursor.item(level)? {
         Item::Map(count) => count,
         other => {
-            cursor.inside(other, level)?;
+            cursor.skip_content(other, level)?;
             return Ok(None);
         }
     };
@@ -92,7 +92,7 @@ pub fn read_array<'a, M: Entries<'a>>(
     let count = match cursor.item(level)? {
         Item::Array(count) => count,
         other => {
-            cursor.inside(other, level)?;
+            cursor.skip_content(other, level)?;
             return Ok(None);
         }
     };

@@ -6,13 +6,13 @@ ghost use Rattle.ctap_cbor.specs.Head.{AreBytes};
 ghost use Rattle.ctap_cbor.specs.Faults.{AnItem, AKey, is_above};
 ghost use Rattle.ctap_cbor.specs.Parts.{read, Suits};
 ghost use Rattle.ctap_cbor.specs.Views.{part_of, ReadsItem, end_steps_of};
-ghost use Rattle.ctap_cbor.specs.Reading.{Reading, rest_of, advance, compared, Takes, Refuses, GivesKey, Ends, GoesOn};
-ghost use Rattle.ctap_cbor.specs.Reading.{PassesOne, PassesAs, PassesSome, PassesSomePairs, Fails, FailsInArray, FailsInPairs, Only, MovesOn};
+ghost use Rattle.ctap_cbor.specs.Reading.{Reading, rest_of, advance, compared, Takes, HasItemError, GivesKey, HasNoByteLeft, HasTrailingBytes};
+ghost use Rattle.ctap_cbor.specs.Reading.{PassesOne, PassesAs, PassesSome, PassesSomePairs, Fails, FailsInArray, FailsInPairs, IsOnlyResult, MovesOn};
 
 use crate::fault::{Fault, Kind};
 use crate::head::find;
 use crate::item::{Item, Key};
-use crate::laws::known_bytes;
+use crate::laws::byte_bounds;
 use std::marker::Model;
 
 /// Decodes a message item by item, in place.
@@ -72,7 +72,7 @@ impl<'a> Cursor<'a> {
         requires high { level ≤ 5 }
         ensures takes { MatchResult result
             (λ i. Takes (5 - level) self.old self.new (part_of i))
-            (λ f. Refuses (5 - level) AnItem self.old self.new f.at f.kind) }
+            (λ f. HasItemError (5 - level) AnItem self.old self.new f.at f.kind) }
         ensures exact { MatchResult result
             (λ i. read (5 - level) AnItem (rest_of self.old) ≡ Ok (part_of i, rest_of self.new))
             (λ f. read (5 - level) AnItem (rest_of self.old) ≡ Err f.kind) }
@@ -97,7 +97,7 @@ impl<'a> Cursor<'a> {
     pub fn key(&mut self, previous: Option<&'a [u8]>) -> Result<Key<'a>, Fault>
         ensures gives { MatchResult result
             (λ k. GivesKey (option_copied previous.entry) self.old self.new (part_of k.item) k.bytes.now)
-            (λ f. Refuses 0 (AKey (option_copied previous.entry)) self.old self.new f.at f.kind) }
+            (λ f. HasItemError 0 (AKey (option_copied previous.entry)) self.old self.new f.at f.kind) }
         ensures exact { MatchResult result
             (λ k. read 0 (AKey (option_copied previous.entry)) (rest_of self.old)
             ≡ Ok (part_of k.item, rest_of self.new))
@@ -134,14 +134,14 @@ impl<'a> Cursor<'a> {
         ensures passes { MatchResult result
             (λ _. PassesOne (5 - level) self.old self.new)
             (λ f. Fails (5 - level) self.old self.new f.at f.kind) }
-        ensures only { Only (5 - level) self.old self.new result }
+        ensures only { IsOnlyResult (5 - level) self.old self.new result }
     {
         let item = self.item(level)?;
-        self.inside(item, level)
+        self.skip_content(item, level)
     }
 
     /// Skips a whole item with its content, and returns its head.
-    pub fn whole(&mut self, level: u8) -> Result<Item<'a>, Fault>
+    pub fn read_whole_item(&mut self, level: u8) -> Result<Item<'a>, Fault>
         requires low { 1 ≤ level }
         requires high { level ≤ 5 }
         ensures { MatchResult result
@@ -149,13 +149,13 @@ impl<'a> Cursor<'a> {
             (λ f. Fails (5 - level) self.old self.new f.at f.kind) }
     {
         let item = self.item(level)?;
-        self.inside(item, level)?;
+        self.skip_content(item, level)?;
         Ok(item)
     }
 
     /// Skips the content of the item at this nesting level whose head was just read.
     #[cycle(skip)]
-    pub(crate) fn inside(&mut self, item: Item<'a>, level: u8) -> Result<(), Fault>
+    pub(crate) fn skip_content(&mut self, item: Item<'a>, level: u8) -> Result<(), Fault>
         requires low { 1 ≤ level }
         requires high { level ≤ 5 }
         requires suits { Suits (5 - level) AnItem (part_of item) }
@@ -208,7 +208,7 @@ impl<'a> Cursor<'a> {
 
     /// Checks that no byte is left. Otherwise fails with [`Kind::Trailing`], and leaves the cursor where it is.
     pub fn end(&mut self) -> Result<(), Fault>
-        ensures { MatchResult result (λ _. Ends self.old self.new) (λ f. GoesOn self.old self.new f.at f.kind) }
+        ensures { MatchResult result (λ _. HasNoByteLeft self.old self.new) (λ f. HasTrailingBytes self.old self.new f.at f.kind) }
     {
         let at = self.place;
         if self.rest().is_empty() {
@@ -230,7 +230,7 @@ impl<'a> Cursor<'a> {
     }
 
     /// Returns the bytes from `place` to the cursor, such as the encoding of an array that was just read.
-    pub fn since(&self, place: usize) -> &'a [u8]
+    pub fn bytes_since(&self, place: usize) -> &'a [u8]
         requires { place ≤ self.now.place }
         ensures { result.now ≡ take (self.now.place - place) (drop place self.now.bytes) }
     {
@@ -243,7 +243,7 @@ impl<'a> Cursor<'a> {
         ensures bytes { AreBytes result.now }
     {
         let rest = &self.bytes[self.place..];
-        known_bytes(rest);
+        byte_bounds(rest);
         rest
     }
 

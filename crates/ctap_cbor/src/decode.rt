@@ -10,7 +10,7 @@ ghost use Rattle.ctap_cbor.specs.Views.{part_of};
 use crate::cursor::Cursor;
 use crate::fault::{Fault, Kind};
 use crate::item::Item;
-use crate::laws::known_bytes;
+use crate::laws::byte_bounds;
 use crate::value::{Value, array_of, bytes_of, flag_of, int_of, map_of, null_of, text_of};
 use std::alloc::{AllocError, AllocFailed, Global};
 
@@ -49,7 +49,7 @@ pub fn decode_value(alloc: Global, bytes: &[u8]) -> Result<Value, Fault>
     ensures err { IfErr result (λ f. UnlessMemory f ((o : Outcome) × IsOutcome bytes.now o
         × (result_of o ≡ Some (f.at, f.kind)))) }
 {
-    known_bytes(bytes);
+    byte_bounds(bytes);
     let mut cursor = Cursor::new(bytes);
     let value = read_value(alloc, &mut cursor, 1)?;
     cursor.end()?;

@@ -11,7 +11,7 @@ ghost use Rattle.ctap_cbor.specs.Refusals.{refusal, refusal_all, refusal_pairs, 
 ghost use Rattle.ctap_cbor.specs.Writes.{Writes, WritesAll, WritesPairs, WritesKey, WritesScalar, FailsWith, Extends, IsShort, last_text};
 
 use crate::fault::Kind;
-use crate::laws::known_bytes;
+use crate::laws::byte_bounds;
 use crate::sink::head_into;
 use crate::value::Value;
 use std::alloc::{AllocError, AllocFailed};
@@ -222,7 +222,7 @@ fn write_bytes(bytes: &[u8], out: &mut Vec<u8>) -> Result<(), Kind>
     ensures short { IfErr result (λ k. k ≡ Kind.Memory
         → IsShort (vec_capacity out.old) out.old.items (scalar_text (tree.Bytes bytes.now))) }
 {
-    known_bytes(bytes);
+    byte_bounds(bytes);
     write_head(2, bytes.len() as u64, out)?;
     out.extend_from_slice(bytes)?;
     Ok(())

@@ -5,7 +5,7 @@ ghost use Rattle.std.specs.Str.{is_utf8};
 ghost use Rattle.ctap_cbor.specs.Head.{info, argument_len, argument, least_argument};
 ghost use Rattle.ctap_cbor.specs.Faults.{first_of, first_faults};
 ghost use Rattle.ctap_cbor.specs.Parts.{read};
-ghost use Rattle.ctap_cbor.specs.Views.{Finds, FindsRest, part_of, due_of, item_with_head};
+ghost use Rattle.ctap_cbor.specs.Views.{IsDecodedItem, IsDecodedItemRest, part_of, due_of, item_with_head};
 
 use crate::fault::Kind;
 use crate::item::Item;
@@ -19,7 +19,7 @@ pub(crate) fn find<'a>(
     levels: u8,
     is_key: bool,
 ) -> Result<(Item<'a>, usize), (Kind, usize)>
-    ensures { Finds bytes.now result (read levels (due_of is_key) bytes.now) }
+    ensures { IsDecodedItem bytes.now result (read levels (due_of is_key) bytes.now) }
 {
     let Some((first, rest)) = bytes.split_first() else {
         return Err((Kind::Truncated, 0));
@@ -56,7 +56,7 @@ fn first_fault(first: u8, levels: u8, is_key: bool) -> Option<Kind>
 #[inline(always)]
 fn find_rest<'a>(first: u8, rest: &'a [u8]) -> Result<(Item<'a>, usize), (Kind, usize)>
     requires { info first < 28 }
-    ensures { FindsRest first rest.now result }
+    ensures { IsDecodedItemRest first rest.now result }
 {
     let major = first / 32;
     let info = first % 32;

@@ -3,12 +3,12 @@
 ghost use Rattle.std.specs.Prelude.{MatchResult, IsOk, ◌↔◌, ◌⊎◌};
 ghost use Rattle.ctap_cbor.specs.Tree.{Tree};
 ghost use Rattle.ctap_cbor.specs.Grammar.{IsCanonical};
-ghost use Rattle.ctap_cbor.specs.Outcome.{Outcome, IsOutcome, Answers};
-ghost use Rattle.ctap_cbor.specs.Reading.{Reading, PassesOne, Fails, Ends, GoesOn};
+ghost use Rattle.ctap_cbor.specs.Outcome.{Outcome, IsOutcome, IsCheckResult};
+ghost use Rattle.ctap_cbor.specs.Reading.{Reading, PassesOne, Fails, HasNoByteLeft, HasTrailingBytes};
 
 use crate::cursor::Cursor;
 use crate::fault::Fault;
-use crate::laws::known_bytes;
+use crate::laws::byte_bounds;
 
 /// The result of [`check`], and the number of its steps.
 #[derive(Clone, Copy, Debug, PartialEq, Eq)]
@@ -21,13 +21,13 @@ pub struct Checked {
 /// Checks that the bytes are the canonical encoding of one data item. Returns the first error otherwise.
 pub fn check(bytes: &[u8]) -> Checked
     // The bytes have an outcome of decoding, and the result and the number of steps are those of this outcome.
-    ensures found { (o : Outcome) × IsOutcome bytes.now o × Answers bytes.now o result.result result.steps }
+    ensures found { (o : Outcome) × IsOutcome bytes.now o × IsCheckResult bytes.now o result.result result.steps }
 
     // Every outcome of decoding the bytes has this result and this number of steps.
-    ensures only { (o : Outcome) → IsOutcome bytes.now o → Answers bytes.now o result.result result.steps }
+    ensures only { (o : Outcome) → IsOutcome bytes.now o → IsCheckResult bytes.now o result.result result.steps }
     ensures ok { IsOk result.result ↔ ((t : Tree) × IsCanonical t bytes.now) }
 {
-    known_bytes(bytes);
+    byte_bounds(bytes);
     let mut cursor = Cursor::new(bytes);
     let result = read_whole(&mut cursor);
     Checked {
@@ -42,9 +42,9 @@ pub fn check(bytes: &[u8]) -> Checked
 /// them.
 pub fn read_whole(cursor: &mut Cursor) -> Result<(), Fault>
     ensures { MatchResult result
-        (λ _. (middle : Reading) × PassesOne 4 cursor.old middle × Ends middle cursor.new)
+        (λ _. (middle : Reading) × PassesOne 4 cursor.old middle × HasNoByteLeft middle cursor.new)
         (λ f. Fails 4 cursor.old cursor.new f.at f.kind
-        ⊎ ((middle : Reading) × PassesOne 4 cursor.old middle × GoesOn middle cursor.new f.at f.kind)) }
+        ⊎ ((middle : Reading) × PassesOne 4 cursor.old middle × HasTrailingBytes middle cursor.new f.at f.kind)) }
 {
     cursor.skip(1)?;
     cursor.end()

@@ -4,9 +4,9 @@ use Rattle.std.proofs.Common.{subst, ◌∙◌, inl, inr}
 use Rattle.std.specs.Prelude.{◌⊎◌, min}
 use Rattle.ctap_cbor.specs.{declared.fault.Fault.Fault, Tree.Tree, Outcome.result_of}
 use Rattle.ctap_cbor.specs.Telling.{canonical_tree, check_steps, outcome_of}
-use Rattle.ctap_cbor.specs.Laws.{ReadsTree, ReadsNoTree, WholeReadings}
-use Rattle.ctap_cbor.specs.Reading.{Reading, at_front, PassesOne, Fails, Ends, GoesOn}
-use Rattle.ctap_message.specs.{Requests.reading_steps, Requests.LARGEST, Walks.Reads}
+use Rattle.ctap_cbor.specs.Laws.{ReadsTree, ReadsNoTree, CursorAgreesWithCheck}
+use Rattle.ctap_cbor.specs.Reading.{Reading, at_front, PassesOne, Fails, HasNoByteLeft, HasTrailingBytes}
+use Rattle.ctap_message.specs.{Requests.reading_steps, Requests.MAX_STEPS, Walks.Reads}
 
 abbrev steps_at : Reading → ℕ
 steps_at r = r.steps
@@ -17,13 +17,13 @@ bytes_at r = r.bytes
 -- where a walk over all bytes stops
 abbrev pub Stops : Reading → Reading → Fault → Type 0
 Stops old new f = Fails 4 old new f.at f.kind ⊎ ((middle : Reading) × PassesOne 4 old middle
-    × GoesOn middle new f.at f.kind)
+    × HasTrailingBytes middle new f.at f.kind)
 
 -- where it passes them
 abbrev pub Ended : Reading → Reading → Type 0
-Ended old new = (middle : Reading) × PassesOne 4 old middle × Ends middle new
+Ended old new = (middle : Reading) × PassesOne 4 old middle × HasNoByteLeft middle new
 
-stops : (b : List ℕ) (s : ℕ) (new : Reading) (f : Fault) → WholeReadings b → Stops (at_front b s) new f →
+stops : (b : List ℕ) (s : ℕ) (new : Reading) (f : Fault) → CursorAgreesWithCheck b → Stops (at_front b s) new f →
     ReadsNoTree b s new f.at f.kind
 stops b s new f w (inl h) = w.stopped s new f.at f.kind h
 stops b s new f w (inr h) = w.longer h.1.0 s h.0 new f.at f.kind h.1.1 h.2
@@ -34,9 +34,9 @@ stops b s new f w (inr h) = w.longer h.1.0 s h.0 new f.at f.kind h.1.1 h.2
 pub record Refused (b : List ℕ) (new : Reading) (f : Fault) : Type 0 where
   pub none : canonical_tree b ≡ None
   pub fault_is : result_of (outcome_of b) ≡ Some (f.at, f.kind)
-  pub steps_are : new.steps ≡ min (reading_steps b) LARGEST
+  pub steps_are : new.steps ≡ min (reading_steps b) MAX_STEPS
 
-pub refused : (b : List ℕ) (old new : Reading) (f : Fault) → WholeReadings b → old ≡ at_front b 0 → Stops old new f →
+pub refused : (b : List ℕ) (old new : Reading) (f : Fault) → CursorAgreesWithCheck b → old ≡ at_front b 0 → Stops old new f →
     Refused b new f
 refused b old new f w start h =
     let t : ReadsNoTree b 0 new f.at f.kind = stops b 0 new f w (subst (λ x. Stops x new f) start h) in
@@ -51,9 +51,9 @@ pub record Accepted (b : List ℕ) (new : Reading) : Type 0 where
   pub tree : Tree
   pub tree_is : canonical_tree b ≡ Some tree
   pub back : record { bytes = new.bytes; place = 0; steps = new.steps } ≡ at_front b new.steps
-  pub steps_are : new.steps ≡ min (check_steps b) LARGEST
+  pub steps_are : new.steps ≡ min (check_steps b) MAX_STEPS
 
-pub accepted : (b : List ℕ) (old new : Reading) → WholeReadings b → old ≡ at_front b 0 → Ended old new → Accepted b new
+pub accepted : (b : List ℕ) (old new : Reading) → CursorAgreesWithCheck b → old ≡ at_front b 0 → Ended old new → Accepted b new
 accepted b old new w start h =
     let k = subst (λ x. Ended x new) start h in
     let t : ReadsTree b 0 k.1.0 new = w.passed k.1.0 0 k.0 new k.1.1 k.2 in
@@ -67,7 +67,7 @@ accepted b old new w start h =
 -- ---- the second walk
 
 -- over what the first accepted it doesn't stop
-pub never : (b : List ℕ) (first start new : Reading) (f : Fault) → WholeReadings b → Accepted b first →
+pub never : (b : List ℕ) (first start new : Reading) (f : Fault) → CursorAgreesWithCheck b → Accepted b first →
     start ≡ at_front b first.steps → Stops start new f → ⊥
 never b first start new f w a from h =
     let t = stops b first.steps new f w (subst (λ x. Stops x new f) from h) in
@@ -78,14 +78,14 @@ pub record Told {V : Type 0} (f : Tree → V) (b : List ℕ) (value : V) (n : �
   pub tree : Tree
   pub tree_is : canonical_tree b ≡ Some tree
   pub value_is : value ≡ f tree
-  pub steps_are : n ≡ min (reading_steps b) LARGEST
+  pub steps_are : n ≡ min (reading_steps b) MAX_STEPS
 
-twice : (b : List ℕ) (t : Tree) (n : ℕ) → canonical_tree b ≡ Some t → n ≡ min (2 * check_steps b) LARGEST →
-    n ≡ min (reading_steps b) LARGEST
+twice : (b : List ℕ) (t : Tree) (n : ℕ) → canonical_tree b ≡ Some t → n ≡ min (2 * check_steps b) MAX_STEPS →
+    n ≡ min (reading_steps b) MAX_STEPS
 twice b t n is h = rw is h
 
-pub told : {V : Type 0} (f : Tree → V) (b : List ℕ) (m : V) (first start middle new : Reading) → WholeReadings b →
-    Accepted b first → start ≡ at_front b first.steps → Reads f 4 m start middle → Ends middle new →
+pub told : {V : Type 0} (f : Tree → V) (b : List ℕ) (m : V) (first start middle new : Reading) → CursorAgreesWithCheck b →
+    Accepted b first → start ≡ at_front b first.steps → Reads f 4 m start middle → HasNoByteLeft middle new →
     Told f b m new.steps
 told f b m first start middle new w a from h e =
     let k = subst (λ x. Reads f 4 m x middle) from h in

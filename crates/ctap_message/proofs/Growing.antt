@@ -13,7 +13,7 @@ use Rattle.ctap_message.specs.declared.parameters.Parameter.{Parameter as Parame
 use Rattle.ctap_message.specs.declared.rp.Rp.{Rp as RpFields}
 use Rattle.ctap_message.specs.declared.user.User.{User as UserFields}
 use Rattle.ctap_message.specs.{declared.get_assertion.Assert.Assert, GetAssertion.assertion_types}
-use Rattle.ctap_message.specs.Members.{Number, Name, is_key, suits, value_at, all_entries, some_entry, entries_of}
+use Rattle.ctap_message.specs.Members.{Number, Name, is_key, has_listed_type, value_at, all_entries, some_entry, entries_of}
 use Rattle.ctap_message.specs.Members.{map_of, array_of, is_text}
 use Rattle.ctap_message.specs.MakeCredential.{rp_types, user_types, make_types}
 use Rattle.ctap_message.specs.Descriptors.{option_types, parameter_types, descriptor_types}
@@ -23,9 +23,9 @@ use Rattle.ctap_message.specs.Fields.{parameters_in, rp_in, User, user_in}
 use Rattle.ctap_message.specs.Judged.{MakeParameters, AssertionParameters}
 use Rattle.ctap_message.specs.Walks.{Reads, typed, HasPairs}
 use Rattle.ctap_message.specs.Collected.{rp_next, user_next, options_next, parameter_next, descriptor_next, IsPlainName}
-use Rattle.ctap_message.specs.Collected.{shown_rp, shown_user, shown_options, shown_parameter, shown_descriptor}
-use Rattle.ctap_message.specs.CollectedRequests.{make_in, make_next, shown_make, IsOtherMake}
-use Rattle.ctap_message.specs.CollectedRequests.{assertion_in, assert_next, shown_assert, IsPlainAssert, IsOtherAssert}
+use Rattle.ctap_message.specs.Collected.{to_rp, to_user, to_options, to_parameter, to_descriptor}
+use Rattle.ctap_message.specs.CollectedRequests.{make_in, make_next, to_make_parameters, IsOtherMake}
+use Rattle.ctap_message.specs.CollectedRequests.{assertion_in, assert_next, to_assertion_parameters, IsPlainAssert, IsOtherAssert}
 use Rattle.ctap_message.specs.DescriptorWalk.{DescriptorWalk, list_of, left_of, IsWhole}
 use Rattle.ctap_message.proofs.Pushes.{ap2, ap3, field_push, entries_push, some_push}
 use Rattle.ctap_message.proofs.Collecting.{Grows, HeadDecides, adds_head, adds_tree}
@@ -40,9 +40,9 @@ rp_heads k v = grind arith
 
 pub rp_adds : (levels : ℕ) (key part : Part) (taken : Bool) (x y : RpFields) (a c : Reading) →
     PassesAs levels part a c →
-    taken ≡ suits rp_types (head_of key) (head_of part) → shown_rp y ≡ rp_next (head_of key) (head_of part) (shown_rp x)
-    → Adds (λ m ok ps. HasPairs rp_types rp_in (shown_rp m) ok ps) levels key taken x y a c
-rp_adds levels key part taken x y a c = adds_head shown_rp rp_types rp_in rp_next levels key part taken x y a c rp_grows
+    taken ≡ has_listed_type rp_types (head_of key) (head_of part) → to_rp y ≡ rp_next (head_of key) (head_of part) (to_rp x)
+    → Adds (λ m ok ps. HasPairs rp_types rp_in (to_rp m) ok ps) levels key taken x y a c
+rp_adds levels key part taken x y a c = adds_head to_rp rp_types rp_in rp_next levels key part taken x y a c rp_grows
     (rp_heads (head_of key))
 
 pub rp_start : ◌≡◌ {A = Option (List ℕ)} None (rp_in (Some (Map no_pairs)))
@@ -62,10 +62,10 @@ user_heads : (k : Tree) → HeadDecides user_types user_next k
 user_heads k v = grind arith
 
 pub user_adds : (levels : ℕ) (key part : Part) (taken : Bool) (x y : UserFields) (a c : Reading) →
-    PassesAs levels part a c → taken ≡ suits user_types (head_of key) (head_of part) →
-    shown_user y ≡ user_next (head_of key) (head_of part) (shown_user x)
-    → Adds (λ m ok ps. HasPairs user_types user_in (shown_user m) ok ps) levels key taken x y a c
-user_adds levels key part taken x y a c = adds_head shown_user user_types user_in user_next levels key part taken x y a
+    PassesAs levels part a c → taken ≡ has_listed_type user_types (head_of key) (head_of part) →
+    to_user y ≡ user_next (head_of key) (head_of part) (to_user x)
+    → Adds (λ m ok ps. HasPairs user_types user_in (to_user m) ok ps) levels key taken x y a c
+user_adds levels key part taken x y a c = adds_head to_user user_types user_in user_next levels key part taken x y a
     c user_grows (user_heads (head_of key))
 
 pub user_start : make_user None None ≡ user_in (Some (Map no_pairs))
@@ -87,10 +87,10 @@ options_heads : (k : Tree) → HeadDecides option_types options_next k
 options_heads k v = grind arith
 
 pub options_adds : (levels : ℕ) (key part : Part) (taken : Bool) (x y : OptionsFields) (a c : Reading) →
-    PassesAs levels part a c → taken ≡ suits option_types (head_of key) (head_of part) →
-    shown_options y ≡ options_next (head_of key) (head_of part) (shown_options x)
-    → Adds (λ m ok ps. HasPairs option_types options_in (shown_options m) ok ps) levels key taken x y a c
-options_adds levels key part taken x y a c = adds_head shown_options option_types options_in options_next levels key
+    PassesAs levels part a c → taken ≡ has_listed_type option_types (head_of key) (head_of part) →
+    to_options y ≡ options_next (head_of key) (head_of part) (to_options x)
+    → Adds (λ m ok ps. HasPairs option_types options_in (to_options m) ok ps) levels key taken x y a c
+options_adds levels key part taken x y a c = adds_head to_options option_types options_in options_next levels key
     part taken x y a c options_grows (options_heads (head_of key))
 
 pub options_start : make_options None None None ≡ options_in (Some (Map no_pairs))
@@ -110,10 +110,10 @@ parameter_heads : (k : Tree) → HeadDecides parameter_types parameter_next k
 parameter_heads k v = grind arith
 
 pub parameter_adds : (levels : ℕ) (key part : Part) (taken : Bool) (x y : ParameterFields) (a c : Reading) →
-    PassesAs levels part a c → taken ≡ suits parameter_types (head_of key) (head_of part) →
-    shown_parameter y ≡ parameter_next (head_of key) (head_of part) (shown_parameter x)
-    → Adds (λ m ok ps. HasPairs parameter_types parameter_in (shown_parameter m) ok ps) levels key taken x y a c
-parameter_adds levels key part taken x y a c = adds_head shown_parameter parameter_types parameter_in parameter_next
+    PassesAs levels part a c → taken ≡ has_listed_type parameter_types (head_of key) (head_of part) →
+    to_parameter y ≡ parameter_next (head_of key) (head_of part) (to_parameter x)
+    → Adds (λ m ok ps. HasPairs parameter_types parameter_in (to_parameter m) ok ps) levels key taken x y a c
+parameter_adds levels key part taken x y a c = adds_head to_parameter parameter_types parameter_in parameter_next
     levels key part taken x y a c parameter_grows (parameter_heads (head_of key))
 
 pub parameter_start : make_parameter None None ≡ parameter_in (Some (Map no_pairs))
@@ -152,11 +152,11 @@ descriptor_start = refl
 pub transports_arm : (levels : ℕ) (key : Part) (x : DescriptorFields) (a c : Reading) (r : Result Bool Fault) →
     key ≡ One (Text (codes "transports"))
     → MatchResult r (λ is. Reads (array_of is_text) levels is a c) (λ f. Fails levels a c f.at f.kind)
-    → MatchResult r (λ taken. Adds (λ m ok ps. HasPairs descriptor_types descriptor_in (shown_descriptor m) ok ps)
+    → MatchResult r (λ taken. Adds (λ m ok ps. HasPairs descriptor_types descriptor_in (to_descriptor m) ok ps)
     levels
     key taken x x a c) (λ f. Fails levels a c f.at f.kind)
 transports_arm levels key x a c (Ok is) e h =
-    adds_tree shown_descriptor descriptor_types descriptor_in descriptor_next levels key (Text (codes "transports")) is
+    adds_tree to_descriptor descriptor_types descriptor_in descriptor_next levels key (Text (codes "transports")) is
     x
     x a c descriptor_grows e (h.0, h.1, h.2, refl)
 transports_arm levels key x a c (Err f) e h = h
@@ -223,10 +223,10 @@ make_heads k a b c d e v = grind arith
 
 pub make_other : (levels : ℕ) (key part : Part) (x : Make) (a c : Reading) → IsOtherMake (head_of key) →
     PassesAs levels part a c
-    → Adds (λ m ok ps. HasPairs make_types make_in (shown_make m) ok ps) levels key true x x a c
+    → Adds (λ m ok ps. HasPairs make_types make_in (to_make_parameters m) ok ps) levels key true x x a c
 make_other levels key part x a c h passes =
     let o = h.others in
-    adds_head shown_make make_types make_in make_next levels key part true x x a c make_grows
+    adds_head to_make_parameters make_types make_in make_next levels key part true x x a c make_grows
     (make_heads (head_of key) o.rp o.user o.parameters o.exclude_list o.options) passes
     (rw (h.hash, o.rp, o.user, o.parameters, o.exclude_list, h.extensions, o.options, h.pin_uv_auth_param, h.pin_uv_auth_protocol, h.enterprise_attestation) refl)
     (rw (h.hash, o.rp, o.user, o.parameters, o.exclude_list, o.options, h.pin_uv_auth_param, h.enterprise_attestation)
@@ -274,10 +274,10 @@ assert_heads k h v = grind arith
 
 pub assert_other : (levels : ℕ) (key part : Part) (x : Assert) (a c : Reading) → IsOtherAssert (head_of key) →
     PassesAs levels part a c
-    → Adds (λ m ok ps. HasPairs assertion_types assertion_in (shown_assert m) ok ps) levels key true x x a c
+    → Adds (λ m ok ps. HasPairs assertion_types assertion_in (to_assertion_parameters m) ok ps) levels key true x x a c
 assert_other levels key part x a c h passes =
     let o = h.others in
-    adds_head shown_assert assertion_types assertion_in assert_next levels key part true x x a c assert_grows
+    adds_head to_assertion_parameters assertion_types assertion_in assert_next levels key part true x x a c assert_grows
     (assert_heads (head_of key) o) passes
     (rw (h.rp_id, h.hash, o.allow_list, h.extensions, o.options, h.pin_uv_auth_param, h.pin_uv_auth_protocol) refl)
     (rw (h.rp_id, h.hash, o.allow_list, o.options, h.pin_uv_auth_param) refl)

@@ -8,7 +8,7 @@ use Rattle.ctap_cbor.specs.Tree.{Tree, Array, Trees, no_trees, tree, count}
 use Rattle.ctap_cbor.specs.{Head.AreBytes, Head.head, Faults.AnItem, Parse.parse, Views.part_of, Views.ReadsItem}
 use Rattle.ctap_cbor.specs.{Grammar.text, Grammar.texts, Outcome.Whole, Outcome.later_keys}
 use Rattle.ctap_cbor.specs.Parts.{Part, OpensArray, Suits, read}
-use Rattle.ctap_cbor.specs.Laws.{OneTreePasses, CanonicalIsAccepted, BytesDetermineTree, ItemsAreFound}
+use Rattle.ctap_cbor.specs.Laws.{CursorReadsOneTree, CanonicalIsAccepted, BytesDetermineTree, ItemsAreDecoded}
 use Rattle.ctap_cbor.specs.Reading.{Reading, at_front, rest_of, Fails, Passes, Takes}
 use Rattle.ctap_cbor.specs.Telling.{outcome_of, canonical_tree, whole_tree, items_at}
 use Rattle.ctap_message.specs.Members.{has_entries, entries_of, map_of}
@@ -16,7 +16,7 @@ use Rattle.ctap_message.specs.{Descriptors.ids_of, Descriptors.descriptor_types,
 use Rattle.ctap_message.specs.Fields.{Descriptor, descriptor_in, id_of_public_key}
 use Rattle.std.specs.List.{cons_option}
 use Rattle.ctap_message.specs.DescriptorWalk.{DescriptorWalk, IsWhole, list_steps, entry_steps, after_first, Left}
-use Rattle.ctap_message.specs.DescriptorWalk.{Walks, YieldsId, IsList, IsWalk}
+use Rattle.ctap_message.specs.DescriptorWalk.{Walks, YieldsId, IsList, IsValidWalk}
 
 -- as many ids are left as there were
 abbrev pub Sofar : Reading → ℕ → Reading → ℕ → Type 0
@@ -28,7 +28,7 @@ Onward r s m ts us d =
     (vs : Trees) × (more : ℕ) × Walks r s m ts vs more × (ids_of us ≡ cons_option (id_of_public_key d) (ids_of vs))
     × (after_first us ≡ (if is_some (id_of_public_key d) then vs else after_first vs))
 
-onward : OneTreePasses → (r s s' : Reading) (m : ℕ) (ts us : Trees) (more : ℕ) (d : Bool × Descriptor) →
+onward : CursorReadsOneTree → (r s s' : Reading) (m : ℕ) (ts us : Trees) (more : ℕ) (d : Bool × Descriptor) →
     Walks r s m ts us more → 0 < m → Reads (typed (map_of descriptor_types) descriptor_in) 3 d s s' →
     Onward r s' (m - 1) ts us d.1
 unfolding Onward
@@ -59,7 +59,7 @@ entry_never law r s s' m ts no_trees more at kind h lt k = omega (arith, h.left.
 entry_never law r s s' m ts (tree u us) more at kind h lt k = law 3 u (texts us) s s' at kind h.left.lawful.0
     (omega (arith, h.left.flat)) h.left.spelled k
 
-pub sofar_more : OneTreePasses → (r s s' : Reading) (n m : ℕ) (d : Bool × Descriptor) → Sofar r n s m → 0 < m →
+pub sofar_more : CursorReadsOneTree → (r s s' : Reading) (n m : ℕ) (d : Bool × Descriptor) → Sofar r n s m → 0 < m →
     Reads (typed (map_of descriptor_types) descriptor_in) 3 d s s' → id_of_public_key d.1 ≡ None → Sofar r n s' (m - 1)
 unfolding Onward
 sofar_more law r s s' n m d h lt k e = λ ts l.
@@ -67,7 +67,7 @@ sofar_more law r s s' n m d h lt k e = λ ts l.
     let o = onward law r s s' m ts g.0 g.1 d g.2 lt k in
     (o.0, o.1, o.2, g.3 ∙ o.3 ∙ ap (λ x. cons_option x (ids_of o.0)) e, g.4 ∙ o.4 ∙ ap (λ x. if is_some x then o.0 else after_first o.0) e)
 
-pub gives_some : OneTreePasses → (r s s' : Reading) (n m : ℕ) (d : Bool × Descriptor) (id : Option (List ℕ)) →
+pub gives_some : CursorReadsOneTree → (r s s' : Reading) (n m : ℕ) (d : Bool × Descriptor) (id : Option (List ℕ)) →
     Sofar r n s m → 0 < m → Reads (typed (map_of descriptor_types) descriptor_in) 3 d s s' → id ≡ id_of_public_key d.1 →
     is_some id ≡ true → YieldsId r n s' (m - 1) id
 unfolding Onward
@@ -106,7 +106,7 @@ entries_in r = entries_of (canonical_tree r.bytes)
 abbrev left_at : Reading → ℕ → Trees
 left_at r n = items_at 3 n (rest_of r)
 
-left_found : ItemsAreFound → (r : Reading) (n : ℕ) (ts : Trees) → Left r n ts → left_at r n ≡ ts
+left_found : ItemsAreDecoded → (r : Reading) (n : ℕ) (ts : Trees) → Left r n ts → left_at r n ≡ ts
 left_found law r n ts h = search (rules, arith)
 
 -- ---- the head of a list
@@ -132,9 +132,9 @@ list_costs no_trees e = absurd cc
 list_costs (tree t ts) e = omega (arith, length-append (head 4 (count (tree t ts))) (texts (tree t ts)))
 
 -- after its head a list's walk begins
-pub begins : BytesDetermineTree → ItemsAreFound → (l : List ℕ) (ts : Trees) (r s : Reading) (n : ℕ) → AreBytes l → IsList l ts →
+pub begins : BytesDetermineTree → ItemsAreDecoded → (l : List ℕ) (ts : Trees) (r s : Reading) (n : ℕ) → AreBytes l → IsList l ts →
     r ≡ at_front l 0 → ReadsItem 4 r s (Ok (item.Array n)) → Takes 4 r s (OpensArray n)
-    → IsWalk (walk_at s n) true × IsWhole (walk_at s n) ts
+    → IsValidWalk (walk_at s n) true × IsWhole (walk_at s n) ts
 begins tell found_law l ts r s n fits h e only t =
     let there = head_stands l ts r h e in
     let same = only (OpensArray (count ts)) (texts ts) there.0 there.1 in
@@ -181,6 +181,6 @@ none_left : (r : Reading) → left_at r 0 ≡ no_trees
 unfolding items_at
 none_left r = refl
 
-pub no_list : (r : Reading) (l : List ℕ) → l ≡ [] → r ≡ at_front l 0 → IsWalk (walk_at r 0) false
+pub no_list : (r : Reading) (l : List ℕ) → l ≡ [] → r ≡ at_front l 0 → IsValidWalk (walk_at r 0) false
     × IsWhole (walk_at r 0) no_trees
 no_list r l nothing e = grind (arith, no_tree, none_left)

@@ -9,7 +9,7 @@ use Rattle.ctap_message.specs.declared.options.Options.{Options as OptionFields}
 use Rattle.ctap_message.specs.declared.parameters.Parameter.{Parameter as ParameterFields}
 use Rattle.ctap_message.specs.declared.parameters.Parameters.{Parameters as ParametersFields}
 use Rattle.ctap_message.specs.declared.descriptor.Descriptor.{Descriptor as DescriptorFields}
-use Rattle.ctap_message.specs.declared.descriptor.Listing.{Listing}
+use Rattle.ctap_message.specs.declared.descriptor.ListSummary.{ListSummary}
 use Rattle.ctap_message.specs.declared.descriptor.DescriptorList.{DescriptorList as ListFields}
 use Rattle.ctap_message.specs.Members.{Name, is_key, entries_of, has_entries}
 use Rattle.ctap_message.specs.Fields.{Descriptor, DescriptorList, descriptors_in, Options, Parameter, Parameters, User}
@@ -17,8 +17,8 @@ use Rattle.ctap_message.specs.DescriptorWalk.{list_of, left_of}
 
 -- ---- rp
 
-abbrev pub shown_rp : Rp → Option (List ℕ)
-shown_rp x = option_copied x.id
+abbrev pub to_rp : Rp → Option (List ℕ)
+to_rp x = option_copied x.id
 
 -- The fields of rp after one more member.
 abbrev pub rp_next : Tree → Tree → Option (List ℕ) → Option (List ℕ)
@@ -26,8 +26,8 @@ rp_next k v id = if is_key (Name "id") k then as_text v else id
 
 -- ---- user
 
-abbrev pub shown_user : UserFields → User
-shown_user x = record { id = option_copied x.id; name = option_copied x.name }
+abbrev pub to_user : UserFields → User
+to_user x = record { id = option_copied x.id; name = option_copied x.name }
 
 -- The fields of user after one more member.
 abbrev pub user_next : Tree → Tree → User → User
@@ -38,8 +38,8 @@ user_next k v x = record {
 
 -- ---- options
 
-abbrev pub shown_options : OptionFields → Options
-shown_options x = record { rk = x.rk; up = x.up; uv = x.uv }
+abbrev pub to_options : OptionFields → Options
+to_options x = record { rk = x.rk; up = x.up; uv = x.uv }
 
 -- The options after one more member.
 abbrev pub options_next : Tree → Tree → Options → Options
@@ -52,8 +52,8 @@ options_next k v x =
 
 -- ---- credential parameters
 
-abbrev pub shown_parameter : ParameterFields → Parameter
-shown_parameter x = record { alg = x.alg; credential_type = option_copied x.kind }
+abbrev pub to_parameter : ParameterFields → Parameter
+to_parameter x = record { alg = x.alg; credential_type = option_copied x.kind }
 
 -- The fields of a credential parameter after one more member.
 abbrev pub parameter_next : Tree → Tree → Parameter → Parameter
@@ -64,13 +64,13 @@ parameter_next k v x =
     }
 
 -- Converts the code's summary of pubKeyCredParams to that of the definitions.
-abbrev pub shown_parameters : ParametersFields → Parameters
-shown_parameters x = record { is_whole = x.is_whole; has_es256 = x.has_es256 }
+abbrev pub to_parameters : ParametersFields → Parameters
+to_parameters x = record { is_whole = x.is_whole; has_es256 = x.has_es256 }
 
 -- ---- descriptors
 
-abbrev pub shown_descriptor : DescriptorFields → Descriptor
-shown_descriptor x = record { id = option_copied x.id; credential_type = option_copied x.kind }
+abbrev pub to_descriptor : DescriptorFields → Descriptor
+to_descriptor x = record { id = option_copied x.id; credential_type = option_copied x.kind }
 
 -- The fields of a descriptor after one more member.
 abbrev pub descriptor_next : Tree → Tree → Descriptor → Descriptor
@@ -89,7 +89,7 @@ abbrev pub listing_in : Option Tree → Bool × Bool
 listing_in t = ((descriptors_in t).is_whole, has_entries (entries_of t))
 
 -- Converts the code's summary of a list of descriptors to that of the definitions.
-abbrev pub shown_listing : Listing → Bool × Bool
+abbrev pub shown_listing : ListSummary → Bool × Bool
 shown_listing x = (x.is_whole, x.given)
 
 -- The summary of a list of descriptors, and its entries, over which an iterator runs.
@@ -97,5 +97,5 @@ abbrev pub list_in : Option Tree → DescriptorList × Trees
 list_in t = (descriptors_in t, entries_of t)
 
 -- Converts the code's summary of a list of descriptors, with its iterator, to that of the definitions.
-abbrev pub shown_list : ListFields → DescriptorList × Trees
-shown_list x = (record { is_whole = x.is_whole; entries = left_of x.list }, list_of x.list)
+abbrev pub to_descriptor_list : ListFields → DescriptorList × Trees
+to_descriptor_list x = (record { is_whole = x.is_whole; entries = left_of x.list }, list_of x.list)

@@ -7,31 +7,31 @@ use Rattle.ctap_message.specs.declared.{make_credential.Make.Make, get_assertion
 use Rattle.ctap_message.specs.Members.{Number, is_key, member, entries_of}
 use Rattle.ctap_message.specs.Fields.{parameters_in, descriptors_in, options_in, rp_in, user_in}
 use Rattle.ctap_message.specs.Judged.{MakeParameters, make_parameters, AssertionParameters, assertion_parameters}
-use Rattle.ctap_message.specs.Collected.{shown_rp, shown_user, shown_parameters, shown_options, shown_list}
+use Rattle.ctap_message.specs.Collected.{to_rp, to_user, to_parameters, to_options, to_descriptor_list}
 
 -- The key of a parameter.
-abbrev pub numbered : ℕ → Tree
-numbered n = Plain (Int (pos n))
+abbrev pub parameter_key : ℕ → Tree
+parameter_key n = Plain (Int (pos n))
 
 -- ---- makeCredential
 
 abbrev pub make_in : Option Tree → MakeParameters × Trees
 make_in t = (make_parameters t, entries_of (member (Number 0x05) t))
 
-abbrev pub shown_make : Make → MakeParameters × Trees
-shown_make m = (
+abbrev pub to_make_parameters : Make → MakeParameters × Trees
+to_make_parameters m = (
   record {
     client_data_hash = option_copied m.hash;
-    rp_id = shown_rp m.rp;
-    user = shown_user m.user;
+    rp_id = to_rp m.rp;
+    user = to_user m.user;
     has_parameters = m.has_parameters;
-    parameters = shown_parameters m.parameters;
-    exclude_list = (shown_list m.exclude).0;
-    options = shown_options m.options;
+    parameters = to_parameters m.parameters;
+    exclude_list = (to_descriptor_list m.exclude).0;
+    options = to_options m.options;
     pin_uv_auth_param = option_copied m.pin_uv_auth_param;
     enterprise_attestation = m.enterprise_attestation;
   },
-  (shown_list m.exclude).1,
+  (to_descriptor_list m.exclude).1,
 )
 
 -- The parameters after one more member.
@@ -73,16 +73,16 @@ pub record IsOtherMake (k : Tree) : Type 0 where
 abbrev pub assertion_in : Option Tree → AssertionParameters × Trees
 assertion_in t = (assertion_parameters t, entries_of (member (Number 0x03) t))
 
-abbrev pub shown_assert : Assert → AssertionParameters × Trees
-shown_assert a = (
+abbrev pub to_assertion_parameters : Assert → AssertionParameters × Trees
+to_assertion_parameters a = (
   record {
     rp_id = option_copied a.rp_id;
     client_data_hash = option_copied a.hash;
-    allow_list = (shown_list a.allow).0;
-    options = shown_options a.options;
+    allow_list = (to_descriptor_list a.allow).0;
+    options = to_options a.options;
     pin_uv_auth_param = option_copied a.pin_uv_auth_param;
   },
-  (shown_list a.allow).1,
+  (to_descriptor_list a.allow).1,
 )
 
 -- The parameters after one more member.

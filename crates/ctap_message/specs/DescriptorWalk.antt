@@ -5,7 +5,7 @@ use Rattle.std.specs.{Prelude.if◌then◌else◌, Borrow.Bor, Iterator.YieldsFi
 use Rattle.ctap_cbor.specs.Tree.{Array, Trees, no_trees, tree, depth_all, count}
 use Rattle.ctap_cbor.specs.Grammar.{text, texts, IsLawful, AreLawful}
 use Rattle.ctap_cbor.specs.Outcome.{Whole, steps, later_in_all}
-use Rattle.ctap_cbor.specs.{Reading.Reading, Reading.rest_of, Reading.counted, Telling.canonical_tree, Telling.items_at}
+use Rattle.ctap_cbor.specs.{Reading.Reading, Reading.rest_of, Reading.add_steps, Telling.canonical_tree, Telling.items_at}
 use Rattle.ctap_message.specs.Members.{entries_of, has_entries}
 use Rattle.ctap_message.specs.{Descriptors.ids_of, Fields.descriptor_in, Fields.id_of_public_key}
 
@@ -66,7 +66,7 @@ pub record Walks (r s : Reading) (n : ℕ) (ts us : Trees) (more : ℕ) : Type 0
   pub left : Left s n us
   pub same : s.bytes ≡ r.bytes
   pub cost : entry_steps ts ≡ more + entry_steps us
-  pub steps : s.steps ≡ counted r.steps more
+  pub steps : s.steps ≡ add_steps r.steps more
 
 -- The result of searching for the next entry of type `public-key`: its ID, or None if no such entry is left.
 abbrev pub YieldsId : Reading → ℕ → Reading → ℕ → Option (List ℕ) → Type 0
@@ -82,7 +82,7 @@ pub record IsList (l : List ℕ) (ts : Trees) : Type 0 where
   pub spelled : l ≡ text (Array ts)
 
 -- The invariant of the iterator.
-pub record IsWalk (w : DescriptorWalk) (given : Bool) : Type 0 where
+pub record IsValidWalk (w : DescriptorWalk) (given : Bool) : Type 0 where
   pub stands : Left w.cursor w.count (left_of w)
   pub given_is : given ≡ has_entries (list_of w)
   pub within : entry_steps (left_of w) ≤ list_steps (list_of w)

@@ -49,5 +49,5 @@ is_es256 (Some (negsuc n)) = n == 6
 is_es256 _ = false
 
 -- A credential parameter for ES256 public keys.
-abbrev pub asks_es256 : Tree → Bool
-asks_es256 t = is_es256 (member_as as_int (Name "alg") (Some t)) && is_public_key (type_of t)
+abbrev pub is_es256_parameter : Tree → Bool
+is_es256_parameter t = is_es256 (member_as as_int (Name "alg") (Some t)) && is_public_key (type_of t)

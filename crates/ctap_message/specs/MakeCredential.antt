@@ -9,7 +9,7 @@ use Rattle.ctap_message.specs.Members.{MemberKey, Number, Name, member, member_a
 use Rattle.ctap_message.specs.Members.{is_some_and, is_bytes, is_text, is_uint, array_of, map_of}
 use Rattle.ctap_message.specs.{Checks.if_all_hold, Asked.RequestParameters, Asked.MakeCredential}
 use Rattle.ctap_message.specs.Descriptors.{descriptor_types, option_types, parameter_types, has_id_and_type}
-use Rattle.ctap_message.specs.Descriptors.{has_alg_and_type, asks_es256}
+use Rattle.ctap_message.specs.Descriptors.{has_alg_and_type, is_es256_parameter}
 
 -- The required types of the members of rp.
 abbrev pub rp_types : List (MemberKey × (Tree → Bool))
@@ -56,7 +56,7 @@ make_request t =
     ∷ (is_whole, 0x14)  -- MISSING_PARAMETER: what section 6.1 requires
     ∷ (has_lengths, 0x03)  -- INVALID_LENGTH: a SHA-256 hash; WebAuthn Level 2, section 5.4.3
     ∷ (is_none pin_uv_auth_param, 0x02)  -- INVALID_PARAMETER: no PIN and no user verification
-    ∷ (some_entry asks_es256 parameters, 0x26)  -- UNSUPPORTED_ALGORITHM: section 6.1.2, pubKeyCredParams
+    ∷ (some_entry is_es256_parameter parameters, 0x26)  -- UNSUPPORTED_ALGORITHM: section 6.1.2, pubKeyCredParams
     ∷ (takes_options, 0x2c)  -- INVALID_OPTION: section 6.1.2, options
     ∷ (is_none enterprise_attestation, 0x02)  -- INVALID_PARAMETER: section 6.1.2
     ∷ [])

@@ -89,10 +89,10 @@ all_pairs test no_pairs = true
 all_pairs test (pair k v ps) = test k v && all_pairs test ps
 
 -- The value has the type listed for its key. Values of unknown keys may have any type.
-abbrev pub suits : List (MemberKey × (Tree → Bool)) → Tree → Tree → Bool
-suits [] k v = true
-suits (t ∷ ts) k v = if is_key t.0 k then t.1 v else suits ts k v
+abbrev pub has_listed_type : List (MemberKey × (Tree → Bool)) → Tree → Tree → Bool
+has_listed_type [] k v = true
+has_listed_type (t ∷ ts) k v = if is_key t.0 k then t.1 v else has_listed_type ts k v
 
 -- A map whose members have the listed types.
 abbrev pub map_of : List (MemberKey × (Tree → Bool)) → Tree → Bool
-map_of types t = is_map t && all_pairs (suits types) (pairs_of (Some t))
+map_of types t = is_map t && all_pairs (has_listed_type types) (pairs_of (Some t))

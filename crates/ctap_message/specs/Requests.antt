@@ -34,9 +34,9 @@ steps_of [] = 0
 steps_of (byte ∷ parameters) = if byte == 0x01 || byte == 0x02 then reading_steps parameters else 0
 
 -- The longest message that the transport passes on (CTAP 2.1, section 11.2.4); maxMsgSize in getInfo.
-abbrev pub LONGEST_MESSAGE : ℕ
-LONGEST_MESSAGE = 7609
+abbrev pub MAX_REQUEST_LEN : ℕ
+MAX_REQUEST_LEN = 7609
 
 -- The value at which step counts saturate, 2^64-1.
-abbrev pub LARGEST : ℕ
-LARGEST = 18446744073709551615
+abbrev pub MAX_STEPS : ℕ
+MAX_STEPS = 18446744073709551615

@@ -3,7 +3,7 @@
 use Rattle.std.specs.Prelude.{◌≡◌, ℕ, Bool, false, List, Option, Some, unwrap_or}
 use Rattle.ctap_cbor.specs.{Tree.Tree, Tree.Array, Tree.Map, Tree.Trees, Tree.Pairs, Reading.Reading, Reading.Passes}
 use Rattle.ctap_cbor.specs.Collecting.{ReadsMap}
-use Rattle.ctap_message.specs.Members.{MemberKey, all_pairs, all_entries, suits}
+use Rattle.ctap_message.specs.Members.{MemberKey, all_pairs, all_entries, has_listed_type}
 
 -- The cursor read a tree `t`, and `value` is `f t`.
 abbrev pub Reads : {V : Type 0} → (Tree → V) → ℕ → V → Reading → Reading → Type 0
@@ -15,7 +15,7 @@ typed type view t = (type t, view (Some t))
 
 -- `ok` is whether these pairs have the listed types, and `value` is the value of the map that consists of them.
 abbrev pub HasPairs : {V : Type 0} → List (MemberKey × (Tree → Bool)) → (Option Tree → V) → V → Bool → Pairs → Type 0
-HasPairs types view value ok ps = (ok ≡ all_pairs (suits types) ps) × (value ≡ view (Some (Map ps)))
+HasPairs types view value ok ps = (ok ≡ all_pairs (has_listed_type types) ps) × (value ≡ view (Some (Map ps)))
 
 -- `ok` is whether these entries have the type, and `value` is the value of the array that consists of them.
 abbrev pub HasEntries : {V : Type 0} → (Tree → Bool) → (Option Tree → V) → V → Bool → Trees → Type 0

@@ -4,11 +4,11 @@ ghost use Rattle.std.specs.Prelude.{◌≡◌, ◌-◌, ◌≤◌, MatchResult};
 ghost use Rattle.ctap_cbor.specs.Views.{part_of, head_of};
 ghost use Rattle.ctap_cbor.specs.Reading.{Fails};
 ghost use Rattle.std.specs.Option.{option_copied};
-ghost use Rattle.ctap_message.specs.Members.{is_text, suits, array_of, map_of, all_entries};
+ghost use Rattle.ctap_message.specs.Members.{is_text, has_listed_type, array_of, map_of, all_entries};
 ghost use Rattle.ctap_message.specs.Walks.{Reads, typed, HasPairs, HasEntries};
 ghost use Rattle.ctap_message.specs.Descriptors.{descriptor_types};
 ghost use Rattle.ctap_message.specs.Fields.{descriptor_in, id_of_public_key, is_complete_descriptor};
-ghost use Rattle.ctap_message.specs.Collected.{shown_descriptor, descriptor_next, IsPlainName, listing_in, shown_listing, list_in, shown_list};
+ghost use Rattle.ctap_message.specs.Collected.{to_descriptor, descriptor_next, IsPlainName, listing_in, shown_listing, list_in, to_descriptor_list};
 
 use crate::descriptors::Descriptors;
 use crate::item::{is_public_key, read_members};
@@ -16,13 +16,13 @@ use ctap_cbor::{Cursor, Entries, Fault, Item, Members, read_array};
 
 /// A collector that accepts only text strings.
 #[derive(Drop)]
-struct Texts;
+struct TextStrings;
 
-impl<'a> Entries<'a> for Texts {
+impl<'a> Entries<'a> for TextStrings {
     ghost HoldsAll = { λ _ ok ts. ok ≡ all_entries is_text ts };
 
     fn entry(&mut self, cursor: &mut Cursor<'a>, level: u8) -> Result<bool, Fault> {
-        let value = cursor.whole(level)?;
+        let value = cursor.read_whole_item(level)?;
         Ok(value.as_text().is_some())
     }
 }
@@ -35,7 +35,7 @@ fn read_texts(cursor: &mut Cursor<'_>, level: u8) -> Result<bool, Fault>
         (λ is. Reads (array_of is_text) (5 - level) is cursor.old cursor.new)
         (λ f. Fails (5 - level) cursor.old cursor.new f.at f.kind) }
 {
-    Ok(read_array(&mut Texts, cursor, level)?.unwrap_or(false))
+    Ok(read_array(&mut TextStrings, cursor, level)?.unwrap_or(false))
 }
 
 /// The members of a descriptor found so far.
@@ -48,7 +48,7 @@ pub(crate) struct Descriptor<'a> {
 impl<'a> Descriptor<'a> {
     /// Returns its ID, if its type is `public-key`.
     pub fn public_key_id(&self) -> Option<&'a [u8]>
-        ensures { option_copied result ≡ id_of_public_key (shown_descriptor self.now) }
+        ensures { option_copied result ≡ id_of_public_key (to_descriptor self.now) }
     {
         if is_public_key(self.kind) {
             self.id
@@ -59,7 +59,7 @@ impl<'a> Descriptor<'a> {
 
     /// Returns whether ID and type are present.
     fn is_whole(&self) -> bool
-        ensures { result ≡ is_complete_descriptor (shown_descriptor self.now) }
+        ensures { result ≡ is_complete_descriptor (to_descriptor self.now) }
     {
         self.id.is_some() && self.kind.is_some()
     }
@@ -68,10 +68,10 @@ impl<'a> Descriptor<'a> {
     fn put(&mut self, key: Item<'a>, value: Item<'a>) -> bool
         requires plain { IsPlainName (head_of (part_of key)) }
         ensures plain { IsPlainName (head_of (part_of key.entry)) }
-        ensures typed { result ≡ suits descriptor_types (head_of (part_of key.entry))
+        ensures typed { result ≡ has_listed_type descriptor_types (head_of (part_of key.entry))
             (head_of (part_of value.entry)) }
-        ensures value { shown_descriptor self.new ≡ descriptor_next (head_of (part_of key.entry))
-            (head_of (part_of value.entry)) (shown_descriptor self.old) }
+        ensures value { to_descriptor self.new ≡ descriptor_next (head_of (part_of key.entry))
+            (head_of (part_of value.entry)) (to_descriptor self.old) }
     {
         match key {
             Item::Text("id") => {
@@ -88,13 +88,13 @@ impl<'a> Descriptor<'a> {
 }
 
 impl<'a> Members<'a> for Descriptor<'a> {
-    ghost Holds = { λ x ok ps. HasPairs descriptor_types descriptor_in (shown_descriptor x) ok ps };
+    ghost Holds = { λ x ok ps. HasPairs descriptor_types descriptor_in (to_descriptor x) ok ps };
 
     fn member(&mut self, cursor: &mut Cursor<'a>, key: Item<'a>, level: u8) -> Result<bool, Fault> {
         match key {
             Item::Text("transports") => read_texts(cursor, level),
             _ => {
-                let value = cursor.whole(level)?;
+                let value = cursor.read_whole_item(level)?;
                 Ok(self.put(key, value))
             }
         }
@@ -109,7 +109,7 @@ pub(crate) fn read_descriptor<'a>(
     requires low { 1 ≤ level }
     requires high { level ≤ 5 }
     ensures { MatchResult result
-        (λ r. Reads (typed (map_of descriptor_types) descriptor_in) (5 - level) (r.0, shown_descriptor r.1)
+        (λ r. Reads (typed (map_of descriptor_types) descriptor_in) (5 - level) (r.0, to_descriptor r.1)
         cursor.old cursor.new)
         (λ f. Fails (5 - level) cursor.old cursor.new f.at f.kind) }
 {
@@ -123,12 +123,12 @@ pub(crate) fn read_descriptor<'a>(
 
 /// The summary of the entries of a list of descriptors that were read so far.
 #[derive(Clone, Copy, Drop)]
-struct Listing {
+struct ListSummary {
     is_whole: bool,
     given: bool,
 }
 
-impl<'a> Entries<'a> for Listing {
+impl<'a> Entries<'a> for ListSummary {
     ghost HoldsAll = { λ x ok ts. HasEntries (map_of descriptor_types) listing_in (shown_listing x) ok ts };
 
     fn entry(&mut self, cursor: &mut Cursor<'a>, level: u8) -> Result<bool, Fault> {
@@ -155,19 +155,19 @@ pub(crate) fn read_list<'a>(
     requires low { 1 ≤ level }
     requires high { level ≤ 5 }
     ensures { MatchResult result
-        (λ is. Reads (typed (array_of (map_of descriptor_types)) list_in) (5 - level) (is, shown_list list.new)
+        (λ is. Reads (typed (array_of (map_of descriptor_types)) list_in) (5 - level) (is, to_descriptor_list list.new)
         cursor.old cursor.new)
         (λ f. Fails (5 - level) cursor.old cursor.new f.at f.kind) }
 {
     let from = cursor.place();
-    let mut found = Listing {
+    let mut found = ListSummary {
         is_whole: true,
         given: false,
     };
     let typed = read_array(&mut found, cursor, level)?.unwrap_or(false);
     list.is_whole = found.is_whole;
     list.list = if found.given {
-        Descriptors::over(cursor.since(from))
+        Descriptors::over(cursor.bytes_since(from))
     } else {
         Descriptors::none()
     };

@@ -9,7 +9,7 @@ ghost use Rattle.ctap_message.specs.Descriptors.{ids_of};
 ghost use Rattle.ctap_message.specs.DescriptorWalk.{DescriptorWalk, list_of, left_of, IsWhole, walked_steps, NextId, Left, YieldsId, IsList};
 
 use crate::descriptor::read_descriptor;
-use ctap_cbor::laws::{bytes_tell, items_are_found, known_bytes, nothing_halts, one_tree_passes};
+use ctap_cbor::laws::{outcomes_are_computed, items_are_decoded, byte_bounds, canonical_is_accepted, cursor_reads_one_tree};
 use ctap_cbor::{Cursor, Item};
 use std::marker::Model;
 
@@ -27,8 +27,8 @@ impl<'a> ListEntry<'a> {
         ensures gives { YieldsId self.old.cursor self.old.left self.new.cursor self.new.left (option_copied result) }
         ensures fewer { MatchOption result (self.new.left ≡ 0) (λ _. self.new.left < self.old.left) }
     {
-        one_tree_passes();
-        nothing_halts();
+        cursor_reads_one_tree();
+        canonical_is_accepted();
         while self.left > 0 {
             self.left -= 1;
             let Ok((_, descriptor)) = read_descriptor(&mut self.cursor, 2) else {
@@ -55,13 +55,13 @@ pub struct Descriptors<'a> {
 
 // In contracts, this is the list's entries, and the remaining ones.
 impl<'a> Model for Descriptors<'a> {
-    ghost use Rattle.ctap_message.specs.DescriptorWalk.{DescriptorWalk, IsWalk};
+    ghost use Rattle.ctap_message.specs.DescriptorWalk.{DescriptorWalk, IsValidWalk};
 
     ghost Value = { DescriptorWalk };
 
     ghost view = { λ s. record { cursor = s.entry.cursor; count = s.entry.left } };
 
-    ghost invariant = { λ s. IsWalk (record { cursor = s.entry.cursor; count = s.entry.left }) s.given };
+    ghost invariant = { λ s. IsValidWalk (record { cursor = s.entry.cursor; count = s.entry.left }) s.given };
 }
 
 impl<'a> Descriptors<'a> {
@@ -83,9 +83,9 @@ impl<'a> Descriptors<'a> {
         requires { (ts : Trees) × IsList list.now ts }
         ensures { (ts : Trees) → IsList list.now ts → IsWhole result ts }
     {
-        known_bytes(list);
-        bytes_tell();
-        items_are_found();
+        byte_bounds(list);
+        outcomes_are_computed();
+        items_are_decoded();
         let mut cursor = Cursor::new(list);
         let Ok(item) = cursor.item(1) else {
             unreachable!()
@@ -123,7 +123,7 @@ impl<'a> Iterator for Descriptors<'a> {
     ghost remaining = { λ w. at_most w.count };
 
     fn next(&mut self) -> Option<&'a [u8]> {
-        items_are_found();
+        items_are_decoded();
         self.entry.next_id()
     }
 }

@@ -1,11 +1,11 @@
 //! The parameters of authenticatorGetAssertion (CTAP 2.1, section 6.2).
 
 ghost use Rattle.std.specs.Prelude.{◌⊎◌, MatchResult};
-ghost use Rattle.ctap_cbor.specs.Reading.{Reading, PassesOne, Fails, Ends, GoesOn};
+ghost use Rattle.ctap_cbor.specs.Reading.{Reading, PassesOne, Fails, HasNoByteLeft, HasTrailingBytes};
 ghost use Rattle.ctap_message.specs.Members.{map_of};
 ghost use Rattle.ctap_message.specs.Walks.{Reads, typed, HasPairs};
 ghost use Rattle.ctap_message.specs.GetAssertion.{assertion_types};
-ghost use Rattle.ctap_message.specs.CollectedRequests.{assertion_in, shown_assert};
+ghost use Rattle.ctap_message.specs.CollectedRequests.{assertion_in, to_assertion_parameters};
 
 use crate::descriptor::{DescriptorList, read_list};
 use crate::descriptors::Descriptors;
@@ -24,7 +24,7 @@ pub(crate) struct Assert<'a> {
 }
 
 impl<'a> Members<'a> for Assert<'a> {
-    ghost Holds = { λ x ok ps. HasPairs assertion_types assertion_in (shown_assert x) ok ps };
+    ghost Holds = { λ x ok ps. HasPairs assertion_types assertion_in (to_assertion_parameters x) ok ps };
 
     fn member(&mut self, cursor: &mut Cursor<'a>, key: Item<'a>, level: u8) -> Result<bool, Fault> {
         match key {
@@ -34,7 +34,7 @@ impl<'a> Members<'a> for Assert<'a> {
                 read_members(&mut self.options, cursor, level)
             }
             _ => {
-                let value = cursor.whole(level)?;
+                let value = cursor.read_whole_item(level)?;
                 match key {
                     Item::Int(0x01) => {
                         self.rp_id = value.as_text();
@@ -60,10 +60,10 @@ impl<'a> Members<'a> for Assert<'a> {
 /// Reads all parameters. Returns whether they have the right types.
 pub(crate) fn parse_get_assertion<'a>(cursor: &mut Cursor<'a>) -> Result<(bool, Assert<'a>), Fault>
     ensures { MatchResult result
-        (λ r. (middle : Reading) × Reads (typed (map_of assertion_types) assertion_in) 4 (r.0, shown_assert r.1)
-        cursor.old middle × Ends middle cursor.new)
+        (λ r. (middle : Reading) × Reads (typed (map_of assertion_types) assertion_in) 4 (r.0, to_assertion_parameters r.1)
+        cursor.old middle × HasNoByteLeft middle cursor.new)
         (λ f. Fails 4 cursor.old cursor.new f.at f.kind
-        ⊎ ((middle : Reading) × PassesOne 4 cursor.old middle × GoesOn middle cursor.new f.at f.kind)) }
+        ⊎ ((middle : Reading) × PassesOne 4 cursor.old middle × HasTrailingBytes middle cursor.new f.at f.kind)) }
 {
     let mut found = Assert {
         rp_id: None,

@@ -6,7 +6,7 @@ ghost use Rattle.ctap_message.specs.DescriptorWalk.{DescriptorWalk, list_of, lef
 ghost use Rattle.ctap_message.specs.Answered.{AreShort, UserIsShort, NumberIsShort};
 ghost use Rattle.ctap_cbor.specs.Head.{AreBytes};
 ghost use Rattle.ctap_cbor.specs.Grammar.{IsCanonical};
-ghost use Rattle.ctap_message.specs.Requests.{steps_of, LARGEST};
+ghost use Rattle.ctap_message.specs.Requests.{steps_of, MAX_STEPS};
 ghost use Rattle.ctap_message.specs.Answers.{info_tree, info_answer, created_tree, created_answer, assertion_tree, assertion_answer};
 
 use ctap_cbor::laws as encoding;
@@ -43,9 +43,9 @@ pub fn assertion_is_canonical()
 
 /// States that iterating over a list of n bytes takes at most 2 * n steps, and that these are the steps so far at its
 /// end.
-pub fn walks_are_bounded()
+pub fn list_steps_are_bounded()
     ensures bound { (ts : Trees) (l : List ℕ) → IsCanonical (Array ts) l → list_steps ts ≤ 2 * length l }
-    ensures ended { (w : DescriptorWalk) → left_of w ≡ no_trees → walked_steps w ≡ min (list_steps (list_of w)) LARGEST }
+    ensures ended { (w : DescriptorWalk) → left_of w ≡ no_trees → walked_steps w ≡ min (list_steps (list_of w)) MAX_STEPS }
 {
     encoding::steps_are_bounded();
 }

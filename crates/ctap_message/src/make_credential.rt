@@ -1,11 +1,11 @@
 //! The parameters of authenticatorMakeCredential (CTAP 2.1, section 6.1).
 
 ghost use Rattle.std.specs.Prelude.{◌⊎◌, MatchResult};
-ghost use Rattle.ctap_cbor.specs.Reading.{Reading, PassesOne, Fails, Ends, GoesOn};
+ghost use Rattle.ctap_cbor.specs.Reading.{Reading, PassesOne, Fails, HasNoByteLeft, HasTrailingBytes};
 ghost use Rattle.ctap_message.specs.Members.{map_of};
 ghost use Rattle.ctap_message.specs.Walks.{Reads, typed, HasPairs};
 ghost use Rattle.ctap_message.specs.MakeCredential.{make_types};
-ghost use Rattle.ctap_message.specs.CollectedRequests.{make_in, shown_make};
+ghost use Rattle.ctap_message.specs.CollectedRequests.{make_in, to_make_parameters};
 
 use crate::descriptor::{DescriptorList, read_list};
 use crate::descriptors::Descriptors;
@@ -31,7 +31,7 @@ pub(crate) struct Make<'a> {
 }
 
 impl<'a> Members<'a> for Make<'a> {
-    ghost Holds = { λ x ok ps. HasPairs make_types make_in (shown_make x) ok ps };
+    ghost Holds = { λ x ok ps. HasPairs make_types make_in (to_make_parameters x) ok ps };
 
     fn member(&mut self, cursor: &mut Cursor<'a>, key: Item<'a>, level: u8) -> Result<bool, Fault> {
         match key {
@@ -57,7 +57,7 @@ impl<'a> Members<'a> for Make<'a> {
                 read_members(&mut self.options, cursor, level)
             }
             _ => {
-                let value = cursor.whole(level)?;
+                let value = cursor.read_whole_item(level)?;
                 match key {
                     Item::Int(0x01) => {
                         self.hash = value.as_bytes();
@@ -83,10 +83,10 @@ impl<'a> Members<'a> for Make<'a> {
 /// Reads all parameters. Returns whether they have the right types.
 pub(crate) fn parse_make_credential<'a>(cursor: &mut Cursor<'a>) -> Result<(bool, Make<'a>), Fault>
     ensures { MatchResult result
-        (λ r. (middle : Reading) × Reads (typed (map_of make_types) make_in) 4 (r.0, shown_make r.1) cursor.old middle
-        × Ends middle cursor.new)
+        (λ r. (middle : Reading) × Reads (typed (map_of make_types) make_in) 4 (r.0, to_make_parameters r.1) cursor.old middle
+        × HasNoByteLeft middle cursor.new)
         (λ f. Fails 4 cursor.old cursor.new f.at f.kind
-        ⊎ ((middle : Reading) × PassesOne 4 cursor.old middle × GoesOn middle cursor.new f.at f.kind)) }
+        ⊎ ((middle : Reading) × PassesOne 4 cursor.old middle × HasTrailingBytes middle cursor.new f.at f.kind)) }
 {
     let mut found = Make {
         hash: None,

@@ -3,7 +3,7 @@
 ghost use Rattle.ctap_message.specs.Walks.{HasPairs};
 ghost use Rattle.ctap_message.specs.Descriptors.{option_types};
 ghost use Rattle.ctap_message.specs.Fields.{options_in};
-ghost use Rattle.ctap_message.specs.Collected.{shown_options};
+ghost use Rattle.ctap_message.specs.Collected.{to_options};
 
 use ctap_cbor::{Cursor, Fault, Item, Members};
 
@@ -25,10 +25,10 @@ impl Options {
 }
 
 impl<'a> Members<'a> for Options {
-    ghost Holds = { λ x ok ps. HasPairs option_types options_in (shown_options x) ok ps };
+    ghost Holds = { λ x ok ps. HasPairs option_types options_in (to_options x) ok ps };
 
     fn member(&mut self, cursor: &mut Cursor<'a>, key: Item<'a>, level: u8) -> Result<bool, Fault> {
-        let value = cursor.whole(level)?;
+        let value = cursor.read_whole_item(level)?;
         let typed = match key {
             Item::Text("rk") => {
                 self.rk = value.as_bool();

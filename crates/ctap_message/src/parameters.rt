@@ -4,7 +4,7 @@ ghost use Rattle.ctap_message.specs.Members.{map_of};
 ghost use Rattle.ctap_message.specs.Walks.{HasPairs, HasEntries};
 ghost use Rattle.ctap_message.specs.Descriptors.{parameter_types};
 ghost use Rattle.ctap_message.specs.Fields.{parameter_in, parameters_in};
-ghost use Rattle.ctap_message.specs.Collected.{shown_parameter, shown_parameters};
+ghost use Rattle.ctap_message.specs.Collected.{to_parameter, to_parameters};
 
 use crate::item::{is_public_key, read_members};
 use ctap_cbor::{Cursor, Entries, Fault, Item, Members};
@@ -20,10 +20,10 @@ struct Parameter<'a> {
 }
 
 impl<'a> Members<'a> for Parameter<'a> {
-    ghost Holds = { λ x ok ps. HasPairs parameter_types parameter_in (shown_parameter x) ok ps };
+    ghost Holds = { λ x ok ps. HasPairs parameter_types parameter_in (to_parameter x) ok ps };
 
     fn member(&mut self, cursor: &mut Cursor<'a>, key: Item<'a>, level: u8) -> Result<bool, Fault> {
-        let value = cursor.whole(level)?;
+        let value = cursor.read_whole_item(level)?;
         let typed = match key {
             Item::Text("alg") => {
                 self.alg = value.as_int();
@@ -55,7 +55,7 @@ impl Parameters {
 }
 
 impl<'a> Entries<'a> for Parameters {
-    ghost HoldsAll = { λ x ok ts. HasEntries (map_of parameter_types) parameters_in (shown_parameters x) ok ts };
+    ghost HoldsAll = { λ x ok ts. HasEntries (map_of parameter_types) parameters_in (to_parameters x) ok ts };
 
     fn entry(&mut self, cursor: &mut Cursor<'a>, level: u8) -> Result<bool, Fault> {
         let mut parameter = Parameter {

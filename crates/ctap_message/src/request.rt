@@ -4,7 +4,7 @@ ghost use Rattle.std.specs.Prelude.{◌≡◌, ◌≤◌, length, min, option_ma
 ghost use Rattle.ctap_cbor.specs.Telling.{canonical_tree, outcome_of};
 ghost use Rattle.ctap_message.specs.MakeCredential.{make_request};
 ghost use Rattle.ctap_message.specs.GetAssertion.{assertion_request};
-ghost use Rattle.ctap_message.specs.Requests.{read_of, steps_of, without_parameters as alone_of, reading_steps, LARGEST, LONGEST_MESSAGE};
+ghost use Rattle.ctap_message.specs.Requests.{read_of, steps_of, without_parameters as alone_of, reading_steps, MAX_STEPS, MAX_REQUEST_LEN};
 ghost use Rattle.ctap_message.specs.RequestFaults.{checked_assertion, checked_make, fault_in, fault_of, refused_with, status_of, trailing};
 ghost use Rattle.ctap_message.specs.Shown.{request_result, request_of, examined_result, fault_at, HasFreshList, HasTheLengths, IsFresh, HasLengths};
 
@@ -16,7 +16,7 @@ use crate::laws::steps_are_bounded;
 use crate::make_credential::parse_make_credential;
 use crate::status::Status;
 use crate::validate::{validate_get_assertion, validate_make_credential};
-use ctap_cbor::laws::whole_readings;
+use ctap_cbor::laws::cursor_agrees_with_check;
 use ctap_cbor::{Cursor, read_whole};
 
 /// The parameters of authenticatorMakeCredential.
@@ -76,9 +76,9 @@ pub enum Request<'a> {
 /// | 0x01 or 0x02, other parameters | 0x12 | those of `check` |
 pub fn read_request<'a>(message: &'a [u8]) -> (Result<Request<'a>, Status>, u64)
     ensures request { request_result result.0 ≡ read_of message.now }
-    ensures steps { result.1 ≡ min (steps_of message.now) LARGEST }
+    ensures steps { result.1 ≡ min (steps_of message.now) MAX_STEPS }
     // The number of steps is exact for messages that the transport delivers.
-    ensures exact { length message.now ≤ LONGEST_MESSAGE → result.1 ≡ steps_of message.now }
+    ensures exact { length message.now ≤ MAX_REQUEST_LEN → result.1 ≡ steps_of message.now }
     // Each iterator over a list is at its start.
     ensures fresh { IsFresh result.0 }
     ensures lens { HasLengths result.0 }
@@ -109,8 +109,8 @@ pub fn request_fault(message: &[u8]) -> Option<RequestFault>
 pub fn parse_request<'a>(message: &'a [u8]) -> (Result<Request<'a>, RequestFault>, u64)
     ensures request { examined_result result.0 ≡ read_of message.now }
     ensures fault { fault_at result.0 ≡ fault_in message.now }
-    ensures steps { result.1 ≡ min (steps_of message.now) LARGEST }
-    ensures exact { length message.now ≤ LONGEST_MESSAGE → result.1 ≡ steps_of message.now }
+    ensures steps { result.1 ≡ min (steps_of message.now) MAX_STEPS }
+    ensures exact { length message.now ≤ MAX_REQUEST_LEN → result.1 ≡ steps_of message.now }
     ensures fresh { IsFresh result.0 }
     ensures lens { HasLengths result.0 }
 {
@@ -121,16 +121,16 @@ pub fn parse_request<'a>(message: &'a [u8]) -> (Result<Request<'a>, RequestFault
     match Command::named(*byte) {
         Some(Command::MakeCredential) => read_make_credential(parameters),
         Some(Command::GetAssertion) => read_get_assertion(parameters),
-        Some(Command::GetInfo) => (alone(parameters, Request::Info), 0),
-        Some(Command::Reset) => (alone(parameters, Request::Reset), 0),
-        Some(Command::GetNextAssertion) => (alone(parameters, Request::Next), 0),
-        Some(Command::Selection) => (alone(parameters, Request::Select), 0),
+        Some(Command::GetInfo) => (check_no_parameters(parameters, Request::Info), 0),
+        Some(Command::Reset) => (check_no_parameters(parameters, Request::Reset), 0),
+        Some(Command::GetNextAssertion) => (check_no_parameters(parameters, Request::Next), 0),
+        Some(Command::Selection) => (check_no_parameters(parameters, Request::Select), 0),
         None => (Err(RequestFault::NoSuchCommand { byte: *byte }), 0),
     }
 }
 
 /// Checks that a command without parameters has none.
-fn alone<'a>(parameters: &[u8], request: Request<'a>) -> Result<Request<'a>, RequestFault>
+fn check_no_parameters<'a>(parameters: &[u8], request: Request<'a>) -> Result<Request<'a>, RequestFault>
     requires fresh { HasFreshList request }
     requires lens { HasTheLengths request }
     ensures request { examined_result result ≡ alone_of parameters.now (request_of request.entry) }
@@ -152,11 +152,11 @@ fn alone<'a>(parameters: &[u8], request: Request<'a>) -> Result<Request<'a>, Req
 fn read_make_credential<'a>(parameters: &'a [u8]) -> (Result<Request<'a>, RequestFault>, u64)
     ensures request { examined_result result.0 ≡ make_request (canonical_tree parameters.now) }
     ensures fault { fault_at result.0 ≡ fault_of (outcome_of parameters.now) checked_make }
-    ensures steps { result.1 ≡ min (reading_steps parameters.now) LARGEST }
+    ensures steps { result.1 ≡ min (reading_steps parameters.now) MAX_STEPS }
     ensures fresh { IsFresh result.0 }
     ensures lens { HasLengths result.0 }
 {
-    whole_readings(parameters);
+    cursor_agrees_with_check(parameters);
     let mut cursor = Cursor::new(parameters);
     if let Err(fault) = read_whole(&mut cursor) {
         return (Err(RequestFault::NotCanonical(fault)), cursor.steps());
@@ -173,11 +173,11 @@ fn read_make_credential<'a>(parameters: &'a [u8]) -> (Result<Request<'a>, Reques
 fn read_get_assertion<'a>(parameters: &'a [u8]) -> (Result<Request<'a>, RequestFault>, u64)
     ensures request { examined_result result.0 ≡ assertion_request (canonical_tree parameters.now) }
     ensures fault { fault_at result.0 ≡ fault_of (outcome_of parameters.now) checked_assertion }
-    ensures steps { result.1 ≡ min (reading_steps parameters.now) LARGEST }
+    ensures steps { result.1 ≡ min (reading_steps parameters.now) MAX_STEPS }
     ensures fresh { IsFresh result.0 }
     ensures lens { HasLengths result.0 }
 {
-    whole_readings(parameters);
+    cursor_agrees_with_check(parameters);
     let mut cursor = Cursor::new(parameters);
     if let Err(fault) = read_whole(&mut cursor) {
         return (Err(RequestFault::NotCanonical(fault)), cursor.steps());

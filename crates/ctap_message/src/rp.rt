@@ -3,7 +3,7 @@
 ghost use Rattle.ctap_message.specs.Walks.{HasPairs};
 ghost use Rattle.ctap_message.specs.MakeCredential.{rp_types};
 ghost use Rattle.ctap_message.specs.Fields.{rp_in};
-ghost use Rattle.ctap_message.specs.Collected.{shown_rp};
+ghost use Rattle.ctap_message.specs.Collected.{to_rp};
 
 use ctap_cbor::{Cursor, Fault, Item, Members};
 
@@ -14,10 +14,10 @@ pub(crate) struct Rp<'a> {
 }
 
 impl<'a> Members<'a> for Rp<'a> {
-    ghost Holds = { λ x ok ps. HasPairs rp_types rp_in (shown_rp x) ok ps };
+    ghost Holds = { λ x ok ps. HasPairs rp_types rp_in (to_rp x) ok ps };
 
     fn member(&mut self, cursor: &mut Cursor<'a>, key: Item<'a>, level: u8) -> Result<bool, Fault> {
-        let value = cursor.whole(level)?;
+        let value = cursor.read_whole_item(level)?;
         let typed = match key {
             Item::Text("id") => {
                 self.id = value.as_text();

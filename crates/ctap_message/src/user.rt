@@ -3,7 +3,7 @@
 ghost use Rattle.ctap_message.specs.Walks.{HasPairs};
 ghost use Rattle.ctap_message.specs.MakeCredential.{user_types};
 ghost use Rattle.ctap_message.specs.Fields.{user_in};
-ghost use Rattle.ctap_message.specs.Collected.{shown_user};
+ghost use Rattle.ctap_message.specs.Collected.{to_user};
 
 use ctap_cbor::{Cursor, Fault, Item, Members};
 
@@ -15,10 +15,10 @@ pub(crate) struct User<'a> {
 }
 
 impl<'a> Members<'a> for User<'a> {
-    ghost Holds = { λ x ok ps. HasPairs user_types user_in (shown_user x) ok ps };
+    ghost Holds = { λ x ok ps. HasPairs user_types user_in (to_user x) ok ps };
 
     fn member(&mut self, cursor: &mut Cursor<'a>, key: Item<'a>, level: u8) -> Result<bool, Fault> {
-        let value = cursor.whole(level)?;
+        let value = cursor.read_whole_item(level)?;
         let typed = match key {
             Item::Text("id") => {
                 self.id = value.as_bytes();

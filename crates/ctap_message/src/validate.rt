@@ -4,7 +4,7 @@ ghost use Rattle.std.specs.Prelude.{◌≡◌, true, Err};
 ghost use Rattle.ctap_message.specs.Judged.{validated_make};
 ghost use Rattle.ctap_message.specs.Judged.{validated_assertion};
 ghost use Rattle.ctap_message.specs.DescriptorWalk.{list_of, left_of};
-ghost use Rattle.ctap_message.specs.CollectedRequests.{shown_make, shown_assert};
+ghost use Rattle.ctap_message.specs.CollectedRequests.{to_make_parameters, to_assertion_parameters};
 ghost use Rattle.ctap_message.specs.RequestFaults.{make_fault, assertion_fault, fault_of_make};
 ghost use Rattle.ctap_message.specs.Shown.{examined_result, fault_at, IsFresh, HasLengths};
 
@@ -34,7 +34,7 @@ fn missing<'a>(command: u8, parameter: u8) -> Result<Request<'a>, RequestFault>
 /// Returns the first further check that an authenticatorMakeCredential request with clientDataHash, rp.id and user.id
 /// fails.
 fn fault_of_make(make: &Make, hash: &[u8], user_id: &[u8]) -> Option<RequestFault>
-    ensures { result ≡ fault_of_make (shown_make make.now).0 hash.now user_id.now }
+    ensures { result ≡ fault_of_make (to_make_parameters make.now).0 hash.now user_id.now }
 {
     if !make.has_parameters {
         return Some(RequestFault::Missing {
@@ -79,8 +79,8 @@ pub(crate) fn validate_make_credential<'a>(
     make: Make<'a>,
 ) -> Result<Request<'a>, RequestFault>
     requires { list_of make.exclude.list ≡ left_of make.exclude.list }
-    ensures request { examined_result result ≡ validated_make true typed (shown_make make.entry).0 }
-    ensures fault { fault_at result ≡ make_fault typed (shown_make make.entry).0 }
+    ensures request { examined_result result ≡ validated_make true typed (to_make_parameters make.entry).0 }
+    ensures fault { fault_at result ≡ make_fault typed (to_make_parameters make.entry).0 }
     ensures fresh { IsFresh result }
     ensures lens { HasLengths result }
 {
@@ -115,8 +115,8 @@ pub(crate) fn validate_get_assertion<'a>(
     assert: Assert<'a>,
 ) -> Result<Request<'a>, RequestFault>
     requires { list_of assert.allow.list ≡ left_of assert.allow.list }
-    ensures request { examined_result result ≡ validated_assertion true typed (shown_assert assert.entry).0 }
-    ensures fault { fault_at result ≡ assertion_fault typed (shown_assert assert.entry).0 }
+    ensures request { examined_result result ≡ validated_assertion true typed (to_assertion_parameters assert.entry).0 }
+    ensures fault { fault_at result ≡ assertion_fault typed (to_assertion_parameters assert.entry).0 }
     ensures fresh { IsFresh result }
     ensures lens { HasLengths result }
 {

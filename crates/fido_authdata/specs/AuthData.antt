@@ -27,6 +27,6 @@ attested_part None = []
 attested_part (Some a) = attested_bytes a.aaguid a.id a.x a.y
 
 -- The encoding of the code's type `AuthData`.
-abbrev pub kept_bytes : (rp_hash : List ℕ) (user_present : Bool) (counter : ℕ) → Option AttestedCredential → List ℕ
-kept_bytes rp_hash user_present counter attested =
+abbrev pub auth_data_bytes : (rp_hash : List ℕ) (user_present : Bool) (counter : ℕ) → Option AttestedCredential → List ℕ
+auth_data_bytes rp_hash user_present counter attested =
     rp_hash ++ flags_byte user_present (is_some attested) ∷ [] ++ big_bytes 4 counter ++ attested_part attested

@@ -46,11 +46,11 @@ pub struct AuthData {
 
 impl Model for AuthData {
     ghost use Rattle.std.specs.Prelude.{ℕ, List};
-    ghost use Rattle.fido_authdata.specs.AuthData.{kept_bytes};
+    ghost use Rattle.fido_authdata.specs.AuthData.{auth_data_bytes};
 
     ghost Value = { List ℕ };
 
-    ghost view = { λ d. kept_bytes d.rp_hash d.user_present d.counter d.attested };
+    ghost view = { λ d. auth_data_bytes d.rp_hash d.user_present d.counter d.attested };
 }
 
 impl AuthData {

@@ -9,7 +9,7 @@ use arrayvec::ArrayVec;
 pub const COSE_KEY_LEN: usize = 77;
 
 /// The map's head and its members, up to the head of the x coordinate.
-const UP_TO_X: [u8; 10] = [
+const COSE_KEY_BEFORE_X: [u8; 10] = [
     0xA5, // a map of five pairs
     0x01, 0x02, // kty (1): EC2 (2)
     0x03, 0x26, // alg (3): ES256 (-7)
@@ -18,7 +18,7 @@ const UP_TO_X: [u8; 10] = [
 ];
 
 /// The label of the y coordinate, and the head of its byte string.
-const UP_TO_Y: [u8; 3] = [
+const COSE_KEY_BEFORE_Y: [u8; 3] = [
     0x22, 0x58, 0x20, // y (-3): a byte string of 32 bytes
 ];
 
@@ -28,9 +28,9 @@ pub fn cose_key(x: &[u8; 32], y: &[u8; 32]) -> [u8; COSE_KEY_LEN]
     ensures { result ≡ cose_key_bytes x.now y.now }
 {
     let mut key: ArrayVec<u8, COSE_KEY_LEN> = ArrayVec::new();
-    key.try_extend_from_slice(&UP_TO_X).unwrap();
+    key.try_extend_from_slice(&COSE_KEY_BEFORE_X).unwrap();
     key.try_extend_from_slice(x).unwrap();
-    key.try_extend_from_slice(&UP_TO_Y).unwrap();
+    key.try_extend_from_slice(&COSE_KEY_BEFORE_Y).unwrap();
     key.try_extend_from_slice(y).unwrap();
     key.into_inner().unwrap()
 }

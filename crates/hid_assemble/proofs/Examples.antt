@@ -2,17 +2,17 @@
 use Rattle.std.proofs.Common.{◌≡◌, ℕ, Bool, true, false, [], Option, Some, None, refl}
 use Rattle.hid_packet.specs.Commands.{PING, INIT, CBOR, CANCEL, BROADCAST}
 use Rattle.hid_packet.specs.Packet.{Fields, initialization, continuation}
-use Rattle.hid_assemble.specs.Table.{Open, Ruling, Begins, Continues, MAX_CHANNEL, init_packet_row, is_noise}
-use Rattle.hid_assemble.specs.Table.{cont_packet_row, ruling_of}
+use Rattle.hid_assemble.specs.Table.{Open, PacketClass, Begins, Continues, MAX_CHANNEL, init_packet_row, is_noise}
+use Rattle.hid_assemble.specs.Table.{cont_packet_row, packet_class}
 use Rattle.hid_assemble.specs.declared.table.ReplyRow.TheVariants.{CancelsWork, CancelsNothing, NoSuchChannel}
 use Rattle.hid_assemble.specs.declared.table.ReplyRow.TheVariants.{InitLength, InitFull, InitNew, InitAgain}
 use Rattle.hid_assemble.specs.declared.table.ReplyRow.TheVariants.{BusyElsewhere, BusyHere, BrokenOff, NoSuchCommand}
 use Rattle.hid_assemble.specs.declared.table.ReplyRow.TheVariants.{BadLength, Short, Long}
 use Rattle.hid_assemble.specs.declared.table.Continuation.TheVariants.{Stray, WrongNumber, Whole}
 
-row : ℕ → Option Open → Option ℕ → Fields → Ruling
-unfolding ruling_of init_packet_row cont_packet_row
-row given current work f = ruling_of given current work f
+row : ℕ → Option Open → Option ℕ → Fields → PacketClass
+unfolding packet_class init_packet_row cont_packet_row
+row given current work f = packet_class given current work f
 
 abbrev open_1 : Open
 open_1 = record { cid = 1; cmd = PING; len = 100; bytes = []; kept = 0; last = 0 }

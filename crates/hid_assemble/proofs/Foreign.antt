@@ -3,7 +3,7 @@ use Rattle.std.proofs.Common.{◌≡◌, ℕ, false, cond, not, ◌&&◌, ◌||�
 use Rattle.std.proofs.{Common.subst, Common.arith, lemmas.Bool.Decides.nat_tests}
 use Rattle.hid_packet.specs.Commands.{INIT, CANCEL, BROADCAST}
 use Rattle.hid_packet.specs.Packet.{Fields, initialization, continuation, channel_of}
-use Rattle.hid_assemble.specs.{declared.table.ReplyRow.ReplyRow, Table.cont_packet_row, Table.ruling_of}
+use Rattle.hid_assemble.specs.{declared.table.ReplyRow.ReplyRow, Table.cont_packet_row, Table.packet_class}
 use Rattle.hid_assemble.specs.Table.{Open, Begins, Continues, MAX_CHANNEL, is_allocated, is_on, init_packet_row}
 use Rattle.hid_assemble.specs.Assembly.{Assembly, open_after, accepted}
 use Rattle.hid_assemble.proofs.{ByCommand.init_row, ByCommand.begin_row, ByCommand.by_command, Comparing.cond_case}
@@ -38,8 +38,8 @@ module _ (at : ℕ) (m : Open) (work : Option ℕ) where
   foreign_more cid number part other = rw other refl
 
   foreign_kept : (given : ℕ) (f : Fields) → (m.cid == channel_of f) ≡ false →
-      open_after (Some m) at f (ruling_of given (Some m) work f) ≡ Some m
-  unfolding ruling_of
+      open_after (Some m) at f (packet_class given (Some m) work f) ≡ Some m
+  unfolding packet_class
   foreign_kept given (initialization cid cmd len part) other = foreign_start given cid cmd len part other
   foreign_kept given (continuation cid number part) other = foreign_more cid number part other
 
@@ -56,13 +56,13 @@ pub foreign_packet : (a : Assembly) (at : ℕ) (work : Option ℕ) (f : Fields) 
 unfolding accepted
 foreign_packet a at work f m is other =
     let apart_from : (m.cid == channel_of f) ≡ false = apart m.cid (channel_of f) (λ e. other (sym e)) in
-    ap (λ o. open_after o at f (ruling_of a.given o work f)) is ∙ foreign_kept at m work a.given f apart_from ∙ sym is
+    ap (λ o. open_after o at f (packet_class a.given o work f)) is ∙ foreign_kept at m work a.given f apart_from ∙ sym is
 
 pub cancel_packet : (a : Assembly) (at : ℕ) (work : Option ℕ) (cid len : ℕ) (part : List ℕ) (m : Open) →
     a.current ≡ Some m
     → (accepted a at work (initialization cid CANCEL len part)).current ≡ a.current
-unfolding accepted ruling_of
+unfolding accepted packet_class
 cancel_packet a at work cid len part m is =
     ap (λ o. open_after o at (initialization cid CANCEL len part)
-    (ruling_of a.given o work (initialization cid CANCEL len part))) is
+    (packet_class a.given o work (initialization cid CANCEL len part))) is
     ∙ cancel_kept at m work a.given cid len part ∙ sym is

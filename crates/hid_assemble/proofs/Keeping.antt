@@ -6,16 +6,16 @@ use Rattle.hid_assemble.specs.declared.assembler.Contents.{Contents}
 use Rattle.hid_assemble.specs.declared.assembler.Contents.TheVariants.{Open as HoldsOpen, Finished}
 use Rattle.hid_packet.specs.Packet.{initialization}
 use Rattle.hid_assemble.specs.declared.table.ReplyRow.{ReplyRow, TheVariants.Short, TheVariants.Long}
-use Rattle.hid_assemble.specs.Table.{Begins, MAX_CHANNEL, init_packet_row, ruling_of}
-use Rattle.hid_assemble.specs.Assembly.{Assembly, IsValidAssembly, OpenIsValid, open_after, message_after, assembly_after_ruling, accepted}
-use Rattle.hid_assemble.specs.Kept.{open_in, finished_in, assembly, IsKept, MayBeHeld}
+use Rattle.hid_assemble.specs.Table.{Begins, MAX_CHANNEL, init_packet_row, packet_class}
+use Rattle.hid_assemble.specs.Assembly.{Assembly, IsValidAssembly, OpenIsValid, open_after, message_after, assembly_after_class, accepted}
+use Rattle.hid_assemble.specs.Kept.{open_in, finished_in, assembly, IsValidState, AreValidContents}
 
-lawful_in : (given : ℕ) (contents : Contents) (buffer : List ℕ) → length buffer ≡ 7609 → MayBeHeld given contents
+lawful_in : (given : ℕ) (contents : Contents) (buffer : List ℕ) → length buffer ≡ 7609 → AreValidContents given contents
     → OpenIsValid given (open_in buffer contents) × (length (finished_in buffer contents) ≤ 7609)
 lawful_in given x1 buffer size h = search (rules, arith, length-take-le)
 
 pub lawful : (given : ℕ) (contents : Contents) (buffer : List ℕ) (a : Assembly) → assembly given contents buffer ≡ a →
-    IsKept given contents buffer → IsValidAssembly a
+    IsValidState given contents buffer → IsValidAssembly a
 unfolding assembly
 lawful given contents buffer a is kept = search (rules, arith, lawful_in)
 
@@ -25,8 +25,8 @@ unfolding assembly
 given-is given contents buffer a is = ap (λ (x : Assembly). x.given) is
 
 -- A channel more was given out.
-pub one_more : (given : ℕ) (contents : Contents) (buffer : List ℕ) → IsKept given contents buffer →
-    given < MAX_CHANNEL → IsKept (given + 1) contents buffer
+pub one_more : (given : ℕ) (contents : Contents) (buffer : List ℕ) → IsValidState given contents buffer →
+    given < MAX_CHANNEL → IsValidState (given + 1) contents buffer
 one_more given contents buffer kept few = grind (arith, nat_tests)
 
 -- The data of an initialization packet stands at the buffer's head.
@@ -38,19 +38,19 @@ module _ (given : ℕ) (contents : Contents) (buffer : List ℕ) (a : Assembly) 
 
   pub short_state : row Short → len ≤ 57 → assembly given (Finished len) now
       ≡ accepted a at work (initialization cid cmd len part)
-  unfolding assembly accepted ruling_of open_after message_after
+  unfolding assembly accepted packet_class open_after message_after
   short_state r fits =
       let bytes : take len now ≡ take len part = ap (take len) e
       ∙ take-append-le len part (drop size buffer) (omega (arith, fits)) in
       (λ i. record { given = given-is given contents buffer a is i; current = None; finished = bytes i })
-      ∙ sym (ap (λ x. assembly_after_ruling a at (initialization cid cmd len part) (Begins x)) r)
+      ∙ sym (ap (λ x. assembly_after_class a at (initialization cid cmd len part) (Begins x)) r)
 
   pub long_state : row Long →
       assembly given (HoldsOpen (record { cid = cid; cmd = cmd; len = len; kept = 0; last = at })) now
       ≡ accepted a at work (initialization cid cmd len part)
-  unfolding assembly accepted ruling_of open_after message_after
+  unfolding assembly accepted packet_class open_after message_after
   long_state r =
       let bytes : take 57 now ≡ part = ap (take 57) e ∙ subst (λ n. take n (part ++ drop size buffer) ≡ part) full
       (take-append_seam part (drop size buffer)) in
       (λ i. record { given = given-is given contents buffer a is i; current = Some (record { cid = cid; cmd = cmd; len = len; bytes = bytes i; kept = 0; last = at }); finished = [] })
-      ∙ sym (ap (λ x. assembly_after_ruling a at (initialization cid cmd len part) (Begins x)) r)
+      ∙ sym (ap (λ x. assembly_after_class a at (initialization cid cmd len part) (Begins x)) r)

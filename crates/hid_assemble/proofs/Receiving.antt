@@ -9,12 +9,12 @@ use Rattle.hid_packet.specs.Packet.{initialization_data, continuation_data, init
 use Rattle.hid_packet.specs.Carries.{AreContinuations, IsLeast, Carries, CarriesMessage}
 use Rattle.hid_assemble.specs.declared.table.ReplyRow.TheVariants.{Short, Long}
 use Rattle.hid_assemble.specs.declared.table.Continuation.TheVariants.{Kept, Whole}
-use Rattle.hid_assemble.specs.Table.{Open, Ruling, Begins, Continues, is_allocated, cont_packet_row, ruling_of}
+use Rattle.hid_assemble.specs.Table.{Open, PacketClass, Begins, Continues, is_allocated, cont_packet_row, packet_class}
 use Rattle.hid_assemble.proofs.ByCommand.{begin_row, by_command}
-use Rattle.hid_assemble.specs.Assembly.{Assembly, is_overdue, still_open, open_after, message_after, assembly_after_ruling, accepted}
+use Rattle.hid_assemble.specs.Assembly.{Assembly, is_overdue, still_open, open_after, message_after, assembly_after_class, accepted}
 use Rattle.hid_assemble.specs.Receiving.{Arrival, packets_of, received_one, received, last_verdict, InTime, ArriveInTime}
-use Rattle.hid_assemble.specs.{Receiving.IsServed, declared.verdict.Verdict.TheVariants.Finished}
-use Rattle.hid_assemble.specs.Verdicts.{verdict, ruling_verdict}
+use Rattle.hid_assemble.specs.{Receiving.IsSupportedMessage, declared.verdict.Verdict.TheVariants.Finished}
+use Rattle.hid_assemble.specs.Verdicts.{verdict, class_verdict}
 use Rattle.hid_packet.specs.Limits.{MAX_MESSAGE_LEN}
 
 -- the fields of either kind of packet
@@ -27,10 +27,10 @@ goes : (p : List ℕ) → is_initialization p ≡ false → fields p
 goes p h = rw h refl
 
 -- A ruling that is known says what is kept.
-kept_as : (a : Assembly) (at : ℕ) (f : Fields) (ruling : Ruling) → ruling_of a.given a.current None f ≡ ruling →
-    accepted a at None f ≡ assembly_after_ruling a at f ruling
+kept_as : (a : Assembly) (at : ℕ) (f : Fields) (ruling : PacketClass) → packet_class a.given a.current None f ≡ ruling →
+    accepted a at None f ≡ assembly_after_class a at f ruling
 unfolding accepted
-kept_as a at f ruling h = ap (assembly_after_ruling a at f) h
+kept_as a at f ruling h = ap (assembly_after_class a at f) h
 
 in_time : (given at since : ℕ) (m : Open) (finished : List ℕ) → m.last ≡ since → at < since + 500
     → ◌≡◌ {A = Assembly} (record { given = given; current = still_open (Some m) at; finished = finished })
@@ -41,8 +41,8 @@ in_time given at since m finished same soon = grind (arith, nat_tests)
 -- the row of the continuation packet that is due
 due_row : (given : ℕ) (m : Open) (number : ℕ) (part : List ℕ) (last : Bool) → number ≡ m.kept →
     nat_lt (57 + 59 * (m.kept + 1)) m.len ≡ last
-    → ruling_of given (Some m) None (continuation m.cid number part) ≡ Continues (cond last Kept Whole)
-unfolding ruling_of cont_packet_row
+    → packet_class given (Some m) None (continuation m.cid number part) ≡ Continues (cond last Kept Whole)
+unfolding packet_class cont_packet_row
 due_row given m number part last same test = grind (arith, nat_tests)
 
 -- the continuation packets that are left finish the open message
@@ -93,8 +93,8 @@ served_tests given cid cmd len low high x6 fits = grind (arith, nat_tests)
 
 admitted_row : (given cid cmd len : ℕ) (part : List ℕ) (short : Bool) → 1 ≤ cid → cid ≤ given →
     (cmd ≡ 1) ⊎ ((cmd ≡ 16) × (1 ≤ len)) → len ≤ 7609 → nat_le len 57 ≡ short
-    → ruling_of given None None (initialization cid cmd len part) ≡ Begins (cond short Short Long)
-unfolding ruling_of begin_row
+    → packet_class given None None (initialization cid cmd len part) ≡ Begins (cond short Short Long)
+unfolding packet_class begin_row
 admitted_row given cid cmd len part short low high served fits test = grind (arith, by_command, served_tests)
 
 many : (count len : ℕ) → 0 < count → IsLeast count len → (57 < len) × (len ≤ 57 + 59 * count)
@@ -118,7 +118,7 @@ first_fields p others cid cmd bytes c = grind (arith, nat_tests)
 
 -- With nothing open, the packets of a message that is admitted finish it with its bytes.
 pub message_finishes : (a : Assembly) (arrivals : List Arrival) (cid cmd : ℕ) (bytes : List ℕ) → a.current ≡ None →
-    1 ≤ cid → cid ≤ a.given → IsServed cmd bytes
+    1 ≤ cid → cid ≤ a.given → IsSupportedMessage cmd bytes
     → CarriesMessage (packets_of arrivals) cid cmd bytes → ArriveInTime arrivals
     → received a arrivals ≡ record { given = a.given; current = None; finished = bytes }
 unfolding received received_one open_after message_after is_overdue
@@ -152,17 +152,17 @@ message_finishes a (x ∷ y ∷ more) cid cmd bytes none low high served c time 
     ∙ ap (λ bs. record { given = a.given; current = None; finished = bs }) (sym c.joins)
 
 -- A ruling that is known says what the verdict is.
-verdict_as : (a : Assembly) (f : Fields) (ruling : Ruling) → ruling_of a.given a.current None f ≡ ruling
-    → verdict a None f ≡ ruling_verdict a.given a.current None f (message_after a.current f ruling) ruling
+verdict_as : (a : Assembly) (f : Fields) (ruling : PacketClass) → packet_class a.given a.current None f ≡ ruling
+    → verdict a None f ≡ class_verdict a.given a.current None f (message_after a.current f ruling) ruling
 unfolding verdict
-verdict_as a f ruling h = ap (λ r. ruling_verdict a.given a.current None f (message_after a.current f r) r) h
+verdict_as a f ruling h = ap (λ r. class_verdict a.given a.current None f (message_after a.current f r) r) h
 
 continues_verdict : (arrivals : List Arrival) (given since : ℕ) (m : Open) (finished : List ℕ) → 0 < length arrivals →
     m.last ≡ since → InTime since arrivals
     → AreContinuations m.cid m.kept (packets_of arrivals) → m.len ≤ 57 + 59 * (m.kept + length arrivals) →
     57 + 59 * (m.kept + length arrivals) < m.len + 59
     → last_verdict (record { given = given; current = Some m; finished = finished }) arrivals ≡ Finished m.cid m.cmd
-unfolding last_verdict received_one open_after message_after ruling_verdict
+unfolding last_verdict received_one open_after message_after class_verdict
 continues_verdict [] given since m finished some last time follow enough few = absurd (omega arith)
 continues_verdict (x ∷ []) given since m finished some last time follow enough few =
     let p = x.packet in
@@ -190,10 +190,10 @@ continues_verdict (x ∷ y ∷ more) given since m finished some last time follo
     ∙ continues_verdict (y ∷ more) given x.at grown [] (omega arith) refl time.1 follow.3 (omega arith) (omega arith)
 
 pub message_told : (a : Assembly) (arrivals : List Arrival) (cid cmd : ℕ) (bytes : List ℕ) → a.current ≡ None →
-    1 ≤ cid → cid ≤ a.given → IsServed cmd bytes
+    1 ≤ cid → cid ≤ a.given → IsSupportedMessage cmd bytes
     → CarriesMessage (packets_of arrivals) cid cmd bytes → ArriveInTime arrivals
     → last_verdict a arrivals ≡ Finished cid cmd
-unfolding last_verdict received_one open_after message_after is_overdue ruling_verdict
+unfolding last_verdict received_one open_after message_after is_overdue class_verdict
 message_told a [] cid cmd bytes none low high served c time = absurd c
 message_told a (x ∷ []) cid cmd bytes none low high served c time =
     let p = x.packet in

@@ -5,7 +5,7 @@ use Rattle.hid_packet.specs.Commands.{PING, INIT, CBOR, CANCEL, BROADCAST}
 use Rattle.hid_assemble.specs.{declared.table.ReplyRow.ReplyRow, Assembly.IsOpenMessage}
 use Rattle.hid_assemble.specs.declared.table.ReplyRow.TheVariants.{InitNew, Short, Long}
 use Rattle.hid_assemble.specs.declared.table.Continuation.{Continuation, TheVariants.Kept, TheVariants.Whole}
-use Rattle.hid_assemble.specs.Table.{MAX_CHANNEL, is_allocated, is_on, init_packet_row, continues}
+use Rattle.hid_assemble.specs.Table.{MAX_CHANNEL, is_allocated, is_on, init_packet_row, continuation_kind}
 use Rattle.hid_assemble.proofs.{Comparing.cond_case, ByCommand.init_row, ByCommand.begin_row, ByCommand.by_command}
 use Rattle.hid_packet.specs.Limits.{MAX_MESSAGE_LEN}
 
@@ -57,5 +57,5 @@ row_says given current work cid cmd len few =
     (λ other. let on = channel_given given cid cmd known other in
     begin_says given current work cid cmd len on.0 on.1))))
 
-pub continuation_says : (on len kept cid number : ℕ) → ContinuationSays len kept (continues on len kept cid number)
+pub continuation_says : (on len kept cid number : ℕ) → ContinuationSays len kept (continuation_kind on len kept cid number)
 continuation_says on len kept cid number = grind (arith, nat_tests)

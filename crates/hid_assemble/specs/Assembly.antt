@@ -3,7 +3,7 @@ use Rattle.std.specs.Prelude.{◌≡◌, ℕ, ◌+◌, ◌≤◌, ◌<◌, ◌�
 use Rattle.std.specs.Prelude.{Option, Some, None, option_map, if◌then◌else◌}
 use Rattle.hid_packet.specs.Commands.{PING, CBOR}
 use Rattle.hid_packet.specs.Packet.{Fields, channel_of, command_of, length_of, data_of}
-use Rattle.hid_assemble.specs.Table.{Open, Ruling, Begins, Continues, MAX_CHANNEL, ruling_of}
+use Rattle.hid_assemble.specs.Table.{Open, PacketClass, Begins, Continues, MAX_CHANNEL, packet_class}
 use Rattle.hid_assemble.specs.declared.table.ReplyRow.TheVariants.{InitLength, InitNew, InitAgain, BrokenOff, Short}
 use Rattle.hid_assemble.specs.declared.table.ReplyRow.TheVariants.{Long}
 use Rattle.hid_assemble.specs.declared.table.Continuation.TheVariants.{Stray, WrongNumber, Kept, Whole}
@@ -33,12 +33,12 @@ still_open current at = if is_overdue current at then None else current
 
 -- The number of data bytes stored of the incomplete message: 57 of its initialization packet, and 59 of each
 -- continuation packet.
-abbrev pub held_bytes : Option Open → ℕ
-held_bytes None = 0
-held_bytes (Some m) = data_capacity m.kept
+abbrev pub stored_len : Option Open → ℕ
+stored_len None = 0
+stored_len (Some m) = data_capacity m.kept
 
 -- The number of allocated channels after a packet.
-abbrev pub channels_after : ℕ → Ruling → ℕ
+abbrev pub channels_after : ℕ → PacketClass → ℕ
 channels_after given (Begins InitNew) = given + 1
 channels_after given _ = given
 
@@ -70,7 +70,7 @@ drop_on None cid = None
 drop_on (Some m) cid = if m.cid == cid then None else Some m
 
 -- The incomplete message after a packet.
-unfoldable pub open_after : Option Open → ℕ → Fields → Ruling → Option Open
+unfoldable pub open_after : Option Open → ℕ → Fields → PacketClass → Option Open
 open_after current at f (Begins InitLength) = drop_on current (channel_of f)
 open_after current at f (Begins InitAgain) = drop_on current (channel_of f)
 open_after current at f (Begins BrokenOff) = None
@@ -87,7 +87,7 @@ abbrev pub completed : Fields → Open → Message
 completed f m = record { cid = m.cid; cmd = m.cmd; bytes = take m.len (m.bytes ++ data_of f) }
 
 -- The message that a packet completes, if any.
-unfoldable pub message_after : Option Open → Fields → Ruling → Option Message
+unfoldable pub message_after : Option Open → Fields → PacketClass → Option Message
 message_after current f (Begins Short) = Some (record {
   cid = channel_of f;
   cmd = command_of f;
@@ -102,8 +102,8 @@ bytes_of None = []
 bytes_of (Some m) = m.bytes
 
 -- The state after a packet, by its row of the reply table.
-abbrev pub assembly_after_ruling : Assembly → ℕ → Fields → Ruling → Assembly
-assembly_after_ruling a at f ruling =
+abbrev pub assembly_after_class : Assembly → ℕ → Fields → PacketClass → Assembly
+assembly_after_class a at f ruling =
     record {
       given = channels_after a.given ruling;
       current = open_after a.current at f ruling;
@@ -112,7 +112,7 @@ assembly_after_ruling a at f ruling =
 
 -- The state after a packet with these fields.
 unfoldable pub accepted : Assembly → ℕ → Option ℕ → Fields → Assembly
-accepted a at work f = assembly_after_ruling a at f (ruling_of a.given a.current work f)
+accepted a at work f = assembly_after_class a at f (packet_class a.given a.current work f)
 
 -- An incomplete message: PING or CBOR, on an allocated channel, longer than one packet.
 pub record IsOpenMessage (given cid cmd len kept : ℕ) : Type 0 where

@@ -37,13 +37,13 @@ assembly given contents buffer = record {
 }
 
 -- The code's fields are valid for this number of allocated channels.
-abbrev pub MayBeHeld : ℕ → Contents → Type 0
-MayBeHeld given Nothing = Unit {0}
-MayBeHeld given (HoldsOpen m) = IsOpenMessage given m.cid m.cmd m.len m.kept
-MayBeHeld given (Finished len) = len ≤ MAX_MESSAGE_LEN
+abbrev pub AreValidContents : ℕ → Contents → Type 0
+AreValidContents given Nothing = Unit {0}
+AreValidContents given (HoldsOpen m) = IsOpenMessage given m.cid m.cmd m.len m.kept
+AreValidContents given (Finished len) = len ≤ MAX_MESSAGE_LEN
 
 -- The code's state is valid, with this buffer.
-pub record IsKept (given : ℕ) (contents : Contents) (buffer : List ℕ) : Type 0 where
+pub record IsValidState (given : ℕ) (contents : Contents) (buffer : List ℕ) : Type 0 where
   pub channels : given ≤ MAX_CHANNEL
   pub size : length buffer ≡ MAX_MESSAGE_LEN
-  pub held : MayBeHeld given contents
+  pub held : AreValidContents given contents

@@ -44,5 +44,5 @@ ArriveInTime [] = Unit {0}
 ArriveInTime (arrival ∷ arrivals) = InTime arrival.at arrivals
 
 -- A supported message: a PING, or a CBOR message of at least one byte.
-abbrev pub IsServed : ℕ → List ℕ → Type 0
-IsServed cmd bytes = (cmd ≡ PING) ⊎ ((cmd ≡ CBOR) × (1 ≤ length bytes))
+abbrev pub IsSupportedMessage : ℕ → List ℕ → Type 0
+IsSupportedMessage cmd bytes = (cmd ≡ PING) ⊎ ((cmd ≡ CBOR) × (1 ≤ length bytes))

@@ -22,9 +22,9 @@ code_number (NoSuchChannel given) = 0x0b
 code_number NoChannelLeft = 0x7f
 
 -- The sequence number that the incomplete message expects.
-abbrev pub due_number : Option Open → ℕ
-due_number None = 0
-due_number (Some m) = m.kept
+abbrev pub expected_sequence_of : Option Open → ℕ
+expected_sequence_of None = 0
+expected_sequence_of (Some m) = m.kept
 
 -- The time of the incomplete message's last packet.
 abbrev pub last_of : Option Open → ℕ

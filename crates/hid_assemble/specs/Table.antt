@@ -69,8 +69,8 @@ init_packet_row given current work cid cmd len =
 
 -- The kind of a continuation packet, given an incomplete message of `len` bytes on channel `on` with `kept`
 -- continuation packets so far.
-abbrev pub continues : (on len kept cid number : ℕ) → Continuation
-continues on len kept cid number =
+abbrev pub continuation_kind : (on len kept cid number : ℕ) → Continuation
+continuation_kind on len kept cid number =
     if not (on == cid) then Stray
     else if not (number == kept) then WrongNumber
     else if nat_lt (data_capacity (kept + 1)) len then Kept
@@ -79,23 +79,23 @@ continues on len kept cid number =
 -- The kind of a continuation packet, which is ignored if there is no incomplete message.
 unfoldable pub cont_packet_row : Option Open → ℕ → ℕ → Continuation
 cont_packet_row None cid number = Stray
-cont_packet_row (Some m) cid number = continues m.cid m.len m.kept cid number
+cont_packet_row (Some m) cid number = continuation_kind m.cid m.len m.kept cid number
 
 -- The classification of a packet: the row of an initialization packet, or the kind of a continuation packet.
-pub data Ruling : Type 0 where
-  Begins : ReplyRow → Ruling
-  Continues : Continuation → Ruling
+pub data PacketClass : Type 0 where
+  Begins : ReplyRow → PacketClass
+  Continues : Continuation → PacketClass
 
 -- The classification of a packet, by the number of allocated channels, the incomplete message, and the channel of the
 -- pending request.
-unfoldable pub ruling_of : ℕ → Option Open → Option ℕ → Fields → Ruling
-ruling_of given current work (initialization cid cmd len part) =
+unfoldable pub packet_class : ℕ → Option Open → Option ℕ → Fields → PacketClass
+packet_class given current work (initialization cid cmd len part) =
     Begins (init_packet_row given (option_map (λ m. m.cid) current) work cid cmd len)
-ruling_of given current work (continuation cid number part) = Continues (cont_packet_row current cid number)
+packet_class given current work (continuation cid number part) = Continues (cont_packet_row current cid number)
 
 -- A packet that changes nothing: a CANCEL without a pending request, a packet on a channel that isn't allocated or
 -- while a channel is busy, or a continuation packet outside any transaction.
-abbrev pub is_noise : Ruling → Bool
+abbrev pub is_noise : PacketClass → Bool
 is_noise (Begins CancelsNothing) = true
 is_noise (Begins NoSuchChannel) = true
 is_noise (Begins BusyElsewhere) = true

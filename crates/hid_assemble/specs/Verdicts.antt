@@ -2,9 +2,9 @@
 use Rattle.std.specs.Prelude.{ℕ, ◌+◌, Bool, true, false, List, take, Option, Some, None, option_map, if◌then◌else◌}
 use Rattle.hid_packet.specs.Commands.{BROADCAST}
 use Rattle.hid_packet.specs.Packet.{Fields, channel_of, command_of, length_of, data_of}
-use Rattle.hid_assemble.specs.Table.{Open, Ruling, Begins, Continues, is_on, ruling_of}
+use Rattle.hid_assemble.specs.Table.{Open, PacketClass, Begins, Continues, is_on, packet_class}
 use Rattle.hid_assemble.specs.Assembly.{Assembly, Message, message_after}
-use Rattle.hid_assemble.specs.Refusals.{due_number, number_in, busy_channel}
+use Rattle.hid_assemble.specs.Refusals.{expected_sequence_of, number_in, busy_channel}
 use Rattle.hid_assemble.specs.declared.refusal.Refusal.TheVariants as because
 use Rattle.hid_assemble.specs.declared.table.ReplyRow.TheVariants.{CancelsWork, CancelsNothing, NoSuchChannel}
 use Rattle.hid_assemble.specs.declared.table.ReplyRow.TheVariants.{InitLength, InitFull, InitNew, InitAgain}
@@ -15,12 +15,12 @@ use Rattle.hid_assemble.specs.declared.verdict.Verdict.{Verdict, TheVariants.Gre
 use Rattle.hid_assemble.specs.declared.verdict.Verdict.TheVariants.{Ignored, Kept, Finished, Refuse, Greet}
 
 -- The packet is ignored, or refused with ERROR "invalid channel" or "channel busy".
-abbrev pub is_turned_away : Verdict → Bool
-is_turned_away Ignored = true
-is_turned_away (Refuse cid (because.NoSuchChannel given)) = true
-is_turned_away (Refuse cid (because.BusyElsewhere channel)) = true
-is_turned_away (Refuse cid because.BusyHere) = true
-is_turned_away _ = false
+abbrev pub is_noise_verdict : Verdict → Bool
+is_noise_verdict Ignored = true
+is_noise_verdict (Refuse cid (because.NoSuchChannel given)) = true
+is_noise_verdict (Refuse cid (because.BusyElsewhere channel)) = true
+is_noise_verdict (Refuse cid because.BusyHere) = true
+is_noise_verdict _ = false
 
 -- The verdict on a packet that completes a message.
 abbrev pub finished_verdict : Option Message → Verdict
@@ -32,31 +32,31 @@ abbrev pub init_on_allocated : Option ℕ → ℕ → List ℕ → Verdict
 init_on_allocated work cid nonce = if is_on work cid then GreetAndDrop cid cid nonce else Greet cid cid nonce
 
 -- The verdict on a packet by its classification, and the message that it completes, if any.
-unfoldable pub ruling_verdict : ℕ → Option Open → Option ℕ → Fields → Option Message → Ruling → Verdict
-ruling_verdict given current work f m (Begins CancelsWork) = CancelWork
-ruling_verdict given current work f m (Begins CancelsNothing) = Ignored
-ruling_verdict given current work f m (Begins NoSuchChannel) = Refuse (channel_of f) (because.NoSuchChannel given)
-ruling_verdict given current work f m (Begins InitLength) = Refuse (channel_of f) (because.InitLength (length_of f))
-ruling_verdict given current work f m (Begins InitFull) = Refuse (channel_of f) because.NoChannelLeft
-ruling_verdict given current work f m (Begins InitNew) = Greet BROADCAST (given + 1) (take 8 (data_of f))
-ruling_verdict given current work f m (Begins InitAgain) = init_on_allocated work (channel_of f) (take 8 (data_of f))
-ruling_verdict given current work f m (Begins BusyElsewhere) =
+unfoldable pub class_verdict : ℕ → Option Open → Option ℕ → Fields → Option Message → PacketClass → Verdict
+class_verdict given current work f m (Begins CancelsWork) = CancelWork
+class_verdict given current work f m (Begins CancelsNothing) = Ignored
+class_verdict given current work f m (Begins NoSuchChannel) = Refuse (channel_of f) (because.NoSuchChannel given)
+class_verdict given current work f m (Begins InitLength) = Refuse (channel_of f) (because.InitLength (length_of f))
+class_verdict given current work f m (Begins InitFull) = Refuse (channel_of f) because.NoChannelLeft
+class_verdict given current work f m (Begins InitNew) = Greet BROADCAST (given + 1) (take 8 (data_of f))
+class_verdict given current work f m (Begins InitAgain) = init_on_allocated work (channel_of f) (take 8 (data_of f))
+class_verdict given current work f m (Begins BusyElsewhere) =
     Refuse (channel_of f) (because.BusyElsewhere (busy_channel (option_map (λ m. m.cid) current) work (channel_of f)))
-ruling_verdict given current work f m (Begins BusyHere) = Refuse (channel_of f) because.BusyHere
-ruling_verdict given current work f m (Begins BrokenOff) = Refuse (channel_of f) (because.BrokenOff (due_number current))
-ruling_verdict given current work f m (Begins NoSuchCommand) = Refuse (channel_of f) (because.NoSuchCommand (command_of f))
-ruling_verdict given current work f m (Begins BadLength) =
+class_verdict given current work f m (Begins BusyHere) = Refuse (channel_of f) because.BusyHere
+class_verdict given current work f m (Begins BrokenOff) = Refuse (channel_of f) (because.BrokenOff (expected_sequence_of current))
+class_verdict given current work f m (Begins NoSuchCommand) = Refuse (channel_of f) (because.NoSuchCommand (command_of f))
+class_verdict given current work f m (Begins BadLength) =
     Refuse (channel_of f) (because.MessageLength (command_of f) (length_of f))
-ruling_verdict given current work f m (Begins Short) = finished_verdict m
-ruling_verdict given current work f m (Begins Long) = Kept
-ruling_verdict given current work f m (Continues Stray) = Ignored
-ruling_verdict given current work f m (Continues WrongNumber) =
-    Refuse (channel_of f) (because.WrongNumber (number_in f) (due_number current))
-ruling_verdict given current work f m (Continues KeptOn) = Kept
-ruling_verdict given current work f m (Continues Whole) = finished_verdict m
+class_verdict given current work f m (Begins Short) = finished_verdict m
+class_verdict given current work f m (Begins Long) = Kept
+class_verdict given current work f m (Continues Stray) = Ignored
+class_verdict given current work f m (Continues WrongNumber) =
+    Refuse (channel_of f) (because.WrongNumber (number_in f) (expected_sequence_of current))
+class_verdict given current work f m (Continues KeptOn) = Kept
+class_verdict given current work f m (Continues Whole) = finished_verdict m
 
 -- The verdict on a packet.
 unfoldable pub verdict : Assembly → Option ℕ → Fields → Verdict
 verdict a work f =
-    let ruling = ruling_of a.given a.current work f in
-    ruling_verdict a.given a.current work f (message_after a.current f ruling) ruling
+    let ruling = packet_class a.given a.current work f in
+    class_verdict a.given a.current work f (message_after a.current f ruling) ruling

@@ -1,12 +1,12 @@
-#![tactic(auto, unfolding(crate::specs::Table::ruling_of, crate::specs::Table::cont_packet_row, crate::specs::Assembly::accepted, crate::specs::Assembly::is_overdue, crate::specs::Assembly::open_after, crate::specs::Assembly::message_after, crate::specs::Verdicts::verdict, crate::specs::Verdicts::ruling_verdict, crate::specs::Kept::assembly))]
+#![tactic(auto, unfolding(crate::specs::Table::packet_class, crate::specs::Table::cont_packet_row, crate::specs::Assembly::accepted, crate::specs::Assembly::is_overdue, crate::specs::Assembly::open_after, crate::specs::Assembly::message_after, crate::specs::Verdicts::verdict, crate::specs::Verdicts::class_verdict, crate::specs::Kept::assembly))]
 
 ghost use Rattle.std.specs.Prelude.{◌≡◌, ℕ, ◌+◌, ◌*◌, ◌≤◌, ◌<◌, ◌++◌, [], length, take, drop, Option, None, Some, option_map, if◌then◌else◌};
 ghost use Rattle.hid_packet.specs.Packet.{fields, initialization, continuation};
-ghost use Rattle.hid_assemble.specs.Assembly.{IsValidAssembly, is_overdue, still_open, held_bytes, accepted, drop_on};
-ghost use Rattle.hid_assemble.specs.Table.{MAX_CHANNEL, is_noise, is_on, ruling_of};
-ghost use Rattle.hid_assemble.specs.Refusals.{due_number, last_of, busy_channel};
+ghost use Rattle.hid_assemble.specs.Assembly.{IsValidAssembly, is_overdue, still_open, stored_len, accepted, drop_on};
+ghost use Rattle.hid_assemble.specs.Table.{MAX_CHANNEL, is_noise, is_on, packet_class};
+ghost use Rattle.hid_assemble.specs.Refusals.{expected_sequence_of, last_of, busy_channel};
 ghost use Rattle.hid_assemble.specs.Verdicts.{verdict};
-ghost use Rattle.hid_packet.specs.Limits.{CONT_PACKET_DATA, INIT_PACKET_DATA, LONGEST_HELD, MAX_MESSAGE_LEN};
+ghost use Rattle.hid_packet.specs.Limits.{CONT_PACKET_DATA, INIT_PACKET_DATA, MAX_STORED_LEN, MAX_MESSAGE_LEN};
 
 use crate::refusal::Refusal;
 use crate::table::{Continuation, ReplyRow, cont_packet_row, init_packet_row};
@@ -63,7 +63,7 @@ fn put_data(message: &mut [u8], held: usize, part: &[u8])
 
 /// Returns the verdict for an INIT with this data on the channel `on`. If a request is pending there, it must be
 /// dropped.
-fn greet(on: u32, channel: u32, part: &[u8], working: Option<u32>) -> Verdict
+fn init_verdict(on: u32, channel: u32, part: &[u8], working: Option<u32>) -> Verdict
     requires { 8 ≤ length part.now }
     ensures { result ≡ (if is_on working on then Verdict.GreetAndDrop on channel (take 8 part.now)
         else Verdict.Greet on channel (take 8 part.now)) }
@@ -84,7 +84,7 @@ fn refuse(cid: u32, why: Refusal) -> Verdict
 }
 
 /// Returns the reason for refusing a packet of a channel while a channel is busy.
-fn busy_elsewhere(current: Option<u32>, working: Option<u32>, cid: u32) -> Refusal
+fn busy_refusal(current: Option<u32>, working: Option<u32>, cid: u32) -> Refusal
     ensures { result ≡ Refusal.BusyElsewhere (busy_channel current working cid) }
 {
     let channel = match current {
@@ -107,13 +107,13 @@ pub struct Assembler {
 // the complete message.
 impl Model for Assembler {
     ghost use Rattle.hid_assemble.specs.Assembly.{Assembly};
-    ghost use Rattle.hid_assemble.specs.Kept.{assembly, IsKept};
+    ghost use Rattle.hid_assemble.specs.Kept.{assembly, IsValidState};
 
     ghost Value = { Assembly };
 
     ghost view = { λ a. assembly a.given a.contents a.buffer };
 
-    ghost invariant = { λ a. IsKept a.given a.contents a.buffer };
+    ghost invariant = { λ a. IsValidState a.given a.contents a.buffer };
 }
 
 impl Assembler {
@@ -171,15 +171,15 @@ impl Assembler {
         ensures state { self.new ≡ accepted self.old at working (fields packet.now.0) }
         ensures lawful { IsValidAssembly self.new }
     {
-        self.forget_finished();
+        self.clear_finished();
         match packet.view() {
             View::Start {
                 cid,
                 cmd,
                 len,
                 part,
-            } => self.begin(at, working, cid, cmd, len, part),
-            View::More { cid, seq, part } => self.go_on(at, cid, seq, part),
+            } => self.accept_initialization(at, working, cid, cmd, len, part),
+            View::More { cid, seq, part } => self.accept_continuation(at, cid, seq, part),
         }
     }
 
@@ -187,7 +187,7 @@ impl Assembler {
     /// change nothing, and only an ERROR or nothing would be sent for it. `working` is the channel of the pending
     /// request, if any.
     pub fn is_noise(&self, at: u64, packet: &Packet, working: Option<u32>) -> bool
-        ensures { result ≡ is_noise (ruling_of self.now.given (still_open self.now.current at) working
+        ensures { result ≡ is_noise (packet_class self.now.given (still_open self.now.current at) working
             (fields packet.now.0)) }
     {
         let overdue = self.overdue(at);
@@ -201,7 +201,7 @@ impl Assembler {
     }
 
     /// Clears the complete message of the previous packet.
-    fn forget_finished(&mut self)
+    fn clear_finished(&mut self)
         ensures forgotten { self.new ≡ record self.old { finished = [] } }
         ensures lawful { IsValidAssembly self.new }
     {
@@ -221,7 +221,7 @@ impl Assembler {
     }
 
     /// Handles an initialization packet.
-    fn begin(
+    fn accept_initialization(
         &mut self,
         at: u64,
         working: Option<u32>,
@@ -246,16 +246,16 @@ impl Assembler {
             ReplyRow::InitFull => refuse(cid, Refusal::NoChannelLeft),
             ReplyRow::InitNew => {
                 self.given += 1;
-                greet(BROADCAST, self.given, part, None)
+                init_verdict(BROADCAST, self.given, part, None)
             }
             ReplyRow::InitAgain => {
                 self.drop_on(cid);
-                greet(cid, cid, part, working)
+                init_verdict(cid, cid, part, working)
             }
-            ReplyRow::BusyElsewhere => refuse(cid, busy_elsewhere(self.open_on(), working, cid)),
+            ReplyRow::BusyElsewhere => refuse(cid, busy_refusal(self.open_on(), working, cid)),
             ReplyRow::BusyHere => refuse(cid, Refusal::BusyHere),
             ReplyRow::BrokenOff => {
-                let due = self.due();
+                let due = self.expected_sequence();
                 self.contents = Contents::Nothing;
                 refuse(cid, Refusal::BrokenOff { due })
             }
@@ -275,7 +275,7 @@ impl Assembler {
     }
 
     /// Handles a continuation packet.
-    fn go_on(&mut self, at: u64, cid: u32, number: u8, part: &[u8]) -> Verdict
+    fn accept_continuation(&mut self, at: u64, cid: u32, number: u8, part: &[u8]) -> Verdict
         requires data { length part.now ≡ CONT_PACKET_DATA }
         requires forgotten { self.old.finished ≡ [] }
         ensures verdict { (working : Option ℕ) → result ≡ verdict self.old working (continuation cid number part.now) }
@@ -330,8 +330,8 @@ impl Assembler {
     /// Returns the number of data bytes of the open message, or 0.
     pub fn held(&self) -> u16
         ensures lawful { IsValidAssembly self.now }
-        ensures bytes { result ≡ held_bytes self.now.current }
-        ensures limit { held_bytes self.now.current ≤ LONGEST_HELD }
+        ensures bytes { result ≡ stored_len self.now.current }
+        ensures limit { stored_len self.now.current ≤ MAX_STORED_LEN }
     {
         match self.contents {
             Contents::Open(message) => {
@@ -352,8 +352,8 @@ impl Assembler {
     }
 
     /// Returns the sequence number that the open message expects, or 0.
-    fn due(&self) -> u8
-        ensures { result ≡ due_number self.now.current }
+    fn expected_sequence(&self) -> u8
+        ensures { result ≡ expected_sequence_of self.now.current }
     {
         match self.contents {
             Contents::Open(message) => message.kept,

@@ -4,21 +4,21 @@ ghost use Rattle.std.specs.Prelude.{◌≡◌, ℕ, ◌≤◌, true, [], List, O
 ghost use Rattle.hid_packet.specs.Commands.{CANCEL};
 ghost use Rattle.hid_packet.specs.Packet.{Fields, initialization, channel_of};
 ghost use Rattle.hid_packet.specs.Carries.{CarriesMessage};
-ghost use Rattle.hid_assemble.specs.Table.{Open, is_noise, ruling_of};
-ghost use Rattle.hid_assemble.specs.Verdicts.{is_turned_away, verdict};
+ghost use Rattle.hid_assemble.specs.Table.{Open, is_noise, packet_class};
+ghost use Rattle.hid_assemble.specs.Verdicts.{is_noise_verdict, verdict};
 ghost use Rattle.hid_assemble.specs.Assembly.{Assembly, accepted};
-ghost use Rattle.hid_assemble.specs.Receiving.{Arrival, packets_of, received, last_verdict, ArriveInTime, IsServed};
+ghost use Rattle.hid_assemble.specs.Receiving.{Arrival, packets_of, received, last_verdict, ArriveInTime, IsSupportedMessage};
 ghost use Rattle.hid_assemble.specs.declared.verdict.Verdict.TheVariants.{Finished};
 
 /// States that the packets of a supported message on an allocated channel, less than 500 ms apart, complete it with
 /// exactly the message's bytes, if no message was open before.
-pub fn packets_of_a_message_finish_it()
+pub fn packets_of_a_message_complete_it()
     ensures told { (a : Assembly) (arrivals : List Arrival) (cid cmd : ℕ) (bytes : List ℕ) → a.current ≡ None
-        → 1 ≤ cid → cid ≤ a.given → IsServed cmd bytes
+        → 1 ≤ cid → cid ≤ a.given → IsSupportedMessage cmd bytes
         → CarriesMessage (packets_of arrivals) cid cmd bytes → ArriveInTime arrivals
         → last_verdict a arrivals ≡ Finished cid cmd }
     ensures bytes { (a : Assembly) (arrivals : List Arrival) (cid cmd : ℕ) (bytes : List ℕ) → a.current ≡ None
-        → 1 ≤ cid → cid ≤ a.given → IsServed cmd bytes
+        → 1 ≤ cid → cid ≤ a.given → IsSupportedMessage cmd bytes
         → CarriesMessage (packets_of arrivals) cid cmd bytes → ArriveInTime arrivals
         → received a arrivals ≡ record { given = a.given; current = None; finished = bytes } }
 {}
@@ -27,14 +27,14 @@ pub fn packets_of_a_message_finish_it()
 /// or "channel busy". It leaves the channels and the open message unchanged.
 pub fn noise_is_turned_away()
     ensures answer { (a : Assembly) (work : Option ℕ) (f : Fields)
-        → is_noise (ruling_of a.given a.current work f) ≡ is_turned_away (verdict a work f) }
+        → is_noise (packet_class a.given a.current work f) ≡ is_noise_verdict (verdict a work f) }
     ensures kept { (a : Assembly) (at : ℕ) (work : Option ℕ) (f : Fields)
-        → is_turned_away (verdict a work f) ≡ true
+        → is_noise_verdict (verdict a work f) ≡ true
         → accepted a at work f ≡ record { given = a.given; current = a.current; finished = [] } }
 {}
 
 /// States that no packet of another channel, and no CANCEL, changes an open message.
-pub fn an_open_message_is_left_alone()
+pub fn other_packets_keep_the_open_message()
     ensures foreign { (a : Assembly) (at : ℕ) (work : Option ℕ) (f : Fields) (m : Open) → a.current ≡ Some m
         → (channel_of f ≡ m.cid → ⊥)
         → (accepted a at work f).current ≡ a.current }

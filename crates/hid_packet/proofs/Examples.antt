@@ -9,7 +9,7 @@ abbrev pad : List ℕ → List ℕ
 pad x = x ++ replicate (64 - length x) 0
 
 fields_of : List ℕ → Fields
-unfolding fields channel is_initialization command message_length initialization_data sequence continuation_data
+unfolding channel is_initialization command message_length initialization_data sequence continuation_data
 fields_of packet = fields packet
 
 packets_of : ℕ → ℕ → List ℕ → List (List ℕ)

@@ -7,7 +7,7 @@ use Rattle.std.specs.List.{AllByRecursion, refill, remove}
 use Rattle.std.proofs.Math.Seq.{drop-length, take-length}
 use Rattle.std.proofs.lemmas.List.{take-append-le, drop-append-le, take_all, drop_all}
 use Rattle.hid_packet.specs.Message.{continuation_packets, initialization_packet, message_packets}
-use Rattle.hid_packet.specs.Queue.{held_by, packets_by, waiting, HasPacketLeft, IsDue, IsHeld, IsQueued}
+use Rattle.hid_packet.specs.Queue.{entry_len, entry_packets, queued_packets, HasPacketLeft, IsDue, IsHeld, IsQueued}
 use Rattle.hid_packet.specs.declared.queued.Queued.{Queued, TheVariants.Whole, TheVariants.Part}
 use Rattle.hid_packet.{specs.declared.fragments.NextPacket.NextPacket, proofs.Carrying.fewest_written}
 use Rattle.hid_packet.specs.declared.fragments.NextPacket.TheVariants.{Initialization, Continuation}
@@ -31,14 +31,14 @@ continuations_hold (suc most) cid number (b ∷ bytes) fits =
 
 -- an entry has a packet, and at most 64 bytes for each
 pub record Fills (e : Queued) (bytes : List ℕ) : Type 0 where
-  pub some : 1 ≤ length (packets_by e bytes)
-  pub enough : held_by e ≤ 64 * length (packets_by e bytes)
+  pub some : 1 ≤ length (entry_packets e bytes)
+  pub enough : entry_len e ≤ 64 * length (entry_packets e bytes)
 
 pub first_written : (cid cmd : ℕ) (bytes : List ℕ) → 1 ≤ length (message_packets cid cmd bytes)
 unfolding message_packets
 first_written cid cmd bytes = omega arith
 
-pub entry_fills : (e : Queued) (bytes : List ℕ) → IsDue e → length bytes ≡ held_by e → Fills e bytes
+pub entry_fills : (e : Queued) (bytes : List ℕ) → IsDue e → length bytes ≡ entry_len e → Fills e bytes
 entry_fills Whole bytes due len = record { some = omega arith; enough = omega arith }
 entry_fills (Part message) bytes due len = go message.due refl due
   where
@@ -53,51 +53,51 @@ entry_fills (Part message) bytes due len = go message.due refl due
 
 -- a full ring has no byte more than 64 for each packet, and there are no more entries than packets
 pub record Bounds (es : List Queued) (bytes : List ℕ) : Type 0 where
-  pub entries : length es ≤ length (waiting es bytes)
-  pub enough : length bytes ≤ 64 * length (waiting es bytes)
+  pub entries : length es ≤ length (queued_packets es bytes)
+  pub enough : length bytes ≤ 64 * length (queued_packets es bytes)
 
 pub bounds : (es : List Queued) (bytes : List ℕ) → IsHeld es bytes → Bounds es bytes
-unfolding waiting
+unfolding queued_packets
 bounds [] bytes held = search (rules, arith)
-bounds (e ∷ es) bytes held = grind (arith, common_steps, entry_fills, length-append, length-drop, length-take-le, sum_by-cons, bounds es (drop (held_by e) bytes))
+bounds (e ∷ es) bytes held = grind (arith, common_steps, entry_fills, length-append, length-drop, length-take-le, sum_by-cons, bounds es (drop (entry_len e) bytes))
 
 -- one entry more, at the end
-pub waiting-push : (es : List Queued) (bytes more : List ℕ) (e : Queued) → sum_by held_by es ≡ length bytes →
-    length more ≡ held_by e
-    → waiting (es ++ e ∷ []) (bytes ++ more) ≡ waiting es bytes ++ packets_by e more
-unfolding waiting
-waiting-push [] [] more e sum len = grind (arith, append-nil, take-length)
-waiting-push [] (b ∷ bytes) more e sum len = absurd (let none : sum_by held_by [] ≡ 0 = refl in omega arith)
-waiting-push (x ∷ es) bytes more e sum len = grind (arith, common_steps, append_assoc, drop-append-le, length-drop, sum_by-cons, take-append-le, waiting-push es (drop (held_by x) bytes) more e)
+pub queued_packets-push : (es : List Queued) (bytes more : List ℕ) (e : Queued) → sum_by entry_len es ≡ length bytes →
+    length more ≡ entry_len e
+    → queued_packets (es ++ e ∷ []) (bytes ++ more) ≡ queued_packets es bytes ++ entry_packets e more
+unfolding queued_packets
+queued_packets-push [] [] more e sum len = grind (arith, append-nil, take-length)
+queued_packets-push [] (b ∷ bytes) more e sum len = absurd (let none : sum_by entry_len [] ≡ 0 = refl in omega arith)
+queued_packets-push (x ∷ es) bytes more e sum len = grind (arith, common_steps, append_assoc, drop-append-le, length-drop, sum_by-cons, take-append-le, queued_packets-push es (drop (entry_len x) bytes) more e)
 
 all-push : (es : List Queued) (e : Queued) → AllByRecursion IsDue es → IsDue e → AllByRecursion IsDue (es ++ e ∷ [])
 all-push [] e all one = (one, tt)
 all-push (x ∷ es) e all one = (all.0, all-push es e all.1 one)
 
 pub held-push : (es : List Queued) (bytes more : List ℕ) (e : Queued) → IsHeld es bytes → IsDue e →
-    length more ≡ held_by e → IsHeld (es ++ e ∷ []) (bytes ++ more)
+    length more ≡ entry_len e → IsHeld (es ++ e ∷ []) (bytes ++ more)
 held-push es bytes more e held due len = grind (arith, all-push, length-append, sum_by-append, sum_by-cons)
 
 -- the first entry is gone, with its packet
 pub held-pop : (es more : List Queued) (e : Queued) (bytes : List ℕ) → es ≡ e ∷ more → IsHeld es bytes →
-    IsHeld (remove es 0) (drop (held_by e) bytes)
+    IsHeld (remove es 0) (drop (entry_len e) bytes)
 held-pop es more e bytes is held = grind (arith, common_steps, length-drop, sum_by-cons)
 
-pub waiting-pop : (es more : List Queued) (e : Queued) (bytes : List ℕ) → es ≡ e ∷ more →
-    waiting es bytes ≡ packets_by e (take (held_by e) bytes) ++ waiting (remove es 0) (drop (held_by e) bytes)
-unfolding waiting
-waiting-pop es more e bytes is = search (rules, arith)
+pub queued_packets-pop : (es more : List Queued) (e : Queued) (bytes : List ℕ) → es ≡ e ∷ more →
+    queued_packets es bytes ≡ entry_packets e (take (entry_len e) bytes) ++ queued_packets (remove es 0) (drop (entry_len e) bytes)
+unfolding queued_packets
+queued_packets-pop es more e bytes is = search (rules, arith)
 
 -- An entry was put, with its packets.
 pub queued-push : (es : List Queued) (bytes more : List ℕ) (e : Queued) (len count : ℕ) → IsQueued es bytes len →
-    IsDue e → length more ≡ held_by e → count ≡ length (packets_by e more) → len + count ≤ 130
+    IsDue e → length more ≡ entry_len e → count ≡ length (entry_packets e more) → len + count ≤ 130
     → IsQueued (es ++ e ∷ []) (bytes ++ more) (len + count)
 queued-push es bytes more e len count q due fits counts few =
-    grind (arith, common_steps, held-push, length-append, waiting-push)
+    grind (arith, common_steps, held-push, length-append, queued_packets-push)
 
 -- a new outbox
 pub queued_none : IsQueued [] [] 0
-unfolding waiting
+unfolding queued_packets
 queued_none = record { held = record { due = tt; sum = refl }; counted = refl; few = omega arith }
 
 -- where a packet has room, its entry and its bytes have
@@ -110,26 +110,26 @@ pub space : (es : List Queued) (bytes : List ℕ) (len count : ℕ) → IsQueued
 space es bytes len count q some few = search (rules, arith, bounds)
 
 -- an outbox without an entry has no packet
-pub none_wait : (es : List Queued) (bytes : List ℕ) (now : List (List ℕ)) → waiting es bytes ≡ now → es ≡ [] → now ≡ []
-unfolding waiting
-none_wait es bytes now is none = sym is ∙ ap (λ l. waiting l bytes) none
+pub none_wait : (es : List Queued) (bytes : List ℕ) (now : List (List ℕ)) → queued_packets es bytes ≡ now → es ≡ [] → now ≡ []
+unfolding queued_packets
+none_wait es bytes now is none = sym is ∙ ap (λ l. queued_packets l bytes) none
 
 -- the first entry gave a packet and stays with what is left of it
 pub part_more : (es others more : List Queued) (e f : Queued) (ring after p : List ℕ) → es ≡ e ∷ more →
     others ≡ f ∷ more
-    → packets_by e (take (held_by e) ring) ≡ p ∷ packets_by f (take (held_by f) after) →
-    drop (held_by f) after ≡ drop (held_by e) ring
-    → waiting es ring ≡ p ∷ waiting others after
-unfolding waiting
+    → entry_packets e (take (entry_len e) ring) ≡ p ∷ entry_packets f (take (entry_len f) after) →
+    drop (entry_len f) after ≡ drop (entry_len e) ring
+    → queued_packets es ring ≡ p ∷ queued_packets others after
+unfolding queued_packets
 part_more es others more e f ring after p is others_are made rest = search (rules, arith)
 
 -- it gave its last packet and is gone
 pub part_last : (es others more : List Queued) (e : Queued) (ring after p : List ℕ) (left : ℕ)
     (rest : List ℕ → List (List ℕ)) → es ≡ e ∷ more → others ≡ remove es 0
-    → packets_by e (take (held_by e) ring) ≡ p ∷ rest (take left after) → drop left after ≡ drop (held_by e) ring →
+    → entry_packets e (take (entry_len e) ring) ≡ p ∷ rest (take left after) → drop left after ≡ drop (entry_len e) ring →
     left ≡ 0 → rest [] ≡ []
-    → waiting es ring ≡ p ∷ waiting others after
-unfolding waiting
+    → queued_packets es ring ≡ p ∷ queued_packets others after
+unfolding queued_packets
 part_last es others more e ring after p left rest is others_are made back none last = search (rules, arith)
 
 -- the first of several was written over

@@ -24,8 +24,8 @@ abbrev pub RING_SIZE : ℕ
 RING_SIZE = 64 * OUTBOX_CAPACITY
 
 -- The maximum number of data bytes stored for an incomplete message: those of 128 packets.
-abbrev pub LONGEST_HELD : ℕ
-LONGEST_HELD = 7550
+abbrev pub MAX_STORED_LEN : ℕ
+MAX_STORED_LEN = 7550
 
 -- The time after which an incomplete message is dropped, in milliseconds (CTAP 2.1, section 11.2.5.2).
 abbrev pub MESSAGE_TIMEOUT : ℕ

@@ -76,6 +76,6 @@ FillsPacket (initialization cid cmd len part) = length part ≡ INIT_PACKET_DATA
 FillsPacket (continuation cid number part) = length part ≡ CONT_PACKET_DATA
 
 -- Converts the code's type `View` to fields.
-abbrev pub shown : View → Fields
-shown (Start cid cmd len part) = initialization cid cmd len part.now
-shown (More cid seq part) = continuation cid seq part.now
+abbrev pub to_fields : View → Fields
+to_fields (Start cid cmd len part) = initialization cid cmd len part.now
+to_fields (More cid seq part) = continuation cid seq part.now

@@ -16,20 +16,20 @@ overwritten place front back ring = back ++ drop (length back)
     (take place ring ++ (front ++ drop (place + length front) ring))
 
 -- The number of the ring buffer's bytes that belong to a queue entry.
-abbrev pub held_by : Queued → ℕ
-held_by Whole = 64
-held_by (Part message) = message.left
+abbrev pub entry_len : Queued → ℕ
+entry_len Whole = 64
+entry_len (Part message) = message.left
 
 -- The packets of a queue entry.
-abbrev pub packets_by : Queued → List ℕ → List (List ℕ)
-packets_by Whole bytes = bytes ∷ []
-packets_by (Part message) bytes = packets_left message.cid message.due bytes
+abbrev pub entry_packets : Queued → List ℕ → List (List ℕ)
+entry_packets Whole bytes = bytes ∷ []
+entry_packets (Part message) bytes = packets_left message.cid message.due bytes
 
 -- The packets of all queue entries, in order.
-unfoldable pub waiting : List Queued → List ℕ → List (List ℕ)
-waiting [] bytes = []
-waiting (entry ∷ more) bytes = packets_by entry (take (held_by entry) bytes)
-    ++ waiting more (drop (held_by entry) bytes)
+unfoldable pub queued_packets : List Queued → List ℕ → List (List ℕ)
+queued_packets [] bytes = []
+queued_packets (entry ∷ more) bytes = entry_packets entry (take (entry_len entry) bytes)
+    ++ queued_packets more (drop (entry_len entry) bytes)
 
 -- The message has a packet left to send, and its remaining bytes fit into its remaining packets.
 abbrev pub HasPacketLeft : NextPacket → ℕ → Type 0
@@ -44,10 +44,10 @@ IsDue (Part message) = HasPacketLeft message.due message.left
 -- The bytes are those of the entries, each of which has a packet left.
 pub record IsHeld (entries : List Queued) (bytes : List ℕ) : Type 0 where
   pub due : AllByRecursion IsDue entries
-  pub sum : sum_by held_by entries ≡ length bytes
+  pub sum : sum_by entry_len entries ≡ length bytes
 
 -- The bytes are those of the entries, and `len` is the number of their packets.
 pub record IsQueued (entries : List Queued) (bytes : List ℕ) (len : ℕ) : Type 0 where
   pub held : IsHeld entries bytes
-  pub counted : len ≡ length (waiting entries bytes)
+  pub counted : len ≡ length (queued_packets entries bytes)
   pub few : len ≤ OUTBOX_CAPACITY

@@ -23,7 +23,7 @@ pub fn packets_for(len: u16) -> u16
 }
 
 /// Writes bytes at an offset.
-pub(crate) fn put_at(out: &mut [u8], place: usize, bytes: &[u8])
+pub(crate) fn write_at(out: &mut [u8], place: usize, bytes: &[u8])
     requires { place + length bytes.now ≤ length out.old }
     ensures { out.new ≡ take place out.old ++ (bytes.now ++ drop (place + length bytes.now) out.old) }
 {
@@ -40,7 +40,7 @@ pub(crate) fn write_init_packet(out: &mut [u8], cid: u32, cmd: u8, len: u16, par
     BigEndian::write_u32(out, cid);
     out[4] = cmd + 128;
     BigEndian::write_u16(&mut out[5..], len);
-    put_at(out, 7, part);
+    write_at(out, 7, part);
 }
 
 /// Writes a continuation packet with these data bytes. The bytes after them are unchanged.
@@ -50,7 +50,7 @@ pub(crate) fn write_cont_packet(out: &mut [u8], cid: u32, number: u8, part: &[u8
 {
     BigEndian::write_u32(out, cid);
     out[4] = number;
-    put_at(out, 5, part);
+    write_at(out, 5, part);
 }
 
 /// Returns the initialization packet with these data bytes, and zeros after them.

@@ -3,14 +3,14 @@ ghost use Rattle.std.specs.Iterator.{YieldsFirstBy, item_count};
 ghost use Rattle.std.specs.List.{remove};
 ghost use Rattle.arrayvec.specs.ArrayVec.{array_vec_len};
 ghost use Rattle.hid_packet.specs.Message.{message_packets};
-ghost use Rattle.hid_packet.specs.Queue.{waiting, IsHeld};
+ghost use Rattle.hid_packet.specs.Queue.{queued_packets, IsHeld};
 ghost use Rattle.hid_packet.specs.Limits.{MAX_MESSAGE_LEN, OUTBOX_CAPACITY};
 
 use crate::fragments::{NextPacket, packets_for, write_init_packet};
 use crate::limits::{INIT_PACKET_DATA, OUTBOX_CAPACITY};
 use crate::packet::Packet;
 use crate::queued::{Queued, QueuedMessage};
-use crate::ring::Ring;
+use crate::ring::RingBuffer;
 use arrayvec::ArrayVec;
 use std::marker::Model;
 
@@ -21,18 +21,18 @@ type Entries = ArrayVec<Queued, OUTBOX_CAPACITY>;
 #[derive(Drop)]
 pub struct Outbox {
     entries: Entries,
-    ring: Ring,
+    ring: RingBuffer,
     len: usize,
 }
 
 // In contracts, this is the list of the queued packets, in order.
 impl Model for Outbox {
     ghost use Rattle.std.specs.Prelude.{ℕ, List};
-    ghost use Rattle.hid_packet.specs.Queue.{waiting, IsQueued};
+    ghost use Rattle.hid_packet.specs.Queue.{queued_packets, IsQueued};
 
     ghost Value = { List (List ℕ) };
 
-    ghost view = { λ o. waiting o.entries.items o.ring };
+    ghost view = { λ o. queued_packets o.entries.items o.ring };
 
     ghost invariant = { λ o. IsQueued o.entries.items o.ring o.len };
 }
@@ -50,10 +50,10 @@ fn drop_first(entries: &mut Entries)
 }
 
 /// Takes the next packet of the first entry, and removes the entry with its last packet.
-fn take_first(entry: Queued, entries: &mut Entries, ring: &mut Ring) -> Packet
+fn take_first(entry: Queued, entries: &mut Entries, ring: &mut RingBuffer) -> Packet
     requires first { (more : List Queued) × (entries.old.items ≡ entry ∷ more) }
     requires held { IsHeld entries.old.items ring.old }
-    ensures packets { waiting entries.old.items ring.old ≡ result.0 ∷ waiting entries.new.items ring.new }
+    ensures packets { queued_packets entries.old.items ring.old ≡ result.0 ∷ queued_packets entries.new.items ring.new }
     ensures held { IsHeld entries.new.items ring.new }
 {
     match entry {
@@ -64,7 +64,7 @@ fn take_first(entry: Queued, entries: &mut Entries, ring: &mut Ring) -> Packet
             Packet(packet)
         }
         Queued::Part(mut message) => {
-            let packet = message.make(ring);
+            let packet = message.next_packet(ring);
             if message.left > 0 {
                 entries[0] = Queued::Part(message);
                 return packet;
@@ -82,7 +82,7 @@ impl Outbox {
     {
         Outbox {
             entries: ArrayVec::new(),
-            ring: Ring::new(),
+            ring: RingBuffer::new(),
             len: 0,
         }
     }

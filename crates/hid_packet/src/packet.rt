@@ -1,5 +1,5 @@
 ghost use Rattle.std.specs.Prelude.{◌≡◌};
-ghost use Rattle.hid_packet.specs.Packet.{fields, shown, FillsPacket};
+ghost use Rattle.hid_packet.specs.Packet.{fields, to_fields, FillsPacket};
 
 use byteorder::{BigEndian, ByteOrder};
 
@@ -44,8 +44,8 @@ impl Packet {
     /// continuation packets.
     #[tactic(auto, unfolding(crate::specs::Packet::channel, crate::specs::Packet::is_initialization, crate::specs::Packet::command, crate::specs::Packet::message_length, crate::specs::Packet::initialization_data, crate::specs::Packet::sequence, crate::specs::Packet::continuation_data))]
     pub fn view(&self) -> View<'_>
-        ensures fields { shown result ≡ fields self.now.0 }
-        ensures data { FillsPacket (shown result) }
+        ensures fields { to_fields result ≡ fields self.now.0 }
+        ensures data { FillsPacket (to_fields result) }
     {
         let cid = BigEndian::read_u32(&self.0);
         let kind = self.0[4];

@@ -8,7 +8,7 @@ ghost use Rattle.hid_packet.specs.Limits.{CONT_PACKET_DATA, INIT_PACKET_DATA};
 use crate::fragments::{NextPacket, write_cont_packet, write_init_packet};
 use crate::limits::{CONT_PACKET_DATA, INIT_PACKET_DATA};
 use crate::packet::Packet;
-use crate::ring::Ring;
+use crate::ring::RingBuffer;
 
 /// The rest of a message: its next packet, and its number of bytes in the ring.
 #[derive(Clone, Copy)]
@@ -35,7 +35,7 @@ impl Default for Queued {
 
 impl QueuedMessage {
     /// Creates the next packet.
-    pub(crate) fn make(&mut self, ring: &mut Ring) -> Packet
+    pub(crate) fn next_packet(&mut self, ring: &mut RingBuffer) -> Packet
         requires due { HasPacketLeft self.old.due self.old.left }
         requires there { self.old.left ≤ length ring.old }
         ensures packet { packets_left self.old.cid self.old.due (take self.old.left ring.old)

@@ -2,7 +2,7 @@
 ghost use Rattle.std.specs.Prelude.{◌≡◌, ◌+◌, ◌-◌, ◌*◌, ◌%◌, ◌<◌, ◌≤◌, ◌++◌, [], length, min, take, drop};
 ghost use Rattle.hid_packet.specs.Limits.{RING_SIZE};
 
-use crate::fragments::put_at;
+use crate::fragments::write_at;
 use crate::limits::OUTBOX_CAPACITY;
 use std::marker::Model;
 
@@ -11,14 +11,14 @@ const RING_SIZE: usize = 64 * OUTBOX_CAPACITY;
 
 /// A queue of at most `RING_SIZE` bytes.
 #[derive(Drop)]
-pub(crate) struct Ring {
+pub(crate) struct RingBuffer {
     bytes: [u8; RING_SIZE],
     first: usize,
     len: usize,
 }
 
 // In contracts, this is the list of the queued bytes.
-impl Model for Ring {
+impl Model for RingBuffer {
     ghost use Rattle.std.specs.Prelude.{◌≡◌, ℕ, ◌<◌, ◌≤◌, List, length};
     ghost use Rattle.hid_packet.specs.Queue.{window};
     ghost use Rattle.hid_packet.specs.Limits.{RING_SIZE};
@@ -31,7 +31,7 @@ impl Model for Ring {
 }
 
 /// Reduces an index that may be past the ring's end to an index in the ring.
-fn wrapped(place: usize) -> usize
+fn wrap_index(place: usize) -> usize
     requires { place < 2 * RING_SIZE }
     ensures { result ≡ place % RING_SIZE }
 {
@@ -42,12 +42,12 @@ fn wrapped(place: usize) -> usize
     }
 }
 
-impl Ring {
+impl RingBuffer {
     /// Returns an empty ring.
     pub(crate) fn new() -> Self
         ensures { result ≡ [] }
     {
-        Ring {
+        RingBuffer {
             bytes: [0; RING_SIZE],
             first: 0,
             len: 0,
@@ -59,16 +59,16 @@ impl Ring {
         requires { length self.old + length bytes.now ≤ RING_SIZE }
         ensures { self.new ≡ self.old ++ bytes.now }
     {
-        let end = wrapped(self.first + self.len);
+        let end = wrap_index(self.first + self.len);
         let straight = RING_SIZE - end;
         self.len += bytes.len();
         if bytes.len() <= straight {
-            put_at(&mut self.bytes, end, bytes);
+            write_at(&mut self.bytes, end, bytes);
             return;
         }
         let (front, back) = bytes.split_at(straight);
-        put_at(&mut self.bytes, end, front);
-        put_at(&mut self.bytes, 0, back);
+        write_at(&mut self.bytes, end, front);
+        write_at(&mut self.bytes, 0, back);
     }
 
     /// Removes the first bytes, as many as `out` has, wrapping around at the ring's end.
@@ -80,7 +80,7 @@ impl Ring {
         let len = out.len();
         let first = self.first;
         let straight = RING_SIZE - first;
-        self.first = wrapped(first + len);
+        self.first = wrap_index(first + len);
         self.len -= len;
         if len <= straight {
             out.copy_from_slice(&self.bytes[first..first + len]);

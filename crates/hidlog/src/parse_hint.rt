@@ -1,6 +1,6 @@
 //! Explains why a line isn't a log line: the bytes found, and those expected.
 use crate::split::{DIGITS, Pieces, after, count_leading, find_byte};
-use session_log::read_line;
+use session_log::parse_line;
 use session_show::{TextBuf, Written};
 
 /// Maximum length of a log line in bytes.
@@ -270,7 +270,7 @@ pub fn first_parse_hint(lines: &[u8]) -> Option<ParseHint<'_>> {
                 None => None,
             };
         }
-        if read_line(line).is_none() {
+        if parse_line(line).is_none() {
             let place = fitting_len(line);
             return Some(ParseHint { line, place });
         }

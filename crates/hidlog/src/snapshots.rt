@@ -1,7 +1,7 @@
 //! Loading a session from a snapshot, and saving it.
 ghost use Rattle.std.specs.Prelude.{◌≡◌, [], List, IfErr, OnOk};
 ghost use Rattle.cred_table.specs.declared.row.Row.{Row as AnyRow};
-ghost use Rattle.token_session.specs.Meters.{StandsAfter, session_of};
+ghost use Rattle.token_session.specs.Meters.{IsStateAfter, session_of};
 ghost use Rattle.hidlog.specs.CommandLine.{path_of};
 ghost use Rattle.hidlog.specs.Commands.{looked_at};
 ghost use Rattle.hidlog.specs.Fault.{result_of, fault_message_of};
@@ -26,7 +26,7 @@ pub fn load<'a, D: Files>(
 ) -> Result<(), ProgramFault<'a>>
     requires fresh { session.old ≡ session_of (start_with []) [] }
     ensures begins { OnOk result ((rows : List AnyRow) × OpenSource D.holds files.now (path_of path.entry) rows
-        × StandsAfter session.new (start_with rows) []) }
+        × IsStateAfter session.new (start_with rows) []) }
     ensures fails { IfErr result (λ fault. FailsToOpen D.holds D.unreadable files.now (path_of path.entry) (Err (fault_message_of fault))) }
 {
     let Some(path) = path else {

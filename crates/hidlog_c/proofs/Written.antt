@@ -6,10 +6,10 @@ use Rattle.session_log.specs.declared.fault.LogFault.{LogFault, TheVariants.Memo
 use Rattle.session_log.specs.declared.{command.ReplayMode.ReplayMode, source.SliceIn.SliceIn}
 use Rattle.session_log.specs.declared.fault.LogFault.TheVariants.{BadLine, TooLong, Differs, Read, Write, TooManyLines}
 use Rattle.session_log.specs.Ending.{Ending, Done, Refused, Unread, Unwritten, ending_of, read_fails, write_fails}
-use Rattle.session_log.specs.Replay.{Finds, IsShown, PlaysWholeLog, Reaches, ReadsTo}
+use Rattle.session_log.specs.Replay.{ReadsUpToEnding, IsFaultOfLinesRead, PlaysWholeLog, ReadsUpToFault, ReadsTo}
 use Rattle.cred_table.specs.declared.row.Row.{Row}
 use Rattle.session_log.specs.Check.{Compared, first_comparison, check_history}
-use Rattle.session_log.specs.{Command.IsCounted, Command.PlaysLog, World.World, Streams.IsAtEndOfInput, Streams.Moves}
+use Rattle.session_log.specs.{Command.IsCounted, Command.PlaysLog, World.LineSemantics, Streams.IsAtEndOfInput, Streams.ReadsAndWrites}
 use Rattle.session_log.specs.Session.{history, live_history, quiet_history}
 use Rattle.session_log.specs.declared.command.ReplayMode.TheVariants.{Check, Live, Quiet, Replay}
 use Rattle.token_session.specs.{Meters.SessionState, declared.input.Timed.Timed}
@@ -42,12 +42,12 @@ abbrev taken : BufferTarget → Option (List ℕ)
 taken writer = Some (writer.buffer.ghost_name ∷ take writer.len writer.buffer.now)
 
 -- that all was read, in other words
-module _ {S : Type 0} (world : World S) (s : S) (bytes : List ℕ) (X Y : Type 0) (so : X → Y) where
-  shown_so : (n : ℕ) (f : LogFault) → IsShown world s bytes X n f → IsShown world s bytes Y n f
+module _ {S : Type 0} (world : LineSemantics S) (s : S) (bytes : List ℕ) (X Y : Type 0) (so : X → Y) where
+  shown_so : (n : ℕ) (f : LogFault) → IsFaultOfLinesRead world s bytes X n f → IsFaultOfLinesRead world s bytes Y n f
   shown_so n f (inl h) = inl h
   shown_so n f (inr h) = inr (so h)
 
-  reaches_so : (f : LogFault) → Reaches world s bytes X f → Reaches world s bytes Y f
+  reaches_so : (f : LogFault) → ReadsUpToFault world s bytes X f → ReadsUpToFault world s bytes Y f
   reaches_so (BadLine n) h = (h.0, shown_so n (BadLine n) h.1)
   reaches_so (Differs l k) (inl h) = inl (h.0, h.1, shown_so h.0 (Differs l k) h.2)
   reaches_so (Differs l k) (inr h) = inr (h.0, so h.1)
@@ -55,12 +55,12 @@ module _ {S : Type 0} (world : World S) (s : S) (bytes : List ℕ) (X Y : Type 0
   reaches_so f h = h
 
 -- a known log was read to here
-finds : {S : Type 0} (world : World S) (s : S) (log bytes rest : List ℕ) (all : Type 0) (ending : Ending)
+finds : {S : Type 0} (world : LineSemantics S) (s : S) (log bytes rest : List ℕ) (all : Type 0) (ending : Ending)
     → log ≡ bytes ++ rest → (all → rest ≡ []) → ReadsTo world s (Some log) (Some rest) all ending
-    → Finds world s bytes (rest ≡ []) ending
+    → ReadsUpToEnding world s bytes (rest ≡ []) ending
 finds world s log bytes rest all (Refused f) e so h =
     let same = append_cancel_right h.0 bytes rest (sym h.1 ∙ e) in
-    reaches_so world s bytes all (rest ≡ []) so f (subst (λ (b : List ℕ). Reaches world s b all f) same h.2)
+    reaches_so world s bytes all (rest ≡ []) so f (subst (λ (b : List ℕ). ReadsUpToFault world s b all f) same h.2)
 finds world s log bytes rest all Done e so h = tt
 finds world s log bytes rest all ending e so h = tt
 
@@ -71,12 +71,12 @@ on_all (Err f) so h = tt
 -- What a call promises of a log over a slice and of a lent buffer, as one that hands both in sees it, where Q holds of
 -- the
 -- bytes that were read and of the text. A pair is the reader before and after the call, or the writer.
-pub written : {S : Type 0} (world : World S) (s : S) (answer : Result (Unit {0}) LogFault) (log : List ℕ)
+pub written : {S : Type 0} (world : LineSemantics S) (s : S) (answer : Result (Unit {0}) LogFault) (log : List ℕ)
     (reader : SliceIn × SliceIn) (writer : BufferTarget × BufferTarget) (Q : List ℕ → List ℕ → Ending → Type 0) (P : List ℕ → List ℕ
     → List ℕ → Ending → Type 0) → ((bytes rest text : List ℕ) → Q bytes text (ending_of answer)
-    → Finds world s bytes (rest ≡ []) (ending_of answer) → P bytes rest text (ending_of answer))
+    → ReadsUpToEnding world s bytes (rest ≡ []) (ending_of answer) → P bytes rest text (ending_of answer))
     → Some reader.0.rest.now ≡ Some log → take writer.0.len writer.0.buffer.now ≡ []
-    → Moves (left reader.0) (left reader.1) (taken writer.0) (taken writer.1) (λ bytes text. Q bytes text
+    → ReadsAndWrites (left reader.0) (left reader.1) (taken writer.0) (taken writer.1) (λ bytes text. Q bytes text
     (ending_of answer)) → ReadsTo world s (left reader.0) (left reader.1) (IsAtEndOfInput left ended reader.1)
     (ending_of answer) → OnOk answer (IsAtEndOfInput left ended reader.1) → 0 ≡
     (if read_fails (ending_of answer) then 0 + 1 else 0) → writer.1.failures ≡
@@ -105,7 +105,7 @@ written world s answer log reader writer Q P so given none (bytes, text, reads, 
 pub by_command : (command : ReplayMode) (rows : List Row) {I O : Type 0} (left : I → Option (List ℕ)) (unread : I → ℕ)
     (ended : I → Bool) (taken : O → Option (List ℕ)) (unwritten : O → ℕ) (answer : Result (Unit {0}) LogFault)
     (s : SessionState) (input : I × I) (output : O × O) (Q : (List ℕ → List ℕ → List ℕ → Ending → Type 0) → Type 0)
-    → ((S : Type 0) (world : World S) (x later : S) → Moves (left input.0) (left input.1) (taken output.0)
+    → ((S : Type 0) (world : LineSemantics S) (x later : S) → ReadsAndWrites (left input.0) (left input.1) (taken output.0)
     (taken output.1) (λ bytes text. PlaysWholeLog world x later bytes text (ending_of answer))
     → ReadsTo world x (left input.0) (left input.1) (IsAtEndOfInput left ended input.1) (ending_of answer)
     → IsCounted left unread ended unwritten answer input output → Q (PlaysSliceIn world x)) → PlaysLog command

@@ -3,7 +3,7 @@ use Rattle.std.specs.Prelude.{◌≡◌, ◌≢◌, ◌⊎◌, ◌≤◌, ℕ, t
 use Rattle.cred_table.specs.{declared.fault.SnapshotFault.SnapshotFault, declared.row.Row.Row, Snapshots.Refuses}
 use Rattle.session_log.specs.declared.{fault.LogFault.LogFault, command.ReplayMode.ReplayMode}
 use Rattle.session_log.specs.declared.command.ReplayMode.TheVariants.{Check, Live, Quiet, Replay}
-use Rattle.session_log.specs.{Check.first_comparison, Check.check_history, World.World, Replay.Finds, Replay.PlaysWholeLog}
+use Rattle.session_log.specs.{Check.first_comparison, Check.check_history, World.LineSemantics, Replay.ReadsUpToEnding, Replay.PlaysWholeLog}
 use Rattle.session_log.specs.Ending.{Ending, ending_of, read_fails, write_fails}
 use Rattle.session_log.specs.Session.{history, live_history, quiet_history}
 use Rattle.hidlog_c.specs.declared.{capacity.TheConstants.CAPACITY, outcome.CResult.CResult}
@@ -11,9 +11,9 @@ use Rattle.hidlog_c.specs.{Begin.Opens, Switched.start_with, Numbers.outcome_of,
 
 -- A log was played from state x: `bytes` of it were read, all but `rest`, and this text was written. The bytes after an
 -- error don't matter.
-abbrev pub PlaysSliceIn : {S : Type 0} → World S → S → (bytes rest text : List ℕ) → Ending → Type 0
+abbrev pub PlaysSliceIn : {S : Type 0} → LineSemantics S → S → (bytes rest text : List ℕ) → Ending → Type 0
 PlaysSliceIn {S} world x bytes rest text ending = (later : S) × PlaysWholeLog world x later bytes text ending
-    × Finds world x bytes (rest ≡ []) ending
+    × ReadsUpToEnding world x bytes (rest ≡ []) ending
 
 -- A command played the log on a new session with these credentials: replay, live, check or quiet.
 abbrev pub PlaysSlice : ReplayMode → List Row → (bytes rest text : List ℕ) → Ending → Type 0

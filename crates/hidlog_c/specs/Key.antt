@@ -2,7 +2,7 @@
 use Rattle.std.specs.Prelude.{◌≡◌, ℕ, ℤ, pos, List, [], ◌∷◌, length, Option, Some, None}
 use Rattle.authn_core.specs.Turn.{Start}
 use Rattle.token_session.specs.{declared.input.Timed.Timed, Answered.packets_sent_now}
-use Rattle.token_session.specs.Meters.{SessionState, FollowsFrom, stepped, sent_by}
+use Rattle.token_session.specs.Meters.{SessionState, IsStateAfterValidStart, stepped, sent_by}
 use Rattle.token_session.specs.{Causes.causes_of, declared.cause.Causes.Causes as TwoCauses}
 use Rattle.hidlog_c.specs.declared.fault.TheConstants.{ERR_NOT_INITIALIZED, ERR_PACKETS_QUEUED, ERR_NO_PACKET}
 
@@ -46,8 +46,8 @@ input_answer (Some d) x = answer_of d d.waiting x
 -- For each history that leads to the session's state: the history with the input leads to its new state, and the
 -- packets that are defined for the input are queued.
 abbrev pub FollowsHistory : DeviceState → Timed → Type 0
-FollowsHistory d x = (start : Start) (h : List Timed) → FollowsFrom d.session start h
-    → FollowsFrom (served d x).session start (x ∷ h) × ((served d x).waiting ≡ packets_sent_now start h x)
+FollowsHistory d x = (start : Start) (h : List Timed) → IsStateAfterValidStart d.session start h
+    → IsStateAfterValidStart (served d x).session start (x ∷ h) × ((served d x).waiting ≡ packets_sent_now start h x)
 
 -- The state after a call with an input, and the call's return value.
 pub record Answers (before after : Option DeviceState) (x : Timed) (result : ℤ) : Type 0 where

@@ -1,9 +1,9 @@
 -- Log lines that are played on a key's session.
 use Rattle.std.specs.Prelude.{◌≡◌, ℕ, ℤ, pos, List, [], ◌∷◌, Option, Some, None, Result}
 use Rattle.authn_core.specs.Turn.{Start}
-use Rattle.token_session.specs.{declared.input.Timed.Timed, Meters.SessionState, Meters.StandsAfter}
+use Rattle.token_session.specs.{declared.input.Timed.Timed, Meters.SessionState, Meters.IsStateAfter}
 use Rattle.session_log.specs.{declared.fault.LogFault.LogFault, Ending.Ending}
-use Rattle.session_log.specs.{Replay.Finds, Replay.Plays, Replay.Writes, Session.live_history, Session.live_machine}
+use Rattle.session_log.specs.{Replay.ReadsUpToEnding, Replay.Plays, Replay.Writes, Session.live_history, Session.live_machine}
 use Rattle.hidlog_c.specs.declared.fault.TheConstants.{ERR_NOT_INITIALIZED, ERR_PACKETS_QUEUED}
 use Rattle.hidlog_c.specs.{declared.outcome.CResult.CResult, Commands.IsWritten, Key.DeviceState, Key.no_causes}
 use Rattle.hidlog_c.specs.Numbers.{outcome_of}
@@ -12,19 +12,19 @@ use Rattle.hidlog_c.specs.Numbers.{outcome_of}
 -- all but `rest`, and this text was written.
 abbrev pub LinesDo : SessionState → SessionState → (bytes rest text : List ℕ) → Ending → Type 0
 LinesDo s t bytes rest text ending = Plays live_machine s t bytes text ending
-    × Finds live_machine s bytes (rest ≡ []) ending
+    × ReadsUpToEnding live_machine s bytes (rest ≡ []) ending
 
 -- As `LinesDo`, for a history and its extension by the inputs of the lines.
 abbrev pub HistoryDoes : Start → List Timed → List Timed → (bytes rest text : List ℕ) → Ending → Type 0
 HistoryDoes start h later bytes rest text ending = Writes (live_history start) h later bytes text ending
-    × Finds (live_history start) h bytes (rest ≡ []) ending
+    × ReadsUpToEnding (live_history start) h bytes (rest ≡ []) ending
 
 -- For each history that leads to the session's state before: the lines extend it to one that leads to the state
 -- after, and the text that is defined for that history was written.
 abbrev pub FollowsLines : SessionState → SessionState → (log out : List ℕ) → (written : ℕ) → Result (Unit {0}) LogFault
     → Type 0
-FollowsLines s t log out written answer = (start : Start) (h : List Timed) → StandsAfter s start h
-    → (later : List Timed) × StandsAfter t start later × IsWritten log out written answer (HistoryDoes start h later)
+FollowsLines s t log out written answer = (start : Start) (h : List Timed) → IsStateAfter s start h
+    → (later : List Timed) × IsStateAfter t start later × IsWritten log out written answer (HistoryDoes start h later)
 
 abbrev pub ArePlayed : SessionState → SessionState → (log out : List ℕ) → CResult → Type 0
 ArePlayed s t log out outcome = (answer : Result (Unit {0}) LogFault) × (outcome ≡ outcome_of answer outcome.written)

@@ -1,6 +1,6 @@
 -- The result of showing a log.
 use Rattle.std.specs.Prelude.{◌≡◌, ℕ, Bool, true, false, List, [], Result}
-use Rattle.session_log.specs.{declared.fault.LogFault.LogFault, Ending.Ending, Replay.Finds, Replay.Plays}
+use Rattle.session_log.specs.{declared.fault.LogFault.LogFault, Ending.Ending, Replay.ReadsUpToEnding, Replay.Plays}
 use Rattle.session_show.specs.Shown.{IsLineText, IsTextTo, read_only_world}
 use Rattle.session_show.specs.declared.detail.Detail.{Detail, TheVariants.Explained, TheVariants.Fixed}
 use Rattle.hidlog_c.specs.{declared.outcome.CResult.CResult, Commands.IsWritten, Numbers.outcome_of}
@@ -15,7 +15,7 @@ wording_for false = Fixed
 abbrev pub Shows : Detail → (bytes rest text : List ℕ) → Ending → Type 0
 Shows detail bytes rest text ending =
     ((lines : List ℕ) × Plays read_only_world tt tt bytes lines ending × IsTextTo (IsLineText detail) lines text ending)
-    × Finds read_only_world tt bytes (rest ≡ []) ending
+    × ReadsUpToEnding read_only_world tt bytes (rest ≡ []) ending
 
 -- The log was shown, and `outcome` is the corresponding C result.
 abbrev pub IsShown : Detail → (log out : List ℕ) → CResult → Type 0

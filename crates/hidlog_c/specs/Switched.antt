@@ -3,7 +3,7 @@ use Rattle.std.specs.Prelude.{◌≡◌, ◌≢◌, ◌⊎◌, ℕ, ℤ, pos, Li
 use Rattle.authn_core.specs.Turn.{Start}
 use Rattle.cred_table.specs.{declared.fault.SnapshotFault.SnapshotFault, declared.row.Row.Row, Snapshots.Refuses}
 use Rattle.cred_table.specs.declared.fault.SnapshotFault.TheVariants.{NotSnapshot, TooMany, RowBroken, Memory}
-use Rattle.token_session.specs.Meters.{FollowsFrom}
+use Rattle.token_session.specs.Meters.{IsStateAfterValidStart}
 use Rattle.hidlog_c.specs.{Begin.Opens, declared.capacity.TheConstants.CAPACITY, Key.DeviceState, Key.no_causes}
 use Rattle.hidlog_c.specs.declared.fault.TheConstants.{ERR_ALREADY_INITIALIZED, ERR_NOT_A_SNAPSHOT, ERR_FULL, ERR_BAD_CREDENTIAL, NO_MEMORY}
 
@@ -24,7 +24,7 @@ refusal Memory = NO_MEMORY
 -- The device has a new session with these credentials, no queued packet and no cause.
 abbrev pub IsStarted : DeviceState → (aaguid : List ℕ) → (moment : ℕ) → List Row → Type 0
 IsStarted d aaguid moment rows =
-    (d.aaguid ≡ aaguid) × (d.waiting ≡ []) × (d.causes ≡ no_causes) × FollowsFrom d.session (start_of aaguid moment rows) []
+    (d.aaguid ≡ aaguid) × (d.waiting ≡ []) × (d.causes ≡ no_causes) × IsStateAfterValidStart d.session (start_of aaguid moment rows) []
 
 -- The key has a new session with the credentials of the snapshot.
 abbrev pub Begins : (aaguid : List ℕ) → (moment : ℕ) → (snapshot : List ℕ) → Option DeviceState → Type 0

@@ -1,7 +1,7 @@
 //! The commands, from a log to the caller's buffer.
 ghost use Rattle.std.specs.Prelude.{◌≡◌, [], List, ℕ, take, Option};
 ghost use Rattle.cred_table.specs.declared.row.Row.{Row as AnyRow};
-ghost use Rattle.token_session.specs.Meters.{StandsAfter, session_of};
+ghost use Rattle.token_session.specs.Meters.{IsStateAfter, session_of};
 ghost use Rattle.hidlog_c.specs.Commands.{Answers, IsWritten, PlaysSlice};
 ghost use Rattle.hidlog_c.specs.Switched.{start_with};
 
@@ -22,7 +22,7 @@ fn play(
     requires none { writer.old.len ≡ 0 }
     requires unfailed { writer.old.failures ≡ 0 }
     ensures same_reference { writer.new.buffer.ghost_name ≡ writer.old.buffer.ghost_name }
-    ensures does { (rows : List AnyRow) → StandsAfter session.old (start_with rows) []
+    ensures does { (rows : List AnyRow) → IsStateAfter session.old (start_with rows) []
         → IsWritten log.now writer.new.buffer.now writer.new.len result (PlaysSlice command rows) }
 {
     command.play(session, &mut SliceIn::new(log), writer)

@@ -6,7 +6,7 @@ ghost use Rattle.hidlog_c.specs.Lines.{ArePlayed, FollowsLines, LinesDo};
 use crate::buffer_target::BufferTarget;
 use crate::capacity::CAPACITY;
 use crate::outcome::CResult;
-use session_log::{LogFault, SliceIn, play_live_lines};
+use session_log::{LogFault, SliceIn, process_live_lines};
 use token_session::Session;
 
 /// Plays the lines. The target still writes to the same buffer afterwards.
@@ -21,10 +21,10 @@ fn play(
     ensures does { IsWritten log.now writer.new.buffer.now writer.new.len result (LinesDo session.old session.new) }
     ensures history { FollowsLines session.old session.new log.now writer.new.buffer.now writer.new.len result }
 {
-    play_live_lines(&mut SliceIn::new(log), writer, session)
+    process_live_lines(&mut SliceIn::new(log), writer, session)
 }
 
-/// Plays the lines, and writes the output of [`play_live_lines`] to the start of `out`.
+/// Plays the lines, and writes the output of [`process_live_lines`] to the start of `out`.
 pub fn play_lines(session: &mut Session<CAPACITY>, log: &[u8], out: &mut [u8]) -> CResult
     ensures { ArePlayed session.old session.new log.now out.new result }
 {

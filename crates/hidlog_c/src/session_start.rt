@@ -2,7 +2,7 @@
 ghost use Rattle.std.specs.Prelude.{◌≡◌, ◌≢◌, [], List, IfOk, IfErr, OnOk};
 ghost use Rattle.cred_table.specs.declared.row.Row.{Row as AnyRow};
 ghost use Rattle.cred_table.specs.Snapshots.{Refuses};
-ghost use Rattle.token_session.specs.Meters.{FollowsFrom, StandsAfter, session_of};
+ghost use Rattle.token_session.specs.Meters.{IsStateAfterValidStart, IsStateAfter, session_of};
 ghost use Rattle.hidlog_c.specs.Begin.{Opens};
 ghost use Rattle.hidlog_c.specs.Switched.{start_of, start_with};
 
@@ -13,7 +13,7 @@ use token_session::Session;
 
 /// Returns a new session with these credentials.
 pub fn new_session(aaguid: [u8; 16], start: u64, rows: Store<CAPACITY>) -> Session<CAPACITY>
-    ensures { FollowsFrom result (start_of aaguid start (⟦<Store<CAPACITY> as Table<CAPACITY>>⟧.rows rows)) [] }
+    ensures { IsStateAfterValidStart result (start_of aaguid start (⟦<Store<CAPACITY> as Table<CAPACITY>>⟧.rows rows)) [] }
 {
     Session::new(Config { aaguid }, rows, start)
 }
@@ -30,7 +30,7 @@ pub fn fresh() -> Session<CAPACITY>
 pub fn open(session: &mut Session<CAPACITY>, snapshot: &[u8]) -> Result<(), SnapshotFault>
     requires fresh { session.old ≡ session_of (start_with []) [] }
     ensures begins { OnOk result ((rows : List AnyRow) × Opens snapshot.now rows
-        × StandsAfter session.new (start_with rows) []) }
+        × IsStateAfter session.new (start_with rows) []) }
     ensures refused { IfErr result (λ fault. (snapshot.now ≢ []) × Refuses CAPACITY snapshot.now fault) }
 {
     if snapshot.is_empty() {

@@ -11,8 +11,8 @@ use Rattle.session_log.specs.{declared.line.Line.Line, Lines.lines, Parsed.parse
 use Rattle.session_log.specs.declared.line.Line.TheVariants.{Sent, Count, Input, Comment}
 use Rattle.session_log.specs.Log.{Played, with_text_before, played, play_all, log_of, log, last_text, text_by, state_after, state_after_parsed}
 use Rattle.session_log.specs.{Sent.SendsPackets, Sent.AllSend, Sent.FitsMeters, Needs.need_lines, Needs.is_need_line}
-use Rattle.session_log.specs.Text.{IsPacket, ArePackets, ended, sent_text, meters_line}
-use Rattle.session_log.specs.World.{World, Course, replay_world, live_world}
+use Rattle.session_log.specs.Text.{IsPacket, ArePackets, with_line_feed, sent_text, meters_line}
+use Rattle.session_log.specs.World.{LineSemantics, InputSemantics, replay_world, live_world}
 use Rattle.session_log.proofs.Feeds.{feedless, AreLines, feedless-append, AreLines-append, lines_joined}
 use Rattle.session_log.proofs.Feeds.{lines_are_lines, decimal_feedless, hex_feedless, IsSound, sound_line, sound_first}
 use Rattle.session_log.proofs.Spelled.{count_rest, spelled_is_read}
@@ -24,7 +24,7 @@ use Rattle.std.specs.Io.KnownBytes.{Appends}
 -- A world in which no line is faulty but for its text. What was sent and counted in an earlier run is dropped, and at
 -- the end
 -- stand the meters.
-pub record IsLogging {S : Type 0} (w : World S) (counts : S → Meters) : Type 0 where
+pub record IsLogging {S : Type 0} (w : LineSemantics S) (counts : S → Meters) : Type 0 where
   pub stops : (s : S) (l : Line) → w.stops s l ≡ None
   pub drops_sent : (s : S) (line : List ℕ) (packet : Packet) → w.writes s line (Sent packet) ≡ []
   pub stays_at_sent : (s : S) (packet : Packet) → w.moves s (Sent packet) ≡ s
@@ -36,7 +36,7 @@ pub record IsLogging {S : Type 0} (w : World S) (counts : S → Meters) : Type 0
 abbrev pub sent_line : List ℕ → List ℕ
 sent_line packet = codes "< " ++ encode_lower packet
 
-pub sents_text : (packets : List (List ℕ)) → flat_map sent_text packets ≡ flat_map ended (map sent_line packets)
+pub sents_text : (packets : List (List ℕ)) → flat_map sent_text packets ≡ flat_map with_line_feed (map sent_line packets)
 sents_text [] = refl
 sents_text (packet ∷ more) = ap (λ (t : List ℕ). sent_text packet ++ t) (sents_text more)
 
@@ -71,7 +71,7 @@ sents_are (packet ∷ more) h = (sent_feedless packet h.0, sents_are more h.1)
 pub add_zero : (n : ℕ) → n ≡ n + 0
 add_zero n = omega arith
 
-module _ {S : Type 0} {w : World S} {counts : S → Meters} (is : IsLogging w counts) where
+module _ {S : Type 0} {w : LineSemantics S} {counts : S → Meters} (is : IsLogging w counts) where
   pub sound_step : (m : ℕ) (s : S) (line : List ℕ) (more : List (List ℕ)) (l : Option Line) → m < 2 ^ 32 → IsSound line
       → parsed line ≡ l → played w m s (line ∷ more)
       ≡ with_text_before (text_by w s line l) (played w (m + 1) (state_after_parsed w s l) more)
@@ -85,19 +85,19 @@ module _ {S : Type 0} {w : World S} {counts : S → Meters} (is : IsLogging w co
       search (arith, sound_step, sent_sound, sent_said, is.drops_sent, is.stays_at_sent)
 
 -- the lines that v writes for a line, without their line feeds
-pub record WritesLines {S : Type 0} (v : World S) (wrote : S → List ℕ → Option Line → List (List ℕ)) : Type 0 where
-  pub texts : (s : S) (line : List ℕ) (l : Option Line) → text_by v s line l ≡ flat_map ended (wrote s line l)
+pub record WritesLines {S : Type 0} (v : LineSemantics S) (wrote : S → List ℕ → Option Line → List (List ℕ)) : Type 0 where
+  pub texts : (s : S) (line : List ℕ) (l : Option Line) → text_by v s line l ≡ flat_map with_line_feed (wrote s line l)
   pub are : (s : S) (line : List ℕ) (l : Option Line) → parsed line ≡ l → feedless line ≡ true → SendsPackets v s l
       → AreLines (wrote s line l)
 
-abbrev pub written : {S : Type 0} (v : World S) → (S → List ℕ → Option Line → List (List ℕ)) → S → List (List ℕ)
+abbrev pub written : {S : Type 0} (v : LineSemantics S) → (S → List ℕ → Option Line → List (List ℕ)) → S → List (List ℕ)
     → List (List ℕ)
 written v wrote s [] = []
 written v wrote s (line ∷ more) = wrote s line (parsed line) ++ written v wrote (state_after v s line) more
 
-module _ {S : Type 0} {v : World S} {wrote : S → List ℕ → Option Line → List (List ℕ)} (g : WritesLines v wrote) where
+module _ {S : Type 0} {v : LineSemantics S} {wrote : S → List ℕ → Option Line → List (List ℕ)} (g : WritesLines v wrote) where
   pub written_text : (n : ℕ) (s : S) (ls : List (List ℕ)) → (played v n s ls).fault ≡ None
-      → (played v n s ls).text ≡ flat_map ended (written v wrote s ls)
+      → (played v n s ls).text ≡ flat_map with_line_feed (written v wrote s ls)
   written_text n s [] h = refl
   written_text n s (line ∷ more) h =
       let later = written_text (n + 1) (state_after v s line) more in
@@ -109,17 +109,17 @@ module _ {S : Type 0} {v : World S} {wrote : S → List ℕ → Option Line → 
       search (arith, AreLines-append, written, written_are (state_after v s line) more h.1 sends.1)
 
 -- what v writes for a line, w gives again
-abbrev pub Repeats : {S : Type 0} (v w : World S) → (S → List ℕ → Option Line → List (List ℕ)) → Type 0
+abbrev pub Repeats : {S : Type 0} (v w : LineSemantics S) → (S → List ℕ → Option Line → List (List ℕ)) → Type 0
 Repeats {S} v w wrote = (m : ℕ) (s : S) (line : List ℕ) (l : Option Line) (rest : List (List ℕ)) → IsSound line
     → parsed line ≡ l → SendsPackets v s l → m + length (wrote s line l) ≤ 2 ^ 32
     → played w m s (wrote s line l ++ rest)
     ≡ with_text_before (text_by v s line l) (played w (m + length (wrote s line l)) (state_after_parsed v s l) rest)
 
-pub record GivesAgain {S : Type 0} (v w : World S) (wrote : S → List ℕ → Option Line → List (List ℕ)) : Type 0 where
+pub record GivesAgain {S : Type 0} (v w : LineSemantics S) (wrote : S → List ℕ → Option Line → List (List ℕ)) : Type 0 where
   pub writes : WritesLines v wrote
   pub again : Repeats v w wrote
 
-module _ {S : Type 0} {v w : World S} {wrote : S → List ℕ → Option Line → List (List ℕ)} (g : GivesAgain v w wrote)
+module _ {S : Type 0} {v w : LineSemantics S} {wrote : S → List ℕ → Option Line → List (List ℕ)} (g : GivesAgain v w wrote)
   where
     lines_again : (n m : ℕ) (s : S) (ls rest : List (List ℕ)) → (played v n s ls).fault ≡ None → AllSend v s ls
         → m + length (written v wrote s ls) ≤ 2 ^ 32 → played w m s (written v wrote s ls ++ rest)
@@ -167,7 +167,7 @@ counts_short m h =
     ))
 
 -- Where no line is faulty, the log that v writes is its own log in w.
-pub log_again : {S : Type 0} {v w : World S} {counts : S → Meters} {wrote : S → List ℕ → Option Line → List (List ℕ)}
+pub log_again : {S : Type 0} {v w : LineSemantics S} {counts : S → Meters} {wrote : S → List ℕ → Option Line → List (List ℕ)}
     → (writes : IsLogging v counts) → (gives : IsLogging w counts) → (g : GivesAgain v w wrote)
     → (s : S) (bytes : List ℕ) → (play_all v s bytes).fault ≡ None → AllSend v s (lines bytes)
     → FitsMeters (counts (play_all v s bytes).state) → length (lines (log v s bytes)) < 2 ^ 32
@@ -178,10 +178,10 @@ log_again {S = S} {v = v} {w = w} {counts = counts} {wrote = wrote} writes gives
     let last = 61 ∷ counts_of m in
     let first = written v wrote s (lines bytes) in
     let whole : log v s bytes ≡ p.text ++ meters_line m = search (arith, log_is, writes.ends) in
-    let text : log v s bytes ≡ flat_map ended (first ++ last ∷ []) =
+    let text : log v s bytes ≡ flat_map with_line_feed (first ++ last ∷ []) =
     whole ∙ ap (λ (t : List ℕ). t ++ meters_line m) (written_text g.writes 1 s (lines bytes) h)
-    ∙ ap (λ (t : List ℕ). flat_map ended first ++ t) (sym (append-nil (ended last)))
-    ∙ sym (flat_map-append ended first (last ∷ [])) in
+    ∙ ap (λ (t : List ℕ). flat_map with_line_feed first ++ t) (sym (append-nil (with_line_feed last)))
+    ∙ sym (flat_map-append with_line_feed first (last ∷ [])) in
     let are : AreLines (first ++ last ∷ []) =
     AreLines-append first (last ∷ []) (written_are g.writes s (lines bytes) (lines_are_lines bytes) sends)
     (counts_feedless m fits, tt) in
@@ -200,8 +200,8 @@ log_again {S = S} {v = v} {w = w} {counts = counts} {wrote = wrote} writes gives
 
 -- What a replay writes, a replay gives again.
 
-module _ {S : Type 0} (course : Course S) where
-  abbrev replays : World S
+module _ {S : Type 0} (course : InputSemantics S) where
+  abbrev replays : LineSemantics S
   replays = replay_world course
 
   abbrev pub lines_by : S → List ℕ → Option Line → List (List ℕ)
@@ -212,7 +212,7 @@ module _ {S : Type 0} (course : Course S) where
   pub replay_logs : IsLogging replays course.counts
   replay_logs = search arith
 
-  text_lines : (s : S) (line : List ℕ) (l : Option Line) → text_by replays s line l ≡ flat_map ended (lines_by s line l)
+  text_lines : (s : S) (line : List ℕ) (l : Option Line) → text_by replays s line l ≡ flat_map with_line_feed (lines_by s line l)
   text_lines s line l = search (arith, append-nil, sents_text)
 
   line_are : (s : S) (line : List ℕ) (l : Option Line) → parsed line ≡ l → feedless line ≡ true → SendsPackets replays s l
@@ -230,21 +230,21 @@ module _ {S : Type 0} (course : Course S) where
 comment_are : (line : List ℕ) (b : Bool) → feedless line ≡ true → AreLines (cond b [] (line ∷ []))
 comment_are line b h = search arith
 
-comment_kept : {S : Type 0} (w : World S) (m : ℕ) (s : S) (line : List ℕ) (rest : List (List ℕ)) (b : Bool)
-    → (b ≡ false → m < 2 ^ 32 → played w m s (line ∷ rest) ≡ with_text_before (ended line) (played w (m + 1) s rest))
+comment_kept : {S : Type 0} (w : LineSemantics S) (m : ℕ) (s : S) (line : List ℕ) (rest : List (List ℕ)) (b : Bool)
+    → (b ≡ false → m < 2 ^ 32 → played w m s (line ∷ rest) ≡ with_text_before (with_line_feed line) (played w (m + 1) s rest))
     → m + length (cond b [] (line ∷ [])) ≤ 2 ^ 32 → played w m s (cond b [] (line ∷ []) ++ rest)
-    ≡ with_text_before (cond b [] (ended line)) (played w (m + length (cond b [] (line ∷ []))) s rest)
+    ≡ with_text_before (cond b [] (with_line_feed line)) (played w (m + length (cond b [] (line ∷ []))) s rest)
 comment_kept w m s line rest b h k = search (arith, add_zero)
 
 counted : (m : ℕ) (packets told : List (List ℕ)) → m + 1 + length packets + length told
     ≡ m + suc (length (map sent_line packets ++ told))
 counted m packets told = search (arith, length-map, length-append)
 
-module _ {S : Type 0} (course : Course S) (needs : S → Needed) where
-  abbrev lives : World S
+module _ {S : Type 0} (course : InputSemantics S) (needs : S → Needed) where
+  abbrev lives : LineSemantics S
   lives = live_world course needs
 
-  abbrev copies : World S
+  abbrev copies : LineSemantics S
   copies = replay_world course
 
   pub live_logs : IsLogging lives course.counts
@@ -256,7 +256,7 @@ module _ {S : Type 0} (course : Course S) (needs : S → Needed) where
       line ∷ map sent_line (course.sends s timed) ++ need_lines (needs (course.turned s timed))
   needs_of s line l = []
 
-  lived_lines : (s : S) (line : List ℕ) (l : Option Line) → text_by lives s line l ≡ flat_map ended (needs_of s line l)
+  lived_lines : (s : S) (line : List ℕ) (l : Option Line) → text_by lives s line l ≡ flat_map with_line_feed (needs_of s line l)
   lived_lines s line l = search (arith, append_assoc, sents_text, flat_map-append, append-nil)
 
   lived_are : (s : S) (line : List ℕ) (l : Option Line) → parsed line ≡ l → feedless line ≡ true → SendsPackets lives s l
@@ -274,7 +274,7 @@ module _ {S : Type 0} (course : Course S) (needs : S → Needed) where
       search (arith, sound_step live_logs m s line, h.0.sound, h.0.parsed, h.0.tells)
 
   needs_copied : (m : ℕ) (s : S) (ls rest : List (List ℕ)) → AreTold ls → m + length ls ≤ 2 ^ 32
-      → played copies m s (ls ++ rest) ≡ with_text_before (flat_map ended ls) (played copies (m + length ls) s rest)
+      → played copies m s (ls ++ rest) ≡ with_text_before (flat_map with_line_feed ls) (played copies (m + length ls) s rest)
   needs_copied m s [] rest h few = search (arith, add_zero)
   needs_copied m s (line ∷ more) rest h few =
       let next : m + 1 + length more ≡ m + suc (length more) = omega arith in
@@ -286,7 +286,7 @@ module _ {S : Type 0} (course : Course S) (needs : S → Needed) where
   lived_again m s line (Some Comment) rest sound e h few =
       comment_kept lives m s line rest (is_need_line line)
       (λ keeps space. sound_step live_logs m s line rest (Some Comment) space sound e
-      ∙ ap (λ (b : Bool). with_text_before (cond b [] (ended line)) (played lives (m + 1) s rest)) keeps) few
+      ∙ ap (λ (b : Bool). with_text_before (cond b [] (with_line_feed line)) (played lives (m + 1) s rest)) keeps) few
   lived_again m s line (Some (Input timed)) rest sound e h few =
       let packets = course.sends s timed in
       let told = need_lines (needs (course.turned s timed)) in
@@ -317,7 +317,7 @@ module _ {S : Type 0} (course : Course S) (needs : S → Needed) where
 -- What was written is its own log.
 
 -- what v wrote, w gives again
-pub repeats_in : {v w : World SessionState} {wrote : SessionState → List ℕ → Option Line → List (List ℕ)}
+pub repeats_in : {v w : LineSemantics SessionState} {wrote : SessionState → List ℕ → Option Line → List (List ℕ)}
     → (writes : IsLogging v (λ s. s.meters)) → (gives : IsLogging w (λ s. s.meters)) → (again : GivesAgain v w wrote)
     → (taken taken' : Option (List ℕ)) (s0 s : SessionState) (bytes text : List ℕ) → Appends taken taken' text
     → IsDone v s0 s bytes text → (play_all v s0 bytes).fault ≡ None → AllSend v s0 (lines bytes) → FitsMeters s.meters

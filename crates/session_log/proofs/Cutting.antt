@@ -6,42 +6,42 @@ use Rattle.std.{proofs.Math.Seq.take-suc, specs.List.onto_first}
 use Rattle.std.proofs.lemmas.Bool.{eqb-true, ltb-false, Decides.nat_tests}
 use Rattle.std.proofs.lemmas.List.{take-take, Quantifiers.position-Some, Sums.fails_before_first}
 use Rattle.std.proofs.lemmas.List.Splits.{slice_split_none, slice_split-cons_yes, slice_split-cons_no}
-use Rattle.session_log.specs.Text.{ended}
-use Rattle.session_log.specs.Lines.{is_feed, pieces, all_but_last, last_of, lines_of_pieces, lines}
+use Rattle.session_log.specs.Text.{with_line_feed}
+use Rattle.session_log.specs.Lines.{is_line_feed, pieces, all_but_last, last_of, lines_of_pieces, lines}
 
-cut_at : (w : List ℕ) (end : ℕ) (tail : List ℕ) → end < length w → is_feed (get_or w end 0) ≡ true
-    → ((k : ℕ) → k < end → is_feed (get_or w k 0) ≡ false) → pieces (take (suc end) w ++ tail)
+cut_at : (w : List ℕ) (end : ℕ) (tail : List ℕ) → end < length w → is_line_feed (get_or w end 0) ≡ true
+    → ((k : ℕ) → k < end → is_line_feed (get_or w k 0) ≡ false) → pieces (take (suc end) w ++ tail)
     ≡ take end w ∷ pieces tail
 cut_at [] end tail h p q = absurd (omega arith)
-cut_at (x ∷ xs) zero tail h p q = slice_split-cons_yes is_feed x tail p
+cut_at (x ∷ xs) zero tail h p q = slice_split-cons_yes is_line_feed x tail p
 cut_at (x ∷ xs) (suc e) tail h p q =
     let later = cut_at xs e tail (omega arith) p (λ k l. q (suc k) (omega arith)) in
     search (arith, slice_split-cons_no, q 0)
 
 -- a line and its line feed are cut off
-pub first_piece : (w : List ℕ) (end : ℕ) (tail : List ℕ) → position is_feed w ≡ Some end
+pub first_piece : (w : List ℕ) (end : ℕ) (tail : List ℕ) → position is_line_feed w ≡ Some end
     → pieces (take (end + 1) w ++ tail) ≡ take end w ∷ pieces tail
 first_piece w end tail e = search (arith, position-Some, add-one, cut_at)
 
 -- it ends with its line feed
-pub ends_in_feed : (w : List ℕ) (end : ℕ) → position is_feed w ≡ Some end → take (end + 1) w ≡ ended (take end w)
+pub ends_in_feed : (w : List ℕ) (end : ℕ) → position is_line_feed w ≡ Some end → take (end + 1) w ≡ with_line_feed (take end w)
 ends_in_feed w end e =
-    let at = position-Some is_feed w end 0 e in
+    let at = position-Some is_line_feed w end 0 e in
     rw add-one (take-suc w end 0 at.0 ∙ ap (λ (b : ℕ). take end w ++ b ∷ []) (eqb-true (get_or w end 0) 10 at.1))
 
 -- what was ended is a line and its line feed
-own_text : (w : List ℕ) → (take (length w) (ended w) ≡ w) × (take (suc (length w)) (ended w) ≡ ended w)
+own_text : (w : List ℕ) → (take (length w) (with_line_feed w) ≡ w) × (take (suc (length w)) (with_line_feed w) ≡ with_line_feed w)
 own_text [] = (refl, refl)
 own_text (x ∷ xs) = (ap (λ (l : List ℕ). x ∷ l) (own_text xs).0, ap (λ (l : List ℕ). x ∷ l) (own_text xs).1)
 
-pub last_text : (w w' : List ℕ) (end : ℕ) → w' ≡ ended w → end ≡ length w → length w < 256 → (take end w' ≡ w)
-    × (take (end + 1) w' ≡ ended (take end w')) × (end < length w') × (length w' ≤ 256)
+pub last_text : (w w' : List ℕ) (end : ℕ) → w' ≡ with_line_feed w → end ≡ length w → length w < 256 → (take end w' ≡ w)
+    × (take (end + 1) w' ≡ with_line_feed (take end w')) × (end < length w') × (length w' ≤ 256)
 last_text w w' end is at short =
     let own = own_text w in
     let line : take end w' ≡ w = (λ i. take (at i) (is i)) ∙ own.0 in
     let long = ap length is ∙ length-append w (10 ∷ []) in
-    let whole : take (end + 1) w' ≡ ended w = rw add-one ((λ i. take (suc (at i)) (is i)) ∙ own.1) in
-    (line, whole ∙ ap ended (sym line), omega (arith, long), omega (arith, long))
+    let whole : take (end + 1) w' ≡ with_line_feed w = rw add-one ((λ i. take (suc (at i)) (is i)) ∙ own.1) in
+    (line, whole ∙ ap with_line_feed (sym line), omega (arith, long), omega (arith, long))
 
 pub short_front : (w line : List ℕ) (end : ℕ) → line ≡ take end w → end < length w → length w ≤ 256
     → length line < 256
@@ -61,18 +61,18 @@ pub cut_twice : (w held text line : List ℕ) (end : ℕ) → held ≡ w → tex
 cut_twice w held text line end is whole front = search (arith, take-take)
 
 -- what has no line feed is one piece
-pub one_piece : (w : List ℕ) → position is_feed w ≡ None → pieces w ≡ w ∷ []
+pub one_piece : (w : List ℕ) → position is_line_feed w ≡ None → pieces w ≡ w ∷ []
 one_piece w e = search (arith, ltb-false, slice_split_none, fails_before_first)
 
 -- there is a piece
 pub pieces_some : (w : List ℕ) → (p : List ℕ) × (ps : List (List ℕ)) × (pieces w ≡ p ∷ ps)
 pieces_some [] = ([], [], refl)
-pieces_some (x ∷ xs) = go (pieces_some xs) (is_feed x) refl
+pieces_some (x ∷ xs) = go (pieces_some xs) (is_line_feed x) refl
   where
-    go : ((p : List ℕ) × (ps : List (List ℕ)) × (pieces xs ≡ p ∷ ps)) → (b : Bool) → is_feed x ≡ b
+    go : ((p : List ℕ) × (ps : List (List ℕ)) × (pieces xs ≡ p ∷ ps)) → (b : Bool) → is_line_feed x ≡ b
         → (p : List ℕ) × (ps : List (List ℕ)) × (pieces (x ∷ xs) ≡ p ∷ ps)
-    go more true e = ([], pieces xs, slice_split-cons_yes is_feed x xs e)
-    go more false e = (x ∷ more.0, more.1, slice_split-cons_no is_feed x xs e ∙ ap (onto_first x) more.2)
+    go more true e = ([], pieces xs, slice_split-cons_yes is_line_feed x xs e)
+    go more false e = (x ∷ more.0, more.1, slice_split-cons_no is_line_feed x xs e ∙ ap (onto_first x) more.2)
 
 -- lines before pieces
 pub lines_beyond : (done : List (List ℕ)) (p : List ℕ) (ps : List (List ℕ))
@@ -92,7 +92,7 @@ last_is (d ∷ []) p = refl
 last_is (d ∷ e ∷ ds) p = last_is (e ∷ ds) p
 
 -- the lines of a window
-pub line_in_front : (w : List ℕ) (end : ℕ) → position is_feed w ≡ Some end
+pub line_in_front : (w : List ℕ) (end : ℕ) → position is_line_feed w ≡ Some end
     → lines w ≡ take end w ∷ lines (drop (end + 1) w)
 line_in_front w end e =
     let rest = drop (end + 1) w in
@@ -107,7 +107,7 @@ not_zero n = grind (arith, nat_tests)
 pub one_line : (x : ℕ) (xs : List ℕ) → lines_of_pieces ((x ∷ xs) ∷ []) ≡ (x ∷ xs) ∷ []
 one_line x xs = ap (λ (b : Bool). cond b [] ((x ∷ xs) ∷ [])) (not_zero (length xs))
 
-pub last_line : (w : List ℕ) → position is_feed w ≡ None → 0 < length w → lines w ≡ w ∷ []
+pub last_line : (w : List ℕ) → position is_line_feed w ≡ None → 0 < length w → lines w ≡ w ∷ []
 last_line w h k = search (arith, one_piece, one_line)
 
 first_line : (x : ℕ) (p : List ℕ) (ps : List (List ℕ)) → (l : List ℕ) × (more : List (List ℕ))
@@ -117,12 +117,12 @@ first_line x p (q ∷ qs) = (x ∷ p, lines_of_pieces (q ∷ qs), refl)
 
 pub some_line : (w : List ℕ) → 0 < length w → (l : List ℕ) × (more : List (List ℕ)) × (lines w ≡ l ∷ more)
 some_line [] h = absurd (omega arith)
-some_line (x ∷ xs) h = go (is_feed x) refl
+some_line (x ∷ xs) h = go (is_line_feed x) refl
   where
     rest : (p : List ℕ) × (ps : List (List ℕ)) × (pieces xs ≡ p ∷ ps)
     rest = pieces_some xs
 
-    go : (b : Bool) → is_feed x ≡ b → (l : List ℕ) × (more : List (List ℕ)) × (lines (x ∷ xs) ≡ l ∷ more)
+    go : (b : Bool) → is_line_feed x ≡ b → (l : List ℕ) × (more : List (List ℕ)) × (lines (x ∷ xs) ≡ l ∷ more)
     go true e = ([], lines_of_pieces (rest.0 ∷ rest.1), search (arith, slice_split-cons_yes, rest.2))
     go false e = let first = first_line x rest.0 rest.1 in
         (first.0, first.1, search (slice_split-cons_no, rest.2, first.2))

@@ -12,7 +12,7 @@ use Rattle.session_log.specs.{Check.Compared, Check.first_comparison, Check.chec
 use Rattle.session_log.specs.declared.line.Line.TheVariants.{Input, Sent, Comment, Count}
 use Rattle.session_log.specs.Lines.{lines, whole_lines, last_piece}
 use Rattle.session_log.specs.Log.{fault_at, fault_of, play_all, log}
-use Rattle.session_log.specs.World.{Course, World, replay_world, quiet_world, live_world}
+use Rattle.session_log.specs.World.{InputSemantics, LineSemantics, replay_world, quiet_world, live_world}
 use Rattle.authn_core.specs.Views.{nothing, presence, sign}
 use Rattle.hex.specs.Hex.{encode_with}
 
@@ -105,7 +105,7 @@ came_back : AnyInput → List (List ℕ)
 came_back (Packet packet) = packet.0 ∷ []
 came_back _ = []
 
-abbrev echoes : Course ℕ
+abbrev echoes : InputSemantics ℕ
 echoes =
     record {
       turned = λ s x. s + 1;
@@ -113,7 +113,7 @@ echoes =
       counts = λ s. record { held = 0; rows = 0; pending = 0; requests = s; bytes = 0; steps = 0 };
     }
 
-abbrev echo : World ℕ
+abbrev echo : LineSemantics ℕ
 echo = replay_world echoes
 
 -- faults: a line of 256 bytes is too long before it is read, and line 2^32 is one too many before that
@@ -162,7 +162,7 @@ unfolding moment digits came_back
 row-live = refl
 
 -- compared: the packets that are sent stand after their input
-abbrev check_echo : World (Compared ℕ)
+abbrev check_echo : LineSemantics (Compared ℕ)
 check_echo = check_world echoes
 
 abbrev checked : List ℕ → Option LogFault

@@ -1,6 +1,6 @@
 -- Of each way in which the playing of lines ends: what holds at Ok alone, and the failures that it counts.
 use Rattle.std.proofs.Common.{◌≡◌, ℕ, ◌+◌, Bool, false, OnOk, cond, List, Option, Result, Err, sym, ap, ◌∙◌, arith}
-use Rattle.session_log.specs.{declared.fault.LogFault.LogFault, Replay.PlaysLine, Window.Stops, World.World}
+use Rattle.session_log.specs.{declared.fault.LogFault.LogFault, Replay.PlaysLine, Window.Stops, World.LineSemantics}
 use Rattle.session_log.specs.Ending.{Ending, ended_by, read_fails, write_fails}
 
 pub on_err : {A : Type 0} (X : Type 0) (r : Result A LogFault) (e : LogFault) → r ≡ Err e → OnOk r X
@@ -25,12 +25,12 @@ pub stops_unwritten : (n : ℕ) (w : List ℕ) (e : LogFault) → Stops n w e �
 stops_unwritten n w e h = search arith
 
 -- where a line is played, no read fails, and a write fails exactly where its text breaks off
-pub plays_unread : {S F : Type 0} (world : World S) (taken : F → Option (List ℕ)) (failed : F
+pub plays_unread : {S F : Type 0} (world : LineSemantics S) (taken : F → Option (List ℕ)) (failed : F
     → ℕ) (n : ℕ) (s t : S) (line : List ℕ) (target : F × F) (q : Ending)
     → PlaysLine world taken failed n s t line target q → read_fails q ≡ false
 plays_unread world taken failed n s t line target q h = search arith
 
-pub plays_counts : {S F : Type 0} (world : World S) (taken : F → Option (List ℕ)) (failed : F
+pub plays_counts : {S F : Type 0} (world : LineSemantics S) (taken : F → Option (List ℕ)) (failed : F
     → ℕ) (n : ℕ) (s t : S) (line : List ℕ) (target : F × F) (q : Ending)
     → PlaysLine world taken failed n s t line target q → failed target.1
     ≡ cond (write_fails q) (failed target.0 + 1) (failed target.0)

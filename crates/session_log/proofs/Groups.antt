@@ -7,14 +7,14 @@ use Rattle.session_log.{proofs.Cases.no_some, proofs.Feeds.sound_first, specs.In
 use Rattle.session_log.specs.declared.fault.LogFault.{LogFault, TheVariants.Differs}
 use Rattle.session_log.specs.declared.line.Line.{Line, TheVariants.Input, TheVariants.Sent}
 use Rattle.session_log.specs.Check.{Compared, first_comparison, difference, missing_of, differs_from, after_first, check_world}
-use Rattle.session_log.specs.Groups.{Groups, with_first, with_line, found_groups, sent_groups, number_by, input_lines}
-use Rattle.session_log.specs.{Groups.DifferFirst, Groups.IsFirstDifference, Parsed.parsed, World.Course, World.World}
+use Rattle.session_log.specs.Groups.{Groups, with_first, with_line, found_groups, sent_groups, line_numbers, input_lines}
+use Rattle.session_log.specs.{Groups.DifferFirst, Groups.IsFirstDifference, Parsed.parsed, World.InputSemantics, World.LineSemantics}
 use Rattle.session_log.specs.Log.{played, first_fault, fault_of, fault_by, fault_at, state_after, state_after_parsed}
 use Rattle.session_log.proofs.Through.{played_sound, played_faulty, first_is_line}
 
 -- The fault of a first line, and what follows where it has none.
 
-module _ {S : Type 0} (world : World S) (n : ℕ) (s : S) (line : List ℕ) where
+module _ {S : Type 0} (world : LineSemantics S) (n : ℕ) (s : S) (line : List ℕ) where
   own_fault : fault_at world n s line ≡ None → fault_by world n s (parsed line) ≡ None
   own_fault h = search arith
 
@@ -170,8 +170,8 @@ packet_differs : (due : List (List ℕ)) (q : List ℕ) (group : List (List ℕ)
 unfolding line_in packet_in
 packet_differs due q group input seen line packet h = search (arith, other_text)
 
-module _ {S : Type 0} (course : Course S) where
-  abbrev compares : World (Compared S)
+module _ {S : Type 0} (course : InputSemantics S) where
+  abbrev compares : LineSemantics (Compared S)
   compares = check_world course
 
   pub check_is_silent : (n : ℕ) (c : Compared S) (ls : List (List ℕ)) → (played compares n c ls).text ≡ []
@@ -237,7 +237,7 @@ module _ {S : Type 0} (course : Course S) where
       ((state_after_parsed compares c l).due ∷ sent_groups course (state_after_parsed compares c l).session xs)
       ((state_after_parsed compares c l).input ∷ others) line packet
       → Differing c.found (with_line l groups) (c.due ∷ sent_groups course c.session (inputs_by l ++ xs))
-      (c.input ∷ number_by n l ++ others) line packet
+      (c.input ∷ line_numbers n l ++ others) line packet
   later_differs n c None groups xs others line packet at own d = cc
   later_differs n c (Some (Input x)) groups xs others line packet at own d = search (arith, after_input)
   later_differs n c (Some (Sent p)) groups xs others line packet at own d =
@@ -274,7 +274,7 @@ module _ {S : Type 0} (course : Course S) where
           (c.input ∷ input_lines n (line ∷ more)) at_line packet
       go rest (Some f) e =
           let is : Some f ≡ Some (Differs at_line packet) = sym (faulty_here compares n c line more f e) ∙ h in
-          here_differs n c (parsed line) more (inputs more) (number_by n (parsed line) ++ input_lines (n + 1) more) at_line
+          here_differs n c (parsed line) more (inputs more) (line_numbers n (parsed line) ++ input_lines (n + 1) more) at_line
           packet (own_difference compares n c line at_line packet (e ∙ is))
       go rest None e =
           let own = own_fault compares n c line e in

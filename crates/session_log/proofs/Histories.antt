@@ -3,82 +3,82 @@ use Rattle.std.proofs.Common.{◌≡◌, ℕ, Bool, List, [], ◌∷◌, Option,
 use Rattle.authn_core.specs.Turn.{Start}
 use Rattle.token_session.specs.declared.input.{Timed.Timed, Meters.Meters}
 use Rattle.cred_table.specs.Rows.{ValidRows}
-use Rattle.token_session.specs.{Answered.AgreesWithExchanges, Answered.packets_sent_now, Meters.FollowsFrom, Meters.stepped, Meters.sent_by}
+use Rattle.token_session.specs.{Answered.AgreesWithExchanges, Answered.packets_sent_now, Meters.IsStateAfterValidStart, Meters.stepped, Meters.sent_by}
 use Rattle.token_session.proofs.Answered.{told_now_is}
-use Rattle.token_session.specs.{History.received, Law.state_of, Meters.SessionState, Meters.StandsAfter, Meters.session_of}
+use Rattle.token_session.specs.{History.received, Law.state_of, Meters.SessionState, Meters.IsStateAfter, Meters.session_of}
 use Rattle.token_session.proofs.Metering.{stands_longer, machine_after}
 use Rattle.token_session.proofs.{Noise.noise_is_named, Follows.step_sends}
 use Rattle.session_log.{specs.declared.fault.LogFault.LogFault, specs.declared.line.Line.Line, proofs.Whole.there}
 use Rattle.session_log.specs.{Command.PlaysLog, Command.PlaysThrough, Ending.Ending, Ending.ending_of}
 use Rattle.session_log.specs.declared.command.ReplayMode.TheVariants.{Check, Quiet}
 use Rattle.session_log.specs.Check.{Compared, compared, first_comparison, missing, comparison_fault, comparison_after, check_machine}
-use Rattle.session_log.specs.{Check.check_history, Streams.Moves, Text.ended, World.World, World.replay_text}
+use Rattle.session_log.specs.{Check.check_history, Streams.ReadsAndWrites, Text.ended, World.LineSemantics, World.replay_text}
 use Rattle.session_log.specs.Replay.{Logs, PlaysWholeLog, Plays, ReadsTo, Writes}
 use Rattle.session_log.specs.Session.{session_course, history_course, exchange_histories, exchange_history, machine, history, quiet_machine, quiet_history, live_machine}
 use Rattle.session_log.specs.Session.{live_history, session_needs, history_needs}
 use Rattle.session_log.proofs.Worlds.{Follows, makes_alike, logs_alike, plays_alike, reads_alike}
 
 module _ (start : Start) where
-  counted : (s : SessionState) (h : List Timed) → StandsAfter s start h → s.meters ≡ (history start).counts h
+  counted : (s : SessionState) (h : List Timed) → IsStateAfter s start h → s.meters ≡ (history start).counts h
   unfolding session_of
   counted s h r = ap (λ (z : SessionState). z.meters) r
 
-  wrote : (s : SessionState) (h : List Timed) (line : List ℕ) (l : Line) → StandsAfter s start h
+  wrote : (s : SessionState) (h : List Timed) (line : List ℕ) (l : Line) → IsStateAfter s start h
       → replay_text session_course s line l ≡ replay_text (history_course start) h line l
   wrote s h line l r = search (arith, step_sends, machine_after)
 
-  pub follows : Follows machine (history start) (λ s h. StandsAfter s start h)
+  pub follows : Follows machine (history start) (λ s h. IsStateAfter s start h)
   follows = search (arith, wrote, counted, stands_longer)
 
   -- Made quiet.
 
-  noised : (s : SessionState) (h : List Timed) (line : List ℕ) (l : Line) → StandsAfter s start h
+  noised : (s : SessionState) (h : List Timed) (line : List ℕ) (l : Line) → IsStateAfter s start h
       → quiet_machine.writes s line l ≡ (quiet_history start).writes h line l
   noised s h line l r = search (arith, noise_is_named, machine_after)
 
-  quiet_follows : Follows quiet_machine (quiet_history start) (λ s h. StandsAfter s start h)
+  quiet_follows : Follows quiet_machine (quiet_history start) (λ s h. IsStateAfter s start h)
   quiet_follows = search (arith, noised, counted, stands_longer)
 
   -- With what is needed.
 
-  needed_after : (s : SessionState) (h : List Timed) → StandsAfter s start h → session_needs s ≡ history_needs start h
+  needed_after : (s : SessionState) (h : List Timed) → IsStateAfter s start h → session_needs s ≡ history_needs start h
   unfolding session_of state_of
   needed_after s h r = ap session_needs r
 
-  told : (s : SessionState) (h : List Timed) (line : List ℕ) (l : Line) → StandsAfter s start h
+  told : (s : SessionState) (h : List Timed) (line : List ℕ) (l : Line) → IsStateAfter s start h
       → live_machine.writes s line l ≡ (live_history start).writes h line l
   told s h line l r = search (arith, step_sends, machine_after, needed_after, stands_longer)
 
-  pub live_follows : Follows live_machine (live_history start) (λ s h. StandsAfter s start h)
+  pub live_follows : Follows live_machine (live_history start) (λ s h. IsStateAfter s start h)
   live_follows = search (arith, told, counted, stands_longer)
 
 -- What is told of a history, likewise.
 
 module _ (start : Start) (is : (h : List Timed) → AgreesWithExchanges start h) where
-  told_stays : (s : SessionState) (h : List Timed) (x : Timed) → FollowsFrom s start h
-      → FollowsFrom (stepped s x) start (x ∷ h)
+  told_stays : (s : SessionState) (h : List Timed) (x : Timed) → IsStateAfterValidStart s start h
+      → IsStateAfterValidStart (stepped s x) start (x ∷ h)
   told_stays s h x f = record { lawful = f.lawful; stands = stands_longer s start h x f.stands }
 
-  told_sends : (s : SessionState) (h : List Timed) (x : Timed) → FollowsFrom s start h
+  told_sends : (s : SessionState) (h : List Timed) (x : Timed) → IsStateAfterValidStart s start h
       → sent_by s x ≡ packets_sent_now start h x
   told_sends s h x f = step_sends s.machine start h x (machine_after s start h f.stands)
       ∙ told_now_is start h x (is h) (is (x ∷ h))
 
-  retold : (s : SessionState) (h : List Timed) (line : List ℕ) (l : Line) → FollowsFrom s start h
+  retold : (s : SessionState) (h : List Timed) (line : List ℕ) (l : Line) → IsStateAfterValidStart s start h
       → replay_text session_course s line l ≡ replay_text (exchange_histories start) h line l
   retold s h line l f = search (arith, told_sends)
 
-  told_counts : (s : SessionState) (h : List Timed) → FollowsFrom s start h → s.meters ≡ (exchange_histories start).counts h
+  told_counts : (s : SessionState) (h : List Timed) → IsStateAfterValidStart s start h → s.meters ≡ (exchange_histories start).counts h
   told_counts s h f = counted start s h f.stands
 
-  pub tells : Follows machine (exchange_history start) (λ s h. FollowsFrom s start h)
+  pub tells : Follows machine (exchange_history start) (λ s h. IsStateAfterValidStart s start h)
   tells = search (arith, retold, told_counts, told_stays)
 
 pub lines_history : (left left' taken taken' : Option (List ℕ)) (s t : SessionState) (ending : Ending) (all : Type 0)
-    → Moves left left' taken taken' (λ bytes text. Plays live_machine s t bytes text ending)
-    → ReadsTo live_machine s left left' all ending → (start : Start) (h : List Timed) → StandsAfter s start h
-    → (later : List Timed) × StandsAfter t start later
-    × Moves left left' taken taken' (λ bytes text. Writes (live_history start) h later bytes text ending)
+    → ReadsAndWrites left left' taken taken' (λ bytes text. Plays live_machine s t bytes text ending)
+    → ReadsTo live_machine s left left' all ending → (start : Start) (h : List Timed) → IsStateAfter s start h
+    → (later : List Timed) × IsStateAfter t start later
+    × ReadsAndWrites left left' taken taken' (λ bytes text. Writes (live_history start) h later bytes text ending)
     × ReadsTo (live_history start) h left left' all ending
 lines_history left left' taken taken' s t ending all m reach start h stands =
     let found = plays_alike (live_follows start) s t h stands m.0 m.1 ending m.4 in
@@ -86,46 +86,46 @@ lines_history left left' taken taken' s t ending all m reach start h stands =
     (found.0, found.1, (m.0, m.1, m.2, m.3, found.2), reads)
 
 -- What a log means of a session, it means of each history that the session stands after.
-module _ {I O : Type 0} (left : I → Option (List ℕ)) (unread : I → ℕ) (ended : I → Bool) (taken : O → Option (List ℕ))
+module _ {I O : Type 0} (left : I → Option (List ℕ)) (unread : I → ℕ) (with_line_feed : I → Bool) (taken : O → Option (List ℕ))
     (unwritten : O → ℕ) (input : I × I) (output : O × O) where
-  pub logs_history : (v : World SessionState) (w : Start → World (List Timed))
-      → ((start : Start) → Follows v (w start) (λ s h. StandsAfter s start h))
+  pub logs_history : (v : LineSemantics SessionState) (w : Start → LineSemantics (List Timed))
+      → ((start : Start) → Follows v (w start) (λ s h. IsStateAfter s start h))
       → (s t : SessionState) (r : Result Meters LogFault)
-      → PlaysThrough v s (λ bytes text. Logs v s t bytes text r) left unread ended taken unwritten r input output
-      → (start : Start) (h : List Timed) → StandsAfter s start h → (later : List Timed) × StandsAfter t start later
-      × PlaysThrough (w start) h (λ bytes text. Logs (w start) h later bytes text r) left unread ended taken unwritten r
+      → PlaysThrough v s (λ bytes text. Logs v s t bytes text r) left unread with_line_feed taken unwritten r input output
+      → (start : Start) (h : List Timed) → IsStateAfter s start h → (later : List Timed) × IsStateAfter t start later
+      × PlaysThrough (w start) h (λ bytes text. Logs (w start) h later bytes text r) left unread with_line_feed taken unwritten r
       input output
   logs_history v w f s t r through start h stands =
-      there (f start) s h stands (λ bytes text. Logs v s t bytes text r) (StandsAfter t start)
+      there (f start) s h stands (λ bytes text. Logs v s t bytes text r) (IsStateAfter t start)
       (λ later bytes text. Logs (w start) h later bytes text r)
       (λ bytes text m. logs_alike (f start) s t h stands bytes text r m)
-      left unread ended taken unwritten r input output through
+      left unread with_line_feed taken unwritten r input output through
 
   pub logs_told : ((start : Start) (h : List Timed) → ValidRows start.capacity start.rows → AgreesWithExchanges start h)
       → (s t : SessionState) (r : Result Meters LogFault)
-      → PlaysThrough machine s (λ bytes text. Logs machine s t bytes text r) left unread ended taken unwritten r input
+      → PlaysThrough machine s (λ bytes text. Logs machine s t bytes text r) left unread with_line_feed taken unwritten r input
       output
-      → (start : Start) (h : List Timed) → FollowsFrom s start h → (later : List Timed) × FollowsFrom t start later
+      → (start : Start) (h : List Timed) → IsStateAfterValidStart s start h → (later : List Timed) × IsStateAfterValidStart t start later
       × PlaysThrough (exchange_history start) h (λ bytes text. Logs (exchange_history start) h later bytes text r) left unread
-      ended taken unwritten r input output
+      with_line_feed taken unwritten r input output
   logs_told law s t r through start h f =
       let told = tells start (λ k. law start k f.lawful) in
-      there told s h f (λ bytes text. Logs machine s t bytes text r) (FollowsFrom t start)
+      there told s h f (λ bytes text. Logs machine s t bytes text r) (IsStateAfterValidStart t start)
       (λ later bytes text. Logs (exchange_history start) h later bytes text r)
       (λ bytes text m. logs_alike told s t h f bytes text r m)
-      left unread ended taken unwritten r input output through
+      left unread with_line_feed taken unwritten r input output through
 
   pub quiets_history : {A : Type 0} (s t : SessionState) (r : Result A LogFault)
-      → PlaysThrough quiet_machine s (λ bytes text. PlaysWholeLog quiet_machine s t bytes text (ending_of r)) left unread ended
+      → PlaysThrough quiet_machine s (λ bytes text. PlaysWholeLog quiet_machine s t bytes text (ending_of r)) left unread with_line_feed
       taken unwritten r input output
-      → (start : Start) (h : List Timed) → StandsAfter s start h
-      → PlaysLog Quiet start h left unread ended taken unwritten r t input output
+      → (start : Start) (h : List Timed) → IsStateAfter s start h
+      → PlaysLog Quiet start h left unread with_line_feed taken unwritten r t input output
   quiets_history s t r through start h stands =
       let q = there (quiet_follows start) s h stands
-      (λ bytes text. PlaysWholeLog quiet_machine s t bytes text (ending_of r)) (StandsAfter t start)
+      (λ bytes text. PlaysWholeLog quiet_machine s t bytes text (ending_of r)) (IsStateAfter t start)
       (λ later bytes text. PlaysWholeLog (quiet_history start) h later bytes text (ending_of r))
       (λ bytes text m. makes_alike (quiet_follows start) s t h stands bytes text (ending_of r) m)
-      left unread ended taken unwritten r input output through in
+      left unread with_line_feed taken unwritten r input output through in
       (q.0, q.1, q.2.0, q.2.1, q.2.2)
 
 -- Compared.
@@ -136,7 +136,7 @@ onto_history h c = compared h c.lines c.input c.found c.due c.inputs c.packets
 
 module _ (start : Start) where
   abbrev IsBeside : Compared SessionState → Compared (List Timed) → Type 0
-  IsBeside c d = StandsAfter c.session start d.session × (d ≡ onto_history d.session c)
+  IsBeside c d = IsStateAfter c.session start d.session × (d ≡ onto_history d.session c)
 
   same_stops : (c : Compared SessionState) (d : Compared (List Timed)) (l : Line) → IsBeside c d
       → comparison_fault c l ≡ comparison_fault d l
@@ -156,24 +156,24 @@ module _ (start : Start) where
     counts = λ c d r. counted start c.session d.session r.0;
   }
 
-pub checks_history : {A I O : Type 0} (left : I → Option (List ℕ)) (unread : I → ℕ) (ended : I → Bool) (taken : O
+pub checks_history : {A I O : Type 0} (left : I → Option (List ℕ)) (unread : I → ℕ) (with_line_feed : I → Bool) (taken : O
     → Option (List ℕ)) (unwritten : O → ℕ) (input : I × I) (output : O
     × O) (s : SessionState) (t : Compared SessionState) (r : Result A LogFault)
     → PlaysThrough check_machine (first_comparison s) (λ bytes text. PlaysWholeLog check_machine (first_comparison s) t bytes text (ending_of r)) left
-    unread ended taken unwritten r input output
-    → (start : Start) (h : List Timed) → StandsAfter s start h
-    → PlaysLog Check start h left unread ended taken unwritten r t.session input output
-checks_history left unread ended taken unwritten input output s t r through start h stands =
+    unread with_line_feed taken unwritten r input output
+    → (start : Start) (h : List Timed) → IsStateAfter s start h
+    → PlaysLog Check start h left unread with_line_feed taken unwritten r t.session input output
+checks_history left unread with_line_feed taken unwritten input output s t r through start h stands =
     let q = there (check_follows start) (first_comparison s) (first_comparison h) (stands, refl)
     (λ bytes text. PlaysWholeLog check_machine (first_comparison s) t bytes text (ending_of r))
-    (λ later. StandsAfter t.session start later.session)
+    (λ later. IsStateAfter t.session start later.session)
     (λ later bytes text. PlaysWholeLog (check_history start) (first_comparison h) later bytes text (ending_of r))
     (λ bytes text m. let found = makes_alike (check_follows start) (first_comparison s) t (first_comparison h) (stands, refl) bytes text
     (ending_of r) m in
-    (found.0, found.1.0, found.2)) left unread ended taken unwritten r input output through in
+    (found.0, found.1.0, found.2)) left unread with_line_feed taken unwritten r input output through in
     (q.0, q.1, q.2.0, q.2.1, q.2.2)
 
 -- a session at its start stands after the empty history
-pub begins : (s : SessionState) (start : Start) → s ≡ session_of start [] → StandsAfter s start []
+pub begins : (s : SessionState) (start : Start) → s ≡ session_of start [] → IsStateAfter s start []
 unfolding received
 begins s start e = e

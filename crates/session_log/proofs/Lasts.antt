@@ -2,11 +2,11 @@
 use Rattle.std.proofs.Common.{◌≡◌, ℕ, suc, ◌+◌, ◌≤◌, ◌^◌, List, [], ◌∷◌, ◌++◌, length, take, drop, Option, Some, Result}
 use Rattle.std.proofs.Common.{Ok, Err, inl, inr, IfErr, refl, sym, ap, ◌∙◌, arith, append-nil, length-append}
 use Rattle.std.{proofs.Common.take-append-drop, specs.Io.KnownBytes.Consumes}
-use Rattle.session_log.specs.{declared.fault.LogFault.LogFault, World.World, Log.fault_at, Window.HasLine, Window.Stops}
+use Rattle.session_log.specs.{declared.fault.LogFault.LogFault, World.LineSemantics, Log.fault_at, Window.HasLine, Window.Stops}
 use Rattle.session_log.specs.declared.fault.LogFault.TheVariants.{TooLong, Read, Write, TooManyLines, Memory}
 use Rattle.session_log.specs.Ending.{ended_by, ending_of}
 use Rattle.session_log.specs.Lines.{pieces, all_but_last, whole_lines, last_piece}
-use Rattle.session_log.specs.Replay.{IsWithinLine, IsOfLine, IsShown, PlaysLine, ReadsTo}
+use Rattle.session_log.specs.Replay.{IsWithinLine, IsLineFault, IsFaultOfLinesRead, PlaysLine, ReadsTo}
 use Rattle.session_log.proofs.Cutting.{first_piece, one_piece, pieces_some, front_of, last_is}
 use Rattle.session_log.proofs.{Exits.short_in_front, Through.Through, Through.played_faulty, Through.said_fault}
 
@@ -25,11 +25,11 @@ first_lines [] x y more = refl
 first_lines (d ∷ []) x y more = refl
 first_lines (d ∷ e ∷ ds) x y more = ap (λ (l : List (List ℕ)). d ∷ l) (first_lines (e ∷ ds) x y more)
 
-module _ {S : Type 0} {world : World S} {s0 : S} {read text : List ℕ} {s : S} {n : ℕ}
+module _ {S : Type 0} {world : LineSemantics S} {s0 : S} {read text : List ℕ} {s : S} {n : ℕ}
     (t : Through world s0 read text s n) where
   -- line n is one of the whole lines, and up to it they have its fault
   shown : (w : List ℕ) (end : ℕ) (all : Type 0) (f : LogFault) → HasLine n w end
-      → fault_at world n s (take end w) ≡ Some f → IsShown world s0 (read ++ w) all n f
+      → fault_at world n s (take end w) ≡ Some f → IsFaultOfLinesRead world s0 (read ++ w) all n f
   shown w end all f has bad =
       let line = take end w in
       let rest = pieces_some (drop (end + 1) w) in
@@ -53,17 +53,17 @@ module _ {S : Type 0} {world : World S} {s0 : S} {read text : List ℕ} {s : S} 
       grind (arith, front_of t.done [], last_is t.done [], append-nil t.done, t.plays [], t.count)
 
 -- a line that was played was faulty
-faulty_reaches : {S : Type 0} {world : World S} {s0 : S} {bytes : List ℕ} {n : ℕ} (a b : Option (List ℕ)) (all : Type 0)
-    (e : LogFault) → IsOfLine n e → Consumes a b bytes → IsWithinLine world s0 bytes n → IsShown world s0 bytes all n e
+faulty_reaches : {S : Type 0} {world : LineSemantics S} {s0 : S} {bytes : List ℕ} {n : ℕ} (a b : Option (List ℕ)) (all : Type 0)
+    (e : LogFault) → IsLineFault n e → Consumes a b bytes → IsWithinLine world s0 bytes n → IsFaultOfLinesRead world s0 bytes all n e
     → ReadsTo world s0 a b all (ended_by e)
 faulty_reaches a b all e is p near seen = search (arith, near)
 
-module _ {S : Type 0} {world : World S} {s0 s : S} {read text : List ℕ} {n : ℕ}
+module _ {S : Type 0} {world : LineSemantics S} {s0 s : S} {read text : List ℕ} {n : ℕ}
     (through : Through world s0 read text s n)
     (a b : Option (List ℕ)) (w : List ℕ) (p : Consumes a b (read ++ w)) (all : Type 0) where
   -- in front of the window
   pub faulty_in_front : {F : Type 0} (taken : F → Option (List ℕ)) (failed : F → ℕ) (target : F
-      × F) (t : S) (end : ℕ) (e : LogFault) → IsOfLine n e → HasLine n w end
+      × F) (t : S) (end : ℕ) (e : LogFault) → IsLineFault n e → HasLine n w end
       → PlaysLine world taken failed n s t (take end w) target (ended_by e) → ReadsTo world s0 a b all (ended_by e)
   faulty_in_front taken failed target t end (Read m) is has h = tt
   faulty_in_front taken failed target t end Write is has h = tt
@@ -75,7 +75,7 @@ module _ {S : Type 0} {world : World S} {s0 s : S} {read text : List ℕ} {n : �
       faulty_reaches a b all e is p (near through w has.short) (shown through w end all e has faulty)
 
   -- as all that there was
-  pub faulty_last : {A : Type 0} (r : Result A LogFault) → IfErr r (IsOfLine n) → length w ≤ 256 → all
+  pub faulty_last : {A : Type 0} (r : Result A LogFault) → IfErr r (IsLineFault n) → length w ≤ 256 → all
       → ReadsTo world s0 a b all (ending_of r)
   faulty_last (Ok x) is small last = tt
   faulty_last (Err e) is small last = faulty_reaches a b all e is p (near through w small) (inr last)

@@ -5,18 +5,18 @@ use Rattle.std.proofs.KnownBytes.{Appends-nil, Keeps-refl}
 use Rattle.hid_packet.specs.declared.packet.Packet.{Packet}
 use Rattle.session_log.specs.declared.fault.LogFault.{LogFault, TheVariants.Differs}
 use Rattle.session_log.specs.declared.line.Line.{Line, TheVariants.Sent, TheVariants.Count}
-use Rattle.session_log.specs.{Ending.ending_of, Log.fault_by, Parsed.parsed, Streams.PutsLine, Text.ended, World.World}
-use Rattle.session_log.specs.Replay.{Closes, IsOfEnd, IsOfLine, PlaysLine}
+use Rattle.session_log.specs.{Ending.ending_of, Log.fault_by, Parsed.parsed, Streams.PutsLine, Text.ended, World.LineSemantics}
+use Rattle.session_log.specs.Replay.{Closes, IsEndFault, IsLineFault, PlaysLine}
 use Rattle.session_log.proofs.Failures.{on_any}
 
 -- the fault of a write is one of any line, and of the end
 written_at : {F A : Type 0} (taken : F → Option (List ℕ)) (failed : F → ℕ) (target : F × F) (text : List ℕ)
-    (r : Result A LogFault) (n : ℕ) → PutsLine taken failed target text r → IfErr r (IsOfLine n) × IfErr r IsOfEnd
+    (r : Result A LogFault) (n : ℕ) → PutsLine taken failed target text r → IfErr r (IsLineFault n) × IfErr r IsEndFault
 written_at taken failed target text (Ok x) n put = (tt, tt)
-written_at taken failed target text (Err e) n put = (subst (IsOfLine n) (sym put.0) tt, subst IsOfEnd (sym put.0) tt)
+written_at taken failed target text (Err e) n put = (subst (IsLineFault n) (sym put.0) tt, subst IsEndFault (sym put.0) tt)
 
 -- a short line fits with its line feed
-pub fits_ended : (line text : List ℕ) → text ≡ ended line → length line < 256 → length text ≤ 256
+pub fits_ended : (line text : List ℕ) → text ≡ with_line_feed line → length line < 256 → length text ≤ 256
 fits_ended line text is short = omega (arith, ap length is, length-append line (10 ∷ []))
 
 -- nothing was written, without a fault and with one
@@ -26,13 +26,13 @@ quietly = Ok tt
 abbrev loudly : LogFault → Result (Unit {0}) LogFault
 loudly e = Err e
 
-module _ {S F : Type 0} (world : World S) (taken : F → Option (List ℕ)) (failed : F → ℕ) where
+module _ {S F : Type 0} (world : LineSemantics S) (taken : F → Option (List ℕ)) (failed : F → ℕ) where
   -- what is said of line n, and X of a player that goes on
   abbrev Played : {A : Type 0} → Type 0 → ℕ → S → S → List ℕ → F × F → Result A LogFault → Type 0
   Played X n s t line target r =
       record {
         played : PlaysLine world taken failed n s t line target (ending_of r);
-        own : IfErr r (IsOfLine n);
+        own : IfErr r (IsLineFault n);
         next : OnOk r X;
       }
 
@@ -76,7 +76,7 @@ module _ {S F : Type 0} (world : World S) (taken : F → Option (List ℕ)) (fai
   -- what is said of the end of the lines, and X of the player
   abbrev Closed : {A : Type 0} → Type 0 → S → F × F → Result A LogFault → Type 0
   Closed X s target r =
-      record { closed : Closes world taken failed s target (ending_of r); own : IfErr r IsOfEnd; same : X }
+      record { closed : Closes world taken failed s target (ending_of r); own : IfErr r IsEndFault; same : X }
 
   -- the text at the end was handed over
   pub closes_by : {A X : Type 0} (s : S) (target : F × F) (r : Result A LogFault) (text : List ℕ) → world.lacks s ≡ None

@@ -12,7 +12,7 @@ use Rattle.session_log.specs.declared.line.Line.{Line, TheVariants.Input, TheVar
 use Rattle.session_log.specs.{Inputs.inputs, Inputs.inputs_by, Session.history_course, Session.quiet_history}
 use Rattle.session_log.specs.{Lines.lines, Parsed.parsed, Text.ended, Text.tick_text, Sent.AllSend, Sent.SendsPackets}
 use Rattle.session_log.specs.Log.{played, play_all, text_by, state_after, state_after_parsed, fault_by, fault_at}
-use Rattle.session_log.specs.World.{Course, World, quiet_world}
+use Rattle.session_log.specs.World.{InputSemantics, LineSemantics, quiet_world}
 use Rattle.session_log.proofs.Again.{WritesLines, written, written_are, written_text}
 use Rattle.session_log.proofs.Feeds.{IsSound, sound_first, sound_line, feedless, AreLines, feedless-append}
 use Rattle.session_log.proofs.Feeds.{lines_joined, lines_are_lines, decimal_feedless}
@@ -45,7 +45,7 @@ AreSound-append (x ∷ xs) ys h k = (h.0, AreSound-append xs ys h.1 k)
 few_lines : (n : ℕ) → nat_le (2 ^ 32) n ≡ false → n < 2 ^ 32
 few_lines n h = grind (arith, nat_tests)
 
-few_before : {S : Type 0} (world : World S) (n : ℕ) (s : S) (line : List ℕ) → fault_at world n s line ≡ None
+few_before : {S : Type 0} (world : LineSemantics S) (n : ℕ) (s : S) (line : List ℕ) → fault_at world n s line ≡ None
     → n < 2 ^ 32
 few_before world n s line h = search (arith, few_lines)
 
@@ -56,8 +56,8 @@ either_sound : (b : Bool) (a line : List ℕ) → IsSound a → IsSound line →
 either_sound b a line h k = search arith
 
 -- The lines that are written, without their line feeds: each of them is one, and none is faulty.
-module _ {S : Type 0} (course : Course S) (noises : S → Timed → Bool) where
-  abbrev quiets : World S
+module _ {S : Type 0} (course : InputSemantics S) (noises : S → Timed → Bool) where
+  abbrev quiets : LineSemantics S
   quiets = quiet_world course noises
 
   abbrev kept_by : S → List ℕ → Option Line → List (List ℕ)
@@ -68,7 +68,7 @@ module _ {S : Type 0} (course : Course S) (noises : S → Timed → Bool) where
   abbrev kept : S → List (List ℕ) → List (List ℕ)
   kept = written quiets kept_by
 
-  kept_text_by : (s : S) (line : List ℕ) (l : Option Line) → text_by quiets s line l ≡ flat_map ended (kept_by s line l)
+  kept_text_by : (s : S) (line : List ℕ) (l : Option Line) → text_by quiets s line l ≡ flat_map with_line_feed (kept_by s line l)
   kept_text_by s line l = search (arith, append-nil)
 
   line_kept : (s : S) (line : List ℕ) (l : Option Line) → parsed line ≡ l → feedless line ≡ true → SendsPackets quiets s l
@@ -120,7 +120,7 @@ module _ (start : Start) where
   abbrev is_noise : List Timed → Timed → Bool
   is_noise h x = is_noise_after start (receive start x (received start h)) (received start h)
 
-  abbrev quiet : World (List Timed)
+  abbrev quiet : LineSemantics (List Timed)
   quiet = quiet_history start
 
   abbrev kept_of : List Timed → List ℕ → Option Line → List (List ℕ)
@@ -195,5 +195,5 @@ module _ (start : Start) where
       let all = λ (ls : List (List ℕ)). written_text (lines_kept (history_course start) is_noise) 1 h ls in
       let well = kept_sound (history_course start) is_noise 1 h (lines bytes) (omega arith) sound in
       let none = sound_is_played (history_course start) is_noise 1 h first well.0 well.1 in
-      let stays = ap (λ (ls : List (List ℕ)). flat_map ended ls) (stays_kept (lines bytes) h h (quiet_self h)) in
+      let stays = ap (λ (ls : List (List ℕ)). flat_map with_line_feed ls) (stays_kept (lines bytes) h h (quiet_self h)) in
       rw (kept_are h bytes sound) (none, all first none ∙ stays ∙ sym (all (lines bytes) sound))

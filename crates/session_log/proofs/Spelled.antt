@@ -17,7 +17,7 @@ use Rattle.authn_core.specs.declared.replies.Presence.TheVariants.{Granted, Deni
 use Rattle.token_session.specs.declared.input.Input.{Input as AnyInput}
 use Rattle.token_session.specs.declared.input.Input.TheVariants.{Packet, Tick, Presence, Key, Signature}
 use Rattle.session_log.specs.declared.line.Line.{Line, TheVariants.Input, TheVariants.Count}
-use Rattle.session_log.specs.Grammar.{IsHexOf, SpellsField, SpellsInput, Spells, front_of}
+use Rattle.session_log.specs.Grammar.{IsHexOf, IsFieldText, IsInputText, IsLogLineText, letter_and_space}
 use Rattle.session_log.specs.Words.{presence_word, refusal_word}
 
 -- digits that write n are read as n
@@ -156,7 +156,7 @@ line_read letter at field input fits e = rw (fields_of at field fits, moment_of 
 packet_read : (field bytes : List ℕ) → IsHexOf field 64 bytes → parsed_packet field ≡ Some (Packet (record { 0 = bytes }))
 packet_read field bytes h = search arith
 
-input_read : (line : List ℕ) (at : ℕ) (input : AnyInput) → at < 2 ^ 64 → SpellsInput line at input
+input_read : (line : List ℕ) (at : ℕ) (input : AnyInput) → at < 2 ^ 64 → IsInputText line at input
     → parsed line ≡ Some (Input (record { at = at; input = input }))
 input_read line at Tick fits h = search (arith, moment_of)
 input_read line at (Packet packet) fits h = grind (arith, line_read 62, packet_read h.0 packet.0 h.2)
@@ -173,7 +173,7 @@ input_read line at (Signature (Some bytes)) fits h =
 pub count_rest : (rest : List ℕ) → parsed (61 ∷ rest) ≡ Some Count
 count_rest rest = search arith
 
-pub spelled_is_read : (line : List ℕ) (l : Line) → Spells line l → parsed line ≡ Some l
+pub spelled_is_read : (line : List ℕ) (l : Line) → IsLogLineText line l → parsed line ≡ Some l
 spelled_is_read line l h = search (arith, input_read, count_rest)
 
 -- From the reading to the grammar.
@@ -188,7 +188,7 @@ some_is a b e = cc
 
 -- what an input's letter and field spell
 abbrev IsSpelled : ℕ → List ℕ → AnyInput → Type 0
-IsSpelled letter field input = (front_of input ≡ letter ∷ 32 ∷ []) × SpellsField field input
+IsSpelled letter field input = (letter_and_space input ≡ letter ∷ 32 ∷ []) × IsFieldText field input
 
 packet_is : (field : List ℕ) (input : AnyInput) → parsed_packet field ≡ Some input → IsSpelled 62 field input
 packet_is field input e = search (arith, bind_is, some_is)
@@ -199,7 +199,7 @@ presence_is : (field : List ℕ) (input : AnyInput) (a b c : Bool) → is_word (
     ≡ Some input → IsSpelled 112 field input
 presence_is field input a b c h k l r = search (arith, some_is, same_text)
 
-new_key_is : (field : List ℕ) (key : NewKey) → key_of field ≡ Some key → SpellsField field (Key (Some key))
+new_key_is : (field : List ℕ) (key : NewKey) → key_of field ≡ Some key → IsFieldText field (Key (Some key))
 new_key_is field key e = search (arith, bind_is, fields_are, some_is)
 
 key_is : (field : List ℕ) (input : AnyInput) (a : Bool) → is_word refusal_word field ≡ a
@@ -227,12 +227,12 @@ input_is letter field input false false false true p q r s e =
 input_is letter field input false false false false p q r s e = cc
 
 -- a field spells an input's line
-spells_line : (line field : List ℕ) (at : ℕ) (input : AnyInput) → line ≡ front_of input ++ (decimal at ++ 32 ∷ field)
-    → SpellsField field input → SpellsInput line at input
+spells_line : (line field : List ℕ) (at : ℕ) (input : AnyInput) → line ≡ letter_and_space input ++ (decimal at ++ 32 ∷ field)
+    → IsFieldText field input → IsInputText line at input
 spells_line line field at input e h = search arith
 
 input_spelled : (letter : ℕ) (fields : List ℕ) (l : Line) → input_line letter fields ≡ Some l
-    → Spells (letter ∷ 32 ∷ fields) l
+    → IsLogLineText (letter ∷ 32 ∷ fields) l
 input_spelled letter fields l e =
     let parts = bind_is (first_field fields) _ l e in
     let at = bind_is (moment parts.0.0) _ l parts.2 in
@@ -243,18 +243,18 @@ input_spelled letter fields l e =
     let spelled =
     input_is letter parts.0.1 input.0 (letter == 62) (letter == 112) (letter == 107) (letter == 115) refl refl refl refl
     input.1 in
-    let line : letter ∷ 32 ∷ fields ≡ front_of input.0 ++ (decimal at.0 ++ 32 ∷ parts.0.1) =
+    let line : letter ∷ 32 ∷ fields ≡ letter_and_space input.0 ++ (decimal at.0 ++ 32 ∷ parts.0.1) =
     ap (λ (f : List ℕ). letter ∷ 32 ∷ f) whole
     ∙ ap (λ (f : List ℕ). f ++ (decimal at.0 ++ 32 ∷ parts.0.1)) (sym spelled.0) in
-    subst (Spells (letter ∷ 32 ∷ fields)) (some_is (Input (record { at = at.0; input = input.0 })) l input.2)
+    subst (IsLogLineText (letter ∷ 32 ∷ fields)) (some_is (Input (record { at = at.0; input = input.0 })) l input.2)
     (number.0, spells_line (letter ∷ 32 ∷ fields) parts.0.1 at.0 input.0 line spelled.1)
 
-pub read_is_spelled : (line : List ℕ) (l : Line) → parsed line ≡ Some l → Spells line l
+pub read_is_spelled : (line : List ℕ) (l : Line) → parsed line ≡ Some l → IsLogLineText line l
 read_is_spelled line l h = search (arith, some_is, eqb-true, input_spelled, bind_is, moment_is)
 
 -- what spells nothing isn't read
-pub spells_nothing : (line : List ℕ) → ((l : Line) → Spells line l → ⊥) → parsed line ≡ None
+pub spells_nothing : (line : List ℕ) → ((l : Line) → IsLogLineText line l → ⊥) → parsed line ≡ None
 spells_nothing line h = no_some (parsed line) (λ l e. h l (read_is_spelled line l e))
 
-pub reads_nothing : (line : List ℕ) (l : Line) → parsed line ≡ None → Spells line l → ⊥
+pub reads_nothing : (line : List ℕ) (l : Line) → parsed line ≡ None → IsLogLineText line l → ⊥
 reads_nothing line l e h = cc (sym e ∙ spelled_is_read line l h)

@@ -8,7 +8,7 @@ use Rattle.authn_core.specs.{Views.Needed, Views.nothing, Views.presence, Views.
 use Rattle.session_log.specs.Needs.{need_lines, pieces_of, reports_need, signature_line, signed_line, is_need_line}
 use Rattle.hex.specs.Hex.{encode_with, encode_lower, lower_digits}
 use Rattle.hex.proofs.HexLemmas.{length-encode_with}
-use Rattle.session_log.specs.{declared.line.Line.TheVariants.Comment, Lines.is_feed, Parsed.parsed}
+use Rattle.session_log.specs.{declared.line.Line.TheVariants.Comment, Lines.is_line_feed, Parsed.parsed}
 use Rattle.session_log.proofs.Feeds.{feedless, AreLines, both, feedless-append, IsSound}
 
 -- as many as it takes
@@ -55,10 +55,10 @@ last_says n = ([], _, refl, refl, All-nil (λ line. reports_need line ≡ false)
 
 -- no digit is a line feed, whatever the byte
 
-from_digits : (ds : List ℕ) → feedless ds ≡ true → (n : ℕ) → is_feed (slice_index ds n) ≡ false
+from_digits : (ds : List ℕ) → feedless ds ≡ true → (n : ℕ) → is_line_feed (slice_index ds n) ≡ false
 from_digits [] h n = refl
-from_digits (d ∷ ds) h zero = (both (is_feed d) (feedless ds) h).0
-from_digits (d ∷ ds) h (suc n) = from_digits ds (both (is_feed d) (feedless ds) h).1 n
+from_digits (d ∷ ds) h zero = (both (is_line_feed d) (feedless ds) h).0
+from_digits (d ∷ ds) h (suc n) = from_digits ds (both (is_line_feed d) (feedless ds) h).1 n
 
 pub encoded_feedless : (bytes : List ℕ) → feedless (encode_lower bytes) ≡ true
 unfolding encode_with

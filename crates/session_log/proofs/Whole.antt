@@ -2,26 +2,26 @@
 use Rattle.std.proofs.Common.{◌≡◌, ◌∙◌, ℕ, ◌+◌, Bool, IfErr, List, Option, Result, Ok, Err, Some, inr, ap, arith}
 use Rattle.std.proofs.KnownBytes.{Appends-kept}
 use Rattle.token_session.specs.declared.input.Meters.{Meters}
-use Rattle.session_log.specs.{Command.PlaysThrough, Lines.lines, Sent.AllSend, World.World}
+use Rattle.session_log.specs.{Command.PlaysThrough, Lines.lines, Sent.AllSend, World.LineSemantics}
 use Rattle.session_log.specs.Ending.{Ending, Done, ended_by, ending_of, read_fails, write_fails}
-use Rattle.session_log.specs.Replay.{Closes, IsOfEnd, IsPlayed, Logs, PlaysWholeLog, PlaysWholeLogWithMeters, Plays, ReadsTo}
-use Rattle.session_log.specs.Streams.{Counts, IsAtEndOfInput, Moves}
+use Rattle.session_log.specs.Replay.{Closes, IsEndFault, IsPlayed, Logs, PlaysWholeLog, PlaysWholeLogWithMeters, Plays, ReadsTo}
+use Rattle.session_log.specs.Streams.{Counts, IsAtEndOfInput, ReadsAndWrites}
 use Rattle.session_log.specs.declared.fault.LogFault.{LogFault, TheVariants.Differs, TheVariants.Write}
 use Rattle.session_log.proofs.{Exits.closes, Exits.closes_not, Through.first_is_last}
 use Rattle.session_log.proofs.Worlds.{Follows, reads_alike}
 
-module _ {S I O : Type 0} (world : World S) (s t : S) (left : I → Option (List ℕ)) (unread : I → ℕ) (ended : I → Bool)
+module _ {S I O : Type 0} (world : LineSemantics S) (s t : S) (left : I → Option (List ℕ)) (unread : I → ℕ) (ended : I → Bool)
     (taken : O → Option (List ℕ)) (unwritten : O → ℕ) (i j : I) (o p : O) where
   -- what is said of an ending, and this where it is none
   abbrev Ends : Ending → (List ℕ → List ℕ → Type 0) → Type 0 → Type 0
   Ends ending Says All =
-      Moves (left i) (left j) (taken o) (taken p) Says × ReadsTo world s (left i) (left j) (IsAtEndOfInput left ended j)
+      ReadsAndWrites (left i) (left j) (taken o) (taken p) Says × ReadsTo world s (left i) (left j) (IsAtEndOfInput left ended j)
       ending
       × (Counts unread (i, j) (read_fails ending) × Counts unwritten (o, p) (write_fails ending) × All)
 
   -- a fault that was passed on
   pub stops : {A : Type 0} (r : Result A LogFault) (e : LogFault) → r ≡ Err e
-      → Moves (left i) (left j) (taken o) (taken p) (λ bytes text. Plays world s t bytes text (ended_by e))
+      → ReadsAndWrites (left i) (left j) (taken o) (taken p) (λ bytes text. Plays world s t bytes text (ended_by e))
       → ReadsTo world s (left i) (left j) (IsAtEndOfInput left ended j) (ended_by e)
       → Counts unread (i, j) (read_fails (ended_by e)) → Counts unwritten (o, p) (write_fails (ended_by e))
       → PlaysThrough world s (λ bytes text. Plays world s t bytes text (ending_of r)) left unread ended taken unwritten
@@ -58,9 +58,9 @@ module _ {S I O : Type 0} (world : World S) (s t : S) (left : I → Option (List
   logs_whole m is h = ((h.0.0, h.0.1, h.0.2, h.0.3, (h.0.4.0, is)), h.1, h.2)
 
 -- what comes after the last line ends a log without a fault in its lines
-pub ends_with : {S A I O : Type 0} (world : World S) (s t : S) (left : I → Option (List ℕ)) (unread : I → ℕ) (ended : I
+pub ends_with : {S A I O : Type 0} (world : LineSemantics S) (s t : S) (left : I → Option (List ℕ)) (unread : I → ℕ) (ended : I
     → Bool) (taken : O → Option (List ℕ)) (unwritten : O → ℕ) (i j : I) (o between p : O) (r : Result A LogFault)
-    → IfErr r IsOfEnd → Closes world taken unwritten t (between, p) (ending_of r)
+    → IfErr r IsEndFault → Closes world taken unwritten t (between, p) (ending_of r)
     → Ends world s t left unread ended taken unwritten i j o between Done (IsPlayed world s t) (IsAtEndOfInput left ended j)
     → PlaysThrough world s (λ bytes text. PlaysWholeLogWithMeters world s t bytes text r) left unread ended taken unwritten r
     (i, j) (o, p)
@@ -80,7 +80,7 @@ ends_with world s t left unread ended taken unwritten i j o between p (Err Write
 ends_with world s t left unread ended taken unwritten i j o between p (Err e) own close h = absurd own
 
 -- What a log means in one world, it means in the other.
-pub there : {A B Q I O : Type 0} {v : World A} {w : World B} {R : A → B → Type 0} → (f : Follows v w R)
+pub there : {A B Q I O : Type 0} {v : LineSemantics A} {w : LineSemantics B} {R : A → B → Type 0} → (f : Follows v w R)
     → (s : A) (b : B) → R s b → (V : List ℕ → List ℕ → Type 0) (T : B → Type 0) (W : B → List ℕ → List ℕ → Type 0)
     → ((bytes text : List ℕ) → V bytes text → (c : B) × T c × W c bytes text)
     → (left : I → Option (List ℕ)) (unread : I → ℕ) (ended : I → Bool) (taken : O → Option (List ℕ)) (unwritten : O → ℕ)

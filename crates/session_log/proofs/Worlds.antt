@@ -3,16 +3,16 @@ use Rattle.std.proofs.Common.{◌≡◌, ℕ, ◌+◌, ◌^◌, Bool, cond, List
 use Rattle.std.proofs.Common.{is_some, refl, sym, ◌∙◌, arith}
 use Rattle.token_session.specs.declared.input.Meters.{Meters}
 use Rattle.session_log.specs.declared.fault.LogFault.{LogFault, TheVariants.Memory}
-use Rattle.session_log.specs.{declared.line.Line.Line, Parsed.parsed, World.World, Log.log_of}
+use Rattle.session_log.specs.{declared.line.Line.Line, Parsed.parsed, World.LineSemantics, Log.log_of}
 use Rattle.session_log.specs.declared.fault.LogFault.TheVariants.{BadLine, TooLong, Differs, Read, Write, TooManyLines}
 use Rattle.session_log.specs.Lines.{lines, whole_lines}
 use Rattle.session_log.specs.Log.{Played, played, play_all, text_by, state_after_parsed, first_fault, fault_by, fault_at, fault_of}
 use Rattle.session_log.specs.Ending.{Ending, Done, Refused, Unread, Unwritten, ended_by}
-use Rattle.session_log.specs.Replay.{AreWritten, IsDone, IsPlayed, IsRefused, IsUnread, IsUnwritten, IsWithinLine, IsShown}
-use Rattle.session_log.specs.Replay.{Reaches, ReadsTo, PlaysWholeLog, Logs, Plays, Writes, next_text, next_state}
+use Rattle.session_log.specs.Replay.{AreWritten, IsDone, IsPlayed, IsRefused, IsUnread, IsUnwritten, IsWithinLine, IsFaultOfLinesRead}
+use Rattle.session_log.specs.Replay.{ReadsUpToFault, ReadsTo, PlaysWholeLog, Logs, Plays, Writes, next_text, next_state}
 
 -- b stands after what a names, and stays so
-pub record Follows {A B : Type 0} (v : World A) (w : World B) (R : A → B → Type 0) : Type 0 where
+pub record Follows {A B : Type 0} (v : LineSemantics A) (w : LineSemantics B) (R : A → B → Type 0) : Type 0 where
   pub stops : (a : A) (b : B) (l : Line) → R a b → v.stops a l ≡ w.stops b l
   pub moves : (a : A) (b : B) (l : Line) → R a b → R (v.moves a l) (w.moves b l)
   pub writes : (a : A) (b : B) (line : List ℕ) (l : Line) → R a b → v.writes a line l ≡ w.writes b line l
@@ -29,7 +29,7 @@ either : {A B : Type 0} (R : A → B → Type 0) (c : Bool) (p x : Played A) (q 
     → Alike R (cond c p x) (cond c q y)
 either R c p x q y h k = search arith
 
-module _ {A B : Type 0} {v : World A} {w : World B} {R : A → B → Type 0} (f : Follows v w R) where
+module _ {A B : Type 0} {v : LineSemantics A} {w : LineSemantics B} {R : A → B → Type 0} (f : Follows v w R) where
   by_line : (a : A) (b : B) → R a b → (line : List ℕ) (l : Option Line)
       → (text_by v a line l ≡ text_by w b line l) × R (state_after_parsed v a l) (state_after_parsed w b l)
   by_line a b h line l = search arith
@@ -124,12 +124,12 @@ module _ {A B : Type 0} {v : World A} {w : World B} {R : A → B → Type 0} (f 
     near_alike : (bytes : List ℕ) (n : ℕ) → IsWithinLine v s bytes n → IsWithinLine w b bytes n
     near_alike bytes n h = let same = alike 1 s b r (whole_lines h.before) in search (arith, h.before, h.front)
 
-    shown_alike : (bytes : List ℕ) (all : Type 0) (n : ℕ) (e : LogFault) → IsShown v s bytes all n e
-        → IsShown w b bytes all n e
+    shown_alike : (bytes : List ℕ) (all : Type 0) (n : ℕ) (e : LogFault) → IsFaultOfLinesRead v s bytes all n e
+        → IsFaultOfLinesRead w b bytes all n e
     shown_alike bytes all n e (inl h) = inl (h.0, sym (alike 1 s b r (take n (whole_lines bytes))).fault ∙ h.1)
     shown_alike bytes all n e (inr h) = inr h
 
-    reaches_alike : (bytes : List ℕ) (all : Type 0) (e : LogFault) → Reaches v s bytes all e → Reaches w b bytes all e
+    reaches_alike : (bytes : List ℕ) (all : Type 0) (e : LogFault) → ReadsUpToFault v s bytes all e → ReadsUpToFault w b bytes all e
     reaches_alike bytes all (BadLine n) h = (near_alike bytes n h.0, shown_alike bytes all n (BadLine n) h.1)
     reaches_alike bytes all (TooLong n) h = (near_alike bytes n h.0, h.1, h.2)
     reaches_alike bytes all (Differs l k) (inl h) =

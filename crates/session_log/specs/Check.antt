@@ -6,7 +6,7 @@ use Rattle.authn_core.specs.Turn.{Start}
 use Rattle.hid_packet.specs.declared.packet.Packet.{Packet}
 use Rattle.token_session.specs.{declared.input.Timed.Timed, Meters.SessionState}
 use Rattle.session_log.specs.declared.fault.LogFault.{LogFault, TheVariants.Differs}
-use Rattle.session_log.specs.{declared.line.Line.Line, Text.same_line, World.Course, World.World}
+use Rattle.session_log.specs.{declared.line.Line.Line, Text.same_line, World.InputSemantics, World.LineSemantics}
 use Rattle.session_log.specs.declared.line.Line.TheVariants.{Input, Sent, Comment, Count}
 use Rattle.session_log.specs.Session.{session_course, history_course}
 
@@ -57,7 +57,7 @@ abbrev pub after_first : List (List ℕ) → List (List ℕ)
 after_first [] = []
 after_first (p ∷ due) = due
 
-abbrev pub comparison_after : {S : Type 0} → Course S → Compared S → Line → Compared S
+abbrev pub comparison_after : {S : Type 0} → InputSemantics S → Compared S → Line → Compared S
 comparison_after course c (Input timed) = record {
   session = course.turned c.session timed;
   lines = c.lines + 1;
@@ -80,7 +80,7 @@ comparison_after course c Comment = record c { lines = c.lines + 1 }
 comparison_after course c Count = record c { lines = c.lines + 1 }
 
 -- The comparison as a world on which a log is played. Nothing is written before the end of the log.
-abbrev pub check_world : {S : Type 0} → Course S → World (Compared S)
+abbrev pub check_world : {S : Type 0} → InputSemantics S → LineSemantics (Compared S)
 check_world course = record {
   stops = comparison_fault;
   moves = comparison_after course;
@@ -91,10 +91,10 @@ check_world course = record {
   counts = λ c. course.counts c.session;
 }
 
-abbrev pub check_machine : World (Compared SessionState)
+abbrev pub check_machine : LineSemantics (Compared SessionState)
 check_machine = check_world session_course
 
-abbrev pub check_history : Start → World (Compared (List Timed))
+abbrev pub check_history : Start → LineSemantics (Compared (List Timed))
 check_history start = check_world (history_course start)
 
 -- The packets still due: the next one, if any, and those after it.

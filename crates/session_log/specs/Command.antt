@@ -3,13 +3,13 @@ use Rattle.std.specs.Prelude.{ℕ, Bool, List, [], Option, OnOk, Result, Ok, Err
 use Rattle.authn_core.specs.Turn.{Start}
 use Rattle.cred_table.specs.declared.row.Row.{Row}
 use Rattle.token_session.specs.declared.input.{Meters.Meters, Timed.Timed}
-use Rattle.token_session.specs.Meters.{SessionState, StandsAfter}
+use Rattle.token_session.specs.Meters.{SessionState, IsStateAfter}
 use Rattle.session_log.specs.declared.{command.ReplayMode.ReplayMode, fault.LogFault.LogFault}
 use Rattle.session_log.specs.declared.command.ReplayMode.TheVariants.{Check, Live, Quiet, Replay}
-use Rattle.session_log.specs.{Check.first_comparison, Check.check_history, World.World, Replay.PlaysWholeLog, Replay.ReadsTo}
+use Rattle.session_log.specs.{Check.first_comparison, Check.check_history, World.LineSemantics, Replay.PlaysWholeLog, Replay.ReadsTo}
 use Rattle.session_log.specs.Ending.{ending_of, read_fails, write_fails}
 use Rattle.session_log.specs.Session.{history, live_history, quiet_history}
-use Rattle.session_log.specs.Streams.{Counts, IsAtEndOfInput, Moves}
+use Rattle.session_log.specs.Streams.{Counts, IsAtEndOfInput, ReadsAndWrites}
 
 -- The start of the program's session: an AAGUID of sixteen zero bytes, time 0, and capacity for 64 credentials,
 -- without any.
@@ -44,23 +44,23 @@ IsCounted left unread ended unwritten answer input output =
 
 -- A log was played from state s, and `Says` holds for the bytes that were read and the text that was written. An error
 -- doesn't depend on the bytes after the invalid line.
-abbrev pub PlaysThrough : {S A I O : Type 0} → World S → S → (List ℕ → List ℕ → Type 0)
+abbrev pub PlaysThrough : {S A I O : Type 0} → LineSemantics S → S → (List ℕ → List ℕ → Type 0)
     → (left : I → Option (List ℕ)) → (unread : I → ℕ) → (ended : I → Bool) → (taken : O → Option (List ℕ))
     → (unwritten : O → ℕ) → Result A LogFault → (I × I) → (O × O) → Type 0
 PlaysThrough world s Says left unread ended taken unwritten answer input output =
-    Moves (left input.0) (left input.1) (taken output.0) (taken output.1) Says
+    ReadsAndWrites (left input.0) (left input.1) (taken output.0) (taken output.1) Says
     × ReadsTo world s (left input.0) (left input.1) (IsAtEndOfInput left ended input.1) (ending_of answer)
     × IsCounted left unread ended unwritten answer input output
 
 -- A log was played from state x, whose history of inputs is that of the session, and the session is now in state s. The
 -- text is the one that the world defines for the log.
-abbrev pub PlaysIn : {S A I O : Type 0} → World S → (S → List Timed) → S → Start
+abbrev pub PlaysIn : {S A I O : Type 0} → LineSemantics S → (S → List Timed) → S → Start
     → (left : I → Option (List ℕ)) → (unread : I → ℕ) → (ended : I → Bool) → (taken : O → Option (List ℕ))
     → (unwritten : O → ℕ)
     → Result A LogFault → SessionState → (I × I) → (O × O) → Type 0
 PlaysIn {S} world history_in x start left unread ended taken unwritten answer s input output =
-    (later : S) × StandsAfter s start (history_in later)
-    × Moves (left input.0) (left input.1) (taken output.0) (taken output.1)
+    (later : S) × IsStateAfter s start (history_in later)
+    × ReadsAndWrites (left input.0) (left input.1) (taken output.0) (taken output.1)
     (λ bytes text. PlaysWholeLog world x later bytes text (ending_of answer))
     × ReadsTo world x (left input.0) (left input.1) (IsAtEndOfInput left ended input.1) (ending_of answer)
     × IsCounted left unread ended unwritten answer input output

@@ -12,36 +12,36 @@ IsHexOf digits n bytes = decode_sized digits n ≡ Ok bytes
 
 -- The field after the timestamp: a packet of 64 bytes; the word of a user presence reply; a new key's ID and
 -- coordinates X and Y, of 32 bytes each; a signature of 1 to 72 bytes; or `no`.
-abbrev pub SpellsField : List ℕ → AnyInput → Type 0
-SpellsField field (Packet packet) = IsHexOf field 64 packet.0
-SpellsField field Tick = ⊥
-SpellsField field (Presence answer) = field ≡ presence_word answer
-SpellsField field (Key None) = field ≡ refusal_word
-SpellsField field (Key (Some key)) =
+abbrev pub IsFieldText : List ℕ → AnyInput → Type 0
+IsFieldText field (Packet packet) = IsHexOf field 64 packet.0
+IsFieldText field Tick = ⊥
+IsFieldText field (Presence answer) = field ≡ presence_word answer
+IsFieldText field (Key None) = field ≡ refusal_word
+IsFieldText field (Key (Some key)) =
     (id : List ℕ) × (x : List ℕ) × (y : List ℕ) × (field ≡ id ++ (codes " " ++ (x ++ (codes " " ++ y))))
     × IsHexOf id 32 key.id × IsHexOf x 32 key.x × IsHexOf y 32 key.y
-SpellsField field (Signature None) = field ≡ refusal_word
-SpellsField field (Signature (Some bytes)) = IsHexOf field (length bytes) bytes × (1 ≤ length bytes)
+IsFieldText field (Signature None) = field ≡ refusal_word
+IsFieldText field (Signature (Some bytes)) = IsHexOf field (length bytes) bytes × (1 ≤ length bytes)
     × (length bytes ≤ 72)
 
 -- The letter and the space before an input's timestamp.
-abbrev pub front_of : AnyInput → List ℕ
-front_of (Packet packet) = codes "> "
-front_of Tick = codes "t "
-front_of (Presence answer) = codes "p "
-front_of (Key key) = codes "k "
-front_of (Signature signature) = codes "s "
+abbrev pub letter_and_space : AnyInput → List ℕ
+letter_and_space (Packet packet) = codes "> "
+letter_and_space Tick = codes "t "
+letter_and_space (Presence answer) = codes "p "
+letter_and_space (Key key) = codes "k "
+letter_and_space (Signature signature) = codes "s "
 
 -- `t M` is a tick at time M, `> M P` a packet; `p M granted`, `k M ID X Y`, `s M S` and the other forms are replies
 -- of the caller.
-abbrev pub SpellsInput : List ℕ → ℕ → AnyInput → Type 0
-SpellsInput line at Tick = line ≡ codes "t " ++ decimal at
-SpellsInput line at input = (field : List ℕ) × (line ≡ front_of input ++ (decimal at ++ (codes " " ++ field)))
-    × SpellsField field input
+abbrev pub IsInputText : List ℕ → ℕ → AnyInput → Type 0
+IsInputText line at Tick = line ≡ codes "t " ++ decimal at
+IsInputText line at input = (field : List ℕ) × (line ≡ letter_and_space input ++ (decimal at ++ (codes " " ++ field)))
+    × IsFieldText field input
 
 -- `< P` is a packet that was sent, `=..` the meters; `#..` and an empty line are comments.
-abbrev pub Spells : List ℕ → Line → Type 0
-Spells line (Input timed) = (timed.at < 2 ^ 64) × SpellsInput line timed.at timed.input
-Spells line (Sent packet) = (digits : List ℕ) × (line ≡ codes "< " ++ digits) × IsHexOf digits 64 packet.0
-Spells line Comment = (line ≡ []) ⊎ ((rest : List ℕ) × (line ≡ codes "#" ++ rest))
-Spells line Count = (rest : List ℕ) × (line ≡ codes "=" ++ rest)
+abbrev pub IsLogLineText : List ℕ → Line → Type 0
+IsLogLineText line (Input timed) = (timed.at < 2 ^ 64) × IsInputText line timed.at timed.input
+IsLogLineText line (Sent packet) = (digits : List ℕ) × (line ≡ codes "< " ++ digits) × IsHexOf digits 64 packet.0
+IsLogLineText line Comment = (line ≡ []) ⊎ ((rest : List ℕ) × (line ≡ codes "#" ++ rest))
+IsLogLineText line Count = (rest : List ℕ) × (line ≡ codes "=" ++ rest)

@@ -2,7 +2,7 @@
 -- those of each input.
 use Rattle.std.specs.Prelude.{◌≡◌, ◌≢◌, ℕ, ◌+◌, List, [], ◌∷◌, ◌++◌, length, Option, Some, None}
 use Rattle.token_session.specs.declared.input.Timed.{Timed}
-use Rattle.session_log.specs.{declared.line.Line.Line, Parsed.parsed, World.Course}
+use Rattle.session_log.specs.{declared.line.Line.Line, Parsed.parsed, World.InputSemantics}
 use Rattle.session_log.specs.declared.line.Line.TheVariants.{Input, Sent, Comment, Count}
 
 abbrev pub Groups : Type 0
@@ -27,21 +27,21 @@ found_groups [] = [] ∷ []
 found_groups (line ∷ more) = with_line (parsed line) (found_groups more)
 
 -- The groups of packets that the session sends for the inputs.
-abbrev pub sent_groups : {S : Type 0} → Course S → S → List Timed → Groups
+abbrev pub sent_groups : {S : Type 0} → InputSemantics S → S → List Timed → Groups
 sent_groups course s [] = []
 sent_groups course s (x ∷ xs) = course.sends s x ∷ sent_groups course (course.turned s x) xs
 
 -- The line numbers of the inputs, if the first line has number n.
-abbrev pub number_by : ℕ → Option Line → List ℕ
-number_by n None = []
-number_by n (Some (Input timed)) = n ∷ []
-number_by n (Some (Sent packet)) = []
-number_by n (Some Comment) = []
-number_by n (Some Count) = []
+abbrev pub line_numbers : ℕ → Option Line → List ℕ
+line_numbers n None = []
+line_numbers n (Some (Input timed)) = n ∷ []
+line_numbers n (Some (Sent packet)) = []
+line_numbers n (Some Comment) = []
+line_numbers n (Some Count) = []
 
 abbrev pub input_lines : ℕ → List (List ℕ) → List ℕ
 input_lines n [] = []
-input_lines n (line ∷ more) = number_by n (parsed line) ++ input_lines (n + 1) more
+input_lines n (line ∷ more) = line_numbers n (parsed line) ++ input_lines (n + 1) more
 
 -- The first packets differ, or one of them is missing.
 abbrev pub DifferFirst : (found sent : List (List ℕ)) → Type 0

@@ -2,12 +2,12 @@
 use Rattle.std.specs.Prelude.{ℕ, ◌==◌, Bool, List, [], ◌∷◌, length, if◌then◌else◌}
 use Rattle.std.specs.List.{slice_split}
 
-abbrev pub is_feed : ℕ → Bool
-is_feed b = b == 10
+abbrev pub is_line_feed : ℕ → Bool
+is_line_feed b = b == 10
 
 -- The pieces between line feeds; the last piece follows the last line feed.
 abbrev pub pieces : List ℕ → List (List ℕ)
-pieces bytes = slice_split is_feed bytes
+pieces bytes = slice_split is_line_feed bytes
 
 abbrev pub all_but_last : {A : Type 0} → List A → List A
 all_but_last [] = []

@@ -3,31 +3,31 @@ use Rattle.std.specs.Prelude.{ℕ, ◌+◌, ◌^◌, nat_le, nat_lt, List, [], �
 use Rattle.std.specs.Prelude.{is_none, if◌then◌else◌}
 use Rattle.session_log.specs.declared.{fault.LogFault.LogFault, line.Line.Line}
 use Rattle.session_log.specs.declared.fault.LogFault.TheVariants.{BadLine, TooLong, TooManyLines}
-use Rattle.session_log.specs.{Lines.lines, Parsed.parsed, World.World}
+use Rattle.session_log.specs.{Lines.lines, Parsed.parsed, World.LineSemantics}
 
 -- The text for a parsed line.
-abbrev pub text_by : {S : Type 0} → World S → S → List ℕ → Option Line → List ℕ
+abbrev pub text_by : {S : Type 0} → LineSemantics S → S → List ℕ → Option Line → List ℕ
 text_by world s line None = []
 text_by world s line (Some l) = world.writes s line l
 
-abbrev pub text_of : {S : Type 0} → World S → S → List ℕ → List ℕ
-text_of world s line = text_by world s line (parsed line)
+abbrev pub line_text : {S : Type 0} → LineSemantics S → S → List ℕ → List ℕ
+line_text world s line = text_by world s line (parsed line)
 
 -- The state after a parsed line.
-abbrev pub state_after_parsed : {S : Type 0} → World S → S → Option Line → S
+abbrev pub state_after_parsed : {S : Type 0} → LineSemantics S → S → Option Line → S
 state_after_parsed world s None = s
 state_after_parsed world s (Some l) = world.moves s l
 
-abbrev pub state_after : {S : Type 0} → World S → S → List ℕ → S
+abbrev pub state_after : {S : Type 0} → LineSemantics S → S → List ℕ → S
 state_after world s line = state_after_parsed world s (parsed line)
 
 -- The error of line n by its content: it is not a log line, or the world rejects it.
-abbrev pub fault_by : {S : Type 0} → World S → ℕ → S → Option Line → Option LogFault
+abbrev pub fault_by : {S : Type 0} → LineSemantics S → ℕ → S → Option Line → Option LogFault
 fault_by world n s None = Some (BadLine n)
 fault_by world n s (Some l) = world.stops s l
 
 -- The error of line n: a log has at most 2^32-1 lines, and a line at most 255 bytes.
-abbrev pub fault_at : {S : Type 0} → World S → ℕ → S → List ℕ → Option LogFault
+abbrev pub fault_at : {S : Type 0} → LineSemantics S → ℕ → S → List ℕ → Option LogFault
 fault_at world n s line =
     if nat_le (2 ^ 32) n then Some TooManyLines
     else if nat_lt 255 (length line) then Some (TooLong n)
@@ -43,22 +43,22 @@ abbrev pub with_text_before : {S : Type 0} → List ℕ → Played S → Played 
 with_text_before text p = record { text = text ++ p.text; fault = p.fault; state = p.state }
 
 -- Playing the lines from line n on.
-abbrev pub played : {S : Type 0} → World S → ℕ → S → List (List ℕ) → Played S
+abbrev pub played : {S : Type 0} → LineSemantics S → ℕ → S → List (List ℕ) → Played S
 played world n s [] = record { text = []; fault = None; state = s }
 played world n s (line ∷ more) =
     if is_some (fault_at world n s line) then record { text = []; fault = fault_at world n s line; state = s }
-    else with_text_before (text_of world s line) (played world (n + 1) (state_after world s line) more)
+    else with_text_before (line_text world s line) (played world (n + 1) (state_after world s line) more)
 
 -- Playing all lines of the bytes.
-abbrev pub play_all : {S : Type 0} → World S → S → List ℕ → Played S
+abbrev pub play_all : {S : Type 0} → LineSemantics S → S → List ℕ → Played S
 play_all world s bytes = played world 1 s (lines bytes)
 
 -- The text after the last line.
-abbrev pub last_text : {S : Type 0} → World S → S → List ℕ
+abbrev pub last_text : {S : Type 0} → LineSemantics S → S → List ℕ
 last_text world s = if is_none (world.lacks s) then world.ending s else []
 
 -- The texts of the lines and, if no line is invalid, the text after the last line.
-abbrev pub log_of : {S : Type 0} → World S → Played S → List ℕ
+abbrev pub log_of : {S : Type 0} → LineSemantics S → Played S → List ℕ
 log_of world p = p.text ++ (if is_none p.fault then last_text world p.state else [])
 
 -- The first error: if no line is invalid, the error at the end.
@@ -67,8 +67,8 @@ first_fault None line = line
 first_fault (Some fault) None = Some fault
 first_fault (Some fault) (Some first) = Some first
 
-abbrev pub fault_of : {S : Type 0} → World S → Played S → Option LogFault
+abbrev pub fault_of : {S : Type 0} → LineSemantics S → Played S → Option LogFault
 fault_of world p = first_fault (world.lacks p.state) p.fault
 
-abbrev pub log : {S : Type 0} → World S → S → List ℕ → List ℕ
+abbrev pub log : {S : Type 0} → LineSemantics S → S → List ℕ → List ℕ
 log world s bytes = log_of world (play_all world s bytes)

@@ -1,4 +1,4 @@
--- Parsing a line, as a function. The law `the_grammar_is_read` states that it agrees with the grammar.
+-- Parsing a line, as a function. The law `parsing_follows_the_grammar` states that it agrees with the grammar.
 use Rattle.std.specs.Prelude.{ℕ, ◌+◌, ◌/◌, ◌==◌, ◌&&◌, ◌^◌, nat_le, nat_lt, Bool, List, [], ◌∷◌, length, take, drop}
 use Rattle.std.specs.Prelude.{position, codes, decimal, Option, Some, None, if◌then◌else◌}
 use Rattle.std.specs.Option.{option_and_then, option_map}

@@ -6,36 +6,36 @@ use Rattle.session_log.specs.declared.fault.LogFault.{LogFault, TheVariants.Memo
 use Rattle.session_log.specs.declared.fault.LogFault.TheVariants.{BadLine, TooLong, Differs, Read, Write, TooManyLines}
 use Rattle.session_log.specs.Ending.{Ending, Done, Refused, Unread, Unwritten, ending_of}
 use Rattle.session_log.specs.{Lines.lines, Lines.whole_lines, Lines.last_piece, Streams.WritesAll, Streams.WriteFails}
-use Rattle.session_log.specs.Log.{played, play_all, log, text_of, last_text, state_after, fault_by, fault_of}
-use Rattle.session_log.specs.{Parsed.parsed, World.World, Sent.SendsPackets, Sent.AllSend}
+use Rattle.session_log.specs.Log.{played, play_all, log, line_text, last_text, state_after, fault_by, fault_of}
+use Rattle.session_log.specs.{Parsed.parsed, World.LineSemantics, Sent.SendsPackets, Sent.AllSend}
 
 -- There is no error, and the whole log was written.
-pub record IsDone {S : Type 0} (world : World S) (s t : S) (bytes text : List ℕ) : Type 0 where
+pub record IsDone {S : Type 0} (world : LineSemantics S) (s t : S) (bytes text : List ℕ) : Type 0 where
   pub faultless : fault_of world (play_all world s bytes) ≡ None
   pub written : text ≡ log world s bytes
   pub stands : t ≡ (play_all world s bytes).state
 
 -- No line is invalid, all texts were written, and the statement about the packets that are sent holds for each line.
-pub record IsPlayed {S : Type 0} (world : World S) (s t : S) (bytes text : List ℕ) : Type 0 where
+pub record IsPlayed {S : Type 0} (world : LineSemantics S) (s t : S) (bytes text : List ℕ) : Type 0 where
   pub sends : AllSend world s (lines bytes)
   pub faultless : (play_all world s bytes).fault ≡ None
   pub written : text ≡ (play_all world s bytes).text
   pub stands : t ≡ (play_all world s bytes).state
 
 -- No line is invalid, and all texts were written. Nothing is stated about the packets that are sent.
-pub record AreWritten {S : Type 0} (world : World S) (s t : S) (bytes text : List ℕ) : Type 0 where
+pub record AreWritten {S : Type 0} (world : LineSemantics S) (s t : S) (bytes text : List ℕ) : Type 0 where
   pub faultless : (play_all world s bytes).fault ≡ None
   pub written : text ≡ (play_all world s bytes).text
   pub stands : t ≡ (play_all world s bytes).state
 
 -- This is the first error, and the texts of the lines before it were written.
-pub record IsRefused {S : Type 0} (world : World S) (s t : S) (bytes text : List ℕ) (f : LogFault) : Type 0 where
+pub record IsRefused {S : Type 0} (world : LineSemantics S) (s t : S) (bytes text : List ℕ) (f : LogFault) : Type 0 where
   pub faulty : fault_of world (play_all world s bytes) ≡ Some f
   pub written : text ≡ (play_all world s bytes).text
   pub stands : t ≡ (play_all world s bytes).state
 
 -- Reading failed in line n. No line before it is invalid, and the texts of these lines were written.
-pub record IsUnread {S : Type 0} (world : World S) (s t : S) (bytes text : List ℕ) (n : ℕ) : Type 0 where
+pub record IsUnread {S : Type 0} (world : LineSemantics S) (s t : S) (bytes text : List ℕ) (n : ℕ) : Type 0 where
   pub faultless : (played world 1 s (whole_lines bytes)).fault ≡ None
   pub written : text ≡ (played world 1 s (whole_lines bytes)).text
   pub stands : t ≡ (played world 1 s (whole_lines bytes)).state
@@ -44,17 +44,17 @@ pub record IsUnread {S : Type 0} (world : World S) (s t : S) (bytes text : List 
   pub counted : 2 ^ 32 ≤ n → last_piece bytes ≡ []
 
 -- The next text, and the state when it is written.
-abbrev pub next_text : {S : Type 0} → World S → S → List (List ℕ) → List ℕ
+abbrev pub next_text : {S : Type 0} → LineSemantics S → S → List (List ℕ) → List ℕ
 next_text world s [] = last_text world s
-next_text world s (line ∷ more) = text_of world s line
+next_text world s (line ∷ more) = line_text world s line
 
-abbrev pub next_state : {S : Type 0} → World S → S → List (List ℕ) → S
+abbrev pub next_state : {S : Type 0} → LineSemantics S → S → List (List ℕ) → S
 next_state world s [] = s
 next_state world s (line ∷ more) = state_after world s line
 
 -- The texts of the first lines were written, and writing the next text failed. The state is that after the line of this
 -- text.
-pub record IsUnwritten {S : Type 0} (world : World S) (s t : S) (bytes text : List ℕ) : Type 0 where
+pub record IsUnwritten {S : Type 0} (world : LineSemantics S) (s t : S) (bytes text : List ℕ) : Type 0 where
   pub first : List (List ℕ)
   pub others : List (List ℕ)
   pub front : List ℕ
@@ -69,50 +69,50 @@ pub record IsUnwritten {S : Type 0} (world : World S) (s t : S) (bytes text : Li
 
 -- The meaning of an ending, if these bytes were read, this text was written, and the state went from s to t; at the
 -- end of the log the given statement holds.
-abbrev pub EndingMeans : {S : Type 0} → World S → S → S → List ℕ → List ℕ → Type 0 → Ending → Type 0
+abbrev pub EndingMeans : {S : Type 0} → LineSemantics S → S → S → List ℕ → List ℕ → Type 0 → Ending → Type 0
 EndingMeans world s t bytes text AtEnd Done = AtEnd
 EndingMeans world s t bytes text AtEnd (Refused fault) = IsRefused world s t bytes text fault
 EndingMeans world s t bytes text AtEnd (Unread n) = IsUnread world s t bytes text n
 EndingMeans world s t bytes text AtEnd Unwritten = IsUnwritten world s t bytes text
 
 -- The meaning of an ending for lines, without the text after the last line.
-abbrev pub Plays : {S : Type 0} → World S → S → S → List ℕ → List ℕ → Ending → Type 0
+abbrev pub Plays : {S : Type 0} → LineSemantics S → S → S → List ℕ → List ℕ → Ending → Type 0
 Plays world s t bytes text ending = EndingMeans world s t bytes text (IsPlayed world s t bytes text) ending
 
 -- As `Plays`, without a statement about the packets that are sent.
-abbrev pub Writes : {S : Type 0} → World S → S → S → List ℕ → List ℕ → Ending → Type 0
+abbrev pub Writes : {S : Type 0} → LineSemantics S → S → S → List ℕ → List ℕ → Ending → Type 0
 Writes world s t bytes text ending = EndingMeans world s t bytes text (AreWritten world s t bytes text) ending
 
 -- The meaning of an ending for a whole log.
-abbrev pub PlaysWholeLog : {S : Type 0} → World S → S → S → List ℕ → List ℕ → Ending → Type 0
+abbrev pub PlaysWholeLog : {S : Type 0} → LineSemantics S → S → S → List ℕ → List ℕ → Ending → Type 0
 PlaysWholeLog world s t bytes text ending = EndingMeans world s t bytes text (IsDone world s t bytes text) ending
 
 -- As `PlaysWholeLog`, and at the end of the log the packets that were sent are well-formed.
-abbrev pub PlaysWholeLogWithMeters : {S A : Type 0} → World S → S → S → List ℕ → List ℕ → Result A LogFault → Type 0
+abbrev pub PlaysWholeLogWithMeters : {S A : Type 0} → LineSemantics S → S → S → List ℕ → List ℕ → Result A LogFault → Type 0
 PlaysWholeLogWithMeters world s t bytes text r = PlaysWholeLog world s t bytes text (ending_of r) × OnOk r (AllSend world s (lines bytes))
 
 -- As `PlaysWholeLog`, and the meters at the end of the log are returned.
-abbrev pub Logs : {S : Type 0} → World S → S → S → List ℕ → List ℕ → Result Meters LogFault → Type 0
+abbrev pub Logs : {S : Type 0} → LineSemantics S → S → S → List ℕ → List ℕ → Result Meters LogFault → Type 0
 Logs world s t bytes text r = PlaysWholeLog world s t bytes text (ending_of r) × IfOk r (λ m. m ≡ world.counts t)
 
 -- The meaning of playing one line: its text was written; or the line is invalid, and nothing was written; or writing
 -- failed.
-abbrev pub PlaysLine : {S F : Type 0} → World S → (F → Option (List ℕ)) → (F → ℕ) → ℕ → S → S → List ℕ → (F × F)
+abbrev pub PlaysLine : {S F : Type 0} → LineSemantics S → (F → Option (List ℕ)) → (F → ℕ) → ℕ → S → S → List ℕ → (F × F)
     → Ending → Type 0
 PlaysLine world taken failed n s t line target Done =
     (fault_by world n s (parsed line) ≡ None) × (t ≡ state_after world s line) × SendsPackets world s (parsed line)
-    × WritesAll taken failed target (text_of world s line)
+    × WritesAll taken failed target (line_text world s line)
 PlaysLine world taken failed n s t line target (Refused fault) =
     (fault_by world n s (parsed line) ≡ Some fault) × (t ≡ s) × Keeps (taken target.0) (taken target.1)
     × (failed target.1 ≡ failed target.0)
 PlaysLine world taken failed n s t line target (Unread m) = ⊥
 PlaysLine world taken failed n s t line target Unwritten =
     (fault_by world n s (parsed line) ≡ None) × (t ≡ state_after world s line)
-    × WriteFails taken failed target (text_of world s line)
+    × WriteFails taken failed target (line_text world s line)
 
 -- The meaning of the end of the lines: the text after them was written; or there is an error at the end, and nothing
 -- was written; or writing failed.
-abbrev pub Closes : {S F : Type 0} → World S → (F → Option (List ℕ)) → (F → ℕ) → S → (F × F) → Ending → Type 0
+abbrev pub Closes : {S F : Type 0} → LineSemantics S → (F → Option (List ℕ)) → (F → ℕ) → S → (F × F) → Ending → Type 0
 Closes world taken failed s target Done = (world.lacks s ≡ None) × WritesAll taken failed target (world.ending s)
 Closes world taken failed s target (Refused fault) =
     (world.lacks s ≡ Some fault) × Keeps (taken target.0) (taken target.1) × (failed target.1 ≡ failed target.0)
@@ -121,17 +121,17 @@ Closes world taken failed s target Unwritten = (world.lacks s ≡ None) × Write
 
 -- The errors that processing line n can return: an invalid line, a difference, or a failed write. Its length and number
 -- were checked before.
-abbrev pub IsOfLine : ℕ → LogFault → Type 0
-IsOfLine n (BadLine m) = m ≡ n
-IsOfLine n (TooLong m) = ⊥
-IsOfLine n (Differs line packet) = Unit {0}
-IsOfLine n (Read m) = ⊥
-IsOfLine n Write = Unit {0}
-IsOfLine n TooManyLines = ⊥
-IsOfLine n (Memory m) = ⊥
+abbrev pub IsLineFault : ℕ → LogFault → Type 0
+IsLineFault n (BadLine m) = m ≡ n
+IsLineFault n (TooLong m) = ⊥
+IsLineFault n (Differs line packet) = Unit {0}
+IsLineFault n (Read m) = ⊥
+IsLineFault n Write = Unit {0}
+IsLineFault n TooManyLines = ⊥
+IsLineFault n (Memory m) = ⊥
 
 -- n - 1 complete and valid lines were read, and at most 256 bytes after them.
-pub record IsWithinLine {S : Type 0} (world : World S) (s : S) (bytes : List ℕ) (n : ℕ) : Type 0 where
+pub record IsWithinLine {S : Type 0} (world : LineSemantics S) (s : S) (bytes : List ℕ) (n : ℕ) : Type 0 where
   pub before : List ℕ
   pub front : List ℕ
   pub cut : bytes ≡ before ++ front
@@ -141,36 +141,36 @@ pub record IsWithinLine {S : Type 0} (world : World S) (s : S) (bytes : List ℕ
   pub near : length front ≤ 256
 
 -- Line n was read completely, and this is the error of the lines up to it; or everything was read.
-abbrev pub IsShown : {S : Type 0} → World S → S → List ℕ → Type 0 → ℕ → LogFault → Type 0
-IsShown world s bytes all n fault =
+abbrev pub IsFaultOfLinesRead : {S : Type 0} → LineSemantics S → S → List ℕ → Type 0 → ℕ → LogFault → Type 0
+IsFaultOfLinesRead world s bytes all n fault =
     ((n ≤ length (whole_lines bytes)) × ((played world 1 s (take n (whole_lines bytes))).fault ≡ Some fault)) ⊎ all
 
 -- How far was read to find an error: an invalid line was read completely, or everything was read; of a line that is too
 -- long, exactly 256 bytes were read; a difference is found at a line, like an invalid line, or at the end of the log.
-abbrev pub Reaches : {S : Type 0} → World S → S → List ℕ → Type 0 → LogFault → Type 0
-Reaches world s bytes all (BadLine n) = IsWithinLine world s bytes n × IsShown world s bytes all n (BadLine n)
-Reaches world s bytes all (TooLong n) = IsWithinLine world s bytes n × (n ≡ length (whole_lines bytes) + 1)
+abbrev pub ReadsUpToFault : {S : Type 0} → LineSemantics S → S → List ℕ → Type 0 → LogFault → Type 0
+ReadsUpToFault world s bytes all (BadLine n) = IsWithinLine world s bytes n × IsFaultOfLinesRead world s bytes all n (BadLine n)
+ReadsUpToFault world s bytes all (TooLong n) = IsWithinLine world s bytes n × (n ≡ length (whole_lines bytes) + 1)
     × (length (last_piece bytes) ≡ 256)
-Reaches world s bytes all (Differs line packet) =
-    ((n : ℕ) × IsWithinLine world s bytes n × IsShown world s bytes all n (Differs line packet))
+ReadsUpToFault world s bytes all (Differs line packet) =
+    ((n : ℕ) × IsWithinLine world s bytes n × IsFaultOfLinesRead world s bytes all n (Differs line packet))
     ⊎ (((play_all world s bytes).fault ≡ None) × all)
-Reaches world s bytes all TooManyLines = IsWithinLine world s bytes (2 ^ 32)
-Reaches world s bytes all (Read n) = ⊥
-Reaches world s bytes all Write = ⊥
-Reaches world s bytes all (Memory n) = ⊥
+ReadsUpToFault world s bytes all TooManyLines = IsWithinLine world s bytes (2 ^ 32)
+ReadsUpToFault world s bytes all (Read n) = ⊥
+ReadsUpToFault world s bytes all Write = ⊥
+ReadsUpToFault world s bytes all (Memory n) = ⊥
 
 -- How far was read at this ending; nothing is stated unless it is an error in the log.
-abbrev pub Finds : {S : Type 0} → World S → S → List ℕ → Type 0 → Ending → Type 0
-Finds world s bytes all (Refused fault) = Reaches world s bytes all fault
-Finds world s bytes all _ = Unit {0}
+abbrev pub ReadsUpToEnding : {S : Type 0} → LineSemantics S → S → List ℕ → Type 0 → Ending → Type 0
+ReadsUpToEnding world s bytes all (Refused fault) = ReadsUpToFault world s bytes all fault
+ReadsUpToEnding world s bytes all _ = Unit {0}
 
-abbrev pub ReadsTo : {S : Type 0} → World S → S → Option (List ℕ) → Option (List ℕ) → Type 0 → Ending → Type 0
+abbrev pub ReadsTo : {S : Type 0} → LineSemantics S → S → Option (List ℕ) → Option (List ℕ) → Type 0 → Ending → Type 0
 ReadsTo world s left left' all (Refused fault) = (bytes : List ℕ) × Consumes left left' bytes
-    × Reaches world s bytes all fault
+    × ReadsUpToFault world s bytes all fault
 ReadsTo world s left left' all _ = Unit {0}
 
 -- The errors at the end of the lines: a missing packet, or a failed write of the text there.
-abbrev pub IsOfEnd : LogFault → Type 0
-IsOfEnd (Differs line packet) = Unit {0}
-IsOfEnd Write = Unit {0}
-IsOfEnd _ = ⊥
+abbrev pub IsEndFault : LogFault → Type 0
+IsEndFault (Differs line packet) = Unit {0}
+IsEndFault Write = Unit {0}
+IsEndFault _ = ⊥

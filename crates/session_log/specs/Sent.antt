@@ -1,15 +1,15 @@
 -- A statement about all packets that are written while lines are played.
 use Rattle.std.specs.Prelude.{ℕ, ◌<◌, ◌^◌, List, [], ◌∷◌, Option, Some, None}
 use Rattle.token_session.specs.declared.input.Meters.{Meters}
-use Rattle.session_log.specs.{declared.line.Line.Line, Log.state_after, Parsed.parsed, World.World}
+use Rattle.session_log.specs.{declared.line.Line.Line, Log.state_after, Parsed.parsed, World.LineSemantics}
 
 -- For a parsed line.
-abbrev pub SendsPackets : {S : Type 0} → World S → S → Option Line → Type 0
+abbrev pub SendsPackets : {S : Type 0} → LineSemantics S → S → Option Line → Type 0
 SendsPackets world s None = Unit {0}
 SendsPackets world s (Some l) = world.sound s l
 
 -- The statement holds for each of these lines, one after the other.
-abbrev pub AllSend : {S : Type 0} → World S → S → List (List ℕ) → Type 0
+abbrev pub AllSend : {S : Type 0} → LineSemantics S → S → List (List ℕ) → Type 0
 AllSend world s [] = Unit {0}
 AllSend world s (line ∷ more) = SendsPackets world s (parsed line) × AllSend world (state_after world s line) more
 

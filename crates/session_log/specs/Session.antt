@@ -6,14 +6,14 @@ use Rattle.token_session.specs.{Answered.packets_sent_now, declared.input.Timed.
 use Rattle.token_session.specs.History.{core, receive, received}
 use Rattle.token_session.specs.Meters.{SessionState, stepped, sent_by, meters_of}
 use Rattle.session_log.specs.{Lines.lines, Log.log}
-use Rattle.session_log.specs.World.{Course, World, replay_world, quiet_world, live_world}
+use Rattle.session_log.specs.World.{InputSemantics, LineSemantics, replay_world, quiet_world, live_world}
 
 -- A session's state, changed by inputs.
-abbrev pub session_course : Course SessionState
+abbrev pub session_course : InputSemantics SessionState
 session_course = record { turned = λ s x. stepped s x; sends = λ s x. sent_by s x; counts = λ s. s.meters }
 
 -- A history: the inputs so far, newest first, with the packets and meters that it defines.
-abbrev pub history_course : Start → Course (List Timed)
+abbrev pub history_course : Start → InputSemantics (List Timed)
 history_course start = record {
   turned = λ h x. x ∷ h;
   sends = λ h x. sent_now start h x;
@@ -21,28 +21,28 @@ history_course start = record {
 }
 
 -- Replaying a log on a session's state (`machine`) or on a history (`history`).
-abbrev pub machine : World SessionState
+abbrev pub machine : LineSemantics SessionState
 machine = replay_world session_course
 
-abbrev pub history : Start → World (List Timed)
+abbrev pub history : Start → LineSemantics (List Timed)
 history start = replay_world (history_course start)
 
 -- A history whose packets are defined without an authenticator's state, and replaying a log on it.
-abbrev pub exchange_histories : Start → Course (List Timed)
+abbrev pub exchange_histories : Start → InputSemantics (List Timed)
 exchange_histories start = record {
   turned = λ h x. x ∷ h;
   sends = λ h x. packets_sent_now start h x;
   counts = λ h. meters_of start (received start h);
 }
 
-abbrev pub exchange_history : Start → World (List Timed)
+abbrev pub exchange_history : Start → LineSemantics (List Timed)
 exchange_history start = replay_world (exchange_histories start)
 
 -- Making a log quiet, on a session's state or on a history.
-abbrev pub quiet_machine : World SessionState
+abbrev pub quiet_machine : LineSemantics SessionState
 quiet_machine = quiet_world session_course (λ s x. is_noise_at s.machine x)
 
-abbrev pub quiet_history : Start → World (List Timed)
+abbrev pub quiet_history : Start → LineSemantics (List Timed)
 quiet_history start = quiet_world (history_course start) (λ h x. is_noise_after start (receive start x (received start h))
     (received start h))
 
@@ -54,14 +54,14 @@ abbrev pub history_needs : Start → List Timed → Needed
 history_needs start h = needs (core start (received start h)).state.work
 
 -- Replaying a log with the needs, as `live` does, on a session's state or on a history.
-abbrev pub live_machine : World SessionState
+abbrev pub live_machine : LineSemantics SessionState
 live_machine = live_world session_course session_needs
 
-abbrev pub live_history : Start → World (List Timed)
+abbrev pub live_history : Start → LineSemantics (List Timed)
 live_history start = live_world (history_course start) (history_needs start)
 
 -- Playing the output again from state s gives the same output, unless it has too many lines.
-abbrev pub RepeatsIn : World SessionState → Option (List ℕ) → Option (List ℕ) → SessionState → Type 0
+abbrev pub RepeatsIn : LineSemantics SessionState → Option (List ℕ) → Option (List ℕ) → SessionState → Type 0
 RepeatsIn world taken taken' s = (text : List ℕ) × Appends taken taken' text
     × (length (lines text) < 2 ^ 32 → log world s text ≡ text)
 

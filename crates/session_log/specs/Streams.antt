@@ -5,9 +5,9 @@ use Rattle.std.specs.Io.KnownBytes.{Consumes, Appends, IsAtEnd}
 use Rattle.session_log.specs.declared.fault.LogFault.{LogFault, TheVariants.Write}
 
 -- Whether a read into a buffer that is not empty returned 0.
-abbrev pub gave_nothing : {E : Type 0} → Result ℕ E → ℕ → Bool
-gave_nothing (Ok n) space = (n == 0) && nat_lt 0 space
-gave_nothing (Err e) space = false
+abbrev pub is_empty_read : {E : Type 0} → Result ℕ E → ℕ → Bool
+is_empty_read (Ok n) space = (n == 0) && nat_lt 0 space
+is_empty_read (Err e) space = false
 
 -- The source is at its end: it returned 0 for a buffer that is not empty, and no bytes are left.
 abbrev pub IsAtEndOfInput : {I : Type 0} → (I → Option (List ℕ)) → (I → Bool) → I → Type 0
@@ -41,9 +41,9 @@ PutsLine taken failed target text r = MatchResult r (λ x. WritesAll taken faile
     (λ e. (e ≡ Write) × WriteFails taken failed target text)
 
 -- P holds for the bytes that were read from a source and the text that was appended to a target.
-abbrev pub Moves : Option (List ℕ) → Option (List ℕ) → Option (List ℕ) → Option (List ℕ) → (List ℕ → List ℕ → Type 0)
+abbrev pub ReadsAndWrites : Option (List ℕ) → Option (List ℕ) → Option (List ℕ) → Option (List ℕ) → (List ℕ → List ℕ → Type 0)
     → Type 0
-Moves left left' taken taken' P = (bytes : List ℕ) × (text : List ℕ) × Consumes left left' bytes
+ReadsAndWrites left left' taken taken' P = (bytes : List ℕ) × (text : List ℕ) × Consumes left left' bytes
     × Appends taken taken' text × P bytes text
 
 -- A text was appended to what the target had taken.

@@ -4,8 +4,8 @@ use Rattle.hex.specs.Hex.{IsBytes, encode_lower}
 use Rattle.token_session.specs.declared.input.Meters.{Meters}
 
 -- A line and its line feed.
-abbrev pub ended : List ℕ → List ℕ
-ended line = line ++ 10 ∷ []
+abbrev pub with_line_feed : List ℕ → List ℕ
+with_line_feed line = line ++ 10 ∷ []
 
 -- The line of a tick, without its line feed.
 abbrev pub tick_text : ℕ → List ℕ

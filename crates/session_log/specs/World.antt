@@ -5,17 +5,17 @@ use Rattle.session_log.specs.declared.{fault.LogFault.LogFault, line.Line.Line}
 use Rattle.session_log.specs.declared.line.Line.TheVariants.{Input, Sent, Comment, Count}
 use Rattle.authn_core.specs.{Views.Needed, Needs.IsNeed}
 use Rattle.session_log.specs.Needs.{need_lines, is_need_line}
-use Rattle.session_log.specs.Text.{ArePackets, ended, sent_text, tick_text, meters_line}
+use Rattle.session_log.specs.Text.{ArePackets, with_line_feed, sent_text, tick_text, meters_line}
 
 -- How an input changes a state, the packets that are sent for it, and the meters of a state.
-pub record Course (S : Type 0) : Type 0 where
+pub record InputSemantics (S : Type 0) : Type 0 where
   pub turned : S → Timed → S
   pub sends : S → Timed → List (List ℕ)
   pub counts : S → Meters
 
 -- For a parsed line and a state: the error, if any; the next state; a statement about the packets that are sent; and
 -- the text that is written. At the end: the error, if any; the text that is written; and the meters.
-pub record World (S : Type 0) : Type 1 where
+pub record LineSemantics (S : Type 0) : Type 1 where
   pub stops : S → Line → Option LogFault
   pub moves : S → Line → S
   pub sound : S → Line → Type 0
@@ -27,25 +27,25 @@ pub record World (S : Type 0) : Type 1 where
 -- Replaying writes each input line and each comment again, after an input line the packets that are sent for it, and at
 -- the end the meters. Only a line that is not a log line is an error.
 
-abbrev pub moves_input : {S : Type 0} → Course S → S → Line → S
+abbrev pub moves_input : {S : Type 0} → InputSemantics S → S → Line → S
 moves_input course s (Input timed) = course.turned s timed
 moves_input course s (Sent packet) = s
 moves_input course s Comment = s
 moves_input course s Count = s
 
-abbrev pub sends_packets : {S : Type 0} → Course S → S → Line → Type 0
+abbrev pub sends_packets : {S : Type 0} → InputSemantics S → S → Line → Type 0
 sends_packets course s (Input timed) = ArePackets (course.sends s timed)
 sends_packets course s (Sent packet) = Unit {0}
 sends_packets course s Comment = Unit {0}
 sends_packets course s Count = Unit {0}
 
-abbrev pub replay_text : {S : Type 0} → Course S → S → List ℕ → Line → List ℕ
-replay_text course s line (Input timed) = ended line ++ flat_map sent_text (course.sends s timed)
+abbrev pub replay_text : {S : Type 0} → InputSemantics S → S → List ℕ → Line → List ℕ
+replay_text course s line (Input timed) = with_line_feed line ++ flat_map sent_text (course.sends s timed)
 replay_text course s line (Sent packet) = []
-replay_text course s line Comment = ended line
+replay_text course s line Comment = with_line_feed line
 replay_text course s line Count = []
 
-abbrev pub replay_world : {S : Type 0} → Course S → World S
+abbrev pub replay_world : {S : Type 0} → InputSemantics S → LineSemantics S
 replay_world course = record {
   stops = λ s l. None;
   moves = moves_input course;
@@ -59,12 +59,12 @@ replay_world course = record {
 -- Making a log quiet writes each input line and each comment again, with a tick in place of noise, and nothing else.
 
 abbrev pub quiet_text : {S : Type 0} → (S → Timed → Bool) → S → List ℕ → Line → List ℕ
-quiet_text noises s line (Input timed) = ended (if noises s timed then tick_text timed.at else line)
+quiet_text noises s line (Input timed) = with_line_feed (if noises s timed then tick_text timed.at else line)
 quiet_text noises s line (Sent packet) = []
-quiet_text noises s line Comment = ended line
+quiet_text noises s line Comment = with_line_feed line
 quiet_text noises s line Count = []
 
-abbrev pub quiet_world : {S : Type 0} → Course S → (S → Timed → Bool) → World S
+abbrev pub quiet_world : {S : Type 0} → InputSemantics S → (S → Timed → Bool) → LineSemantics S
 quiet_world course noises = record {
   stops = λ s l. None;
   moves = moves_input course;
@@ -78,21 +78,21 @@ quiet_world course noises = record {
 -- Replaying with needs (`live`) also writes, after the packets of an input line, the lines that report what the key
 -- needs at this point. Such lines of an earlier run are dropped.
 
-abbrev pub sends_needs : {S : Type 0} → Course S → (S → Needed) → S → Line → Type 0
+abbrev pub sends_needs : {S : Type 0} → InputSemantics S → (S → Needed) → S → Line → Type 0
 sends_needs course needs s (Input timed) = ArePackets (course.sends s timed) × IsNeed (needs (course.turned s timed))
 sends_needs course needs s (Sent packet) = Unit {0}
 sends_needs course needs s Comment = Unit {0}
 sends_needs course needs s Count = Unit {0}
 
-abbrev pub live_text : {S : Type 0} → Course S → (S → Needed) → S → List ℕ → Line → List ℕ
+abbrev pub live_text : {S : Type 0} → InputSemantics S → (S → Needed) → S → List ℕ → Line → List ℕ
 live_text course needs s line (Input timed) =
-    ended line ++ flat_map sent_text (course.sends s timed)
-    ++ flat_map ended (need_lines (needs (course.turned s timed)))
+    with_line_feed line ++ flat_map sent_text (course.sends s timed)
+    ++ flat_map with_line_feed (need_lines (needs (course.turned s timed)))
 live_text course needs s line (Sent packet) = []
-live_text course needs s line Comment = if is_need_line line then [] else ended line
+live_text course needs s line Comment = if is_need_line line then [] else with_line_feed line
 live_text course needs s line Count = []
 
-abbrev pub live_world : {S : Type 0} → Course S → (S → Needed) → World S
+abbrev pub live_world : {S : Type 0} → InputSemantics S → (S → Needed) → LineSemantics S
 live_world course needs = record {
   stops = λ s l. None;
   moves = moves_input course;

@@ -7,12 +7,12 @@ ghost use Rattle.session_log.specs.Ending.{ending_of};
 ghost use Rattle.session_log.specs.Replay.{PlaysWholeLog};
 ghost use Rattle.token_session.specs.declared.input.Timed.{Timed as OneInput};
 ghost use Rattle.authn_core.specs.Turn.{Start};
-ghost use Rattle.token_session.specs.Meters.{SessionState, StandsAfter};
+ghost use Rattle.token_session.specs.Meters.{SessionState, IsStateAfter};
 
 use crate::fault::LogFault;
 use crate::line::Line;
 use crate::line_writer::{Text, put_check_result};
-use crate::player::{Player, play_log};
+use crate::player::{Player, process_log};
 use crate::source::Source;
 use crate::target::Target;
 use hid_packet::{Outbox, Packet};
@@ -69,7 +69,7 @@ impl CheckPlayer {
     }
 
     /// Compares the log's packet on this line with the expected one.
-    fn take_next(&mut self, number: u64)
+    fn match_packet(&mut self, number: u64)
         requires found { self.old.found < 2 ^ 64 - 1 }
         requires packets { self.old.packets < 2 ^ 64 - 1 }
         ensures lines { self.new.lines ≡ number }
@@ -133,7 +133,7 @@ impl<const C: usize> Player<C> for CheckPlayer {
                 if self.awaited != Some(packet) {
                     return Err(self.difference());
                 }
-                self.take_next(number);
+                self.match_packet(number);
                 Ok(())
             }
             Line::Input(timed) => {
@@ -179,10 +179,10 @@ pub fn check<S: Source, T: Target, const C: usize>(
         (λ bytes text. PlaysWholeLog check_machine (first_comparison session.old) later bytes text (ending_of result)) S.left S.failed
         S.ended T.taken T.failed result (reader.old, reader.new) (writer.old, writer.new) }
     // For each history that leads to the session's state, this is the result that the definitions give for the history.
-    ensures history { (start : Start) (h : List OneInput) → StandsAfter session.old start h
+    ensures history { (start : Start) (h : List OneInput) → IsStateAfter session.old start h
         → PlaysLog commands.Check start h S.left S.failed S.ended T.taken T.failed result session.new (reader.old, reader.new)
         (writer.old, writer.new) }
 {
     let mut player = CheckPlayer::new();
-    play_log(&mut player, reader, writer, session)
+    process_log(&mut player, reader, writer, session)
 }

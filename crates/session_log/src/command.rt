@@ -2,7 +2,7 @@
 ghost use Rattle.std.specs.Prelude.{◌≡◌, ◌<◌, ◌-◌, ◌^◌, List};
 ghost use Rattle.authn_core.specs.Turn.{Start};
 ghost use Rattle.token_session.specs.declared.input.Timed.{Timed as OneInput};
-ghost use Rattle.token_session.specs.Meters.{StandsAfter};
+ghost use Rattle.token_session.specs.Meters.{IsStateAfter};
 ghost use Rattle.session_log.specs.Streams.{OnlyAppends};
 ghost use Rattle.session_log.specs.Command.{PlaysLog, without_meters};
 
@@ -31,7 +31,7 @@ pub fn write_error<E: Target>(faults: &mut E, fault: &LogFault)
 }
 
 /// Returns the result without the meters.
-fn unmetered(answer: Result<Meters, LogFault>) -> Result<(), LogFault>
+fn discard_meters(answer: Result<Meters, LogFault>) -> Result<(), LogFault>
     ensures { result ≡ without_meters answer }
 {
     match answer {
@@ -67,14 +67,14 @@ impl ReplayMode {
         requires writes { T.failed writer.old < 2 ^ 64 - 1 }
         // For each history that leads to the session's state, this is the result that the definitions give for the
         // history.
-        ensures plays { (start : Start) (h : List OneInput) → StandsAfter session.old start h
+        ensures plays { (start : Start) (h : List OneInput) → IsStateAfter session.old start h
             → PlaysLog self start h S.left S.failed S.ended T.taken T.failed result session.new
             (reader.old, reader.new) (writer.old, writer.new) }
         ensures grown { OnlyAppends (T.taken writer.old) (T.taken writer.new) }
     {
         match self {
-            ReplayMode::Replay => unmetered(replay(reader, writer, session)),
-            ReplayMode::Live => unmetered(live(reader, writer, session)),
+            ReplayMode::Replay => discard_meters(replay(reader, writer, session)),
+            ReplayMode::Live => discard_meters(live(reader, writer, session)),
             ReplayMode::Check => check(reader, writer, session),
             ReplayMode::Quiet => quiet(reader, writer, session),
         }

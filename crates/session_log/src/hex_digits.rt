@@ -56,7 +56,7 @@ pub fn decode_digits(digits: &[u8], bytes: &mut [u8]) -> Option<()>
 }
 
 /// Decodes `2 * N` hexadecimal digits, in either case.
-pub fn read_bytes<const N: usize>(digits: &[u8]) -> Option<[u8; N]>
+pub fn decode_bytes<const N: usize>(digits: &[u8]) -> Option<[u8; N]>
     ensures { result ≡ bytes_of N digits.now }
 {
     let mut bytes = [0; N];

@@ -7,7 +7,7 @@ ghost use Rattle.token_session.specs.declared.input.Timed.{Timed as OneInput};
 ghost use Rattle.token_session.specs.Law.{append_inputs};
 ghost use Rattle.token_session.specs.Noise.{HasTicksForNoise};
 ghost use Rattle.session_log.specs.Check.{first_comparison, check_history};
-ghost use Rattle.session_log.specs.Grammar.{Spells};
+ghost use Rattle.session_log.specs.Grammar.{IsLogLineText};
 ghost use Rattle.session_log.specs.Groups.{IsFirstDifference, found_groups, input_lines, sent_groups};
 ghost use Rattle.session_log.specs.Inputs.{inputs};
 ghost use Rattle.session_log.specs.Lines.{lines};
@@ -19,14 +19,14 @@ ghost use Rattle.session_log.specs.declared.fault.LogFault.TheVariants.{Differs}
 
 /// States that parsing a line returns exactly what the grammar defines for it, and `None` if and only if the grammar
 /// doesn't allow the line.
-pub fn the_grammar_is_read()
-    ensures read { (line : List ℕ) (l : AnyLine) → (parsed line ≡ Some l) ↔ Spells line l }
-    ensures refused { (line : List ℕ) → (parsed line ≡ None) ↔ ((l : AnyLine) → ¬ Spells line l) }
+pub fn parsing_follows_the_grammar()
+    ensures read { (line : List ℕ) (l : AnyLine) → (parsed line ≡ Some l) ↔ IsLogLineText line l }
+    ensures refused { (line : List ℕ) → (parsed line ≡ None) ↔ ((l : AnyLine) → ¬ IsLogLineText line l) }
 {}
 
 /// States that a quiet log has the inputs of its original, with ticks in place of ignored inputs: if two histories are
 /// related in this way, so are the histories extended by the two logs.
-pub fn a_log_made_quiet_is_quiet()
+pub fn quiet_logs_have_ticks_for_noise()
     ensures { (start : Start) (h g : List OneInput) (bytes : List ℕ)
         → (play_all (quiet_history start) h bytes).fault ≡ None → HasTicksForNoise start h g
         → HasTicksForNoise start (append_inputs (inputs (lines bytes)) h)
@@ -34,7 +34,7 @@ pub fn a_log_made_quiet_is_quiet()
 {}
 
 /// States that making a quiet log quiet again, after the same history, gives the same text, without an error.
-pub fn a_quiet_log_stays_as_it_is()
+pub fn making_quiet_is_idempotent()
     ensures faultless { (start : Start) (h : List OneInput) (bytes : List ℕ)
         → (play_all (quiet_history start) h bytes).fault ≡ None
         → (play_all (quiet_history start) h (play_all (quiet_history start) h bytes).text).fault ≡ None }
@@ -46,7 +46,7 @@ pub fn a_quiet_log_stays_as_it_is()
 
 /// States that in a log without differences, the packets before the first input and after each input are exactly
 /// those that are defined for the history, and the counts are the numbers of its inputs and packets.
-pub fn a_checked_log_has_what_is_sent()
+pub fn checked_logs_have_the_sent_packets()
     ensures same { (start : Start) (h : List OneInput) (bytes : List ℕ)
         → fault_of (check_history start) (play_all (check_history start) (first_comparison h) bytes) ≡ None
         → found_groups (lines bytes) ≡ [] ∷ sent_groups (history_course start) h (inputs (lines bytes)) }
@@ -63,7 +63,7 @@ pub fn a_checked_log_has_what_is_sent()
 
 /// States that a reported difference is the first position at which the log's packets differ from those that are
 /// defined for the history.
-pub fn a_difference_is_the_first()
+pub fn differences_are_the_first()
     ensures { (start : Start) (h : List OneInput) (bytes : List ℕ) (line packet : ℕ)
         → fault_of (check_history start) (play_all (check_history start) (first_comparison h) bytes) ≡ Some (Differs line packet)
         → IsFirstDifference (found_groups (lines bytes))
@@ -72,7 +72,7 @@ pub fn a_difference_is_the_first()
 
 /// States that exactly the last of the lines that report a need begins with `# need `. The bytes to sign are split into
 /// pieces of at most 96 bytes; concatenated, these are the bytes to sign.
-pub fn what_is_needed_is_said_once()
+pub fn needs_are_reported_once()
     ensures last { (n : Needed) → (before : List (List ℕ)) × (last : List ℕ) × (need_lines n ≡ before ++ last ∷ [])
         × (reports_need last ≡ true) × All (λ line. reports_need line ≡ false) before }
     ensures joined { (bytes : List ℕ) → flat_map (λ piece. piece) (pieces_of bytes) ≡ bytes }

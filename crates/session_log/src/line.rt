@@ -4,7 +4,7 @@ ghost use Rattle.std.specs.Str.Parse.{AllDigits, digits_value};
 ghost use Rattle.session_log.specs.Letters.{space};
 ghost use Rattle.session_log.specs.Parsed.{first_field, input_by, input_line, key_of, parsed_new_key, moment, parsed_presence, parsed, line_of_kind, sent_line, signature_of, parsed_signature, tick_line, timed_line};
 
-use crate::hex_digits::{decode_digits, read_bytes};
+use crate::hex_digits::{decode_digits, decode_bytes};
 use authn_core::{NewKey, Presence, Signature};
 use hid_packet::Packet;
 use memchr::memchr;
@@ -37,7 +37,7 @@ enum LineKind<'a> {
 }
 
 /// Parses decimal digits, with any leading zeros, as a number below 2^64.
-fn read_digits(digits: &[u8]) -> Option<u64>
+fn parse_digits(digits: &[u8]) -> Option<u64>
     ensures { SomeIff result (AllDigits 10 digits.now × (digits_value 10 digits.now ≤ 2 ^ 64 - 1))
         (digits_value 10 digits.now) }
 {
@@ -57,13 +57,13 @@ fn is_padded(digits: &[u8]) -> bool
 }
 
 /// Parses a decimal number below 2^64 without leading zeros.
-fn read_moment(digits: &[u8]) -> Option<u64>
+fn parse_time(digits: &[u8]) -> Option<u64>
     ensures { result ≡ moment digits.now }
 {
     if digits.is_empty() || is_padded(digits) {
         return None;
     }
-    read_digits(digits)
+    parse_digits(digits)
 }
 
 /// Returns the index of the first space.
@@ -84,7 +84,7 @@ fn split_field(fields: &[u8]) -> Option<(&[u8], &[u8])>
 }
 
 /// Parses a user presence reply.
-fn read_presence(word: &[u8]) -> Option<Input>
+fn parse_presence(word: &[u8]) -> Option<Input>
     ensures { result ≡ parsed_presence word.now }
 {
     if word == b"granted".as_slice() {
@@ -99,31 +99,31 @@ fn read_presence(word: &[u8]) -> Option<Input>
 }
 
 /// Parses a new key pair: credential ID, x and y coordinates.
-fn read_new_key(fields: &[u8]) -> Option<NewKey>
+fn parse_new_key(fields: &[u8]) -> Option<NewKey>
     ensures { result ≡ key_of fields.now }
 {
     let (id, coordinates) = split_field(fields)?;
     let (x, y) = split_field(coordinates)?;
     Some(NewKey {
-        id: read_bytes(id)?,
-        x: read_bytes(x)?,
-        y: read_bytes(y)?,
+        id: decode_bytes(id)?,
+        x: decode_bytes(x)?,
+        y: decode_bytes(y)?,
     })
 }
 
 /// Parses the reply to a key request: a new key pair or a refusal.
-fn read_key(field: &[u8]) -> Option<Input>
+fn parse_key_reply(field: &[u8]) -> Option<Input>
     ensures { result ≡ parsed_new_key field.now }
 {
     if field == b"no".as_slice() {
         return Some(Input::Key(None));
     }
-    let key = read_new_key(field)?;
+    let key = parse_new_key(field)?;
     Some(Input::Key(Some(key)))
 }
 
 /// Parses the digits of a signature. `out` has the signature's length.
-fn read_into(digits: &[u8], out: &mut [u8]) -> Option<Signature>
+fn parse_signature_into(digits: &[u8], out: &mut [u8]) -> Option<Signature>
     requires { length out.old ≡ length digits.now / 2 }
     ensures { result ≡ signature_of digits.now }
 {
@@ -132,7 +132,7 @@ fn read_into(digits: &[u8], out: &mut [u8]) -> Option<Signature>
 }
 
 /// Parses the digits of a signature.
-fn read_signature_bytes(digits: &[u8]) -> Option<Signature>
+fn parse_signature(digits: &[u8]) -> Option<Signature>
     ensures { result ≡ signature_of digits.now }
 {
     let mut bytes = [0; 72];
@@ -140,45 +140,45 @@ fn read_signature_bytes(digits: &[u8]) -> Option<Signature>
     if len > bytes.len() {
         return None;
     }
-    read_into(digits, &mut bytes[..len])
+    parse_signature_into(digits, &mut bytes[..len])
 }
 
 /// Parses the reply to a signature request: a signature or a refusal.
-fn read_signature(field: &[u8]) -> Option<Input>
+fn parse_signature_reply(field: &[u8]) -> Option<Input>
     ensures { result ≡ parsed_signature field.now }
 {
     if field == b"no".as_slice() {
         return Some(Input::Signature(None));
     }
-    let signature = read_signature_bytes(field)?;
+    let signature = parse_signature(field)?;
     Some(Input::Signature(Some(signature)))
 }
 
 /// Parses the field after the timestamp, by the line's letter.
-fn read_input(letter: u8, field: &[u8]) -> Option<Input>
+fn parse_input(letter: u8, field: &[u8]) -> Option<Input>
     ensures { result ≡ input_by letter field.now }
 {
     match letter {
-        b'>' => Some(Input::Packet(Packet(read_bytes(field)?))),
-        b'p' => read_presence(field),
-        b'k' => read_key(field),
-        b's' => read_signature(field),
+        b'>' => Some(Input::Packet(Packet(decode_bytes(field)?))),
+        b'p' => parse_presence(field),
+        b'k' => parse_key_reply(field),
+        b's' => parse_signature_reply(field),
         _ => None,
     }
 }
 
 /// Parses the packet of a `<` line.
-fn read_packet(field: &[u8]) -> Option<Packet>
+fn parse_packet(field: &[u8]) -> Option<Packet>
     ensures { MatchOption result (sent_line field.now ≡ None) (λ packet. sent_line field.now ≡ Some (Line.Sent packet)) }
 {
-    Some(Packet(read_bytes(field)?))
+    Some(Packet(decode_bytes(field)?))
 }
 
 /// Parses the timestamp of a `t` line.
-fn read_tick(field: &[u8]) -> Option<Timed>
+fn parse_tick(field: &[u8]) -> Option<Timed>
     ensures { MatchOption result (tick_line field.now ≡ None) (λ timed. tick_line field.now ≡ Some (Line.Input timed)) }
 {
-    let at = read_moment(field)?;
+    let at = parse_time(field)?;
     Some(Timed {
         at,
         input: Input::Tick,
@@ -188,29 +188,29 @@ fn read_tick(field: &[u8]) -> Option<Timed>
 /// Parses the timestamp and the input of a line other than a tick.
 // Not inlined, so that parsing ticks and comments needs little stack.
 #[inline(never)]
-fn read_other(letter: u8, fields: &[u8]) -> Option<Timed>
+fn parse_other_input(letter: u8, fields: &[u8]) -> Option<Timed>
     ensures { MatchOption result (input_line letter fields.now ≡ None)
         (λ timed. input_line letter fields.now ≡ Some (Line.Input timed)) }
 {
     let (moment, field) = split_field(fields)?;
-    let at = read_moment(moment)?;
-    let input = read_input(letter, field)?;
+    let at = parse_time(moment)?;
+    let input = parse_input(letter, field)?;
     Some(Timed { at, input })
 }
 
 /// Parses the fields of an input line with this letter.
-fn read_timed(letter: u8, fields: &[u8]) -> Option<Timed>
+fn parse_timed(letter: u8, fields: &[u8]) -> Option<Timed>
     ensures { MatchOption result (timed_line letter fields.now ≡ None)
         (λ timed. timed_line letter fields.now ≡ Some (Line.Input timed)) }
 {
     match letter {
-        b't' => read_tick(fields),
-        _ => read_other(letter, fields),
+        b't' => parse_tick(fields),
+        _ => parse_other_input(letter, fields),
     }
 }
 
 /// Returns the kind of a line, given without its line feed, if it begins like a log line.
-fn kind_of(line: &[u8]) -> Option<LineKind<'_>>
+fn line_kind(line: &[u8]) -> Option<LineKind<'_>>
     ensures { MatchOption result (parsed line.now ≡ None) (λ kind. parsed line.now ≡ line_of_kind kind) }
 {
     match line {
@@ -223,12 +223,12 @@ fn kind_of(line: &[u8]) -> Option<LineKind<'_>>
 }
 
 /// Parses a line, given without its line feed. Returns `None` if it isn't a log line.
-pub fn read_line(line: &[u8]) -> Option<Line>
+pub fn parse_line(line: &[u8]) -> Option<Line>
     ensures { result ≡ parsed line.now }
 {
-    match kind_of(line)? {
-        LineKind::Input(letter, fields) => Some(Line::Input(read_timed(letter, fields)?)),
-        LineKind::Sent(field) => Some(Line::Sent(read_packet(field)?)),
+    match line_kind(line)? {
+        LineKind::Input(letter, fields) => Some(Line::Input(parse_timed(letter, fields)?)),
+        LineKind::Sent(field) => Some(Line::Sent(parse_packet(field)?)),
         LineKind::Comment => Some(Line::Comment),
         LineKind::Count => Some(Line::Count),
     }

@@ -10,7 +10,7 @@ use crate::source::Source;
 use crate::window::Window;
 
 /// Maximum number of lines of a log.
-const MOST_LINES: u64 = 0xFFFF_FFFF;
+const MAX_LINES: u64 = 0xFFFF_FFFF;
 
 /// Returns whether a line beyond the maximum number begins in the window.
 fn is_too_many(window: &Window, number: u64) -> bool
@@ -20,7 +20,7 @@ fn is_too_many(window: &Window, number: u64) -> bool
     ensures fits { length window.now ≤ 256 }
 {
     let held = window.len();
-    number > MOST_LINES && held > 0
+    number > MAX_LINES && held > 0
 }
 
 /// Reads until the window begins with a complete line, line `number`, and returns its length without the line feed. At

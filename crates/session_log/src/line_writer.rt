@@ -4,10 +4,10 @@ ghost use Rattle.std.specs.Io.KnownBytes.{Appends};
 ghost use Rattle.hex.specs.Hex.{encode_lower};
 ghost use Rattle.authn_core.specs.Needs.{IsNeed};
 ghost use Rattle.authn_core.specs.Views.{needed_reply};
-ghost use Rattle.session_log.specs.declared.line_writer.TheConstants.{LONGEST, PIECE, SENT_LINE};
+ghost use Rattle.session_log.specs.declared.line_writer.TheConstants.{MAX_TEXT_LEN, MAX_SIGNED_PER_LINE, SENT_LINE};
 ghost use Rattle.session_log.specs.Needs.{need_lines, pieces_of, signature_line, signed_line};
 ghost use Rattle.session_log.specs.Sent.{FitsMeters};
-ghost use Rattle.session_log.specs.Text.{ArePackets, IsPacket, ended, sent_text, tick_text, meters_line, same_line};
+ghost use Rattle.session_log.specs.Text.{ArePackets, IsPacket, with_line_feed, sent_text, tick_text, meters_line, same_line};
 ghost use Rattle.session_log.specs.Streams.{PutsLine};
 
 use crate::fault::LogFault;
@@ -24,18 +24,18 @@ const SENT_LINE: usize = 131;
 
 /// Maximum number of bytes that are written for one line: the line with its line feed, the lines of 130 packets, and
 /// the lines of a need. The longest need has 196 bytes to sign: three lines, and the line of the credential.
-const LONGEST: usize = 255 + 1 + 130 * SENT_LINE + 504;
+const MAX_TEXT_LEN: usize = 255 + 1 + 130 * SENT_LINE + 504;
 
 /// Maximum number of bytes to sign on one line.
-const PIECE: usize = 96;
+const MAX_SIGNED_PER_LINE: usize = 96;
 
 /// The text written for one line of the log.
-pub type Text = ArrayVec<u8, LONGEST>;
+pub type Text = ArrayVec<u8, MAX_TEXT_LEN>;
 
 /// Appends a line and its line feed.
 fn push_line(text: &mut Text, line: &[u8])
-    requires { length text.old.items + length line.now < LONGEST }
-    ensures { text.new.items ≡ text.old.items ++ ended line.now }
+    requires { length text.old.items + length line.now < MAX_TEXT_LEN }
+    ensures { text.new.items ≡ text.old.items ++ with_line_feed line.now }
 {
     let _ = text.try_extend_from_slice(line);
     text.push(b'\n');
@@ -43,7 +43,7 @@ fn push_line(text: &mut Text, line: &[u8])
 
 /// Appends the line of a packet that was sent.
 fn push_packet(text: &mut Text, packet: Packet)
-    requires { length text.old.items + SENT_LINE ≤ LONGEST }
+    requires { length text.old.items + SENT_LINE ≤ MAX_TEXT_LEN }
     ensures text { text.new.items ≡ text.old.items ++ sent_text packet.0 }
     ensures short { length text.new.items ≤ length text.old.items + SENT_LINE }
     ensures packet { IsPacket packet.0 }
@@ -57,7 +57,7 @@ fn push_packet(text: &mut Text, packet: Packet)
 
 /// Appends the lines of the packets in the outbox, and empties it.
 fn push_packets(text: &mut Text, outbox: &mut Outbox)
-    requires { length text.old.items + SENT_LINE * length outbox.old ≤ LONGEST }
+    requires { length text.old.items + SENT_LINE * length outbox.old ≤ MAX_TEXT_LEN }
     ensures text { text.new.items ≡ text.old.items ++ flat_map sent_text outbox.old }
     ensures short { length text.new.items ≤ length text.old.items + SENT_LINE * length outbox.old }
     ensures empty { outbox.new ≡ [] }
@@ -70,12 +70,12 @@ fn push_packets(text: &mut Text, outbox: &mut Outbox)
 
 /// Appends bytes as hexadecimal digits.
 fn push_digits(text: &mut Text, bytes: &[u8])
-    requires few { length bytes.now ≤ PIECE }
-    requires space { length text.old.items + 2 * length bytes.now ≤ LONGEST }
+    requires few { length bytes.now ≤ MAX_SIGNED_PER_LINE }
+    requires space { length text.old.items + 2 * length bytes.now ≤ MAX_TEXT_LEN }
     ensures text { text.new.items ≡ text.old.items ++ encode_lower bytes.now }
     ensures short { length text.new.items ≤ length text.old.items + 2 * length bytes.now }
 {
-    let mut digits = [0; 2 * PIECE];
+    let mut digits = [0; 2 * MAX_SIGNED_PER_LINE];
     let used = digits.split_at_mut(2 * bytes.len()).0;
     encode_digits(bytes, used);
     let _ = text.try_extend_from_slice(used);
@@ -83,9 +83,9 @@ fn push_digits(text: &mut Text, bytes: &[u8])
 
 /// Appends a line with a piece of the bytes to sign.
 fn push_piece(text: &mut Text, piece: &[u8])
-    requires few { length piece.now ≤ PIECE }
-    requires space { length text.old.items + 10 + 2 * length piece.now ≤ LONGEST }
-    ensures text { text.new.items ≡ text.old.items ++ ended (signed_line piece.now) }
+    requires few { length piece.now ≤ MAX_SIGNED_PER_LINE }
+    requires space { length text.old.items + 10 + 2 * length piece.now ≤ MAX_TEXT_LEN }
+    ensures text { text.new.items ≡ text.old.items ++ with_line_feed (signed_line piece.now) }
     ensures short { length text.new.items ≤ length text.old.items + 10 + 2 * length piece.now }
 {
     let _ = text.try_extend_from_slice(b"# signed ");
@@ -96,13 +96,13 @@ fn push_piece(text: &mut Text, piece: &[u8])
 /// Appends the lines of the bytes to sign.
 fn push_signed(text: &mut Text, signed: &[u8])
     requires few { length signed.now ≤ 196 }
-    requires space { length text.old.items + 422 ≤ LONGEST }
-    ensures text { text.new.items ≡ text.old.items ++ flat_map ended (map signed_line (pieces_of signed.now)) }
+    requires space { length text.old.items + 422 ≤ MAX_TEXT_LEN }
+    ensures text { text.new.items ≡ text.old.items ++ flat_map with_line_feed (map signed_line (pieces_of signed.now)) }
     ensures short { length text.new.items ≤ length text.old.items + 422 }
 {
     let mut rest = signed;
     while !rest.is_empty() {
-        let len = PIECE.min(rest.len());
+        let len = MAX_SIGNED_PER_LINE.min(rest.len());
         push_piece(text, rest.split_at(len).0);
         rest = rest.split_at(len).1;
     }
@@ -110,8 +110,8 @@ fn push_signed(text: &mut Text, signed: &[u8])
 
 /// Appends the line that names the signing credential.
 fn push_signature(text: &mut Text, id: &[u8; 32])
-    requires { length text.old.items + 82 ≤ LONGEST }
-    ensures { text.new.items ≡ text.old.items ++ ended (signature_line id.now) }
+    requires { length text.old.items + 82 ≤ MAX_TEXT_LEN }
+    ensures { text.new.items ≡ text.old.items ++ with_line_feed (signature_line id.now) }
 {
     let _ = text.try_extend_from_slice(b"# need signature ");
     push_digits(text, id);
@@ -121,8 +121,8 @@ fn push_signature(text: &mut Text, id: &[u8; 32])
 /// Appends the lines of a need.
 fn push_need(text: &mut Text, need: Need<'_>)
     requires sized { IsNeed (needed_reply need) }
-    requires space { length text.old.items + 504 ≤ LONGEST }
-    ensures { text.new.items ≡ text.old.items ++ flat_map ended (need_lines (needed_reply need.entry)) }
+    requires space { length text.old.items + 504 ≤ MAX_TEXT_LEN }
+    ensures { text.new.items ≡ text.old.items ++ flat_map with_line_feed (need_lines (needed_reply need.entry)) }
 {
     match need {
         Need::None => push_line(text, b"# need nothing"),
@@ -137,7 +137,7 @@ fn push_need(text: &mut Text, need: Need<'_>)
 
 /// Appends a word and a number.
 fn push_count(text: &mut Text, word: &[u8], count: u64)
-    requires { length text.old.items + length word.now + 20 ≤ LONGEST }
+    requires { length text.old.items + length word.now + 20 ≤ MAX_TEXT_LEN }
     ensures text { text.new.items ≡ text.old.items ++ word.now ++ decimal count }
     ensures short { length text.new.items ≤ length text.old.items + length word.now + 20 }
 {
@@ -148,7 +148,7 @@ fn push_count(text: &mut Text, word: &[u8], count: u64)
 }
 
 /// Assembles the last line of a log, which has the meters.
-fn gather_meters(text: &mut Text, meters: Meters)
+fn push_meters(text: &mut Text, meters: Meters)
     ensures text { text.new.items ≡ meters_line meters }
     ensures fits { FitsMeters meters }
 {
@@ -173,7 +173,7 @@ pub fn put_text<T: Target>(writer: &mut T, text: &[u8]) -> Result<(), LogFault>
 /// Writes the line of a tick.
 pub fn put_tick<T: Target>(writer: &mut T, text: &mut Text, at: u64) -> Result<(), LogFault>
     requires { T.failed writer.old < 2 ^ 64 - 1 }
-    ensures { PutsLine T.taken T.failed (writer.old, writer.new) (ended (tick_text at)) result }
+    ensures { PutsLine T.taken T.failed (writer.old, writer.new) (with_line_feed (tick_text at)) result }
 {
     text.clear();
     push_count(text, b"t ", at);
@@ -220,7 +220,7 @@ pub fn put_response<T: Target>(
     requires few { length sent.old ≤ 130 }
     requires sized { IsNeed (needed_reply need) }
     ensures puts { PutsLine T.taken T.failed (writer.old, writer.new)
-        (line.now ++ flat_map sent_text sent.old ++ flat_map ended (need_lines (needed_reply need.entry))) result }
+        (line.now ++ flat_map sent_text sent.old ++ flat_map with_line_feed (need_lines (needed_reply need.entry))) result }
     ensures empty { sent.new ≡ [] }
     ensures packets { ArePackets sent.old }
 {
@@ -241,7 +241,7 @@ pub fn put_meters<T: Target>(
     ensures puts { PutsLine T.taken T.failed (writer.old, writer.new) (meters_line meters) result }
     ensures fits { FitsMeters meters }
 {
-    gather_meters(text, meters);
+    push_meters(text, meters);
     put_text(writer, text.as_slice())
 }
 

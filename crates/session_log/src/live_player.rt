@@ -7,13 +7,13 @@ ghost use Rattle.session_log.specs.Replay.{Logs, Plays, ReadsTo, Writes};
 ghost use Rattle.session_log.specs.Session.{live_history, live_machine, Repeats, RepeatsIn};
 ghost use Rattle.token_session.specs.declared.input.Timed.{Timed as OneInput};
 ghost use Rattle.authn_core.specs.Turn.{Start};
-ghost use Rattle.token_session.specs.Meters.{SessionState, StandsAfter};
-ghost use Rattle.session_log.specs.Streams.{Counts, IsAtEndOfInput, Moves};
+ghost use Rattle.token_session.specs.Meters.{SessionState, IsStateAfter};
+ghost use Rattle.session_log.specs.Streams.{Counts, IsAtEndOfInput, ReadsAndWrites};
 
 use crate::fault::LogFault;
 use crate::line::Line;
 use crate::line_writer::{Text, put_meters, put_response, put_text};
-use crate::player::{Player, play_lines, play_log};
+use crate::player::{Player, process_lines, process_log};
 use crate::replay_player::meters_of;
 use crate::source::Source;
 use crate::target::Target;
@@ -97,22 +97,22 @@ impl<const C: usize> Player<C> for LivePlayer {
 /// Allocates nothing.
 ///
 /// Fails like [`live`], with line numbers from 1 in these lines.
-pub fn play_live_lines<S: Source, T: Target, const C: usize>(
+pub fn process_live_lines<S: Source, T: Target, const C: usize>(
     reader: &mut S,
     writer: &mut T,
     session: &mut Session<C>,
 ) -> Result<(), LogFault>
     requires read { S.failed reader.old < 2 ^ 64 - 1 }
     requires write { T.failed writer.old < 2 ^ 64 - 1 }
-    ensures played { Moves (S.left reader.old) (S.left reader.new) (T.taken writer.old) (T.taken writer.new)
+    ensures played { ReadsAndWrites (S.left reader.old) (S.left reader.new) (T.taken writer.old) (T.taken writer.new)
         (λ bytes text. Plays live_machine session.old session.new bytes text (ending_of result)) }
     ensures end { OnOk result (IsAtEndOfInput S.left S.ended reader.new) }
     ensures reach { ReadsTo live_machine session.old (S.left reader.old) (S.left reader.new)
         (IsAtEndOfInput S.left S.ended reader.new) (ending_of result) }
     // For each history that leads to the session's state, this is the result that the definitions give for the history.
-    ensures history { (start : Start) (h : List OneInput) → StandsAfter session.old start h
-        → (later : List OneInput) × StandsAfter session.new start later
-        × Moves (S.left reader.old) (S.left reader.new) (T.taken writer.old) (T.taken writer.new)
+    ensures history { (start : Start) (h : List OneInput) → IsStateAfter session.old start h
+        → (later : List OneInput) × IsStateAfter session.new start later
+        × ReadsAndWrites (S.left reader.old) (S.left reader.new) (T.taken writer.old) (T.taken writer.new)
         (λ bytes text. Writes (live_history start) h later bytes text (ending_of result))
         × ReadsTo (live_history start) h (S.left reader.old) (S.left reader.new)
         (IsAtEndOfInput S.left S.ended reader.new) (ending_of result) }
@@ -120,7 +120,7 @@ pub fn play_live_lines<S: Source, T: Target, const C: usize>(
     ensures writes { Counts T.failed (writer.old, writer.new) (write_fails (ending_of result)) }
 {
     let mut player = LivePlayer::new();
-    play_lines(&mut player, reader, writer, session)
+    process_lines(&mut player, reader, writer, session)
 }
 
 /// Replays a log on a session like [`crate::replay`], and writes after the packets of each input line what the session
@@ -145,12 +145,12 @@ pub fn live<S: Source, T: Target, const C: usize>(
     // So does replaying it on an equal session.
     ensures replays { OnOk result (Repeats (T.taken writer.old) (T.taken writer.new) session.old) }
     // For each history that leads to the session's state, this is the result that the definitions give for the history.
-    ensures history { (start : Start) (h : List OneInput) → StandsAfter session.old start h
-        → (later : List OneInput) × StandsAfter session.new start later
+    ensures history { (start : Start) (h : List OneInput) → IsStateAfter session.old start h
+        → (later : List OneInput) × IsStateAfter session.new start later
         × PlaysThrough (live_history start) h (λ bytes text. Logs (live_history start) h later bytes text result)
         S.left S.failed S.ended T.taken T.failed result (reader.old, reader.new) (writer.old, writer.new) }
 {
     let mut player = LivePlayer::new();
-    play_log(&mut player, reader, writer, session)?;
+    process_log(&mut player, reader, writer, session)?;
     Ok(meters_of(session))
 }

@@ -2,11 +2,11 @@
 ghost use Rattle.std.specs.Prelude.{◌≡◌, ◌<◌, ◌≤◌, ◌+◌, ◌-◌, ◌^◌, ℕ, length, take, drop, IfErr, OnOk};
 ghost use Rattle.session_log.specs.Command.{PlaysThrough};
 ghost use Rattle.session_log.specs.Ending.{ending_of};
-ghost use Rattle.session_log.specs.Replay.{IsOfLine, PlaysWholeLogWithMeters, Plays, PlaysLine};
-ghost use Rattle.session_log.specs.Text.{ended};
+ghost use Rattle.session_log.specs.Replay.{IsLineFault, PlaysWholeLogWithMeters, Plays, PlaysLine};
+ghost use Rattle.session_log.specs.Text.{with_line_feed};
 
 use crate::fault::LogFault;
-use crate::line::{Line, read_line};
+use crate::line::{Line, parse_line};
 use crate::line_reader::next_line;
 use crate::source::Source;
 use crate::target::Target;
@@ -17,17 +17,17 @@ use token_session::Session;
 pub trait Player<const C: usize> {
     ghost use Rattle.std.specs.Prelude.{◌≡◌, ◌<◌, ◌≤◌, ◌+◌, ◌-◌, ◌^◌, ℕ, length, Some, OnOk, IfErr};
     ghost use Rattle.session_log.specs.Ending.{ending_of};
-    ghost use Rattle.session_log.specs.Replay.{Closes, IsOfEnd, IsOfLine, PlaysLine};
+    ghost use Rattle.session_log.specs.Replay.{Closes, IsEndFault, IsLineFault, PlaysLine};
     ghost use Rattle.session_log.specs.Parsed.{parsed};
-    ghost use Rattle.session_log.specs.Text.{ended};
-    ghost use Rattle.session_log.specs.World.{World};
+    ghost use Rattle.session_log.specs.Text.{with_line_feed};
+    ghost use Rattle.session_log.specs.World.{LineSemantics};
     ghost use Rattle.token_session.specs.Meters.{SessionState};
 
     /// The type of the states between lines, in contracts.
     ghost State: { Type 0 };
 
     /// The definition of what the command does with each line.
-    ghost world: { World State };
+    ghost world: { LineSemantics State };
 
     /// The state after the lines so far.
     ghost state: { Self → SessionState → State };
@@ -49,12 +49,12 @@ pub trait Player<const C: usize> {
         requires write { T.failed writer.old < 2 ^ 64 - 1 }
         requires means { parsed line.now ≡ Some meaning }
         requires short { length line.now < 256 }
-        requires ended { text.now ≡ ended line.now }
+        requires with_line_feed { text.now ≡ with_line_feed line.now }
         requires few { number < 2 ^ 32 }
         requires ready { IsReady self.old number }
         ensures played { PlaysLine world T.taken T.failed number (state self.old session.old)
             (state self.new session.new) line.now (writer.old, writer.new) (ending_of result) }
-        ensures own { IfErr result (IsOfLine number) }
+        ensures own { IfErr result (IsLineFault number) }
         ensures next { OnOk result (IsReady self.new (number + 1)) };
 
     /// Writes the text after the last line.
@@ -63,12 +63,12 @@ pub trait Player<const C: usize> {
         requires ready { (n : ℕ) × (n ≤ 2 ^ 32) × IsReady self.old n }
         ensures closed { Closes world T.taken T.failed (state self.old session.now) (writer.old, writer.new)
             (ending_of result) }
-        ensures own { IfErr result IsOfEnd }
+        ensures own { IfErr result IsEndFault }
         ensures same { (s : SessionState) → state self.new s ≡ state self.old s };
 }
 
 /// Processes line `number` of a log, if it is a log line. An invalid line leaves the session unchanged.
-fn play_line<P: Player<C>, T: Target, const C: usize>(
+fn parse_and_process_line<P: Player<C>, T: Target, const C: usize>(
     player: &mut P,
     line: &[u8],
     text: &[u8],
@@ -78,22 +78,22 @@ fn play_line<P: Player<C>, T: Target, const C: usize>(
 ) -> Result<(), LogFault>
     requires write { T.failed writer.old < 2 ^ 64 - 1 }
     requires short { length line.now < 256 }
-    requires ended { text.now ≡ ended line.now }
+    requires with_line_feed { text.now ≡ with_line_feed line.now }
     requires few { number < 2 ^ 32 }
     requires ready { P.IsReady player.old number }
     ensures played { PlaysLine P.world T.taken T.failed number (P.state player.old session.old)
         (P.state player.new session.new) line.now (writer.old, writer.new) (ending_of result) }
-    ensures own { IfErr result (IsOfLine number) }
+    ensures own { IfErr result (IsLineFault number) }
     ensures next { OnOk result (P.IsReady player.new (number + 1)) }
 {
-    match read_line(line) {
+    match parse_line(line) {
         Some(meaning) => player.play(meaning, line, text, number, writer, session),
         None => Err(LogFault::BadLine(number)),
     }
 }
 
 /// Processes the first line of a window, which ends with its line feed, and removes it.
-fn play_first<P: Player<C>, T: Target, const C: usize>(
+fn process_first_line<P: Player<C>, T: Target, const C: usize>(
     player: &mut P,
     window: &mut Window,
     end: usize,
@@ -102,26 +102,26 @@ fn play_first<P: Player<C>, T: Target, const C: usize>(
     session: &mut Session<C>,
 ) -> Result<(), LogFault>
     requires write { T.failed writer.old < 2 ^ 64 - 1 }
-    requires whole { take (end + 1) window.old ≡ ended (take end window.old) }
+    requires whole { take (end + 1) window.old ≡ with_line_feed (take end window.old) }
     requires within { end < length window.old }
     requires short { length window.old ≤ 256 }
     requires few { number < 2 ^ 32 }
     requires ready { P.IsReady player.old number }
     ensures played { PlaysLine P.world T.taken T.failed number (P.state player.old session.old)
         (P.state player.new session.new) (take end window.old) (writer.old, writer.new) (ending_of result) }
-    ensures own { IfErr result (IsOfLine number) }
+    ensures own { IfErr result (IsLineFault number) }
     ensures next { OnOk result (P.IsReady player.new (number + 1)) }
     ensures rest { window.new ≡ drop (end + 1) window.old }
 {
     let text = window.as_slice().split_at(end + 1).0;
-    let played = play_line(player, text.split_at(end).0, text, number, writer, session);
+    let played = parse_and_process_line(player, text.split_at(end).0, text, number, writer, session);
     window.drop_front(end + 1);
     played
 }
 
 /// Processes all lines of a reader, reading as needed: before a line is processed, at most that line and as much as
 /// fits into the window are read.
-pub fn play_lines<P: Player<C>, S: Source, T: Target, const C: usize>(
+pub fn process_lines<P: Player<C>, S: Source, T: Target, const C: usize>(
     player: &mut P,
     reader: &mut S,
     writer: &mut T,
@@ -139,7 +139,7 @@ pub fn play_lines<P: Player<C>, S: Source, T: Target, const C: usize>(
     let mut window = Window::new();
     let mut number = 1;
     'lines: while let Some(end) = next_line(&mut window, reader, number)? {
-        play_first(player, &mut window, end, number, writer, session)?;
+        process_first_line(player, &mut window, end, number, writer, session)?;
         number += 1;
     }
     if window.is_empty() {
@@ -148,11 +148,11 @@ pub fn play_lines<P: Player<C>, S: Source, T: Target, const C: usize>(
     // The last line has no line feed.
     let end = window.len();
     window.end_line();
-    play_first(player, &mut window, end, number, writer, session)
+    process_first_line(player, &mut window, end, number, writer, session)
 }
 
 /// Processes all lines of a reader, and writes the text after the last line.
-pub fn play_log<P: Player<C>, S: Source, T: Target, const C: usize>(
+pub fn process_log<P: Player<C>, S: Source, T: Target, const C: usize>(
     player: &mut P,
     reader: &mut S,
     writer: &mut T,
@@ -165,6 +165,6 @@ pub fn play_log<P: Player<C>, S: Source, T: Target, const C: usize>(
         (λ bytes text. PlaysWholeLogWithMeters P.world (P.state player.old session.old) (P.state player.new session.new) bytes text
         result) S.left S.failed S.ended T.taken T.failed result (reader.old, reader.new) (writer.old, writer.new) }
 {
-    play_lines(player, reader, writer, session)?;
+    process_lines(player, reader, writer, session)?;
     player.finish(writer, session)
 }

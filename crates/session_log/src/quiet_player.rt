@@ -7,12 +7,12 @@ ghost use Rattle.session_log.specs.Replay.{PlaysWholeLog};
 ghost use Rattle.session_log.specs.Session.{quiet_history, quiet_machine};
 ghost use Rattle.token_session.specs.declared.input.Timed.{Timed as OneInput};
 ghost use Rattle.authn_core.specs.Turn.{Start};
-ghost use Rattle.token_session.specs.Meters.{SessionState, StandsAfter};
+ghost use Rattle.token_session.specs.Meters.{SessionState, IsStateAfter};
 
 use crate::fault::LogFault;
 use crate::line::Line;
 use crate::line_writer::{Text, put_text, put_tick};
-use crate::player::{Player, play_log};
+use crate::player::{Player, process_log};
 use crate::source::Source;
 use crate::target::Target;
 use hid_packet::Outbox;
@@ -105,10 +105,10 @@ pub fn quiet<S: Source, T: Target, const C: usize>(
         (λ bytes text. PlaysWholeLog quiet_machine session.old session.new bytes text (ending_of result)) S.left S.failed S.ended
         T.taken T.failed result (reader.old, reader.new) (writer.old, writer.new) }
     // For each history that leads to the session's state, this is the result that the definitions give for the history.
-    ensures history { (start : Start) (h : List OneInput) → StandsAfter session.old start h
+    ensures history { (start : Start) (h : List OneInput) → IsStateAfter session.old start h
         → PlaysLog commands.Quiet start h S.left S.failed S.ended T.taken T.failed result session.new (reader.old, reader.new)
         (writer.old, writer.new) }
 {
     let mut player = QuietPlayer::new();
-    play_log(&mut player, reader, writer, session)
+    process_log(&mut player, reader, writer, session)
 }

@@ -6,12 +6,12 @@ ghost use Rattle.session_log.specs.Sent.{FitsMeters};
 ghost use Rattle.session_log.specs.Session.{history, machine, exchange_history, Repeats};
 ghost use Rattle.token_session.specs.declared.input.Timed.{Timed as OneInput};
 ghost use Rattle.authn_core.specs.Turn.{Start};
-ghost use Rattle.token_session.specs.Meters.{FollowsFrom, SessionState, StandsAfter};
+ghost use Rattle.token_session.specs.Meters.{IsStateAfterValidStart, SessionState, IsStateAfter};
 
 use crate::fault::LogFault;
 use crate::line::Line;
 use crate::line_writer::{Text, put_input, put_meters, put_text};
-use crate::player::{Player, play_log};
+use crate::player::{Player, process_log};
 use crate::source::Source;
 use crate::target::Target;
 use hid_packet::Outbox;
@@ -103,19 +103,19 @@ pub fn replay<S: Source, T: Target, const C: usize>(
     // Replaying the output on an equal session gives the same output.
     ensures again { OnOk result (Repeats (T.taken writer.old) (T.taken writer.new) session.old) }
     // For each history that leads to the session's state, this is the result that the definitions give for the history.
-    ensures history { (start : Start) (h : List OneInput) → StandsAfter session.old start h
-        → (later : List OneInput) × StandsAfter session.new start later
+    ensures history { (start : Start) (h : List OneInput) → IsStateAfter session.old start h
+        → (later : List OneInput) × IsStateAfter session.new start later
         × PlaysThrough (history start) h (λ bytes text. Logs (history start) h later bytes text result)
         S.left S.failed S.ended T.taken T.failed result (reader.old, reader.new) (writer.old, writer.new) }
     // So it is by the definitions on events and responses, without an authenticator's state, if the history's start is
     // valid.
-    ensures told { (start : Start) (h : List OneInput) → FollowsFrom session.old start h
-        → (later : List OneInput) × FollowsFrom session.new start later
+    ensures told { (start : Start) (h : List OneInput) → IsStateAfterValidStart session.old start h
+        → (later : List OneInput) × IsStateAfterValidStart session.new start later
         × PlaysThrough (exchange_history start) h (λ bytes text. Logs (exchange_history start) h later bytes text result)
         S.left S.failed S.ended T.taken T.failed result (reader.old, reader.new) (writer.old, writer.new) }
 {
     answers_follow_history();
     let mut player = ReplayPlayer::new();
-    play_log(&mut player, reader, writer, session)?;
+    process_log(&mut player, reader, writer, session)?;
     Ok(meters_of(session))
 }

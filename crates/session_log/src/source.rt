@@ -1,7 +1,7 @@
 //! Sources of a log's bytes.
 ghost use Rattle.std.specs.Prelude.{◌≡◌, ◌<◌, ◌≤◌, ◌+◌, ◌-◌, ◌^◌, [], ◌∷◌, ◌++◌, List, ℕ, Option, Some, length, take, drop, min, is_ok, if◌then◌else◌, ◌||◌, Bool, true, false, Ok, IsTrue, IsOk, IfOk};
 ghost use Rattle.std.specs.Io.KnownBytes.{ReadConsumes};
-ghost use Rattle.session_log.specs.Streams.{gave_nothing};
+ghost use Rattle.session_log.specs.Streams.{is_empty_read};
 
 use crate::count_failures::CountFailures;
 use crate::fault::Failed;
@@ -24,7 +24,7 @@ pub trait Source {
         requires { failed self.old < 2 ^ 64 - 1 }
         ensures bound { IfOk result (λ n. n ≤ length out.new) }
         ensures bytes { ReadConsumes (left self.old) (left self.new) result out.new }
-        ensures end { ended self.new ≡ (ended self.old || gave_nothing result (length out.new)) }
+        ensures end { ended self.new ≡ (ended self.old || is_empty_read result (length out.new)) }
         ensures counted { failed self.new ≡ (if is_ok result then failed self.old else failed self.old + 1) };
 
     /// Returns the number of failed calls so far.
@@ -65,7 +65,7 @@ impl Source for SliceIn<'_> {
         ensures bound { IfOk result (λ n. n ≤ length out.new) }
         ensures bytes { ReadConsumes (Some self.old.rest.now) (Some self.new.rest.now)
             result out.new }
-        ensures end { self.new.ended ≡ (self.old.ended || gave_nothing result (length out.new)) }
+        ensures end { self.new.ended ≡ (self.old.ended || is_empty_read result (length out.new)) }
         ensures counted { 0 ≡ (if is_ok result then 0 else 0 + 1) }
         // Reads as many bytes as fit. The rest of the buffer is unchanged.
         ensures most { result ≡ Ok (min (length self.old.rest.now) (length out.old)) }

@@ -9,7 +9,7 @@ use Rattle.session_log.specs.Ending.{Done, Ending, Refused, Unread, Unwritten, e
 use Rattle.session_log.specs.{Ending.write_fails, Replay.ReadsTo}
 use Rattle.session_log.specs.{Lines.lines, Parsed.parsed, Sent.SendsPackets, Text.ended, declared.line.Line.Line}
 use Rattle.session_log.specs.{Replay.IsRefused, Replay.IsUnread, Replay.IsPlayed, Replay.IsUnwritten}
-use Rattle.session_log.specs.Log.{Played, fault_at, fault_by, log_of, played, with_text_before, text_by, text_of}
+use Rattle.session_log.specs.Log.{Played, fault_at, fault_by, log_of, played, with_text_before, text_by, line_text}
 use Rattle.session_log.specs.Window.{HasLine, IsUnfinished, Stops}
 use Rattle.session_log.specs.declared.fault.LogFault.{LogFault, TheVariants.Memory}
 use Rattle.session_log.specs.declared.fault.LogFault.TheVariants.{BadLine, TooLong, Differs, Read, Write, TooManyLines}
@@ -39,23 +39,23 @@ one_told shows m n (first ∷ more) t is all one = (all.0, one_told shows (m + 1
 
 -- the text of a line that isn't faulty is the line
 line_itself : (n : ℕ) (line : List ℕ) (o : Option Line) → fault_by read_only_world n tt o ≡ None →
-    text_by read_only_world tt line o ≡ ended line
+    text_by read_only_world tt line o ≡ with_line_feed line
 line_itself n line None sound = cc
 line_itself n line (Some l) sound = refl
 
 -- one more line was shown
 pub told_line : (shows : LineTextRule) (shown text line piece : List ℕ) (n : ℕ) (t : IsShownText shows
     shown text) → n ≡ length t.told + 1 → fault_by read_only_world n tt (parsed line) ≡ None → shows n (Some line) piece
-    → (u : IsShownText shows (shown ++ text_of read_only_world tt line) (text ++ piece)) × (n + 1 ≡ length u.told + 1)
+    → (u : IsShownText shows (shown ++ line_text read_only_world tt line) (text ++ piece)) × (n + 1 ≡ length u.told + 1)
 told_line shows shown text line piece n t count sound one =
     let last : ShownLine = record { line = line; text = piece } in (
       record {
         told = t.told ++ last ∷ [];
         lines_are =
-            ap (λ (l : List ℕ). l ++ text_of read_only_world tt line) t.lines_are
-            ∙ ap (λ (l : List ℕ). flat_map (λ (u : ShownLine). ended u.line) t.told ++ l)
-            (line_itself n line (parsed line) sound ∙ sym (append-nil (ended line)))
-            ∙ sym (flat_map-append (λ (u : ShownLine). ended u.line) t.told (last ∷ []));
+            ap (λ (l : List ℕ). l ++ line_text read_only_world tt line) t.lines_are
+            ∙ ap (λ (l : List ℕ). flat_map (λ (u : ShownLine). with_line_feed u.line) t.told ++ l)
+            (line_itself n line (parsed line) sound ∙ sym (append-nil (with_line_feed line)))
+            ∙ sym (flat_map-append (λ (u : ShownLine). with_line_feed u.line) t.told (last ∷ []));
         text_is =
             ap (λ (l : List ℕ). l ++ piece) t.text_is
             ∙ ap (λ (l : List ℕ). flat_map (λ (u : ShownLine). u.text) t.told ++ l) (sym (append-nil piece))
@@ -70,7 +70,7 @@ pub shown_on : (left left' : Option (List ℕ)) (read shown w rest line : List �
     Consumes left left' (read ++ w) → Through read_only_world tt read shown tt n → HasLine n w end → line ≡ take end w
     → rest ≡ drop (end + 1) w → fault_by read_only_world n tt (parsed line) ≡ None → SendsPackets read_only_world tt (parsed line)
     → Consumes left left' ((read ++ take (end + 1) w) ++ rest)
-    × Through read_only_world tt (read ++ take (end + 1) w) (shown ++ text_of read_only_world tt line) tt (n + 1)
+    × Through read_only_world tt (read ++ take (end + 1) w) (shown ++ line_text read_only_world tt line) tt (n + 1)
 shown_on left left' read shown w rest line n end p through has is_line is_rest sound packets =
     let front = take (end + 1) w in
     let whole : read ++ w ≡ (read ++ front) ++ rest =
@@ -79,7 +79,7 @@ shown_on left left' read shown w rest line n end p through has is_line is_rest s
     let faultless = said_fault read_only_world n tt line has.counted
     (omega (arith, ap length is_line, short_in_front w n end has)) ∙ sound in (
       subst (Consumes left left') whole p,
-      subst (λ (l : List ℕ). Through read_only_world tt (read ++ front) (shown ++ text_of read_only_world tt l) tt (n + 1))
+      subst (λ (l : List ℕ). Through read_only_world tt (read ++ front) (shown ++ line_text read_only_world tt l) tt (n + 1))
           (sym is_line)
           (through_line through w end has.feed (subst (λ (l : List ℕ). fault_at read_only_world n tt l ≡ None) is_line
           faultless)
@@ -201,15 +201,15 @@ told_behind shows taken failed (Err (Memory k)) left left' start target bytes sh
     tells = absurd tells
 
 -- a line feed stands behind a line
-some_ended : (line : List ℕ) → 0 < length (ended line)
+some_ended : (line : List ℕ) → 0 < length (with_line_feed line)
 some_ended line = omega (arith, length-append line (10 ∷ []))
 
 -- the last piece was shown
 pub told_last : (shows : LineTextRule) (read shown text w piece : List ℕ) (n : ℕ) → Through read_only_world tt read shown tt n
     → (t : IsShownText shows shown text) → n ≡ length t.told + 1 → IsUnfinished n w → 0 < length w
     → fault_by read_only_world n tt (parsed w) ≡ None → SendsPackets read_only_world tt (parsed w) → shows n (Some w) piece
-    → IsPlayed read_only_world tt tt (read ++ w) (shown ++ text_of read_only_world tt w)
-    × ((u : IsShownText shows (shown ++ text_of read_only_world tt w) (text ++ piece)) × (n ≡ length u.told))
+    → IsPlayed read_only_world tt tt (read ++ w) (shown ++ line_text read_only_world tt w)
+    × ((u : IsShownText shows (shown ++ line_text read_only_world tt w) (text ++ piece)) × (n ≡ length u.told))
     × ((front : List ℕ) × IsUnwritten read_only_world tt tt (read ++ w) front)
 told_last shows read shown text w piece n through told count u some sound packets one =
     let faultless = said_fault read_only_world n tt w (in_count n w u.counted some) u.short ∙ sound in
@@ -218,7 +218,7 @@ told_last shows read shown text w piece n through told count u some sound packet
       (more.0, omega (arith, more.1)),
       (
         shown ++ [],
-        unwritten through w w [] [] (ended w) (last_line w u.no_feed some) faultless
+        unwritten through w w [] [] (with_line_feed w) (last_line w u.no_feed some) faultless
             (line_itself n w (parsed w) sound) (some_ended w),
       ),
     )
@@ -233,7 +233,7 @@ is_sound (Some f) rest h = cc h
 first_sound : (n : ℕ) (line : List ℕ) (more : List (List ℕ)) → (played read_only_world n tt (line ∷ more)).fault ≡ None →
     fault_at read_only_world n tt line ≡ None
 first_sound n line more h =
-    is_sound (fault_at read_only_world n tt line) (with_text_before (text_of read_only_world tt line) (played read_only_world (n + 1) tt more)) h
+    is_sound (fault_at read_only_world n tt line) (with_text_before (line_text read_only_world tt line) (played read_only_world (n + 1) tt more)) h
 
 is_parsed : (many long : Bool) (n : ℕ) (o : Option LogFault)
     → cond many (Some TooManyLines) (cond long (Some (TooLong n)) o) ≡ None → o ≡ None
@@ -250,13 +250,13 @@ played_front : (n : ℕ) (front : List (List ℕ)) (line : List ℕ)
     → (played read_only_world n tt (front ++ line ∷ [])).fault ≡ None
     → ((played read_only_world n tt front).fault ≡ None)
     × ((m : ℕ) × (fault_by read_only_world m tt (parsed line) ≡ None))
-    × ((played read_only_world n tt (front ++ line ∷ [])).text ≡ (played read_only_world n tt front).text ++ text_of read_only_world tt line)
+    × ((played read_only_world n tt (front ++ line ∷ [])).text ≡ (played read_only_world n tt front).text ++ line_text read_only_world tt line)
 played_front n [] line h =
     let sound = first_sound n line [] h in (
       refl,
       (n, parsed_sound n line sound),
       ap (λ (p : Played (Unit {0})). p.text) (played_sound read_only_world n tt line [] sound)
-          ∙ append-nil (text_of read_only_world tt line),
+          ∙ append-nil (line_text read_only_world tt line),
     )
 played_front n (x ∷ xs) line h =
     let sound = first_sound n x (xs ++ line ∷ []) h in
@@ -266,9 +266,9 @@ played_front n (x ∷ xs) line h =
       ap (λ (p : Played (Unit {0})). p.fault) front ∙ more.0,
       more.1,
       ap (λ (p : Played (Unit {0})). p.text) all
-          ∙ ap (λ (l : List ℕ). text_of read_only_world tt x ++ l) more.2
-          ∙ sym (append_assoc (text_of read_only_world tt x) (played read_only_world (n + 1) tt xs).text (text_of read_only_world tt line))
-          ∙ ap (λ (p : Played (Unit {0})). p.text ++ text_of read_only_world tt line) (sym front),
+          ∙ ap (λ (l : List ℕ). line_text read_only_world tt x ++ l) more.2
+          ∙ sym (append_assoc (line_text read_only_world tt x) (played read_only_world (n + 1) tt xs).text (line_text read_only_world tt line))
+          ∙ ap (λ (p : Played (Unit {0})). p.text ++ line_text read_only_world tt line) (sym front),
     )
 
 last_of : (x : List ℕ) (xs : List (List ℕ)) →
@@ -298,7 +298,7 @@ unwritten_back {read} {shown} {n} t more =
         first = split.0;
         others = split.1 ∷ [];
         front = [];
-        rest = ended split.1;
+        rest = with_line_feed split.1;
         cut = are;
         faultless = found.0;
         written = refl;
@@ -306,14 +306,14 @@ unwritten_back {read} {shown} {n} t more =
         missing = some_ended split.1;
         stands = refl;
         beginning = (
-          ended split.1,
+          with_line_feed split.1,
           ap (λ (l : List (List ℕ)). log_of read_only_world (played read_only_world 1 tt l)) are
               ∙ ap (log_of read_only_world) all
               ∙ append-nil (shown ++ [])
               ∙ sym (ap (λ (p : Played (Unit {0})). p.text) all)
               ∙ found.2
               ∙ ap (λ (l : List ℕ). front ++ l) itself
-              ∙ ap (λ (l : List ℕ). l ++ ended split.1) (sym (append-nil front)),
+              ∙ ap (λ (l : List ℕ). l ++ with_line_feed split.1) (sym (append-nil front)),
         );
       },
     )

@@ -4,8 +4,8 @@ use Rattle.std.specs.Prelude.{Option, Some, None, ◌⊎◌}
 use Rattle.std.specs.{Bool.MatchBool, Io.KnownBytes.Appends, Io.KnownBytes.Keeps}
 use Rattle.session_log.specs.Ending.{Done, Ending, Refused, Unread, Unwritten}
 use Rattle.session_log.specs.Replay.{Plays, PlaysLine}
-use Rattle.session_log.specs.{Parsed.parsed, Text.ended, World.World, declared.line.Line.Line}
-use Rattle.session_log.specs.Streams.{OnlyAppends, WritesAll, Moves}
+use Rattle.session_log.specs.{Parsed.parsed, Text.ended, World.LineSemantics, declared.line.Line.Line}
+use Rattle.session_log.specs.Streams.{OnlyAppends, WritesAll, ReadsAndWrites}
 use Rattle.session_log.specs.declared.line.Line.TheVariants.{Input, Sent, Comment, Count}
 use Rattle.session_show.specs.declared.detail.Detail.{Detail, TheVariants.Fixed, TheVariants.Explained}
 use Rattle.session_show.specs.declared.log_writer.OutputFormat.{OutputFormat, TheVariants.Text, TheVariants.Page}
@@ -60,12 +60,12 @@ shown_in format = shown_by (wording_of format)
 -- ---- the lines
 
 -- A log that is only read: only a line that is not a log line is an error, and the text for a line is the line itself.
-abbrev pub read_only_world : World (Unit {0})
+abbrev pub read_only_world : LineSemantics (Unit {0})
 read_only_world = record {
   stops = λ s l. None;
   moves = λ s l. s;
   sound = λ s l. Unit {0};
-  writes = λ s line l. ended line;
+  writes = λ s line l. with_line_feed line;
   lacks = λ s. None;
   ending = λ s. [];
   counts = λ s. record { held = 0; rows = 0; pending = 0; requests = 0; bytes = 0; steps = 0 };
@@ -84,7 +84,7 @@ AreShownBy shows n (t ∷ more) = shows n (Some t.line) t.text × AreShownBy sho
 -- The text consists of the texts of these lines, each of which ends with a line feed.
 pub record IsShownText (shows : LineTextRule) (lines text : List ℕ) : Type 0 where
   pub told : List ShownLine
-  pub lines_are : lines ≡ flat_map (λ t. ended t.line) told
+  pub lines_are : lines ≡ flat_map (λ t. with_line_feed t.line) told
   pub text_is : text ≡ flat_map (λ t. t.text) told
   pub each : AreShownBy shows 1 told
 
@@ -107,7 +107,7 @@ IsTextTo shows lines text _ = IsShownText shows lines text
 -- after.
 abbrev pub Shows : LineTextRule → (Option (List ℕ) × Option (List ℕ))
     → (Option (List ℕ) × Option (List ℕ)) → Ending → Type 0
-Shows shows left taken ending = Moves left.0 left.1 taken.0 taken.1
+Shows shows left taken ending = ReadsAndWrites left.0 left.1 taken.0 taken.1
     (λ bytes text. (lines : List ℕ) × Plays read_only_world tt tt bytes lines ending × IsTextTo shows lines text ending)
 
 -- ---- one line

@@ -10,7 +10,7 @@ use crate::replayed_log::{PACKETS, ReplayedLog};
 use crate::signed_bytes::SignedBytesMismatch;
 use crate::text_buf::{TextBuf, front};
 use hid_packet::{BROADCAST, Packet};
-use session_log::{CAPACITY, Failed, Line, LogFault, Source, Target, Window, next_line, read_line};
+use session_log::{CAPACITY, Failed, Line, LogFault, Source, Target, Window, next_line, parse_line};
 use session_walk::{AwaitedReply, Transaction, TransactionTracker, channel_of};
 use token_session::{Causes, Session};
 
@@ -128,7 +128,7 @@ impl Comparison {
                 Err(fault) => return Err(fault),
             };
             let line = front(self.window.as_slice(), end);
-            let Some(parsed) = read_line(line) else {
+            let Some(parsed) = parse_line(line) else {
                 return Err(LogFault::BadLine(number));
             };
             let difference = self.played.take(number, line, &parsed, session);
@@ -277,7 +277,7 @@ impl Comparison {
                 return;
             };
             let number = self.lines.saturating_add(1);
-            match read_line(front(self.window.as_slice(), end)) {
+            match parse_line(front(self.window.as_slice(), end)) {
                 Some(Line::Sent(next)) => self.played.walk.take(number, &Line::Sent(next)),
                 Some(Line::Comment | Line::Count) => {}
                 Some(Line::Input(_)) | None => return,

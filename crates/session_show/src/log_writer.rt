@@ -1,7 +1,7 @@
 //! Writes a log line by line, in one of several formats.
 ghost use Rattle.std.specs.Prelude.{◌≡◌, ◌<◌, ◌-◌, ◌^◌, IfErr, OnOk};
 ghost use Rattle.session_log.specs.Ending.{ending_of, read_fails, write_fails};
-ghost use Rattle.session_log.specs.Replay.{IsOfLine, ReadsTo};
+ghost use Rattle.session_log.specs.Replay.{IsLineFault, ReadsTo};
 ghost use Rattle.session_log.specs.Streams.{Counts as CountsFailures, IsAtEndOfInput};
 ghost use Rattle.session_show.specs.Shown.{Shows, ShowsLine, WritesEnd, WritesLine, read_only_world, shown_in, wording_of};
 ghost use Rattle.session_show.specs.Written.{Writes};
@@ -14,7 +14,7 @@ use crate::json_line::{write_line, write_transaction};
 use crate::summary_row::{HEAD, write_row};
 use crate::text_buf::TextBuf;
 use crate::transcript::PlainTranscript;
-use session_log::{Failed, Line, LogFault, Source, Target, Window, next_line, read_line};
+use session_log::{Failed, Line, LogFault, Source, Target, Window, next_line, parse_line};
 use session_walk::{Ended, Entry, OPEN, TransactionTracker};
 
 /// An output format.
@@ -115,10 +115,10 @@ impl LogWriter {
         requires { T.failed writer.old < 2 ^ 64 - 1 }
         ensures format { self.new.format ≡ self.old.format }
         ensures shown { ShowsLine number line.now (T.failed writer.old, T.failed writer.new) (ending_of result) }
-        ensures own { IfErr result (IsOfLine number) }
+        ensures own { IfErr result (IsLineFault number) }
         ensures text { WritesLine (shown_in self.old.format) number line.now (T.taken writer.old, T.taken writer.new) (ending_of result) }
     {
-        let Some(parsed) = read_line(line) else {
+        let Some(parsed) = parse_line(line) else {
             return Err(LogFault::BadLine(number));
         };
         self.last = number;

@@ -5,15 +5,15 @@ use Rattle.std.proofs.lemmas.Bool.Decides.{nat_tests}
 use Rattle.ctap_message.specs.{Answers.info_answer, Asked.GetInfo, Requests.read_of}
 use Rattle.authn_core.{specs.State.Request, proofs.Facts.info_answered}
 use Rattle.authn_core.specs.Turn.{Start, working_channel, waiting}
-use Rattle.hid_assemble.specs.{Table.Open, Table.Ruling, Table.ruling_of, Assembly.Message, Assembly.message_after}
+use Rattle.hid_assemble.specs.{Table.Open, Table.PacketClass, Table.packet_class, Assembly.Message, Assembly.message_after}
 use Rattle.hid_packet.specs.{Carries.Carries, Carries.joined_data, Commands.CBOR, Commands.PING}
 use Rattle.hid_packet.specs.declared.packet.Packet.{Packet as Packet64}
 use Rattle.hid_packet.specs.{Message.message_packets, Packet.Fields, Packet.fields, Packet.message_length}
 use Rattle.token_session.specs.{Inputs.ReceivedInput, Inputs.latest_time, Inputs.channels_allocated, Effects.verdict_event, Effects.verdict_packets}
-use Rattle.token_session.specs.Messages.{message_completed_at, completed_message, open_at, as_open}
+use Rattle.token_session.specs.Messages.{message_completed_at, completed_message, open_at, to_open}
 use Rattle.token_session.specs.History.{admits, core, event, receive, received, packet_event, service_packets}
 use Rattle.token_session.{specs.History.table_packets, specs.Events.event_packets, proofs.Serve.serves}
-use Rattle.hid_assemble.specs.{Verdicts.ruling_verdict, declared.verdict.Verdict.Verdict}
+use Rattle.hid_assemble.specs.{Verdicts.class_verdict, declared.verdict.Verdict.Verdict}
 use Rattle.token_session.specs.Replies.{answer_packets, response_channel, ping_packets, status_of}
 use Rattle.token_session.specs.declared.input.{Input.Input, Input.TheVariants.Packet, Timed.Timed}
 use Rattle.token_session.proofs.Follows.{Good, good_judged, judged_at, safe_at}
@@ -23,10 +23,10 @@ record Asks (m : Message) (v : Verdict) : Type 0 where
   quiet : verdict_packets v m.bytes ≡ []
   asks : verdict_event v m.bytes ≡ Some (Request m.cid m.bytes)
 
-asked : (g : ℕ) (w : Option ℕ) (o : Option Open) (f : Fields) (m : Message) (r : Ruling)
+asked : (g : ℕ) (w : Option ℕ) (o : Option Open) (f : Fields) (m : Message) (r : PacketClass)
     → message_after o f r ≡ Some m → m.cmd ≡ CBOR
-    → Asks m (ruling_verdict g o w f (Some m) r)
-unfolding message_after ruling_verdict
+    → Asks m (class_verdict g o w f (Some m) r)
+unfolding message_after class_verdict
 asked g w o f m r h is = record { quiet = grind (arith, nat_tests); asks = grind (arith, nat_tests) }
 
 request_at : (start : Start) (t : ℕ) (h : List ReceivedInput) (i : Input) (m : Message) → Good start h → latest_time start h ≤ t
@@ -37,10 +37,10 @@ request_at start t h (Packet x) m good le fin is =
     let g = channels_allocated h in
     let o = open_at h t in
     let w = working_channel (core start h) in
-    let row = ruling_of g (option_map as_open o) w (fields x.0) in
+    let row = packet_class g (option_map to_open o) w (fields x.0) in
     let s = serves g o w t x (safe_at start t h good le) in
-    let after : message_after (option_map as_open o) (fields x.0) row ≡ Some m = sym s.message ∙ fin in
-    let a = asked g w (option_map as_open o) (fields x.0) m row after is in
+    let after : message_after (option_map to_open o) (fields x.0) row ≡ Some m = sym s.message ∙ fin in
+    let a = asked g w (option_map to_open o) (fields x.0) m row after is in
     let sends : table_packets g o w (Packet x) ++ ping_packets (Some m) ≡ [] = rw after at s.packets ∙ a.quiet in
     let asks : packet_event w (Some m) x.0 ≡ Some (Request m.cid m.bytes) = rw after at s.event ∙ a.asks in
     rw (fin, sends, asks) refl

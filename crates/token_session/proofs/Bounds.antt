@@ -3,7 +3,7 @@ use Rattle.std.proofs.Common.{rules, ◌≡◌, ℕ, ◌+◌, ◌-◌, ◌*◌, 
 use Rattle.std.proofs.Common.{Some, None, option_to_list, refl, arith}
 use Rattle.std.proofs.lemmas.{Bool.Decides.nat_tests, List.Sums.sum_by-cons}
 use Rattle.authn_core.specs.Turn.{Start}
-use Rattle.ctap_message.specs.Requests.{LARGEST}
+use Rattle.ctap_message.specs.Requests.{MAX_STEPS}
 use Rattle.hid_packet.specs.Packet.{channel}
 use Rattle.token_session.specs.Inputs.{ReceivedInput, latest_time, channel_inputs, packet}
 use Rattle.token_session.specs.Messages.{MessageStart, continues_until, is_long, is_next_packet, is_open, open_among, open_at}
@@ -62,5 +62,5 @@ few_steps steps each [] = omega arith
 few_steps steps each (m ∷ ms) = search (rules, arith, sum_by-cons, few_steps steps each ms)
 
 pub few_capped : (steps bytes count : ℕ) → steps ≤ 4 * bytes + 2 * count
-    → min steps LARGEST ≤ 4 * min bytes LARGEST + 2 * min count LARGEST
+    → min steps MAX_STEPS ≤ 4 * min bytes MAX_STEPS + 2 * min count MAX_STEPS
 few_capped steps bytes count h = omega arith

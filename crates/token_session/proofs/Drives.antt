@@ -7,7 +7,7 @@ use Rattle.token_session.specs.declared.input.{Timed.Timed, Meters.Meters}
 use Rattle.token_session.specs.{Carried.ArriveWhole, Carried.IsWhole, Noise.HasTicksForNoise, Noise.quiet_from}
 use Rattle.token_session.specs.{Drive.done_of, Drive.state_after_inputs, Drive.packets_of_inputs, Law.with_input_number, Law.append_inputs, Law.sent_from}
 use Rattle.token_session.specs.declared.driver.{DriveFault.DriveFault, BothFault.BothFault}
-use Rattle.token_session.specs.Meters.{SessionState, StandsAfter, stepped, sent_by}
+use Rattle.token_session.specs.Meters.{SessionState, IsStateAfter, stepped, sent_by}
 use Rattle.token_session.proofs.Metering.{stands_longer, machine_after}
 use Rattle.token_session.proofs.{Noise.quiet_alike, Noise.quiet_runs, Follows.step_sends}
 
@@ -47,13 +47,13 @@ pub capacity_here : (now all : List (ℕ × List ℕ)) (places : ℕ) → now �
 capacity_here now all places e h = let n = ap (length {A = ℕ × List ℕ}) e in omega (arith, n)
 
 -- A session that stands after a history is driven along it.
-pub driven_stands : (xs : List Timed) (s : SessionState) (start : Start) (h : List Timed) → StandsAfter s start h
-    → StandsAfter (state_after_inputs s xs) start (append_inputs xs h)
+pub driven_stands : (xs : List Timed) (s : SessionState) (start : Start) (h : List Timed) → IsStateAfter s start h
+    → IsStateAfter (state_after_inputs s xs) start (append_inputs xs h)
 driven_stands [] s start h b = b
 driven_stands (x ∷ xs) s start h b = driven_stands xs (stepped s x) start (x ∷ h) (stands_longer s start h x b)
 
 pub driven_follows : (xs : List Timed) (s : SessionState) (start : Start) (n : ℕ) (h : List Timed)
-    → StandsAfter s start h
+    → IsStateAfter s start h
     → packets_of_inputs n s xs ≡ sent_from n start h xs
 driven_follows [] s start n h b = refl
 driven_follows (x ∷ xs) s start n h b = grind (arith, machine_after, stands_longer, step_sends, driven_follows xs (stepped s x) start (n + 1) (x ∷ h) (stands_longer s start h x b))
@@ -66,8 +66,8 @@ IsPassed r m = let passed : Result Meters BothFault = Ok m in MatchResult r (λ 
 pub drives_alike : (start : Start) (h g xs ys : List Timed) (s t : SessionState) (r q : Result Meters DriveFault)
     (m k : Meters) (old new : List (ℕ × List ℕ))
     → IsPassed r m → IsPassed q k → HasTicksForNoise start h g → HasTicksForNoise start (append_inputs xs h) (append_inputs ys g)
-    → StandsAfter s start (append_inputs (take (done_of (length xs) r) xs) h)
-    → StandsAfter t start (append_inputs (take (done_of (length ys) q) ys) g)
+    → IsStateAfter s start (append_inputs (take (done_of (length xs) r) xs) h)
+    → IsStateAfter t start (append_inputs (take (done_of (length ys) q) ys) g)
     → IfOk r (λ m. m ≡ s.meters) → IfOk q (λ k. k ≡ t.meters)
     → new ≡ old ++ sent_from 0 start g (take (done_of (length ys) q) ys)
     → (s ≡ t) × (m ≡ k) × (new ≡ old ++ quiet_from 0 start h xs ys)

@@ -10,8 +10,8 @@ use Rattle.authn_core.specs.{State.AwaitSelectionPresence, State.Waits, Turn.Sta
 use Rattle.authn_core.specs.Turn as core_turn
 use Rattle.ctap_message.specs.{Answers.assertion_answer, Answers.info_answer, Requests.read_of}
 use Rattle.hid_assemble.specs.Assembly.{Message, accepted, is_overdue, message_after, open_after}
-use Rattle.hid_assemble.specs.Verdicts.{ruling_verdict, verdict}
-use Rattle.hid_assemble.specs.Table.{cont_packet_row, init_packet_row, ruling_of}
+use Rattle.hid_assemble.specs.Verdicts.{class_verdict, verdict}
+use Rattle.hid_assemble.specs.Table.{cont_packet_row, init_packet_row, packet_class}
 use Rattle.hid_packet.specs.Message.{continuation_packet, continuation_packets, initialization_packet, padded_packet, message_packets}
 use Rattle.hid_packet.specs.Packet.{channel, command, continuation_data, initialization_data, is_initialization}
 use Rattle.hid_packet.specs.Packet.{message_length, sequence}
@@ -60,8 +60,8 @@ at_zero = record { aaguid = replicate 16 0; moment = 0; capacity = 64; rows = []
 sent_by : List Timed → List (List ℕ)
 unfolding channel is_initialization command message_length initialization_data sequence continuation_data padded_packet
     initialization_packet continuation_packet continuation_packets message_packets read_of core_turn.turn init_packet_row
-    cont_packet_row ruling_of init_response row_packets table_packets answer_packets response_sends_keepalive is_overdue
-    keepalive_due open_after message_after accepted ruling_verdict verdict time_passed turn start_state machine received
+    cont_packet_row packet_class init_response row_packets table_packets answer_packets response_sends_keepalive is_overdue
+    keepalive_due open_after message_after accepted class_verdict verdict time_passed turn start_state machine received
     sent held requests_channel channels_allocated is_channel_input channel_inputs is_next_packet continues_until is_long is_open open_among open_at is_last_packet completed_long_message
     completed_message packet_event event core admits receive last_keepalive time_packets service_packets sent_at
 sent_by xs = sent at_zero (received at_zero (reverse xs))
@@ -199,8 +199,8 @@ waiting = record { now = 0; given = 2; current = None; core = record { setup = r
 runs : MachineState → List Timed → List (ℕ × List ℕ)
 unfolding channel is_initialization command message_length initialization_data sequence continuation_data padded_packet
     initialization_packet continuation_packet continuation_packets message_packets read_of core_turn.turn init_packet_row
-    cont_packet_row ruling_of init_response row_packets table_packets answer_packets response_sends_keepalive is_overdue
-    keepalive_due open_after message_after accepted ruling_verdict verdict time_passed turn start_state machine received
+    cont_packet_row packet_class init_response row_packets table_packets answer_packets response_sends_keepalive is_overdue
+    keepalive_due open_after message_after accepted class_verdict verdict time_passed turn start_state machine received
     sent held requests_channel channels_allocated is_channel_input channel_inputs is_next_packet continues_until is_long is_open open_among open_at is_last_packet completed_long_message
     completed_message packet_event event core admits receive last_keepalive time_packets service_packets sent_at
 runs s xs = run_sent 0 s xs
@@ -259,8 +259,8 @@ pending = record { now = 0; given = 2; current = None; core = record { setup = r
 -- what the second of two inputs sends
 second_sends : Timed → Timed → List (List ℕ)
 unfolding channel is_initialization command message_length initialization_data sequence continuation_data read_of
-    core_turn.turn init_packet_row cont_packet_row ruling_of init_response row_packets table_packets answer_packets
-    response_sends_keepalive is_overdue keepalive_due open_after message_after accepted ruling_verdict verdict time_passed
+    core_turn.turn init_packet_row cont_packet_row packet_class init_response row_packets table_packets answer_packets
+    response_sends_keepalive is_overdue keepalive_due open_after message_after accepted class_verdict verdict time_passed
     turn start_state machine received sent held requests_channel channels_allocated is_channel_input channel_inputs is_next_packet continues_until is_long is_open open_among
     open_at is_last_packet completed_long_message completed_message packet_event event core admits receive last_keepalive time_packets
     service_packets sent_at pending credential
@@ -277,8 +277,8 @@ signature_answered = unfold second_sends in refl
 finishes_at : List Timed → List Timed → Timed → Option Message
 unfolding channel is_initialization command message_length initialization_data sequence continuation_data padded_packet
     initialization_packet continuation_packet continuation_packets message_packets read_of core_turn.turn init_packet_row
-    cont_packet_row ruling_of init_response row_packets table_packets answer_packets response_sends_keepalive is_overdue
-    keepalive_due open_after message_after accepted ruling_verdict verdict time_passed turn start_state machine received
+    cont_packet_row packet_class init_response row_packets table_packets answer_packets response_sends_keepalive is_overdue
+    keepalive_due open_after message_after accepted class_verdict verdict time_passed turn start_state machine received
     sent held requests_channel channels_allocated is_channel_input channel_inputs is_next_packet continues_until is_long is_open open_among open_at is_last_packet completed_long_message
     completed_message packet_event event core admits receive last_keepalive time_packets service_packets sent_at
 finishes_at h between last = message_completed_at (receive at_zero last (received at_zero (append_inputs between h)))
@@ -287,8 +287,8 @@ finishes_at h between last = message_completed_at (receive at_zero last (receive
 own_between : List Timed → List Timed → List (List ℕ)
 unfolding channel is_initialization command message_length initialization_data sequence continuation_data padded_packet
     initialization_packet continuation_packet continuation_packets message_packets read_of core_turn.turn init_packet_row
-    cont_packet_row ruling_of init_response row_packets table_packets answer_packets response_sends_keepalive is_overdue
-    keepalive_due open_after message_after accepted ruling_verdict verdict time_passed turn start_state machine received
+    cont_packet_row packet_class init_response row_packets table_packets answer_packets response_sends_keepalive is_overdue
+    keepalive_due open_after message_after accepted class_verdict verdict time_passed turn start_state machine received
     sent held requests_channel channels_allocated is_channel_input channel_inputs is_next_packet continues_until is_long is_open open_among open_at is_last_packet completed_long_message
     completed_message packet_event event core admits receive last_keepalive time_packets service_packets sent_at
 own_between h between = packets_of (channel_inputs 1 (received_after_all at_zero h between))
@@ -318,8 +318,8 @@ arrives : MessageArrives at_zero (came 0 init_line ∷ came 0 init_line ∷ []) 
     (replicate 57 1 ++ replicate 59 2 ++ replicate 10 3)
 unfolding channel is_initialization command message_length initialization_data sequence continuation_data padded_packet
     initialization_packet continuation_packet continuation_packets message_packets read_of core_turn.turn init_packet_row
-    cont_packet_row ruling_of init_response row_packets table_packets answer_packets response_sends_keepalive is_overdue
-    keepalive_due open_after message_after accepted ruling_verdict verdict time_passed turn start_state machine received
+    cont_packet_row packet_class init_response row_packets table_packets answer_packets response_sends_keepalive is_overdue
+    keepalive_due open_after message_after accepted class_verdict verdict time_passed turn start_state machine received
     sent held requests_channel channels_allocated is_channel_input channel_inputs is_next_packet continues_until is_long is_open open_among open_at is_last_packet completed_long_message
     completed_message packet_event event core admits receive last_keepalive time_packets service_packets sent_at
 arrives = record {

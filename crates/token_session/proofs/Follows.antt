@@ -5,7 +5,7 @@ use Rattle.std.proofs.lemmas.{Bool.Decides.nat_tests, List.Sums.sum_by-cons}
 use Rattle.authn_core.specs.{State.Event, Turn.Start, Turn.working_channel, Turn.waiting}
 use Rattle.hid_assemble.specs.{Table.Open, Table.MAX_CHANNEL, Verdicts.verdict, Assembly.accepted, Assembly.is_overdue}
 use Rattle.token_session.specs.Inputs.{ReceivedInput, requests_channel, latest_time, channels_allocated, is_channel_input, is_packet}
-use Rattle.token_session.specs.Messages.{MessageStart, as_open, completed_message, open_at}
+use Rattle.token_session.specs.Messages.{MessageStart, to_open, completed_message, open_at}
 use Rattle.token_session.specs.History.{admits, core, event, receive, received, last_keepalive, packet_event, sent_at}
 use Rattle.token_session.specs.History.{service_packets, table_packets, time_packets}
 use Rattle.token_session.specs.Law.{event_at, state_of, is_timed_out, IsAfter, append_inputs, run_sent, run_state, sent_from, sent_now}
@@ -41,7 +41,7 @@ abbrev late : Start → List ReceivedInput → ℕ → MachineState
 late start h t = record {
   now = t;
   given = channels_allocated h;
-  current = option_map as_open (open_at h t);
+  current = option_map to_open (open_at h t);
   core = core start h;
   keepalive_at = cond (not (is_timed_out (open_at h (latest_time start h)) (open_at h t)) && keepalive_due (waiting (core start h))
       (last_keepalive start h) t) t (last_keepalive start h);
@@ -79,7 +79,7 @@ goal_turn start e h = record { state = state_of start (e ∷ h); packets = sent_
 -- An input that does to each part what the history says leads to the state that it names.
 named_turn : (start : Start) (e : ReceivedInput) (h : List ReceivedInput) (g : ℕ) (c : Option Open) (packets : List (List ℕ))
     (ev : Option Event)
-    → g ≡ channels_allocated (e ∷ h) → c ≡ option_map as_open (open_at (e ∷ h) e.at)
+    → g ≡ channels_allocated (e ∷ h) → c ≡ option_map to_open (open_at (e ∷ h) e.at)
     → packets ≡ table_packets (channels_allocated h) (open_at h e.at) (working_channel (core start h)) e.input
     ++ ping_packets (completed_message (open_at h e.at) e.admitted e.input)
     → ev ≡ event_at start e h
@@ -97,13 +97,13 @@ served_named start t h (Packet x) good le =
     let w = working_channel (core start h) in
     let s = serves (channels_allocated h) (open_at h t) w t x (safe_at start t h good le) in
     named_turn start e h _ _ _ _ (sym (given_more e h ∙ s.channels))
-    (sym (ap (option_map as_open) (open_next_is h e start good.lawful le) ∙ s.current))
+    (sym (ap (option_map to_open) (open_next_is h e start good.lawful le) ∙ s.current))
     (sym s.packets ∙ ap (λ m. table_packets (channels_allocated h) (open_at h t) w (Packet x) ++ ping_packets m) (sym s.message))
     (sym s.event ∙ ap (λ m. packet_event w m x.0) (sym s.message))
 served_named start t h other good le =
     let e = judged_at start t h other in
     named_turn start e h _ _ _ _ (sym (given_more e h)) (sym
-    (ap (option_map as_open) (open_next_is h e start good.lawful le) ∙ grind arith)) refl refl
+    (ap (option_map to_open) (open_next_is h e start good.lawful le) ∙ grind arith)) refl refl
 
 -- One input: the machine's turn on the state that a history names gives the state that the longer history names, and
 -- its packets.

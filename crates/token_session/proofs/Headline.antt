@@ -10,7 +10,7 @@ use Rattle.token_session.specs.{Carried.ArriveWhole, declared.driver.DriveFault.
 use Rattle.token_session.specs.Drive.{numbered_packet, done_of, packet_of}
 use Rattle.token_session.specs.{History.received, History.sent, Headline.AllCarried, Headline.IsAnswered}
 use Rattle.token_session.specs.Law.{with_input_number, append_inputs, sent_from, sent_now, turns_send}
-use Rattle.token_session.specs.Meters.{requests, meters_of, session_of, SessionState, StandsAfter}
+use Rattle.token_session.specs.Meters.{requests, meters_of, session_of, SessionState, IsStateAfter}
 use Rattle.token_session.proofs.{Carrying.finished_is_carried, Follows.machine_follows, Follows.step_sends}
 
 pub turns_send_sent : (start : Start) (h : List Timed) → turns_send start h ≡ sent start (received start h)
@@ -74,7 +74,7 @@ run_answered start xs out is answers = grind (arith, packets_pairs, sent_reverse
 
 -- A drive of a new session that stepped all inputs returns the meters that their history names.
 pub meters_named : (start : Start) (xs : List Timed) (result : Result Meters DriveFault) (s : SessionState)
-    → StandsAfter s start (append_inputs (take (done_of (length xs) result) xs) []) → IfOk result (λ meters. meters ≡ s.meters)
+    → IsStateAfter s start (append_inputs (take (done_of (length xs) result) xs) []) → IfOk result (λ meters. meters ≡ s.meters)
     → IfOk result (λ meters. meters ≡ meters_of start (received start (reverse xs)))
 unfolding session_of
 meters_named start xs x2 s after is = grind (arith, common_steps, append-nil, onto_reverse)

@@ -1,8 +1,8 @@
 -- The meters that a history names go on by one input.
 use Rattle.std.proofs.{lemmas.Grind.common_steps, lemmas.List.Sums.sum_by-cons, Common.ap, Common.arith}
 use Rattle.std.proofs.Common.{rules, ◌≡◌, ℕ, ◌+◌, ◌-◌, ◌*◌, ◌≤◌, List, [], ◌∷◌, length, max, min, sum_by, Option, refl}
-use Rattle.hid_assemble.specs.Assembly.{held_bytes}
-use Rattle.ctap_message.specs.Requests.{steps_of, LARGEST}
+use Rattle.hid_assemble.specs.Assembly.{stored_len}
+use Rattle.ctap_message.specs.Requests.{steps_of, MAX_STEPS}
 use Rattle.authn_core.specs.Turn.{Start}
 use Rattle.token_session.specs.declared.input.{Timed.Timed, Meters.Meters}
 use Rattle.token_session.{specs.Effects.request_in, proofs.Follows.turn_after}
@@ -13,10 +13,10 @@ use Rattle.token_session.specs.Machine.{MachineState, turn, start_state}
 use Rattle.cred_table.specs.Waiting.{pending_count}
 use Rattle.std.specs.List.{cons_option}
 use Rattle.token_session.specs.Meters.{AreBounded, peak_rows, peak_pending, requests, peak_held, meters_of, counted}
-use Rattle.token_session.specs.Meters.{metered, SessionState, StandsAfter, stepped, session_of}
+use Rattle.token_session.specs.Meters.{metered, SessionState, IsStateAfter, stepped, session_of}
 
 -- the bytes held are those that the history names
-pub held_named : (start : Start) (h : List ReceivedInput) → held_bytes (state_of start h).current ≡ held start h
+pub held_named : (start : Start) (h : List ReceivedInput) → stored_len (state_of start h).current ≡ held start h
 unfolding state_of held
 held_named start h = grind arith
 
@@ -26,9 +26,9 @@ totals held rows pending rs = record {
   held = held;
   rows = rows;
   pending = pending;
-  requests = min (length rs) LARGEST;
-  bytes = min (sum_by (λ bytes. length bytes - 1) rs) LARGEST;
-  steps = min (sum_by steps_of rs) LARGEST;
+  requests = min (length rs) MAX_STEPS;
+  bytes = min (sum_by (λ bytes. length bytes - 1) rs) MAX_STEPS;
+  steps = min (sum_by steps_of rs) MAX_STEPS;
 }
 
 counted_more : (request : Option (List ℕ)) (held rows pending : ℕ) (rs : List (List ℕ))
@@ -44,8 +44,8 @@ unfolding meters_of metered requests peak_held peak_rows peak_pending
 meters_more start e h = search (rules, arith, counted_more)
 
 -- A session that stands after a history stands after the longer one.
-pub stands_longer : (s : SessionState) (start : Start) (h : List Timed) (x : Timed) → StandsAfter s start h
-    → StandsAfter (stepped s x) start (x ∷ h)
+pub stands_longer : (s : SessionState) (start : Start) (h : List Timed) (x : Timed) → IsStateAfter s start h
+    → IsStateAfter (stepped s x) start (x ∷ h)
 unfolding stepped session_of state_of received
 stands_longer s start h x b =
     let past = received start h in
@@ -56,7 +56,7 @@ stands_longer s start h x b =
 pub stepped_is : (m n : MachineState) (k l : Meters) (s : SessionState) (x : Timed) (held rows pending : ℕ)
     → record { machine = m; meters = k } ≡ s
     → n ≡ (turn m x).state → l ≡ counted k (request_in (turn m x).event)
-    → held ≡ max l.held (held_bytes n.current) → rows ≡ max l.rows (length n.core.state.rows)
+    → held ≡ max l.held (stored_len n.current) → rows ≡ max l.rows (length n.core.state.rows)
     → pending ≡ max l.pending (pending_count n.core.state.pending)
     → record { machine = n; meters = record l { held = held; rows = rows; pending = pending } } ≡ stepped s x
 unfolding stepped metered
@@ -75,12 +75,12 @@ pub bounded_first : (k : Meters) (rows : ℕ)
     → k ≡ record { held = 0; rows = rows; pending = 0; requests = 0; bytes = 0; steps = 0 } → AreBounded k
 bounded_first k rows first = rw first (omega arith)
 
-pub machine_after : (s : SessionState) (start : Start) (h : List Timed) → StandsAfter s start h
+pub machine_after : (s : SessionState) (start : Start) (h : List Timed) → IsStateAfter s start h
     → IsAfter s.machine start h
 unfolding session_of
 machine_after s start h b = ap (λ (v : SessionState). v.machine) b
 
-pub session_held : (start : Start) (h : List ReceivedInput) → held_bytes (session_of start h).machine.current ≡ held start h
+pub session_held : (start : Start) (h : List ReceivedInput) → stored_len (session_of start h).machine.current ≡ held start h
 unfolding session_of
 session_held start h = held_named start h
 

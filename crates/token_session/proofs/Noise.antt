@@ -2,9 +2,9 @@
 use Rattle.std.proofs.Common.{rules, ◌≡◌, ℕ, ◌+◌, Bool, true, false, List, [], ◌∷◌, append-nil, length, max, Some, None}
 use Rattle.std.proofs.Common.{refl, sym, ◌∙◌, ap, suc, arith}
 use Rattle.hid_packet.specs.Packet.{Fields}
-use Rattle.hid_assemble.specs.{Table.Ruling, Table.is_noise, Assembly.message_after}
+use Rattle.hid_assemble.specs.{Table.PacketClass, Table.is_noise, Assembly.message_after}
 use Rattle.hid_assemble.specs.Assembly.{Assembly, accepted, bytes_of, channels_after, still_open, open_after}
-use Rattle.hid_assemble.specs.Verdicts.{ruling_verdict, verdict}
+use Rattle.hid_assemble.specs.Verdicts.{class_verdict, verdict}
 use Rattle.authn_core.specs.State.{Event, PresenceIs, KeyIs, SignatureIs, Ignored}
 use Rattle.authn_core.specs.Turn.{Start, CoreState, working_channel, turn as turn_of}
 use Rattle.authn_core.proofs.Facts.{presence_ignored, key_ignored, signature_ignored}
@@ -26,16 +26,16 @@ pub record Leaves (t : MachineTurn) (u : MachineTurn) : Type 0 where
   pub request : request_in t.event ≡ request_in u.event
 
 -- what a packet with these fields leaves under a ruling
-abbrev ruled : MachineState → Fields → List (List ℕ) → Ruling → MachineTurn
+abbrev ruled : MachineState → Fields → List (List ℕ) → PacketClass → MachineTurn
 ruled s f early r =
     let m = message_after s.current f r in
-    let v = ruling_verdict s.given s.current (working_channel s.core) f m r in
+    let v = class_verdict s.given s.current (working_channel s.core) f m r in
     turn_packets s.now (channels_after s.given r) (open_after s.current s.now f r) s.core s.keepalive_at early
     (verdict_packets v (bytes_of m)) (verdict_event v (bytes_of m))
 
-row_leaves : (s : MachineState) (f : Fields) (early : List (List ℕ)) (r : Ruling) → is_noise r ≡ true
+row_leaves : (s : MachineState) (f : Fields) (early : List (List ℕ)) (r : PacketClass) → is_noise r ≡ true
     → Leaves (ruled s f early r) (served s early Tick)
-unfolding open_after message_after ruling_verdict
+unfolding open_after message_after class_verdict
 row_leaves s f early r h = record { state = grind arith; request = grind arith }
 
 -- An event that leaves the authenticator as it is, and that it doesn't answer, leaves what a tick leaves.

@@ -5,21 +5,21 @@ use Rattle.std.proofs.Common.{length, append-nil, append_assoc, Option, Some, No
 use Rattle.std.proofs.{Common.nat_lt, Common.nat_le, Common.min, lemmas.List.map-append, lemmas.List.length-append}
 use Rattle.std.proofs.lemmas.{Bool.cond_both, Bool.Decides.nat_tests, Grind.flat_map-append}
 use Rattle.authn_core.{proofs.Facts.IsGiven, specs.State.Cancel, specs.State.Drop}
-use Rattle.hid_assemble.specs.Table.{Begins, Continues, MAX_CHANNEL, Ruling, Open, cont_packet_row, first_row}
-use Rattle.hid_assemble.specs.Table.{init_packet_row, is_on_other, is_allocated, is_on, ruling_of}
+use Rattle.hid_assemble.specs.Table.{Begins, Continues, MAX_CHANNEL, PacketClass, Open, cont_packet_row, first_row}
+use Rattle.hid_assemble.specs.Table.{init_packet_row, is_on_other, is_allocated, is_on, packet_class}
 use Rattle.hid_assemble.specs.declared.table.ReplyRow.{ReplyRow, TheVariants.NoSuchCommand, TheVariants.Short}
 use Rattle.hid_assemble.specs.declared.table.ReplyRow.TheVariants.{BadLength, BrokenOff, BusyElsewhere, BusyHere}
 use Rattle.hid_assemble.specs.declared.table.ReplyRow.TheVariants.{CancelsNothing, CancelsWork, InitAgain, InitFull}
 use Rattle.hid_assemble.specs.declared.table.ReplyRow.TheVariants.{InitLength, InitNew, Long, NoSuchChannel}
 use Rattle.hid_assemble.specs.Assembly.{Message, open_message, bytes_of, channels_after, with_continuation, message_after, open_after}
-use Rattle.hid_assemble.specs.Verdicts.{ruling_verdict}
+use Rattle.hid_assemble.specs.Verdicts.{class_verdict}
 use Rattle.hid_packet.specs.Commands.{BROADCAST, CANCEL, CBOR, INIT, PING}
 use Rattle.hid_packet.specs.Limits.{data_capacity, INIT_PACKET_DATA, MAX_MESSAGE_LEN}
 use Rattle.hid_packet.specs.Packet.{Fields, channel, channel_of, command, continuation, continuation_data, fields}
 use Rattle.hid_packet.specs.Packet.{initialization, initialization_data, is_initialization, message_length, sequence}
 use Rattle.hid_packet.specs.declared.packet.Packet.{Packet as Packet64}
 use Rattle.token_session.specs.Inputs.{ReceivedInput, requests_channel, is_channel_input, is_packet, packet}
-use Rattle.token_session.specs.Messages.{MessageStart, as_open, completed_message, completed_long_message, is_last_packet, is_long, is_next_packet, last_at}
+use Rattle.token_session.specs.Messages.{MessageStart, to_open, completed_message, completed_long_message, is_last_packet, is_long, is_next_packet, last_at}
 use Rattle.token_session.specs.History.{admits, packet_event, table_packets}
 use Rattle.token_session.specs.Effects.{verdict_event, verdict_packets}
 use Rattle.token_session.specs.Replies.{request_event, ping_packets, row_packets}
@@ -33,26 +33,26 @@ new_open g o w t i =
     cond (e.admitted && is_long (packet i)) (Some (record { packet = packet i; at = t; own = [] })) (then_next e o)
 
 -- these packets and those of a finished PING are what is sent under the ruling
-abbrev SendsAs : ℕ → Option Open → Option ℕ → Fields → List (List ℕ) → Ruling → Type 0
+abbrev SendsAs : ℕ → Option Open → Option ℕ → Fields → List (List ℕ) → PacketClass → Type 0
 SendsAs g c w f ps r = ps ++ ping_packets (message_after c f r)
-    ≡ verdict_packets (ruling_verdict g c w f (message_after c f r) r) (bytes_of (message_after c f r))
+    ≡ verdict_packets (class_verdict g c w f (message_after c f r) r) (bytes_of (message_after c f r))
 
 -- The ruling does to each part what the history says.
-pub record Serves (g : ℕ) (o : Option MessageStart) (w : Option ℕ) (t : ℕ) (x : Packet64) (f : Fields) (r : Ruling) : Type 0
+pub record Serves (g : ℕ) (o : Option MessageStart) (w : Option ℕ) (t : ℕ) (x : Packet64) (f : Fields) (r : PacketClass) : Type 0
   where
     pub channels : cond (requests_channel x.0) (min (g + 1) MAX_CHANNEL) g ≡ channels_after g r
-    pub current : option_map as_open (new_open g o w t (Packet x)) ≡ open_after (option_map as_open o) t f r
-    pub message : completed_message o (admits g o w x.0) (Packet x) ≡ message_after (option_map as_open o) f r
-    pub event : packet_event w (message_after (option_map as_open o) f r) x.0
-        ≡ verdict_event (ruling_verdict g (option_map as_open o) w f (message_after (option_map as_open o) f r) r)
-        (bytes_of (message_after (option_map as_open o) f r))
-    pub packets : SendsAs g (option_map as_open o) w f (table_packets g o w (Packet x)) r
+    pub current : option_map to_open (new_open g o w t (Packet x)) ≡ open_after (option_map to_open o) t f r
+    pub message : completed_message o (admits g o w x.0) (Packet x) ≡ message_after (option_map to_open o) f r
+    pub event : packet_event w (message_after (option_map to_open o) f r) x.0
+        ≡ verdict_event (class_verdict g (option_map to_open o) w f (message_after (option_map to_open o) f r) r)
+        (bytes_of (message_after (option_map to_open o) f r))
+    pub packets : SendsAs g (option_map to_open o) w f (table_packets g o w (Packet x)) r
 
 -- ---- what is sent
 
 row_sends : (g : ℕ) (c : Option Open) (w : Option ℕ) (p : List ℕ) (cmd len : ℕ) (r : ReplyRow)
     → SendsAs g c w (initialization (channel p) cmd len (initialization_data p)) (row_packets g p r) (Begins r)
-unfolding row_packets message_after ruling_verdict
+unfolding row_packets message_after class_verdict
 row_sends g c w p cmd len r = grind (arith, append-nil)
 
 -- ---- a start, by the tests of the table's rows
@@ -123,8 +123,8 @@ channels_row : (s : Tests) (g : ℕ) → Agree s → s.full ≡ (g == MAX_CHANNE
     → cond ((s.init && s.eight) && s.broadcast) (min (g + 1) MAX_CHANNEL) g ≡ channels_after g (Begins (row s))
 channels_row s g a full few = grind (arith, nat_tests)
 
-open_none : (s : Tests) (t : ℕ) (f : Fields) (b : MessageStart) → Agree s → s.here ≡ false → as_open b ≡ open_message t f
-    → option_map as_open (cond (admitted s && (not s.short && not s.over)) (Some b) None)
+open_none : (s : Tests) (t : ℕ) (f : Fields) (b : MessageStart) → Agree s → s.here ≡ false → to_open b ≡ open_message t f
+    → option_map to_open (cond (admitted s && (not s.short && not s.over)) (Some b) None)
     ≡ open_after None t f (Begins (row s))
 unfolding open_after
 open_none s t f b a alone is = grind arith
@@ -139,14 +139,14 @@ event_row : (s : Tests) (w : Option ℕ) (g : ℕ) (o : Option Open) (f : Fields
     → is_on w (channel_of f) ≡ s.on
     → m ≡ message_after o f (Begins (row s))
     → cond (s.cancel && s.on) (Some Cancel) (cond ((s.init && s.eight) && s.on) (Some Drop) (request_event m))
-    ≡ verdict_event (ruling_verdict g o w f m (Begins (row s))) (bytes_of m)
-unfolding message_after ruling_verdict
+    ≡ verdict_event (class_verdict g o w f m (Begins (row s))) (bytes_of m)
+unfolding message_after class_verdict
 event_row s w g o f m a on is = grind arith
 
 open_some : (s : Tests) (t : ℕ) (f : Fields) (b : MessageStart) → Agree s → s.apart ≡ not s.here → s.on ≡ false
     → (channel b.packet == channel_of f) ≡ s.here
-    → option_map as_open (cond (s.here && not s.cancel) None (Some b))
-    ≡ open_after (Some (as_open b)) t f (Begins (row s))
+    → option_map to_open (cond (s.here && not s.cancel) None (Some b))
+    ≡ open_after (Some (to_open b)) t f (Begins (row s))
 unfolding open_after
 open_some s t f b a apart idle here = grind arith
 
@@ -220,9 +220,9 @@ start_some g b t x few og st =
     record {
       channels = rw st (channels_row s g a refl few);
       current = rw (never_admitted g b None x.0, start_next b t x st) (open_some s t (starts x.0) b a apart refl refl);
-      message = rw (never_admitted g b None x.0, st) (message_some s (starts x.0) (as_open b) apart);
-      event = rw st (event_row s None g (Some (as_open b)) (starts x.0) _ a refl refl);
-      packets = rw st (row_sends g (Some (as_open b)) None x.0 (command x.0) (message_length x.0) (row s));
+      message = rw (never_admitted g b None x.0, st) (message_some s (starts x.0) (to_open b) apart);
+      event = rw st (event_row s None g (Some (to_open b)) (starts x.0) _ a refl refl);
+      packets = rw st (row_sends g (Some (to_open b)) None x.0 (command x.0) (message_length x.0) (row s));
     }
 
 -- ---- continuation packets
@@ -232,8 +232,8 @@ last_at_more [] t e = refl
 last_at_more (x ∷ es) t e = last_at_more es x.at e
 
 grown_as : (b : MessageStart) (t : ℕ) (x : Packet64)
-    → as_open (record { packet = b.packet; at = b.at; own = b.own ++ now_came t x ∷ [] })
-    ≡ with_continuation t (goes x.0) (as_open b)
+    → to_open (record { packet = b.packet; at = b.at; own = b.own ++ now_came t x ∷ [] })
+    ≡ with_continuation t (goes x.0) (to_open b)
 grown_as b t x = simp (map-append, flat_map-append, append-nil, append_assoc, length-append, last_at_more)
 
 more_next : (b : MessageStart) (t : ℕ) (x : Packet64) → is_initialization x.0 ≡ false
@@ -244,9 +244,9 @@ unfolding next is_channel_input is_next_packet
 more_next b t x st = rw st (grind arith)
 
 more_row : (g : ℕ) (o : Option MessageStart) (w : Option ℕ) (t : ℕ) (x : Packet64) → is_initialization x.0 ≡ false
-    → Serves g o w t x (goes x.0) (Continues (cont_packet_row (option_map as_open o) (channel x.0) (sequence x.0)))
+    → Serves g o w t x (goes x.0) (Continues (cont_packet_row (option_map to_open o) (channel x.0) (sequence x.0)))
 unfolding requests_channel admits completed_message completed_long_message is_last_packet packet_event cont_packet_row open_after message_after
-    ruling_verdict table_packets
+    class_verdict table_packets
 more_row g x1 w t x st = grind (arith, append-nil, append_assoc, flat_map-append, grown_as, more_next)
 
 -- ---- any packet
@@ -263,17 +263,17 @@ pub record Safe (g : ℕ) (o : Option MessageStart) (w : Option ℕ) : Type 0 wh
   pub opens : OpenGiven g o w
 
 start_row : (g : ℕ) (o : Option MessageStart) (w : Option ℕ) (t : ℕ) (x : Packet64) → Safe g o w → is_initialization x.0 ≡ true
-    → Serves g o w t x (starts x.0) (ruling_of g (option_map as_open o) w (starts x.0))
-unfolding ruling_of
+    → Serves g o w t x (starts x.0) (packet_class g (option_map to_open o) w (starts x.0))
+unfolding packet_class
 start_row g None w t x s st = start_none g w t x s.few s.works st
 start_row g (Some b) w t x s st =
-    subst (λ v. Serves g (Some b) v t x (starts x.0) (ruling_of g (Some (as_open b)) v (starts x.0))) (sym (s.opens).2)
+    subst (λ v. Serves g (Some b) v t x (starts x.0) (packet_class g (Some (to_open b)) v (starts x.0))) (sym (s.opens).2)
     (start_some g b t x s.few ((s.opens).0, (s.opens).1) st)
 
 pub serves : (g : ℕ) (o : Option MessageStart) (w : Option ℕ) (t : ℕ) (x : Packet64) → Safe g o w
-    → Serves g o w t x (fields x.0) (ruling_of g (option_map as_open o) w (fields x.0))
-unfolding ruling_of
+    → Serves g o w t x (fields x.0) (packet_class g (option_map to_open o) w (fields x.0))
+unfolding packet_class
 serves g o w t x s =
     cond_both (is_initialization x.0) (starts x.0) (goes x.0)
-    (λ f. Serves g o w t x f (ruling_of g (option_map as_open o) w f))
+    (λ f. Serves g o w t x f (packet_class g (option_map to_open o) w f))
     (λ st. start_row g o w t x s st) (λ st. more_row g o w t x st)

@@ -5,7 +5,7 @@ use Rattle.hid_packet.specs.{Commands.KEEPALIVE, Packet.is_command}
 use Rattle.authn_core.specs.{State.Event, Turn.Start}
 use Rattle.token_session.specs.{declared.input.Timed.Timed, Inputs.ReceivedInput, Inputs.latest_time, Inputs.channels_allocated}
 use Rattle.token_session.specs.Machine.{MachineState, machine, turn}
-use Rattle.token_session.specs.Messages.{message_start, is_open, MessageStart, open_at, as_open}
+use Rattle.token_session.specs.Messages.{message_start, is_open, MessageStart, open_at, to_open}
 use Rattle.token_session.specs.History.{event_after, received_after, received, sent_at, core, last_keepalive}
 
 -- The state that a history defines.
@@ -13,7 +13,7 @@ unfoldable pub state_of : Start → List ReceivedInput → MachineState
 state_of start h = record {
   now = latest_time start h;
   given = channels_allocated h;
-  current = option_map as_open (open_at h (latest_time start h));
+  current = option_map to_open (open_at h (latest_time start h));
   core = core start h;
   keepalive_at = last_keepalive start h;
 }

@@ -63,8 +63,8 @@ last_at t [] = t
 last_at t (e ∷ es) = last_at e.at es
 
 -- The open message with the data of its packets.
-abbrev pub as_open : MessageStart → Open
-as_open b =
+abbrev pub to_open : MessageStart → Open
+to_open b =
     let p = b.packet in
     let bytes = joined_data p (packets_of b.own) in
     let last = last_at b.at b.own in

@@ -1,10 +1,10 @@
 -- The meters of a session: those that a history defines, and what one turn adds.
 use Rattle.std.specs.Prelude.{◌≡◌, ◌≤◌, ℕ, ◌+◌, ◌-◌, ◌*◌, List, [], ◌∷◌, length, max, min, sum_by, Option, Some, None}
 use Rattle.std.specs.List.{cons_option}
-use Rattle.hid_assemble.specs.Assembly.{held_bytes}
+use Rattle.hid_assemble.specs.Assembly.{stored_len}
 use Rattle.authn_core.specs.Turn.{Start}
 use Rattle.cred_table.specs.{Rows.ValidRows, Waiting.pending_count}
-use Rattle.ctap_message.specs.Requests.{steps_of, LARGEST}
+use Rattle.ctap_message.specs.Requests.{steps_of, MAX_STEPS}
 use Rattle.token_session.specs.declared.input.{Timed.Timed, Meters.Meters}
 use Rattle.token_session.specs.{Effects.request_in, Inputs.ReceivedInput, Law.state_of}
 use Rattle.token_session.specs.History.{received, held, core, event_after}
@@ -35,9 +35,9 @@ meters_of start h = record {
   held = peak_held start h;
   rows = peak_rows start h;
   pending = peak_pending start h;
-  requests = min (length (requests start h)) LARGEST;
-  bytes = min (sum_by (λ bytes. length bytes - 1) (requests start h)) LARGEST;
-  steps = min (sum_by steps_of (requests start h)) LARGEST;
+  requests = min (length (requests start h)) MAX_STEPS;
+  bytes = min (sum_by (λ bytes. length bytes - 1) (requests start h)) MAX_STEPS;
+  steps = min (sum_by steps_of (requests start h)) MAX_STEPS;
 }
 
 -- The totals after a completed request, if any: one more request, its bytes after the command byte, and the steps of
@@ -45,9 +45,9 @@ meters_of start h = record {
 unfoldable pub counted : Meters → Option (List ℕ) → Meters
 counted m None = m
 counted m (Some message) = record m {
-  requests = min (m.requests + 1) LARGEST;
-  bytes = min (m.bytes + (length message - 1)) LARGEST;
-  steps = min (m.steps + steps_of message) LARGEST;
+  requests = min (m.requests + 1) MAX_STEPS;
+  bytes = min (m.bytes + (length message - 1)) MAX_STEPS;
+  steps = min (m.steps + steps_of message) MAX_STEPS;
 }
 
 -- The meters after a turn, by the bytes, rows and pending assertions after it.
@@ -67,7 +67,7 @@ pub record SessionState : Type 0 where
 
 abbrev pub metered_by : Meters → MachineTurn → Meters
 metered_by m t =
-    metered m (held_bytes t.state.current) (length t.state.core.state.rows) (pending_count t.state.core.state.pending)
+    metered m (stored_len t.state.current) (length t.state.core.state.rows) (pending_count t.state.core.state.pending)
     (request_in t.event)
 
 -- The session after one more input.
@@ -86,10 +86,10 @@ unfoldable pub session_of : Start → List ReceivedInput → SessionState
 session_of start h = record { machine = state_of start h; meters = meters_of start h }
 
 -- The session's state is the one after this history.
-abbrev pub StandsAfter : SessionState → Start → List Timed → Type 0
-StandsAfter s start h = s ≡ session_of start (received start h)
+abbrev pub IsStateAfter : SessionState → Start → List Timed → Type 0
+IsStateAfter s start h = s ≡ session_of start (received start h)
 
 -- The session's state is the one after this history, whose start has valid credentials, as every table has.
-pub record FollowsFrom (s : SessionState) (start : Start) (h : List Timed) : Type 0 where
+pub record IsStateAfterValidStart (s : SessionState) (start : Start) (h : List Timed) : Type 0 where
   pub lawful : ValidRows start.capacity start.rows
-  pub stands : StandsAfter s start h
+  pub stands : IsStateAfter s start h

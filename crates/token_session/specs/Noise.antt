@@ -4,21 +4,21 @@ use Rattle.std.specs.Prelude.{◌≡◌, ℕ, ◌+◌, ◌⊎◌, Bool, true, fa
 use Rattle.std.specs.Prelude.{if◌then◌else◌}
 use Rattle.hid_packet.specs.Packet.{fields}
 use Rattle.hid_assemble.specs.Table as table
-use Rattle.hid_assemble.specs.Table.{Open, ruling_of}
-use Rattle.hid_assemble.specs.{Assembly.Assembly, Verdicts.is_turned_away, Verdicts.verdict}
+use Rattle.hid_assemble.specs.Table.{Open, packet_class}
+use Rattle.hid_assemble.specs.{Assembly.Assembly, Verdicts.is_noise_verdict, Verdicts.verdict}
 use Rattle.authn_core.specs.State.{Answer, Ignored, PresenceIs, KeyIs, SignatureIs}
 use Rattle.authn_core.specs.Turn.{Start, CoreState, core_answer, working_channel}
 use Rattle.authn_core.specs.Views.{wants_presence, wants_key, wants_signature}
 use Rattle.token_session.specs.declared.input.{Input.Input, Timed.Timed}
 use Rattle.token_session.specs.declared.input.Input.TheVariants.{Packet, Tick, Presence, Key, Signature}
 use Rattle.token_session.specs.{Machine.MachineState, Machine.time_passed, Inputs.ReceivedInput, Inputs.channels_allocated, Law.with_input_number}
-use Rattle.token_session.specs.Messages.{open_at, as_open}
+use Rattle.token_session.specs.Messages.{open_at, to_open}
 use Rattle.token_session.specs.History.{core, received_after, received, last_keepalive, sent_at, time_packets}
 
 -- Whether an input is noise, by the allocated channels, the open message and the authenticator: a packet is noise by
 -- its row of the reply table, a reply of the caller if it is not needed, and a tick never is.
 abbrev pub is_noise_among : ℕ → Option Open → CoreState → Input → Bool
-is_noise_among channels_allocated current core (Packet p) = table.is_noise (ruling_of channels_allocated current (working_channel core) (fields p.0))
+is_noise_among channels_allocated current core (Packet p) = table.is_noise (packet_class channels_allocated current (working_channel core) (fields p.0))
 is_noise_among channels_allocated current core (Presence reply) = not (wants_presence core.state.work)
 is_noise_among channels_allocated current core (Key key) = not (wants_key core.state.work)
 is_noise_among channels_allocated current core (Signature signature) = not (wants_signature core.state.work)
@@ -33,7 +33,7 @@ is_noise_at s x = is_noise_in (time_passed s (max s.now x.at)).state x.input
 
 -- Whether an input is noise after a history.
 unfoldable pub is_noise_after : Start → ReceivedInput → List ReceivedInput → Bool
-is_noise_after start e past = is_noise_among (channels_allocated past) (option_map as_open (open_at past e.at))
+is_noise_after start e past = is_noise_among (channels_allocated past) (option_map to_open (open_at past e.at))
     (core start past) e.input
 
 -- Whether the authenticator ignores a reply. The next definition describes noise by its result: a packet that is
@@ -43,7 +43,7 @@ is_ignored Ignored = true
 is_ignored answer = false
 
 abbrev pub is_turned_away_by : Assembly → CoreState → (now : ℕ) → Input → Bool
-is_turned_away_by a core now (Packet p) = is_turned_away (verdict a (working_channel core) (fields p.0))
+is_turned_away_by a core now (Packet p) = is_noise_verdict (verdict a (working_channel core) (fields p.0))
 is_turned_away_by a core now (Presence reply) = is_ignored (core_answer core now (PresenceIs reply))
 is_turned_away_by a core now (Key key) = is_ignored (core_answer core now (KeyIs key))
 is_turned_away_by a core now (Signature signature) = is_ignored (core_answer core now (SignatureIs signature))

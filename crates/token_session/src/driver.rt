@@ -9,7 +9,7 @@ ghost use Rattle.token_session.specs.Headline.{IsAnswered, IsBounded, start_of};
 ghost use Rattle.token_session.specs.Answered.{packets_sent_from};
 ghost use Rattle.token_session.specs.Law.{with_input_number, append_inputs, sent_from};
 ghost use Rattle.token_session.specs.History.{received};
-ghost use Rattle.token_session.specs.Meters.{FollowsFrom, StandsAfter, meters_of, session_of};
+ghost use Rattle.token_session.specs.Meters.{IsStateAfterValidStart, IsStateAfter, meters_of, session_of};
 ghost use Rattle.token_session.specs.Noise.{HasTicksForNoise, quiet_from};
 ghost use Rattle.hid_packet.specs.Limits.{OUTBOX_CAPACITY};
 
@@ -61,7 +61,7 @@ impl BothFault {
 }
 
 /// Moves all packets to the list, with the number of the input that sent them.
-fn take_all<const N: usize>(outbox: &mut Outbox, number: u64, sent: &mut ArrayVec<Sent, N>)
+fn collect_packets<const N: usize>(outbox: &mut Outbox, number: u64, sent: &mut ArrayVec<Sent, N>)
     requires { array_vec_len sent.old + length outbox.old ≤ N }
     ensures sent { map numbered_packet sent.new.items ≡ map numbered_packet sent.old.items ++ with_input_number number outbox.old }
     ensures empty { outbox.new ≡ [] }
@@ -75,18 +75,18 @@ fn take_all<const N: usize>(outbox: &mut Outbox, number: u64, sent: &mut ArrayVe
 }
 
 /// States that a packet has 64 bytes, for proofs. Has no effect.
-fn known_packet(packet: &Packet)
+fn packet_bounds(packet: &Packet)
     ensures { length packet.now.0 ≡ 64 }
 {
     let _bytes = packet.0.as_slice();
 }
 
 /// States that the packet of an input, if it is one, has 64 bytes, for proofs. Has no effect.
-fn known_input(input: &Input)
+fn input_bounds(input: &Input)
     ensures { IsWhole input.now }
 {
     if let Input::Packet(packet) = input {
-        known_packet(packet);
+        packet_bounds(packet);
     }
 }
 
@@ -107,14 +107,14 @@ pub fn drive<const C: usize, const N: usize>(
     ensures full { IfErr result (λ e. (done_of 0 result < length inputs.now)
         × (N < array_vec_len sent.new + OUTBOX_CAPACITY)) }
     // After any history.
-    ensures after { (start : Start) (h : List OneInput) → StandsAfter session.old start h
-        → StandsAfter session.new start (append_inputs (take (done_of (length inputs.now) result) inputs.now) h) }
-    ensures sent { (start : Start) (h : List OneInput) → StandsAfter session.old start h
+    ensures after { (start : Start) (h : List OneInput) → IsStateAfter session.old start h
+        → IsStateAfter session.new start (append_inputs (take (done_of (length inputs.now) result) inputs.now) h) }
+    ensures sent { (start : Start) (h : List OneInput) → IsStateAfter session.old start h
         → map numbered_packet sent.new.items ≡ map numbered_packet sent.old.items
         ++ sent_from 0 start h (take (done_of (length inputs.now) result) inputs.now) }
-    ensures follows { (start : Start) (h : List OneInput) → FollowsFrom session.old start h
-        → FollowsFrom session.new start (append_inputs (take (done_of (length inputs.now) result) inputs.now) h) }
-    ensures told { (start : Start) (h : List OneInput) → FollowsFrom session.old start h
+    ensures follows { (start : Start) (h : List OneInput) → IsStateAfterValidStart session.old start h
+        → IsStateAfterValidStart session.new start (append_inputs (take (done_of (length inputs.now) result) inputs.now) h) }
+    ensures told { (start : Start) (h : List OneInput) → IsStateAfterValidStart session.old start h
         → map numbered_packet sent.new.items ≡ map numbered_packet sent.old.items
         ++ packets_sent_from 0 start h (take (done_of (length inputs.now) result) inputs.now) }
 {
@@ -124,9 +124,9 @@ pub fn drive<const C: usize, const N: usize>(
         if sent.remaining_capacity() < OUTBOX_CAPACITY {
             return Err(DriveFault::Full { done: i });
         }
-        known_input(&timed.input);
+        input_bounds(&timed.input);
         session.step(timed.at, timed.input, &mut outbox);
-        take_all(&mut outbox, i as u64, sent);
+        collect_packets(&mut outbox, i as u64, sent);
     }
     Ok(session.meters())
 }
@@ -191,8 +191,8 @@ pub fn drive_both<const C: usize, const N: usize>(
         × (N < array_vec_len quiet_sent.new + OUTBOX_CAPACITY))) }
     // After two histories with the same start, if the second one has ticks in place of ignored inputs before the run,
     // it has them after the run.
-    ensures alike { (start : Start) (h g : List OneInput) → StandsAfter first.old start h
-        → StandsAfter second.old start g → HasTicksForNoise start h g → HasTicksForNoise start (append_inputs inputs.now h) (append_inputs quiet.now g)
+    ensures alike { (start : Start) (h g : List OneInput) → IsStateAfter first.old start h
+        → IsStateAfter second.old start g → HasTicksForNoise start h g → HasTicksForNoise start (append_inputs inputs.now h) (append_inputs quiet.now g)
         → IfOk result (λ meters. (first.new ≡ second.new) × (meters.0 ≡ meters.1)
         × (map numbered_packet quiet_sent.new.items ≡ map numbered_packet quiet_sent.old.items
         ++ quiet_from 0 start h inputs.now quiet.now)) }

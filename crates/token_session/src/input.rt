@@ -1,5 +1,5 @@
 ghost use Rattle.std.specs.Prelude.{◌≡◌, Some, min};
-ghost use Rattle.ctap_message.specs.Requests.{steps_of, LARGEST};
+ghost use Rattle.ctap_message.specs.Requests.{steps_of, MAX_STEPS};
 ghost use Rattle.token_session.specs.Meters.{counted};
 
 use authn_core::{NewKey, Presence, Signature};
@@ -55,7 +55,7 @@ impl Meters {
     /// Counts a request, with the number of steps that parsing it took.
     #[tactic(auto, unfolding(crate::specs::Meters::counted))]
     pub(crate) fn count(&mut self, message: &[u8], steps: u64)
-        requires { steps ≡ min (steps_of message.now) LARGEST }
+        requires { steps ≡ min (steps_of message.now) MAX_STEPS }
         ensures { self.new ≡ counted self.old (Some message.now) }
     {
         let read = (message.len() as u64).saturating_sub(1);

@@ -6,8 +6,8 @@ ghost use Rattle.token_session.specs.declared.input.Timed.{Timed as OneInput};
 ghost use Rattle.authn_core.specs.State.{Request};
 ghost use Rattle.cred_table.specs.Rows.{ValidRows};
 ghost use Rattle.authn_core.specs.Turn.{CoreState, Start, working_channel, first_state, waiting};
-ghost use Rattle.authn_core.specs.Marks.{changes, rows_after_changes, signs_by, texts, all_differ};
-ghost use Rattle.authn_core.specs.Rising.{all_rise, IsNewest};
+ghost use Rattle.authn_core.specs.Marks.{changes, rows_after_changes, signs_by, signed_assertions, all_differ};
+ghost use Rattle.authn_core.specs.Rising.{counters_increase, IsNewest};
 ghost use Rattle.authn_core.specs.Signed.{IsNeeded};
 ghost use Rattle.authn_core.specs.Views.{needs, sign};
 ghost use Rattle.ctap_message.specs.Answers.{info_answer};
@@ -32,11 +32,11 @@ ghost use Rattle.token_session.specs.Answered.{AgreesWithExchanges, exchanges_of
 ghost use Rattle.token_session.specs.Headline.{IsAnswered, IsBounded};
 ghost use Rattle.token_session.specs.Meters.{SessionState, meters_of, session_of, stepped};
 ghost use Rattle.token_session.specs.Noise.{HasTicksForNoise, is_noise_among, is_turned_away_by, is_noise_at, is_noise_after, quiet_from, quiet_sent, tick_at};
-ghost use Rattle.hid_packet.specs.Limits.{LONGEST_HELD, OUTBOX_CAPACITY};
+ghost use Rattle.hid_packet.specs.Limits.{MAX_STORED_LEN, OUTBOX_CAPACITY};
 
 use authn_core::laws::{
-    answers_follow_history as answering_law, rows_follow_history, texts_to_sign_differ,
-    what_is_signed_is_answered as signing_law,
+    answers_follow_history as answering_law, rows_follow_history, signed_bytes_differ,
+    signed_bytes_are_in_the_response as signing_law,
 };
 use ctap_message::laws::steps_are_bounded;
 
@@ -68,7 +68,7 @@ pub fn keepalives_count_from_the_last()
 pub fn one_message_is_open()
     ensures one { (start : Start) (t : ℕ) (h : List OneInput) → latest_time start (received start h) ≤ t
         → all_open [] (received start h) t ≡ option_to_list (open_at (received start h) t) }
-    ensures held { (start : Start) (h : List OneInput) → held start (received start h) ≤ LONGEST_HELD }
+    ensures held { (start : Start) (h : List OneInput) → held start (received start h) ≤ MAX_STORED_LEN }
 {}
 
 /// States that a packet with a whole PING or CBOR message on an allocated channel completes the message if no message
@@ -110,7 +110,7 @@ pub fn requests_are_answered()
 /// States that the meters are bounded: at most 7550 bytes of an incomplete message are stored, and parsing takes at
 /// most four steps for each byte after a command byte, and two for each request.
 pub fn meters_are_bounded()
-    ensures held { (start : Start) (h : List OneInput) → (meters_of start (received start h)).held ≤ LONGEST_HELD }
+    ensures held { (start : Start) (h : List OneInput) → (meters_of start (received start h)).held ≤ MAX_STORED_LEN }
     ensures steps { (start : Start) (h : List OneInput) → (meters_of start (received start h)).steps
         ≤ 4 * (meters_of start (received start h)).bytes + 2 * (meters_of start (received start h)).requests }
 {
@@ -124,7 +124,7 @@ pub fn one_input_sends_few_packets()
 
 /// States that the bytes of a completed message are exactly the data of its initialization packet and its channel's
 /// following packets, up to the one that completes it.
-pub fn finished_messages_were_carried()
+pub fn finished_messages_were_received()
     ensures { (start : Start) (h : List OneInput) (x : OneInput) (m : Message) → ArriveWhole (x ∷ h)
         → message_completed_at (received_after start h x) (received start h) ≡ Some m
         → CarriesMessage (carriers_at (received_after start h x) (received start h)) m.cid m.cmd m.bytes }
@@ -147,7 +147,7 @@ pub fn noise_is_a_tick()
 /// States that a history in which ticks replace ignored inputs leads to the same state: channels, incomplete message,
 /// authenticator, times and meters. It sends the same packets, except the responses to the replaced inputs; so do
 /// further inputs after the two histories.
-pub fn quiet_histories_are_alike()
+pub fn ticks_can_replace_noise()
     ensures session { (start : Start) (h g : List OneInput) → HasTicksForNoise start h g
         → session_of start (received start h) ≡ session_of start (received start g) }
     ensures packets { (start : Start) (h g : List OneInput) → HasTicksForNoise start h g
@@ -166,16 +166,16 @@ pub fn credentials_follow_history()
         (changes (first_state start) (steps start (received start h))) }
     ensures lawful { (start : Start) (h : List OneInput) → ValidRows start.capacity start.rows
         → ValidRows start.capacity (core start (received start h)).state.rows }
-    ensures texts { (start : Start) (h : List OneInput) → ValidRows start.capacity start.rows
-        → all_differ (texts (first_state start) (steps start (received start h))) ≡ true }
+    ensures signed_assertions { (start : Start) (h : List OneInput) → ValidRows start.capacity start.rows
+        → all_differ (signed_assertions (first_state start) (steps start (received start h))) ≡ true }
     ensures rise { (start : Start) (h : List OneInput) → ValidRows start.capacity start.rows
-        → all_rise (texts (first_state start) (steps start (received start h))) ≡ true }
+        → counters_increase (signed_assertions (first_state start) (steps start (received start h))) ≡ true }
     ensures newest { (start : Start) (h : List OneInput) (id : List ℕ) → ValidRows start.capacity start.rows
         → signs_by id (core start (received start h)).state.work ≡ true
-        → IsNewest (texts (first_state start) (steps start (received start h))) (core start (received start h)).state }
+        → IsNewest (signed_assertions (first_state start) (steps start (received start h))) (core start (received start h)).state }
 {
     rows_follow_history();
-    texts_to_sign_differ();
+    signed_bytes_differ();
 }
 
 /// States that the signed bytes are the bytes in the response. For an assertion these are the authenticator data, with
@@ -183,7 +183,7 @@ pub fn credentials_follow_history()
 /// for a registration they have the ID and public key that the caller supplied. If UP is set, the user consented since
 /// that request. The response to a signature is sent on the channel of the request, with exactly the authenticator data
 /// that were signed.
-pub fn what_is_signed_is_answered()
+pub fn signed_bytes_are_in_the_response()
     ensures signed { (start : Start) (h : List OneInput) → ValidRows start.capacity start.rows
         → IsNeeded start.aaguid (latest_requests start (received start h)) (core start (received start h)).state.rows
         (needs (core start (received start h)).state.work) }

@@ -1,5 +1,5 @@
 ghost use Rattle.std.specs.Prelude.{◌≡◌, ◌≤◌, [], ◌∷◌, List, Ok, length, MatchResult, OnOk};
-ghost use Rattle.hid_assemble.specs.Assembly.{held_bytes};
+ghost use Rattle.hid_assemble.specs.Assembly.{stored_len};
 ghost use Rattle.authn_core.specs.Needs.{IsNeed};
 ghost use Rattle.authn_core.specs.Views.{first_contents, needs, needed_reply};
 ghost use Rattle.cred_table.specs.declared.row.Row.{Row as AnyRow};
@@ -12,11 +12,11 @@ ghost use Rattle.token_session.specs.History.{received_after, received, held};
 ghost use Rattle.token_session.specs.Answered.{packets_sent_now};
 ghost use Rattle.token_session.specs.Law.{sent_now};
 ghost use Rattle.token_session.specs.Effects.{request_in};
-ghost use Rattle.token_session.specs.Meters.{AreBounded, FollowsFrom, SessionState, StandsAfter, counted, stepped, sent_by, session_of};
+ghost use Rattle.token_session.specs.Meters.{AreBounded, IsStateAfterValidStart, SessionState, IsStateAfter, counted, stepped, sent_by, session_of};
 ghost use Rattle.token_session.specs.Causes.{time_cause, served_cause, causes_of, causes_after};
 ghost use Rattle.token_session.specs.Machine.{time_passed, served};
 ghost use Rattle.token_session.specs.Noise.{is_noise_at, is_noise_after};
-ghost use Rattle.hid_packet.specs.Limits.{LONGEST_HELD, OUTBOX_CAPACITY};
+ghost use Rattle.hid_packet.specs.Limits.{MAX_STORED_LEN, OUTBOX_CAPACITY};
 
 use crate::authenticator_state::{
     AuthenticatorState, KEEPALIVE_PERIOD, is_noise, send_init_response,
@@ -95,7 +95,7 @@ impl<const C: usize> Session<C> {
           capacity = C;
           rows = ⟦<Store<C> as Table<C>>⟧.rows rows.entry;
         }) [] }
-        ensures follows { FollowsFrom result (record {
+        ensures follows { IsStateAfterValidStart result (record {
           aaguid = config.aaguid;
           moment = start;
           capacity = C;
@@ -122,7 +122,7 @@ impl<const C: usize> Session<C> {
         requires some { 1 ≤ C }
         requires few { C ≤ 256 }
         ensures value { result ≡ session_of (record { aaguid = aaguid; moment = start; capacity = C; rows = [] }) [] }
-        ensures follows { FollowsFrom result (record { aaguid = aaguid; moment = start; capacity = C; rows = [] }) [] }
+        ensures follows { IsStateAfterValidStart result (record { aaguid = aaguid; moment = start; capacity = C; rows = [] }) [] }
     {
         Session {
             latest: start,
@@ -143,7 +143,7 @@ impl<const C: usize> Session<C> {
             × (self.new ≡ session_of (record { aaguid = config.aaguid; moment = start; capacity = C; rows = rows }) []))
             (λ fault. Refuses C snapshot.now fault × (self.new ≡ self.old)) }
         ensures follows { OnOk result ((rows : List AnyRow) × Loads C snapshot.now (Ok tt) rows
-            × FollowsFrom self.new (record { aaguid = config.aaguid; moment = start; capacity = C; rows = rows }) []) }
+            × IsStateAfterValidStart self.new (record { aaguid = config.aaguid; moment = start; capacity = C; rows = rows }) []) }
     {
         self.authenticator.core.load(config, snapshot, start)?;
         self.latest = start;
@@ -163,19 +163,19 @@ impl<const C: usize> Session<C> {
         ensures few { length outbox.new ≤ OUTBOX_CAPACITY }
         // For each history that leads to the session's state: the history with this input leads to its new state, and
         // exactly the packets that the history defines for the input are sent.
-        ensures after { (start : Start) (h : List OneInput) → StandsAfter self.old start h
-            → StandsAfter self.new start (record { at = at; input = input } ∷ h) }
-        ensures sent { (start : Start) (h : List OneInput) → StandsAfter self.old start h
+        ensures after { (start : Start) (h : List OneInput) → IsStateAfter self.old start h
+            → IsStateAfter self.new start (record { at = at; input = input } ∷ h) }
+        ensures sent { (start : Start) (h : List OneInput) → IsStateAfter self.old start h
             → outbox.new ≡ sent_now start h (record { at = at; input = input }) }
         // If the history's start is valid, exactly the packets are sent that are defined without an authenticator's
         // state.
-        ensures follows { (start : Start) (h : List OneInput) → FollowsFrom self.old start h
-            → FollowsFrom self.new start (record { at = at; input = input } ∷ h) }
-        ensures told { (start : Start) (h : List OneInput) → FollowsFrom self.old start h
+        ensures follows { (start : Start) (h : List OneInput) → IsStateAfterValidStart self.old start h
+            → IsStateAfterValidStart self.new start (record { at = at; input = input } ∷ h) }
+        ensures told { (start : Start) (h : List OneInput) → IsStateAfterValidStart self.old start h
             → outbox.new ≡ packets_sent_now start h (record { at = at; input = input }) }
         // The causes of refusals are those of the composed machine, and those that the history defines.
         ensures why { result ≡ causes_of self.old.machine (record { at = at; input = input }) }
-        ensures named { (start : Start) (h : List OneInput) → StandsAfter self.old start h
+        ensures named { (start : Start) (h : List OneInput) → IsStateAfter self.old start h
             → result ≡ causes_after start h (record { at = at; input = input }) }
     {
         answers_follow_history();
@@ -204,7 +204,7 @@ impl<const C: usize> Session<C> {
     pub fn noise(&self, at: u64, input: &Input) -> bool
         ensures state { result ≡ is_noise_at self.now.machine (record { at = at; input = input.now }) }
         // The input is noise after each history that leads to the session's state.
-        ensures history { (start : Start) (h : List OneInput) → StandsAfter self.now start h → result
+        ensures history { (start : Start) (h : List OneInput) → IsStateAfter self.now start h → result
             ≡ is_noise_after start (received_after start h (record { at = at; input = input.now })) (received start h) }
     {
         let now = self.latest.max(at);
@@ -213,9 +213,9 @@ impl<const C: usize> Session<C> {
 
     /// Returns the number of data bytes received of the open message, at most 7550.
     pub fn held(&self) -> u16
-        ensures bytes { result ≡ held_bytes self.now.machine.current }
-        ensures limit { result ≤ LONGEST_HELD }
-        ensures named { (start : Start) (h : List OneInput) → StandsAfter self.now start h
+        ensures bytes { result ≡ stored_len self.now.machine.current }
+        ensures limit { result ≤ MAX_STORED_LEN }
+        ensures named { (start : Start) (h : List OneInput) → IsStateAfter self.now start h
             → result ≡ held start (received start h) }
     {
         self.assembler.held()

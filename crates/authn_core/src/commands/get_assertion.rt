@@ -11,10 +11,10 @@ ghost use Rattle.sha2.specs.Sha256.{sha256};
 ghost use Rattle.authn_core.specs.State.{AwaitAssertSignature, await_signature};
 ghost use Rattle.authn_core.specs.GetAssertion as get;
 ghost use Rattle.authn_core.specs.Views.{TakesTurn, TakesWork, assert_state_of};
-ghost use Rattle.authn_core.specs.Ready.{IsPendingAlone, SignsItsAnswer};
+ghost use Rattle.authn_core.specs.Ready.{IsPendingAlone, SignsItsResponse};
 
 use crate::authenticator::{Core, Turn};
-use crate::refusal::{Refusal, not_granted};
+use crate::refusal::{Refusal, presence_refusal};
 use crate::replies::{Presence, Signature};
 use crate::task::{AssertState, Task};
 use crate::work::KeepaliveStatus;
@@ -98,11 +98,11 @@ impl<T: Table<C>, const C: usize> Core<T, C> {
         let ids = self.applicable.as_slice();
         self.pending.fill(cid, &client, presence, self.latest, ids);
         let count = ids.len();
-        self.begin_by(cid, &client, &rp, presence, given, count, answer)
+        self.begin_pending_assertion(cid, &client, &rp, presence, given, count, answer)
     }
 
     /// Begins an assertion with the first of the pending credentials. With `presence` the user is asked first.
-    fn begin_by(
+    fn begin_pending_assertion(
         &mut self,
         cid: u32,
         hash: &[u8; 32],
@@ -123,7 +123,7 @@ impl<T: Table<C>, const C: usize> Core<T, C> {
             return self.refuse(Refusal::NoCredential { listed: given }, answer);
         };
         if counter_of(&self.table, &first) >= u32::MAX {
-            return self.refuse_all(Refusal::CounterSpent, answer);
+            return self.refuse_and_clear(Refusal::CounterSpent, answer);
         }
         let number = (count > 1 && !given).then_some(count as u16);
         let a = AssertState {
@@ -170,7 +170,7 @@ impl<T: Table<C>, const C: usize> Core<T, C> {
     {
         match reply {
             Presence::Granted => Turn::Waits(self.sign(cid, &a)),
-            _ => self.refuse_all(not_granted(reply), answer),
+            _ => self.refuse_and_clear(presence_refusal(reply), answer),
         }
     }
 
@@ -184,12 +184,12 @@ impl<T: Table<C>, const C: usize> Core<T, C> {
         signature: &Option<Signature>,
         answer: &mut Answer,
     ) -> Turn
-        requires { SignsItsAnswer self.old.core.setup.aaguid (AwaitAssertSignature (assert_state_of a) counter signed.now.items) }
+        requires { SignsItsResponse self.old.core.setup.aaguid (AwaitAssertSignature (assert_state_of a) counter signed.now.items) }
         ensures { TakesTurn self.old self.new result answer.new.items (get.assertion_after_signature self.old.core.state.rows
             self.old.core.state.pending self.old.latest (assert_state_of a) counter signature.now) }
     {
         let Some(signature) = signature else {
-            return self.refuse_all(Refusal::SignatureRefused, answer);
+            return self.refuse_and_clear(Refusal::SignatureRefused, answer);
         };
         let data = &signed.as_slice()[..ASSERTION_LEN];
         self.pending.stamp(self.latest);
@@ -208,16 +208,16 @@ impl<T: Table<C>, const C: usize> Core<T, C> {
     {
         let pending = &self.pending;
         if pending.len() == 0 {
-            return self.refuse_all(Refusal::NothingPending, answer);
+            return self.refuse_and_clear(Refusal::NothingPending, answer);
         }
         let channel = pending.cid();
         let since = pending.moment();
         if channel != cid {
-            return self.refuse_all(Refusal::PendingElsewhere { channel }, answer);
+            return self.refuse_and_clear(Refusal::PendingElsewhere { channel }, answer);
         }
         let at = self.latest;
         if at.saturating_sub(since) > NEXT_LIMIT {
-            return self.refuse_all(Refusal::NextTooLate { since, at }, answer);
+            return self.refuse_and_clear(Refusal::NextTooLate { since, at }, answer);
         }
         let hash = self.pending.hash();
         let presence = self.pending.presence();
@@ -225,11 +225,11 @@ impl<T: Table<C>, const C: usize> Core<T, C> {
             return self.refuse(Refusal::NothingPending, answer);
         };
         let Some(row) = self.table.find(&id) else {
-            return self.refuse_all(Refusal::NothingPending, answer);
+            return self.refuse_and_clear(Refusal::NothingPending, answer);
         };
         let rp = row.rp;
         if row.counter >= u32::MAX {
-            return self.refuse_all(Refusal::CounterSpent, answer);
+            return self.refuse_and_clear(Refusal::CounterSpent, answer);
         }
         let a = AssertState {
             hash,

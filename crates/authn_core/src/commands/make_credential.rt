@@ -7,11 +7,11 @@ ghost use Rattle.ctap_message.specs.Descriptors.{ids_of};
 ghost use Rattle.ctap_message.specs.DescriptorWalk.{left_of};
 ghost use Rattle.authn_core.specs.MakeCredential as make;
 ghost use Rattle.authn_core.specs.State.{AwaitMakeSignature};
-ghost use Rattle.authn_core.specs.Ready.{SignsItsAnswer};
+ghost use Rattle.authn_core.specs.Ready.{SignsItsResponse};
 ghost use Rattle.authn_core.specs.Views.{TakesTurn, TakesWork, make_state_of};
 
 use crate::authenticator::{Core, Turn};
-use crate::refusal::{Refusal, not_granted};
+use crate::refusal::{Refusal, presence_refusal};
 use crate::replies::{NewKey, Presence, Signature};
 use crate::task::{MakeState, Task};
 use crate::work::KeepaliveStatus;
@@ -22,8 +22,8 @@ use fido_authdata::{AuthData, CREATED_LEN, to_sign};
 use sha2::{Digest, Sha256};
 
 /// Returns whether one of the IDs is that of a credential of the RP.
-fn names_one<T: Table<C>, const C: usize>(table: &T, rp: &[u8; 32], ids: Descriptors<'_>) -> bool
-    ensures { result ≡ make.names_one rp.now (T.rows table.now) (ids_of (left_of ids.entry)) }
+fn has_listed_credential<T: Table<C>, const C: usize>(table: &T, rp: &[u8; 32], ids: Descriptors<'_>) -> bool
+    ensures { result ≡ make.has_listed_credential rp.now (T.rows table.now) (ids_of (left_of ids.entry)) }
 {
     let mut ids = ids;
     'walk: while let Some(id) = ids.next() {
@@ -87,7 +87,7 @@ impl<T: Table<C>, const C: usize> Core<T, C> {
         };
         making.hash.copy_from_slice(asked.hash);
         making.user.try_extend_from_slice(asked.user_id).unwrap();
-        let excluded = names_one(&self.table, &making.rp, asked.exclude);
+        let excluded = has_listed_credential(&self.table, &making.rp, asked.exclude);
         self.pending.clear();
         self.wait(cid, Task::AwaitMakePresence(making, excluded))
     }
@@ -108,7 +108,7 @@ impl<T: Table<C>, const C: usize> Core<T, C> {
             return self.refuse(Refusal::Excluded, answer);
         }
         let Presence::Granted = reply else {
-            return self.refuse(not_granted(reply), answer);
+            return self.refuse(presence_refusal(reply), answer);
         };
         let is_full = self.table.len() >= C;
         let user = making.user.as_slice();
@@ -152,7 +152,7 @@ impl<T: Table<C>, const C: usize> Core<T, C> {
     ) -> Turn
         requires capacity { make.has_capacity C (make_state_of making) self.old.core.state.rows ≡ true }
         requires fresh { is_some (find (has_id key.id) self.old.core.state.rows) ≡ false }
-        requires signed { SignsItsAnswer self.old.core.setup.aaguid (AwaitMakeSignature (make_state_of making) key signed.now.items) }
+        requires signed { SignsItsResponse self.old.core.setup.aaguid (AwaitMakeSignature (make_state_of making) key signed.now.items) }
         ensures { TakesTurn self.old self.new result answer.new.items (make.make_after_signature self.old.core.setup.aaguid
             self.old.core.state.rows self.old.core.state.pending (make_state_of making) key signature.now) }
     {

@@ -24,7 +24,7 @@ impl<T: Table<C>, const C: usize> Core<T, C> {
             self.old.latest cid) }
     {
         if self.latest - self.began > RESET_LIMIT {
-            return self.refuse_all(
+            return self.refuse_and_clear(
                 Refusal::ResetTooLate {
                     since: self.began,
                     at: self.latest,

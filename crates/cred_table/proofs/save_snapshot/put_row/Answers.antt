@@ -12,7 +12,7 @@ returns-clause-appends c =
     c.put_hash-3.ensures.appends)
     (up_to (exactly c.uint-4.ensures.appends) (up_to (exactly c.put_hash-4.ensures.appends)
     (up_to (exactly c.uint-5.ensures.appends)
-    (up_to (respelled (ap (λ s. scalar_text (Bytes s)) c.deref.ensures.0) c.put_short.ensures.appends)
+    (up_to (respelled (ap (λ s. scalar_text (Bytes s)) c.deref.ensures.0) c.put_handle.ensures.appends)
     (up_to (exactly c.uint-6.ensures.appends) (up_to (exactly c.flag.ensures.appends) (up_to (exactly
     c.uint-7.ensures.appends)
     (up_to c.put_counter.ensures.appends (up_to (exactly c.uint-8.ensures.appends) (up_to (respelled

@@ -2,8 +2,8 @@ use Rattle.std.proofs.Common.{arith}
 use Rattle.cred_table.proofs.SavedRows.{one_written, heads_within, row_within, all_written, on_err}
 use Rattle.cred_table.proofs.save_snapshot.write_rows.Goals as goal
 
-pub returns-in_err-write_heads-clause-full : goal.returns-in_err-write_heads-clause-full
-returns-in_err-write_heads-clause-full g c = grind (arith, heads_within)
+pub returns-in_err-write_header-clause-full : goal.returns-in_err-write_header-clause-full
+returns-in_err-write_header-clause-full g c = grind (arith, heads_within)
 
 pub loop-row-preserved : goal.loop-row-preserved
 loop-row-preserved g c = grind (arith, one_written)

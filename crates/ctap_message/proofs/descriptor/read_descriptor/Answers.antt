@@ -1,9 +1,9 @@
 use Rattle.std.proofs.Common.{◌-◌}
-use Rattle.ctap_message.specs.{Descriptors.descriptor_types, Fields.descriptor_in, Collected.shown_descriptor}
+use Rattle.ctap_message.specs.{Descriptors.descriptor_types, Fields.descriptor_in, Collected.to_descriptor}
 use Rattle.ctap_message.proofs.{Collecting.map_read, Growing.descriptor_start}
 use Rattle.ctap_message.proofs.descriptor.read_descriptor.Goals as goal
 
 pub returns : goal.returns
 returns c =
-    map_read shown_descriptor descriptor_types descriptor_in (5 - c.args.level) c.in_ok-typed.typed
+    map_read to_descriptor descriptor_types descriptor_in (5 - c.args.level) c.in_ok-typed.typed
     _ c.read_members.new.members c.args.cursor.now c.read_members.new.cursor c.in_ok-typed.ensures descriptor_start

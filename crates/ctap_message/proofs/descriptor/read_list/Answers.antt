@@ -2,7 +2,7 @@ use Rattle.std.proofs.Common.{◌-◌, Some, sym, subst}
 use Rattle.ctap_cbor.specs.Tree.{no_trees}
 use Rattle.ctap_message.specs.{Members.entries_of, Members.map_of, Descriptors.descriptor_types, DescriptorWalk.IsWhole}
 use Rattle.ctap_message.{specs.Collected.listing_in, specs.Collected.shown_listing, proofs.Collecting.array_read}
-use Rattle.ctap_message.proofs.Listing.{listing_start, is_list, list_read, no_walk, given_walk}
+use Rattle.ctap_message.proofs.ListSummary.{listing_start, is_list, list_read, no_walk, given_walk}
 use Rattle.ctap_message.proofs.descriptor.read_list.Goals.{then-found, else-found}
 use Rattle.ctap_message.proofs.descriptor.read_list.Goals as goal
 
@@ -12,8 +12,8 @@ over-list-requires c =
     c.unwrap_or-typed.result _ c.read_array.new.entries c.args.cursor.now c.read_array.new.cursor
     c.unwrap_or-typed.ensures c.in_ok-read_array.ensures listing_start in (
       entries_of (Some h.0),
-      is_list c.args.level c.place-from.result h.0 c.args.cursor.now c.read_array.new.cursor c.since.result.now
-          c.requires.low c.place-from.ensures c.since.ensures h.1
+      is_list c.args.level c.place-from.result h.0 c.args.cursor.now c.read_array.new.cursor c.bytes_since.result.now
+          c.requires.low c.place-from.ensures c.bytes_since.ensures h.1
           (given_walk h.0 c.unwrap_or-typed.result c.read_array.new.entries.is_whole c.read_array.new.entries.given h.2
           c.if-found.true),
     )

@@ -1,9 +1,9 @@
 use Rattle.ctap_message.{specs.GetAssertion.assertion_types, proofs.Collecting.map_read, proofs.Growing.assert_begins}
-use Rattle.ctap_message.specs.CollectedRequests.{assertion_in, shown_assert}
+use Rattle.ctap_message.specs.CollectedRequests.{assertion_in, to_assertion_parameters}
 use Rattle.ctap_message.proofs.get_assertion.parse_get_assertion.Goals as goal
 
 pub returns : goal.returns
 returns c =
-    let h = map_read shown_assert assertion_types assertion_in 4 c.in_ok-typed.typed _ c.read_members.new.members
+    let h = map_read to_assertion_parameters assertion_types assertion_in 4 c.in_ok-typed.typed _ c.read_members.new.members
     c.args.cursor.now c.read_members.new.cursor c.in_ok-typed.ensures (assert_begins c.none.result c.none.ensures) in
     (c.read_members.new.cursor, h, c.in_ok-end.ensures)

@@ -1,9 +1,9 @@
 use Rattle.ctap_message.{specs.MakeCredential.make_types, proofs.Collecting.map_read, proofs.Growing.make_begins}
-use Rattle.ctap_message.specs.CollectedRequests.{make_in, shown_make}
+use Rattle.ctap_message.specs.CollectedRequests.{make_in, to_make_parameters}
 use Rattle.ctap_message.proofs.make_credential.parse_make_credential.Goals as goal
 
 pub returns : goal.returns
 returns c =
-    let h = map_read shown_make make_types make_in 4 c.in_ok-typed.typed _ c.read_members.new.members
+    let h = map_read to_make_parameters make_types make_in 4 c.in_ok-typed.typed _ c.read_members.new.members
     c.args.cursor.now c.read_members.new.cursor c.in_ok-typed.ensures (make_begins c.none.result c.none.ensures) in
     (c.read_members.new.cursor, h, c.in_ok-end.ensures)

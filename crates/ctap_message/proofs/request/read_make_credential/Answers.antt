@@ -3,7 +3,7 @@ use Rattle.std.specs.Prelude.{Bool}
 use Rattle.ctap_cbor.specs.{Telling.canonical_tree, Telling.outcome_of, Tree.Trees}
 use Rattle.ctap_message.specs.{Members.map_of, Walks.typed, Judged.MakeParameters, Judged.validated_make}
 use Rattle.ctap_message.specs.MakeCredential.{make_types, make_request}
-use Rattle.ctap_message.specs.CollectedRequests.{make_in, shown_make}
+use Rattle.ctap_message.specs.CollectedRequests.{make_in, to_make_parameters}
 use Rattle.ctap_message.specs.RequestFaults.{checked_make, make_fault, fault_after}
 use Rattle.ctap_message.proofs.Asking.{accepted, never, refused, told}
 use Rattle.ctap_message.proofs.Refusing.{checked_whole}
@@ -12,51 +12,51 @@ use Rattle.ctap_message.proofs.request.read_make_credential.Goals as goal
 pub returns-in-Err-clause-fault : goal.returns-in-Err-clause-fault
 returns-in-Err-clause-fault c =
     let b = c.args.parameters.now in
-    let first = refused b c.new-cursor.result c.read_whole.new.cursor c.in-Err.fault c.whole_readings.ensures
+    let first = refused b c.new-cursor.result c.read_whole.new.cursor c.in-Err.fault c.cursor_agrees_with_check.ensures
     c.new-cursor.ensures c.in-Err.ensures in
     ap (λ found. fault_after found (checked_make (canonical_tree b))) (sym first.fault_is)
 
 pub returns-in-Err-clause-steps : goal.returns-in-Err-clause-steps
 returns-in-Err-clause-steps c =
     let first = refused c.args.parameters.now c.new-cursor.result c.read_whole.new.cursor c.in-Err.fault
-    c.whole_readings.ensures c.new-cursor.ensures c.in-Err.ensures in
+    c.cursor_agrees_with_check.ensures c.new-cursor.ensures c.in-Err.ensures in
     c.steps.ensures ∙ first.steps_are
 
 pub unreachable-requires : goal.unreachable-requires
 unreachable-requires c =
-    let first = accepted c.args.parameters.now c.new-cursor.result c.read_whole.new.cursor c.whole_readings.ensures
+    let first = accepted c.args.parameters.now c.new-cursor.result c.read_whole.new.cursor c.cursor_agrees_with_check.ensures
     c.new-cursor.ensures c.in_default.ensures in
     never c.args.parameters.now c.read_whole.new.cursor c.rewind.new.self c.parse_make_credential.new.cursor c.in-Err-parse_make_credential.field-0
-    c.whole_readings.ensures first (c.rewind.ensures ∙ first.back) c.in-Err-parse_make_credential.ensures
+    c.cursor_agrees_with_check.ensures first (c.rewind.ensures ∙ first.back) c.in-Err-parse_make_credential.ensures
 
 pub returns-clause-request : goal.returns-clause-request
 returns-clause-request c =
-    let first = accepted c.args.parameters.now c.new-cursor.result c.read_whole.new.cursor c.whole_readings.ensures
+    let first = accepted c.args.parameters.now c.new-cursor.result c.read_whole.new.cursor c.cursor_agrees_with_check.ensures
     c.new-cursor.ensures c.in_default.ensures in
     let h = c.in-Ok.ensures in
-    let t = told (typed (map_of make_types) make_in) c.args.parameters.now (c.in-Ok.typed, shown_make c.in-Ok.make)
-    c.read_whole.new.cursor c.rewind.new.self h.0 c.parse_make_credential.new.cursor c.whole_readings.ensures first
+    let t = told (typed (map_of make_types) make_in) c.args.parameters.now (c.in-Ok.typed, to_make_parameters c.in-Ok.make)
+    c.read_whole.new.cursor c.rewind.new.self h.0 c.parse_make_credential.new.cursor c.cursor_agrees_with_check.ensures first
     (c.rewind.ensures ∙ first.back) h.1 h.2 in
     c.validate_make_credential.ensures.request ∙ ap (λ (x : Bool × (MakeParameters × Trees)). validated_make true x.0 x.1.0) t.value_is
     ∙ sym (ap make_request t.tree_is)
 
 pub returns-clause-fault : goal.returns-clause-fault
 returns-clause-fault c =
-    let first = accepted c.args.parameters.now c.new-cursor.result c.read_whole.new.cursor c.whole_readings.ensures
+    let first = accepted c.args.parameters.now c.new-cursor.result c.read_whole.new.cursor c.cursor_agrees_with_check.ensures
     c.new-cursor.ensures c.in_default.ensures in
     let h = c.in-Ok.ensures in
-    let t = told (typed (map_of make_types) make_in) c.args.parameters.now (c.in-Ok.typed, shown_make c.in-Ok.make)
-    c.read_whole.new.cursor c.rewind.new.self h.0 c.parse_make_credential.new.cursor c.whole_readings.ensures first
+    let t = told (typed (map_of make_types) make_in) c.args.parameters.now (c.in-Ok.typed, to_make_parameters c.in-Ok.make)
+    c.read_whole.new.cursor c.rewind.new.self h.0 c.parse_make_credential.new.cursor c.cursor_agrees_with_check.ensures first
     (c.rewind.ensures ∙ first.back) h.1 h.2 in
     c.validate_make_credential.ensures.fault ∙ ap (λ (x : Bool × (MakeParameters × Trees)). make_fault x.0 x.1.0) t.value_is
     ∙ sym (checked_whole (outcome_of c.args.parameters.now) t.tree checked_make t.tree_is)
 
 pub returns-clause-steps : goal.returns-clause-steps
 returns-clause-steps c =
-    let first = accepted c.args.parameters.now c.new-cursor.result c.read_whole.new.cursor c.whole_readings.ensures
+    let first = accepted c.args.parameters.now c.new-cursor.result c.read_whole.new.cursor c.cursor_agrees_with_check.ensures
     c.new-cursor.ensures c.in_default.ensures in
     let h = c.in-Ok.ensures in
-    let t = told (typed (map_of make_types) make_in) c.args.parameters.now (c.in-Ok.typed, shown_make c.in-Ok.make)
-    c.read_whole.new.cursor c.rewind.new.self h.0 c.parse_make_credential.new.cursor c.whole_readings.ensures first
+    let t = told (typed (map_of make_types) make_in) c.args.parameters.now (c.in-Ok.typed, to_make_parameters c.in-Ok.make)
+    c.read_whole.new.cursor c.rewind.new.self h.0 c.parse_make_credential.new.cursor c.cursor_agrees_with_check.ensures first
     (c.rewind.ensures ∙ first.back) h.1 h.2 in
     c.steps-in-Ok.ensures ∙ t.steps_are

@@ -1,12 +1,12 @@
 use Rattle.std.proofs.Common.{◌≡◌, Some, arith, sym}
-use Rattle.ctap_message.specs.CollectedRequests.{shown_make}
+use Rattle.ctap_message.specs.CollectedRequests.{to_make_parameters}
 use Rattle.ctap_message.specs.RequestFaults.{make_fault}
 use Rattle.ctap_message.proofs.Refusing.{make_refused}
 use Rattle.ctap_message.proofs.validate.validate_make_credential.Goals as goal
 
 pub returns-in-Some-fault_of_make-clause-request : goal.returns-in-Some-fault_of_make-clause-request
 returns-in-Some-fault_of_make-clause-request c =
-    let m = (shown_make c.args.make).0 in
+    let m = (to_make_parameters c.args.make).0 in
     let is : make_fault c.args.typed m ≡ Some c.in-Some-fault_of_make.fault
     = grind (
       arith,

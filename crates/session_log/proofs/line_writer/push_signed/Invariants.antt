@@ -8,7 +8,7 @@ invariant-loop-rest l =
     record {
       space : length l.text.items + 2 * length l.rest + 10 * ((length l.rest + 95) / 96) ≤ length l.fn.text.items + 2 *
           length l.signed + 10 * ((length l.signed + 95) / 96);
-      done : l.text.items ++ flat_map ended (map signed_line (pieces_of l.rest)) ≡ l.fn.text.items ++ flat_map ended
+      done : l.text.items ++ flat_map with_line_feed (map signed_line (pieces_of l.rest)) ≡ l.fn.text.items ++ flat_map with_line_feed
           (map signed_line (pieces_of l.signed));
     }
 

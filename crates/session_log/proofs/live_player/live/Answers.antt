@@ -6,17 +6,17 @@ use Rattle.session_log.proofs.Histories.{live_follows, logs_history}
 use Rattle.session_log.proofs.Again.{live_again, live_logs, live_replayed, repeats_in, replay_logs}
 use Rattle.session_log.proofs.live_player.live.Goals as goal
 
-pub returns-in_err-play_log : goal.returns-in_err-play_log
-returns-in_err-play_log g c =
+pub returns-in_err-process_log : goal.returns-in_err-process_log
+returns-in_err-process_log g c =
     let r = c.from_residual.result in
-    let e = c.in_err-play_log.field-0.0 in
+    let e = c.in_err-process_log.field-0.0 in
     let from = err_from_is_err_and r c.from_residual.ensures.1 in
     let is : r ≡ Err e = from.1 ∙ ap Err from.2 in
     let s = c.args.session.now in
-    let new = c.play_log.new in
+    let new = c.process_log.new in
     let through =
     logs_fault live_machine s new.session g.S.Source.left g.S.Source.failed g.S.Source.ended g.T.Target.taken
-    g.T.Target.failed c.args.reader.now new.reader c.args.writer.now new.writer r e is c.in_err-play_log.ensures in
+    g.T.Target.failed c.args.reader.now new.reader c.args.writer.now new.writer r e is c.in_err-process_log.ensures in
     record {
       lived = through;
       again = on_err _ r e is;
@@ -29,8 +29,8 @@ returns-in_err-play_log g c =
 pub returns : goal.returns
 returns g c =
     let s = c.args.session.now in
-    let new = c.play_log.new in
-    let h = c.in_ok-play_log.ensures in
+    let new = c.process_log.new in
+    let h = c.in_ok-process_log.ensures in
     let logs = live_logs session_course session_needs in
     let copies = live_replayed session_course session_needs in
     let again = live_again session_course session_needs in

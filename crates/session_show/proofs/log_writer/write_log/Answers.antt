@@ -5,7 +5,7 @@ use Rattle.std.proofs.lemmas.{List.nil_from_length, Result.err_from_is_err_and}
 use Rattle.session_log.proofs.{Cutting.last_line, Gathering.in_count}
 use Rattle.std.proofs.Common.{Result, append-nil, ◌-◌}
 use Rattle.session_log.specs.Ending.{Done, Ending, ended_by, ending_of, read_fails, write_fails}
-use Rattle.session_log.specs.{Replay.ReadsTo, Lines.lines, Log.text_of, Window.IsUnfinished}
+use Rattle.session_log.specs.{Replay.ReadsTo, Lines.lines, Log.line_text, Window.IsUnfinished}
 use Rattle.session_log.specs.{Streams.Counts, Streams.IsAtEndOfInput, declared.fault.LogFault.LogFault}
 use Rattle.session_log.proofs.Through.{through_none, played_none}
 use Rattle.session_log.proofs.{Cutting.line_in_front, Failures.stops_unwritten}
@@ -65,7 +65,7 @@ lines-preserved g c =
       format = c.in_ok-tell.ensures.format ∙ same;
       done = (
         before.0 ++ take (c.in-Some.end + 1) w,
-        before.1 ++ text_of read_only_world tt line,
+        before.1 ++ line_text read_only_world tt line,
         next.0,
         next.1,
         (

@@ -53,14 +53,14 @@ loop-i-preserved g c = record {
       c.index-inputs-i.is c.step.ensures.state c.loop-i.invariant.state;
   packets = sends_more c.args.inputs.now c.loop-i.i _ _ _ _ _ _ c.index-inputs-i.result _ c.loop-i-test.true
       c.index-inputs-i.is
-      c.take_all.ensures.sent c.step.ensures.packets c.loop-i.invariant.state c.loop-i.invariant.packets;
+      c.collect_packets.ensures.sent c.step.ensures.packets c.loop-i.invariant.state c.loop-i.invariant.packets;
   whole = whole_more c.args.inputs.now c.loop-i.i c.index-inputs-i.result _ c.loop-i-test.true c.index-inputs-i.is
-      c.loop-i.invariant.whole c.known_input.ensures;
+      c.loop-i.invariant.whole c.input_bounds.ensures;
   capacity = below_more _ _ c.loop-i.invariant.capacity (capacity_here (map numbered_packet c.loop-i.sent.items) _ g.row.N
       c.loop-i.invariant.packets
       (let n : length (map numbered_packet c.loop-i.sent.items) ≡ array_vec_len c.loop-i.sent = simp length-map in
       omega (arith, c.if-remaining_capacity-lt-OUTBOX_CAPACITY.false, c.remaining_capacity.ensures)));
-  empty = c.take_all.ensures.empty;
+  empty = c.collect_packets.ensures.empty;
 }
 
 pub loop-i-init : goal.loop-i-init
@@ -75,8 +75,8 @@ loop-i-init g c = record {
 pub step-requires : goal.step-requires
 step-requires g c = (assumption c.well_formed, c.loop-i.invariant.empty)
 
-pub take_all-requires : goal.take_all-requires
-take_all-requires g c = (assumption c.well_formed, omega (arith, c.if-remaining_capacity-lt-OUTBOX_CAPACITY.false, c.remaining_capacity.ensures, c.step.ensures.few))
+pub collect_packets-requires : goal.collect_packets-requires
+collect_packets-requires g c = (assumption c.well_formed, omega (arith, c.if-remaining_capacity-lt-OUTBOX_CAPACITY.false, c.remaining_capacity.ensures, c.step.ensures.few))
 
 pub remaining_capacity-requires : goal.remaining_capacity-requires
 remaining_capacity-requires g c = assumption c.well_formed

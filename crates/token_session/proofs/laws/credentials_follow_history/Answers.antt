@@ -8,9 +8,9 @@ returns c = record {
   rows = λ start h. rw (core_is start (received start h)) (c.rows_follow_history.ensures.rows _ _ (orderly start h));
   lawful = λ start h l. rw (core_is start (received start h)) (c.rows_follow_history.ensures.lawful _ _
       (first_ready start) l);
-  texts = λ start h l. c.texts_to_sign_differ.ensures.differ _ _ (first_ready start) l (orderly start h);
-  rise = λ start h l. c.texts_to_sign_differ.ensures.rise _ _ (first_ready start) l (orderly start h);
+  texts = λ start h l. c.signed_bytes_differ.ensures.differ _ _ (first_ready start) l (orderly start h);
+  rise = λ start h l. c.signed_bytes_differ.ensures.rise _ _ (first_ready start) l (orderly start h);
   newest = λ start h id l e.
       let k = core_is start (received start h) in
-      rw k (c.texts_to_sign_differ.ensures.newest _ _ id refl (first_ready start) l (orderly start h) (rw k at e));
+      rw k (c.signed_bytes_differ.ensures.newest _ _ id refl (first_ready start) l (orderly start h) (rw k at e));
 }

@@ -12,6 +12,6 @@ returns g c =
     let allow = left_of c.args.asked.allow in
     let found : c.as_slice-ids.result.now ≡ ids (applicable_rows (g.T.Table.rows c.self.inside.table) c.digest-rp.result
     (has_entries allow) (ids_of allow)) = c.as_slice-ids.ensures.value ∙ c.collect_applicable.ensures in
-    let begun = c.begin_by.ensures c.as_slice-ids.result.now
+    let begun = c.begin_pending_assertion.ensures c.as_slice-ids.result.now
     (record { are = c.fill.ensures; counted = refl; few = grind arith }) in
     let named = rw found at begun in search rules

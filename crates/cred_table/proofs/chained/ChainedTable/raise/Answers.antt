@@ -1,5 +1,5 @@
 use Rattle.std.proofs.{lemmas.Grind.common_steps, Common.arith}
-use Rattle.cred_table.specs.Linked.{age, rows_in}
+use Rattle.cred_table.specs.Linked.{slots_by_age, rows_in}
 use Rattle.cred_table.proofs.{Raised.Lawful-raised, Found.raised_is, Found.counter_slot}
 use Rattle.cred_table.proofs.chained.ChainedTable.raise.Goals as goal
 
@@ -9,7 +9,7 @@ raise-requires g c = grind (arith, counter_slot)
 pub invariant_of-self : goal.invariant_of-self
 invariant_of-self g c =
     let chains = c.args.self.now.chains in
-    let raised = raised_is chains.slots c.args.id.now (age chains) c.number-number.result
+    let raised = raised_is chains.slots c.args.id.now (slots_by_age chains) c.number-number.result
     c.args.self.now.lawful.distinct
     c.number-number.ensures.held c.number-number.ensures.named in
     let lawful = Lawful-raised g.row.C c.args.id.now (rows_in chains) c.args.self.now.lawful in

@@ -18,7 +18,7 @@ returns-in_err-found g c =
     let found = find_from_yields_List test _ _ c.find.result c.find.ensures.ran
     (YieldsList-from_first seen (λ (l : List (ℕ × Slot)). l) c.oldest_first.result refl)
     (λ x b q k. search rules) in
-    let row = found_row table.chains.slots (age table.chains) (is_user c.args.rp.now c.args.user.now) c.find.result
+    let row = found_row table.chains.slots (slots_by_age table.chains) (is_user c.args.rp.now c.args.user.now) c.find.result
     (found ∙ ap (find test) c.oldest_first.ensures) in
     c.from_residual.ensures ∙ (ap (option_map (λ (item : ℕ × Bor Slot). item.1.now.row.id)) (sym c.in_err-found.was)
     ∙ ids c.find.result _ row)
@@ -30,6 +30,6 @@ returns g c =
     let found = find_from_yields_List test _ _ c.find.result c.find.ensures.ran
     (YieldsList-from_first seen (λ (l : List (ℕ × Slot)). l) c.oldest_first.result refl)
     (λ x b q k. search rules) in
-    let row = found_row table.chains.slots (age table.chains) (is_user c.args.rp.now c.args.user.now) c.find.result
+    let row = found_row table.chains.slots (slots_by_age table.chains) (is_user c.args.rp.now c.args.user.now) c.find.result
     (found ∙ ap (find test) c.oldest_first.ensures) in
     ap (option_map (λ (item : ℕ × Bor Slot). item.1.now.row.id)) (sym c.in_ok-found.was) ∙ ids c.find.result _ row

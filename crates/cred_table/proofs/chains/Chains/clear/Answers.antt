@@ -4,5 +4,5 @@ use Rattle.cred_table.proofs.chains.Chains.clear.Goals as goal
 
 pub returns-clause-linked : goal.returns-clause-linked
 returns-clause-linked g c =
-    let some : 1 ≤ length c.chain_all.new.slots = omega arith in
-    new c.chain_all.new.slots some c.chain_all.ensures
+    let some : 1 ≤ length c.link_all.new.slots = omega arith in
+    new c.link_all.new.slots some c.link_all.ensures

@@ -12,7 +12,7 @@ skip-returns-in_err-item-clause-only t c = grind (arith, only_halts)
 
 pub skip-returns-clause-only : goal.skip-returns-clause-only
 skip-returns-clause-only t c = only_matches (5 - c.args.level) (part_of c.in_ok-item.item) c.args.self.now
-    c.inside.new.self c.inside.result (c.inside.ensures.passes c.args.self.now c.in_ok-item.ensures.takes)
+    c.skip_content.new.self c.skip_content.result (c.skip_content.ensures.passes c.args.self.now c.in_ok-item.ensures.takes)
 
 pub inside-returns-in-Array-clause-passes : goal.inside-returns-in-Array-clause-passes
 inside-returns-in-Array-clause-passes t c = rw c.in-Array.is (λ start takes.

@@ -5,8 +5,8 @@ use Rattle.ctap_cbor.proofs.cursor.Cursor.+skip.Given as goal
 abbrev pub decreases-skip : goal.decreases-skip
 decreases-skip l = 3 * (5 - l.level) + 1
 
-abbrev pub decreases-inside : goal.decreases-inside
-decreases-inside l = 3 * (5 - l.level)
+abbrev pub decreases-skip_content : goal.decreases-skip_content
+decreases-skip_content l = 3 * (5 - l.level)
 
 abbrev pub decreases-skip_items : goal.decreases-skip_items
 decreases-skip_items l = 3 * (5 - l.level) + 2

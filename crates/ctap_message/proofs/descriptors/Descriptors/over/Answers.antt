@@ -16,13 +16,13 @@ invariant_of-result c =
     let only = subst (λ i. ReadsItem 4 c.new-cursor.result c.item.new.self (Ok i)) c.in-Array.is c.in-Ok.ensures.only in
     let takes = subst (λ i. Takes 4 c.new-cursor.result c.item.new.self (part_of i)) c.in-Array.is c.in-Ok.ensures.takes
     in
-    (begins c.bytes_tell.ensures c.items_are_found.ensures c.args.list.now c.requires.0 c.new-cursor.result
-    c.item.new.self c.in-Array.left c.known_bytes.ensures c.requires.1 c.new-cursor.ensures only takes).0
+    (begins c.outcomes_are_computed.ensures c.items_are_decoded.ensures c.args.list.now c.requires.0 c.new-cursor.result
+    c.item.new.self c.in-Array.left c.byte_bounds.ensures c.requires.1 c.new-cursor.ensures only takes).0
 
 pub returns : goal.returns
 returns c = λ ts h.
     let only = subst (λ i. ReadsItem 4 c.new-cursor.result c.item.new.self (Ok i)) c.in-Array.is c.in-Ok.ensures.only in
     let takes = subst (λ i. Takes 4 c.new-cursor.result c.item.new.self (part_of i)) c.in-Array.is c.in-Ok.ensures.takes
     in
-    (begins c.bytes_tell.ensures c.items_are_found.ensures c.args.list.now ts c.new-cursor.result c.item.new.self
-    c.in-Array.left c.known_bytes.ensures h c.new-cursor.ensures only takes).1
+    (begins c.outcomes_are_computed.ensures c.items_are_decoded.ensures c.args.list.now ts c.new-cursor.result c.item.new.self
+    c.in-Array.left c.byte_bounds.ensures h c.new-cursor.ensures only takes).1

@@ -5,8 +5,8 @@ use Rattle.ctap_message.specs.{Walks.typed, Members.map_of, Members.array_of}
 use Rattle.ctap_message.specs.MakeCredential.{rp_types, user_types, make_types}
 use Rattle.ctap_message.specs.Descriptors.{parameter_types, descriptor_types, option_types}
 use Rattle.ctap_message.specs.Fields.{rp_in, user_in, parameters_in, options_in}
-use Rattle.ctap_message.specs.Collected.{shown_rp, shown_user, shown_parameters, shown_options, shown_list, list_in}
-use Rattle.ctap_message.specs.CollectedRequests.{numbered, shown_make, make_in, make_next}
+use Rattle.ctap_message.specs.Collected.{to_rp, to_user, to_parameters, to_options, to_descriptor_list, list_in}
+use Rattle.ctap_message.specs.CollectedRequests.{parameter_key, to_make_parameters, make_in, make_next}
 use Rattle.ctap_message.proofs.{Naming.copied_some, Collecting.maps_read, Collecting.array_read, Collecting.adds_read}
 use Rattle.ctap_message.proofs.{Collecting.adds_put, Growing.rp_start, Growing.user_start, Growing.options_start}
 use Rattle.ctap_message.proofs.Growing.{parameters_start, make_grows, make_heads, make_other}
@@ -14,83 +14,83 @@ use Rattle.ctap_message.proofs.make_credential.MakeMembers.member.Goals as goal
 
 pub returns-in-Int-eq2 : goal.returns-in-Int-eq2
 returns-in-Int-eq2 c =
-    let x = shown_make c.args.self.now in
-    adds_read shown_make make_types make_in make_next (typed (map_of rp_types) rp_in)
-    (shown_rp c.read_members.new.members) (5 - c.args.level) (part_of c.args.key) (Int (pos 2)) c.args.self.now
+    let x = to_make_parameters c.args.self.now in
+    adds_read to_make_parameters make_types make_in make_next (typed (map_of rp_types) rp_in)
+    (to_rp c.read_members.new.members) (5 - c.args.level) (part_of c.args.key) (Int (pos 2)) c.args.self.now
     (record c.args.self.now { rp = c.read_members.new.members }) c.args.cursor.now c.read_members.new.cursor
     c.read_members.result make_grows (search rules) (λ v. refl) (λ v e. ap (λ w. (record x.0 { rp_id = w }, x.1)) e)
-    (maps_read shown_rp rp_types rp_in (5 - c.args.level) c.read_members.result _ c.read_members.new.members
+    (maps_read to_rp rp_types rp_in (5 - c.args.level) c.read_members.result _ c.read_members.new.members
     c.args.cursor.now c.read_members.new.cursor c.read_members.ensures rp_start)
 
 pub returns-in-Int-eq3 : goal.returns-in-Int-eq3
 returns-in-Int-eq3 c =
-    let x = shown_make c.args.self.now in
-    adds_read shown_make make_types make_in make_next (typed (map_of user_types) user_in)
-    (shown_user c.read_members-in-Int-eq3.new.members) (5 - c.args.level) (part_of c.args.key) (Int (pos 3))
+    let x = to_make_parameters c.args.self.now in
+    adds_read to_make_parameters make_types make_in make_next (typed (map_of user_types) user_in)
+    (to_user c.read_members-in-Int-eq3.new.members) (5 - c.args.level) (part_of c.args.key) (Int (pos 3))
     c.args.self.now (record c.args.self.now { user = c.read_members-in-Int-eq3.new.members }) c.args.cursor.now
     c.read_members-in-Int-eq3.new.cursor c.read_members-in-Int-eq3.result make_grows (search rules) (λ v. refl)
     (λ v e. ap (λ w. (record x.0 { user = w }, x.1)) e)
-    (maps_read shown_user user_types user_in (5 - c.args.level) c.read_members-in-Int-eq3.result _
+    (maps_read to_user user_types user_in (5 - c.args.level) c.read_members-in-Int-eq3.result _
     c.read_members-in-Int-eq3.new.members c.args.cursor.now c.read_members-in-Int-eq3.new.cursor
     c.read_members-in-Int-eq3.ensures user_start)
 
 pub returns-in_ok-read_array-in-Int-eq4 : goal.returns-in_ok-read_array-in-Int-eq4
 returns-in_ok-read_array-in-Int-eq4 c =
-    let x = shown_make c.args.self.now in
-    adds_read shown_make make_types make_in make_next (typed (array_of (map_of parameter_types)) parameters_in)
-    (shown_parameters c.read_array.new.entries) (5 - c.args.level) (part_of c.args.key) (Int (pos 4)) c.args.self.now
+    let x = to_make_parameters c.args.self.now in
+    adds_read to_make_parameters make_types make_in make_next (typed (array_of (map_of parameter_types)) parameters_in)
+    (to_parameters c.read_array.new.entries) (5 - c.args.level) (part_of c.args.key) (Int (pos 4)) c.args.self.now
     (record c.args.self.now { has_parameters = true; parameters = c.read_array.new.entries }) c.args.cursor.now
     c.read_array.new.cursor (Ok c.unwrap_or.result) make_grows (search rules) (λ v. refl)
     (λ v e. ap (λ w. (record x.0 { has_parameters = true; parameters = w }, x.1)) e)
-    (array_read shown_parameters (map_of parameter_types) parameters_in (5 - c.args.level)
+    (array_read to_parameters (map_of parameter_types) parameters_in (5 - c.args.level)
     c.in_ok-read_array-in-Int-eq4.field-0 c.unwrap_or.result _ c.read_array.new.entries c.args.cursor.now
     c.read_array.new.cursor c.unwrap_or.ensures c.in_ok-read_array-in-Int-eq4.ensures parameters_start)
 
 pub returns-in-Int-eq5 : goal.returns-in-Int-eq5
 returns-in-Int-eq5 c =
-    let x = shown_make c.args.self.now in
-    adds_read shown_make make_types make_in make_next (typed (array_of (map_of descriptor_types)) list_in)
-    (shown_list c.read_list.new.list) (5 - c.args.level) (part_of c.args.key) (Int (pos 5)) c.args.self.now
+    let x = to_make_parameters c.args.self.now in
+    adds_read to_make_parameters make_types make_in make_next (typed (array_of (map_of descriptor_types)) list_in)
+    (to_descriptor_list c.read_list.new.list) (5 - c.args.level) (part_of c.args.key) (Int (pos 5)) c.args.self.now
     (record c.args.self.now { exclude = c.read_list.new.list }) c.args.cursor.now c.read_list.new.cursor
     c.read_list.result make_grows (search rules) (λ v. refl)
     (λ v e. ap (λ w. (record x.0 { exclude_list = w.0 }, w.1)) e) c.read_list.ensures
 
 pub returns-in-Int-eq7 : goal.returns-in-Int-eq7
 returns-in-Int-eq7 c =
-    let x = shown_make c.args.self.now in
-    adds_read shown_make make_types make_in make_next (typed (map_of option_types) options_in)
-    (shown_options c.read_members-in-Int-eq7.new.members) (5 - c.args.level) (part_of c.args.key) (Int (pos 7))
+    let x = to_make_parameters c.args.self.now in
+    adds_read to_make_parameters make_types make_in make_next (typed (map_of option_types) options_in)
+    (to_options c.read_members-in-Int-eq7.new.members) (5 - c.args.level) (part_of c.args.key) (Int (pos 7))
     c.args.self.now (record c.args.self.now { options = c.read_members-in-Int-eq7.new.members }) c.args.cursor.now
     c.read_members-in-Int-eq7.new.cursor c.read_members-in-Int-eq7.result make_grows (search rules) (λ v. refl)
     (λ v e. ap (λ w. (record x.0 { options = w }, x.1)) e)
-    (maps_read shown_options option_types options_in (5 - c.args.level) c.read_members-in-Int-eq7.result _
+    (maps_read to_options option_types options_in (5 - c.args.level) c.read_members-in-Int-eq7.result _
     c.read_members-in-Int-eq7.new.members c.args.cursor.now c.read_members-in-Int-eq7.new.cursor
     c.read_members-in-Int-eq7.ensures options_start)
 
 pub returns-in-Int-eq1 : goal.returns-in-Int-eq1
 returns-in-Int-eq1 c =
-    let x = shown_make c.args.self.now in
-    adds_put shown_make make_types make_in make_next (5 - c.args.level) (part_of c.args.key) (Int (pos 1))
+    let x = to_make_parameters c.args.self.now in
+    adds_put to_make_parameters make_types make_in make_next (5 - c.args.level) (part_of c.args.key) (Int (pos 1))
     (part_of c.in_ok-value-in_default.value) c.is_some.result c.args.self.now
-    (record c.args.self.now { hash = c.as_bytes-self.result }) c.args.cursor.now c.whole.new.self make_grows
-    (search rules) (make_heads (numbered 1) refl refl refl refl refl) c.in_ok-value-in_default.ensures
+    (record c.args.self.now { hash = c.as_bytes-self.result }) c.args.cursor.now c.read_whole_item.new.self make_grows
+    (search rules) (make_heads (parameter_key 1) refl refl refl refl refl) c.in_ok-value-in_default.ensures
     (c.is_some.ensures ∙ sym (copied_some c.as_bytes-self.result) ∙ ap is_some c.as_bytes-self.ensures)
     (ap (λ w. (record x.0 { client_data_hash = w }, x.1)) c.as_bytes-self.ensures)
 
 pub returns-in-Int-eq6 : goal.returns-in-Int-eq6
 returns-in-Int-eq6 c =
-    adds_put shown_make make_types make_in make_next (5 - c.args.level) (part_of c.args.key) (Int (pos 6))
+    adds_put to_make_parameters make_types make_in make_next (5 - c.args.level) (part_of c.args.key) (Int (pos 6))
     (part_of c.in_ok-value-in_default.value) c.expect_map.result c.args.self.now c.args.self.now c.args.cursor.now
-    c.whole.new.self make_grows (search rules) (make_heads (numbered 6) refl refl refl refl refl)
+    c.read_whole_item.new.self make_grows (search rules) (make_heads (parameter_key 6) refl refl refl refl refl)
     c.in_ok-value-in_default.ensures (c.expect_map.ensures) refl
 
 pub returns-in-Int-eq8 : goal.returns-in-Int-eq8
 returns-in-Int-eq8 c =
-    let x = shown_make c.args.self.now in
-    adds_put shown_make make_types make_in make_next (5 - c.args.level) (part_of c.args.key) (Int (pos 8))
+    let x = to_make_parameters c.args.self.now in
+    adds_put to_make_parameters make_types make_in make_next (5 - c.args.level) (part_of c.args.key) (Int (pos 8))
     (part_of c.in_ok-value-in_default.value) c.is_some-in-Int-eq8.result c.args.self.now
     (record c.args.self.now { pin_uv_auth_param = c.as_bytes-self-in-Int-eq8.result }) c.args.cursor.now
-    c.whole.new.self make_grows (search rules) (make_heads (numbered 8) refl refl refl refl refl)
+    c.read_whole_item.new.self make_grows (search rules) (make_heads (parameter_key 8) refl refl refl refl refl)
     c.in_ok-value-in_default.ensures
     (c.is_some-in-Int-eq8.ensures ∙ sym (copied_some c.as_bytes-self-in-Int-eq8.result) ∙ ap is_some
     c.as_bytes-self-in-Int-eq8.ensures)
@@ -98,32 +98,32 @@ returns-in-Int-eq8 c =
 
 pub returns-in-Int-eq9 : goal.returns-in-Int-eq9
 returns-in-Int-eq9 c =
-    adds_put shown_make make_types make_in make_next (5 - c.args.level) (part_of c.args.key) (Int (pos 9))
+    adds_put to_make_parameters make_types make_in make_next (5 - c.args.level) (part_of c.args.key) (Int (pos 9))
     (part_of c.in_ok-value-in_default.value) c.is_some-in-Int-eq9.result c.args.self.now c.args.self.now
-    c.args.cursor.now c.whole.new.self make_grows (search rules) (make_heads (numbered 9) refl refl refl refl refl)
+    c.args.cursor.now c.read_whole_item.new.self make_grows (search rules) (make_heads (parameter_key 9) refl refl refl refl refl)
     c.in_ok-value-in_default.ensures (c.is_some-in-Int-eq9.ensures ∙ ap is_some c.as_uint.ensures) refl
 
 pub returns-in-Int-eq10 : goal.returns-in-Int-eq10
 returns-in-Int-eq10 c =
-    let x = shown_make c.args.self.now in
-    adds_put shown_make make_types make_in make_next (5 - c.args.level) (part_of c.args.key) (Int (pos 10))
+    let x = to_make_parameters c.args.self.now in
+    adds_put to_make_parameters make_types make_in make_next (5 - c.args.level) (part_of c.args.key) (Int (pos 10))
     (part_of c.in_ok-value-in_default.value) c.is_some-in-Int-eq10.result c.args.self.now
-    (record c.args.self.now { enterprise_attestation = c.as_uint-self.result }) c.args.cursor.now c.whole.new.self
-    make_grows (search rules) (make_heads (numbered 10) refl refl refl refl refl) c.in_ok-value-in_default.ensures
+    (record c.args.self.now { enterprise_attestation = c.as_uint-self.result }) c.args.cursor.now c.read_whole_item.new.self
+    make_grows (search rules) (make_heads (parameter_key 10) refl refl refl refl refl) c.in_ok-value-in_default.ensures
     (c.is_some-in-Int-eq10.ensures ∙ ap is_some c.as_uint-self.ensures)
     (ap (λ w. (record x.0 { enterprise_attestation = w }, x.1)) c.as_uint-self.ensures)
 
 pub returns-in_default-key : goal.returns-in_default-key
 returns-in_default-key c =
     make_other (5 - c.args.level) (part_of c.args.key) (part_of c.in_ok-value-in_default.value) c.args.self.now
-    c.args.cursor.now c.whole.new.self (grind arith) c.in_ok-value-in_default.ensures
+    c.args.cursor.now c.read_whole_item.new.self (grind arith) c.in_ok-value-in_default.ensures
 
 pub returns-in_default-key-4 : goal.returns-in_default-key-4
 returns-in_default-key-4 c =
     make_other (5 - c.args.level) (part_of c.args.key) (part_of c.in_ok-value-in_default.value) c.args.self.now
-    c.args.cursor.now c.whole.new.self (grind arith) c.in_ok-value-in_default.ensures
+    c.args.cursor.now c.read_whole_item.new.self (grind arith) c.in_ok-value-in_default.ensures
 
 pub returns-in_default-key-5 : goal.returns-in_default-key-5
 returns-in_default-key-5 c =
     make_other (5 - c.args.level) (part_of c.args.key) (part_of c.in_ok-value-in_default.value) c.args.self.now
-    c.args.cursor.now c.whole.new.self (grind arith) c.in_ok-value-in_default.ensures
+    c.args.cursor.now c.read_whole_item.new.self (grind arith) c.in_ok-value-in_default.ensures

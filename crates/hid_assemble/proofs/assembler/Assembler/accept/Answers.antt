@@ -4,10 +4,10 @@ use Rattle.hid_assemble.proofs.assembler.Assembler.accept.Goals as goal
 
 pub returns-in-Start-clause-lawful : goal.returns-in-Start-clause-lawful
 returns-in-Start-clause-lawful c =
-    subst IsValidAssembly (sym c.begin.ensures.state) (stays_lawful _ c.args.at c.args.working _ c.in-Start.ensures.data
-    c.forget_finished.ensures.lawful)
+    subst IsValidAssembly (sym c.accept_initialization.ensures.state) (stays_lawful _ c.args.at c.args.working _ c.in-Start.ensures.data
+    c.clear_finished.ensures.lawful)
 
 pub returns-in-More-clause-lawful : goal.returns-in-More-clause-lawful
 returns-in-More-clause-lawful c =
-    subst IsValidAssembly (sym (c.go_on.ensures.state c.args.working))
-    (stays_lawful _ c.args.at c.args.working _ c.in-More.ensures.data c.forget_finished.ensures.lawful)
+    subst IsValidAssembly (sym (c.accept_continuation.ensures.state c.args.working))
+    (stays_lawful _ c.args.at c.args.working _ c.in-More.ensures.data c.clear_finished.ensures.lawful)

@@ -1,9 +1,9 @@
 use Rattle.std.proofs.Common.{◌≡◌, ◌+◌, ◌≤◌, ◌++◌, ◌∷◌, [], List, ℕ, length, ap, ap₂, sym, ◌∙◌, refl, rules, arith}
 use Rattle.std.proofs.Common.{length-append}
 use Rattle.hid_packet.specs.Message.{message_packets, initialization_packet}
-use Rattle.hid_packet.{proofs.Writing.filled, specs.Queue.waiting}
+use Rattle.hid_packet.{proofs.Writing.filled, specs.Queue.queued_packets}
 use Rattle.hid_packet.specs.declared.{queued.Queued.TheVariants.Part, fragments.NextPacket.TheVariants.Initialization}
-use Rattle.hid_packet.proofs.Queueing.{first_written, short_written, queued-push, space, waiting-push, entry_fills}
+use Rattle.hid_packet.proofs.Queueing.{first_written, short_written, queued-push, space, queued_packets-push, entry_fills}
 use Rattle.hid_packet.proofs.outbox.Outbox.put_message.Goals as goal
 
 pub put_packet-requires : goal.put_packet-requires
@@ -52,8 +52,8 @@ invariant_of-self c =
 
 pub returns : goal.returns
 returns c =
-    ap₂ waiting c.push.ensures.items c.put.ensures
-    ∙ waiting-push c.self.inside.entries.items c.self.inside.ring c.args.bytes.now
+    ap₂ queued_packets c.push.ensures.items c.put.ensures
+    ∙ queued_packets-push c.self.inside.entries.items c.self.inside.ring c.args.bytes.now
     (Part (record { cid = c.args.cid; due = Initialization c.args.cmd; left = length c.args.bytes.now }))
     c.self.invariant.held.sum refl
     ∙ ap (λ (ps : List (List ℕ)). ps ++ message_packets c.args.cid c.args.cmd c.args.bytes.now) c.self.view_is

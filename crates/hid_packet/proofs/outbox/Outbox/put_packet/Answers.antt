@@ -1,6 +1,6 @@
 use Rattle.std.proofs.Common.{◌+◌, ◌≤◌, ◌∷◌, ◌++◌, [], List, ℕ, length, ap, ap₂, ◌∙◌, refl, rules, arith}
-use Rattle.hid_packet.specs.{Queue.waiting, declared.queued.Queued.TheVariants.Whole}
-use Rattle.hid_packet.proofs.Queueing.{queued-push, space, waiting-push}
+use Rattle.hid_packet.specs.{Queue.queued_packets, declared.queued.Queued.TheVariants.Whole}
+use Rattle.hid_packet.proofs.Queueing.{queued-push, space, queued_packets-push}
 use Rattle.hid_packet.proofs.outbox.Outbox.put_packet.Goals as goal
 
 pub push-requires : goal.push-requires
@@ -25,7 +25,7 @@ invariant_of-self c =
 
 pub returns : goal.returns
 returns c =
-    ap₂ waiting c.push.ensures.items c.put.ensures
-    ∙ waiting-push c.self.inside.entries.items c.self.inside.ring c.args.packet.0 Whole c.self.invariant.held.sum
+    ap₂ queued_packets c.push.ensures.items c.put.ensures
+    ∙ queued_packets-push c.self.inside.entries.items c.self.inside.ring c.args.packet.0 Whole c.self.invariant.held.sum
     (omega arith)
     ∙ ap (λ (ps : List (List ℕ)). ps ++ c.args.packet.0 ∷ []) c.self.view_is

@@ -1,5 +1,5 @@
 use Rattle.std.proofs.Common.{◌≡◌, ◌∙◌, ap, refl, subst, List, ℕ, []}
-use Rattle.token_session.specs.Meters.{FollowsFrom}
+use Rattle.token_session.specs.Meters.{IsStateAfterValidStart}
 use Rattle.hidlog_c.specs.{Key.DeviceState, Switched.start_of}
 use Rattle.hidlog_c.proofs.device.Device.load.Goals as goal
 
@@ -13,7 +13,7 @@ returns-clause-started c =
         same,
         ap (λ (d : DeviceState). d.waiting) c.self.view_is ∙ c.requires.idle,
         refl,
-        subst (λ (aaguid : List ℕ). FollowsFrom c.load.new.self (start_of aaguid c.args.at loaded.0) []) same
+        subst (λ (aaguid : List ℕ). IsStateAfterValidStart c.load.new.self (start_of aaguid c.args.at loaded.0) []) same
             loaded.2,
       ),
     )

@@ -22,12 +22,12 @@ pub returns-else-ne : goal.returns-else-ne
 returns-else-ne g c =
     let o = c.args.self.now in
     let s = standing o c.args.session.now in
-    let t = standing c.take_next.new.self c.args.session.now in
+    let t = standing c.match_packet.new.self c.args.session.now in
     let x = Sent c.in-Sent.packet in
     let f = Differs o.input (o.found + 1) in
     let next = is_next _ (λ p q. refl) o.outbox c.in-Sent.packet f o.awaited c.if-ne.ensures in
     let ready = c.requires.ready in
-    let took = c.take_next.ensures in
+    let took = c.match_packet.ensures in
     let at = ready.0 in
     let stood : t ≡ comparison_after session_course s x =
     λ i. compared c.args.session.now ((took.lines ∙ at) i) (took.input i) (took.found i) ((took.due ∙ sym next.1) i)
@@ -89,8 +89,8 @@ difference-requires g c = not_full c.args.number _ _ c.requires.ready.0 c.requir
 pub difference-requires-then-is_some : goal.difference-requires-then-is_some
 difference-requires-then-is_some g c = not_full c.args.number _ _ c.requires.ready.0 c.requires.few c.requires.ready.1
 
-pub take_next-requires : goal.take_next-requires
-take_next-requires g c =
+pub match_packet-requires : goal.match_packet-requires
+match_packet-requires g c =
     let ready = c.requires.ready in
     record {
       found = not_full c.args.number _ _ ready.0 c.requires.few ready.1;

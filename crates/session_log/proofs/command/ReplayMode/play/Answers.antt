@@ -5,7 +5,7 @@ use Rattle.session_log.proofs.command.ReplayMode.play.Goals as goal
 pub returns-in-Replay : goal.returns-in-Replay
 returns-in-Replay g c =
     let after = c.replay.new in
-    rw (c.in-Replay.is, c.unmetered.ensures) (record {
+    rw (c.in-Replay.is, c.discard_meters.ensures) (record {
       plays = λ start h stands.
           let found = c.replay.ensures.history start h stands in
           let q =
@@ -18,7 +18,7 @@ returns-in-Replay g c =
 pub returns-in-Live : goal.returns-in-Live
 returns-in-Live g c =
     let after = c.live.new in
-    rw (c.in-Live.is, c.unmetered-in-Live.ensures) (record {
+    rw (c.in-Live.is, c.discard_meters-in-Live.ensures) (record {
       plays = λ start h stands.
           let found = c.live.ensures.history start h stands in
           let q =

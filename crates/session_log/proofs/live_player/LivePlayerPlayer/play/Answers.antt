@@ -2,7 +2,7 @@ use Rattle.std.proofs.Common.{◌≡◌, Bool, cond, Some, [], flat_map, ◌++�
 use Rattle.authn_core.specs.{Needs.IsNeed, Views.needed_reply}
 use Rattle.token_session.specs.Meters.{stepped}
 use Rattle.session_log.specs.{Session.live_machine, Session.session_needs, Needs.need_lines, Parsed.parsed}
-use Rattle.session_log.specs.Text.{ArePackets, ended, sent_text}
+use Rattle.session_log.specs.Text.{ArePackets, with_line_feed, sent_text}
 use Rattle.session_log.specs.declared.line.Line.TheVariants.{Comment, Input}
 use Rattle.session_log.proofs.Puts.{drops, fits_ended, writes_for, writes_none}
 use Rattle.session_log.proofs.live_player.LivePlayerPlayer.play.Goals as goal
@@ -16,11 +16,11 @@ returns-in-Input g c =
     let need : needed_reply c.need.result ≡ session_needs (stepped s x) =
     c.need.ensures.value ∙ ap session_needs c.step.ensures.state in
     let text =
-    c.args.text.now ++ flat_map sent_text c.step.new.outbox ++ flat_map ended (need_lines (needed_reply c.need.result)) in
+    c.args.text.now ++ flat_map sent_text c.step.new.outbox ++ flat_map with_line_feed (need_lines (needed_reply c.need.result)) in
     writes_for live_machine g.T.Target.taken g.T.Target.failed c.args._number s c.step.new.self line (Input x)
     (c.args.writer.now, c.put_response.new.writer) c.put_response.result text is refl c.step.ensures.state
     (subst ArePackets c.step.ensures.packets c.put_response.ensures.packets, subst IsNeed need c.need.ensures.sized)
-    (λ i. c.requires.ended i ++ flat_map sent_text (c.step.ensures.packets i) ++ flat_map ended (need_lines (need i)))
+    (λ i. c.requires.ended i ++ flat_map sent_text (c.step.ensures.packets i) ++ flat_map with_line_feed (need_lines (need i)))
     c.put_response.ensures.puts c.put_response.ensures.empty
 
 pub returns-then-is_need_line : goal.returns-then-is_need_line
@@ -30,7 +30,7 @@ returns-then-is_need_line g c =
     let is : parsed line ≡ Some Comment = c.requires.means ∙ ap Some c.in-Comment.is in
     let own = sym c.if-is_need_line.true ∙ c.is_need_line.ensures in
     writes_none live_machine g.T.Target.taken g.T.Target.failed c.args._number s s line Comment c.args.writer.now is
-    refl refl tt (ap (λ (b : Bool). cond b [] (ended line)) own) c.requires.ready
+    refl refl tt (ap (λ (b : Bool). cond b [] (with_line_feed line)) own) c.requires.ready
 
 pub returns-else-is_need_line : goal.returns-else-is_need_line
 returns-else-is_need_line g c =
@@ -40,7 +40,7 @@ returns-else-is_need_line g c =
     let other = sym c.if-is_need_line.false ∙ c.is_need_line.ensures in
     writes_for live_machine g.T.Target.taken g.T.Target.failed c.args._number s s line Comment
     (c.args.writer.now, c.put_text.new.writer) c.put_text.result c.args.text.now is refl refl tt
-    (c.requires.ended ∙ ap (λ (b : Bool). cond b [] (ended line)) other) c.put_text.ensures c.requires.ready
+    (c.requires.ended ∙ ap (λ (b : Bool). cond b [] (with_line_feed line)) other) c.put_text.ensures c.requires.ready
 
 pub returns-in-Sent : goal.returns-in-Sent
 returns-in-Sent g c =

@@ -11,8 +11,8 @@ returns-then-noise g c =
     let is : parsed line ≡ Some (Input x) = c.requires.means ∙ ap Some c.in-Input.is in
     let noise = sym c.if-noise.true ∙ c.noise-noise.ensures.state in
     writes_for quiet_machine g.T.Target.taken g.T.Target.failed c.args._number c.args.session.now c.step.new.self line
-    (Input x) (c.args.writer.now, c.put_tick.new.writer) c.put_tick.result (ended (tick_text x.at)) is refl
-    c.step.ensures.state tt (ap (λ (b : Bool). ended (cond b (tick_text x.at) line)) noise) c.put_tick.ensures
+    (Input x) (c.args.writer.now, c.put_tick.new.writer) c.put_tick.result (with_line_feed (tick_text x.at)) is refl
+    c.step.ensures.state tt (ap (λ (b : Bool). with_line_feed (cond b (tick_text x.at) line)) noise) c.put_tick.ensures
     c.drop_packets.ensures
 
 pub returns-else-noise : goal.returns-else-noise
@@ -24,7 +24,7 @@ returns-else-noise g c =
     writes_for quiet_machine g.T.Target.taken g.T.Target.failed c.args._number c.args.session.now c.step.new.self line
     (Input x) (c.args.writer.now, c.put_text-else-noise.new.writer) c.put_text-else-noise.result
     c.args.text.now is refl c.step.ensures.state tt
-    (c.requires.ended ∙ ap (λ (b : Bool). ended (cond b (tick_text x.at) line)) noise) c.put_text-else-noise.ensures
+    (c.requires.ended ∙ ap (λ (b : Bool). with_line_feed (cond b (tick_text x.at) line)) noise) c.put_text-else-noise.ensures
     c.drop_packets.ensures
 
 pub returns-in-Comment : goal.returns-in-Comment

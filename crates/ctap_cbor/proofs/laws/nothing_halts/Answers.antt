@@ -1,5 +1,0 @@
-use Rattle.ctap_cbor.proofs.Only.{halts_never}
-use Rattle.ctap_cbor.proofs.laws.nothing_halts.Goals as goal
-
-pub returns : goal.returns
-returns c = halts_never

@@ -1,5 +1,0 @@
-use Rattle.ctap_cbor.proofs.Telling as lemmas
-use Rattle.ctap_cbor.proofs.laws.trees_are_told.Goals as goal
-
-pub returns : goal.returns
-returns c = lemmas.trees_are_told
