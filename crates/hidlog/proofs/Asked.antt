@@ -3,7 +3,7 @@ use Rattle.std.proofs.Common.{◌≡◌, ◌≢◌, ◌⊎◌, inl, inr, ℕ, Li
 use Rattle.clap.specs.Kinds.{IsAmong, Kinds}
 use Rattle.clap.specs.declared.error.kind.ErrorKind.{ErrorKind, TheVariants.OutOfMemory}
 use Rattle.hidlog.specs.declared.args.Verbosity.{Verbosity}
-use Rattle.hidlog.specs.CommandLine.{Task, answers_to, asked_by, unless}
+use Rattle.hidlog.specs.CommandLine.{Task, answers_to, parsed_command_line, unless}
 
 no_kinds : (kinds : Kinds) (found : Option (Task × Verbosity)) (ask : Task × Verbosity) → unless kinds found ≡ Some ask →
     kinds ≡ []
@@ -11,8 +11,8 @@ no_kinds [] found ask is = refl
 no_kinds (kind ∷ kinds) found ask is = cc
 
 -- Words that ask for something have no fault.
-faultless : (words : List (List ℕ)) (ask : Task × Verbosity) → asked_by words ≡ Some ask → answers_to words ≡ []
-unfolding asked_by
+faultless : (words : List (List ℕ)) (ask : Task × Verbosity) → parsed_command_line words ≡ Some ask → answers_to words ≡ []
+unfolding parsed_command_line
 faultless words ask is = no_kinds (answers_to words) _ ask is
 
 only_memory : (kind : ErrorKind) (kinds : Kinds) → kinds ≡ [] → IsAmong kind (OutOfMemory ∷ kinds) → kind ≡ OutOfMemory
@@ -26,15 +26,15 @@ lacks_memory kind memory (inr other) = absurd (other.0 memory)
 -- Where the words ask for something, memory was wanting.
 pub unasked : {L H Q : Type 0} (P : Task × Verbosity → Type 0) (words : List (List ℕ)) (kind : ErrorKind) →
     IsAmong kind (OutOfMemory ∷ answers_to words)
-    → L ⊎ ((kind ≢ OutOfMemory) × H) → Q → MatchOption (asked_by words) Q (λ ask. P ask ⊎ L)
-unasked {L} {H} {Q} P words kind among explained answer = go (asked_by words) refl
+    → L ⊎ ((kind ≢ OutOfMemory) × H) → Q → MatchOption (parsed_command_line words) Q (λ ask. P ask ⊎ L)
+unasked {L} {H} {Q} P words kind among explained answer = go (parsed_command_line words) refl
   where
-    go : (o : Option (Task × Verbosity)) → asked_by words ≡ o → MatchOption o Q (λ ask. P ask ⊎ L)
+    go : (o : Option (Task × Verbosity)) → parsed_command_line words ≡ o → MatchOption o Q (λ ask. P ask ⊎ L)
     go None is = answer
     go (Some ask) is = inr (lacks_memory kind (only_memory kind (answers_to words) (faultless words ask is) among)
         explained)
 
 -- Where the words ask for something, that is done.
 pub done : (Q : Type 0) (P : Task × Verbosity → Type 0) (words : List (List ℕ)) (ask : Task × Verbosity) →
-    asked_by words ≡ Some ask → P ask → MatchOption (asked_by words) Q P
+    parsed_command_line words ≡ Some ask → P ask → MatchOption (parsed_command_line words) Q P
 done Q P words ask is h = rw is h

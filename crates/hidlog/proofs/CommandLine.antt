@@ -19,11 +19,11 @@ use Rattle.clap.specs.Simple.{built, entered, help_shape, names_of, rows_at, sha
 use Rattle.clap.specs.Matches.{first_value, matched_of, raw_values}
 use Rattle.clap.specs.declared.builder.command.Command.{Command, TheViews.out-Command as fields_of}
 use Rattle.clap.specs.declared.parser.matches.{ArgMatches.ArgMatches, Found.Found}
-use Rattle.hidlog.specs.declared.args.{CommandOptions.CommandOptions, Form.TheVariants.Lines}
+use Rattle.hidlog.specs.declared.args.{CommandOptions.CommandOptions, ShowFormat.TheVariants.Lines}
 use Rattle.hidlog.specs.declared.args.Verbosity.{TheVariants.ByTerminal}
 use Rattle.hidlog.specs.declared.cli.{CommandEntry.CommandEntry, CommandParameter.CommandParameter}
-use Rattle.hidlog.specs.CommandLine.{Task, command, command_for, rule_for, ask_of, asked_by, grammar}
-use Rattle.hidlog.specs.CommandLine.{answers_to, logs_of, play, check, show, task_for, texts_of}
+use Rattle.hidlog.specs.CommandLine.{Task, command, command_for, rule_for, ask_of, parsed_command_line, grammar}
+use Rattle.hidlog.specs.CommandLine.{answers_to, logs_of, play, check, show, task_for, to_texts}
 use Rattle.clap.specs.declared.error.kind.ErrorKind.TheVariants as kind
 use Rattle.session_log.specs.declared.command.ReplayMode.TheVariants as playing
 
@@ -220,8 +220,8 @@ faults_are app words P is says = subst (λ a. P (fault_of a words)) is
 -- Words without fault ask for what the command asks for that was met.
 pub asked_is : (app : App) (words : List Text) (m : ArgMatches) → app ≡ grammar → HasMatchesOf app words m →
     answers_to words ≡ []
-    → asked_by words ≡ option_and_then ask_of (subcommand_rows_of m)
-unfolding asked_by
+    → parsed_command_line words ≡ option_and_then ask_of (subcommand_rows_of m)
+unfolding parsed_command_line
 asked_is app words m is has faultless =
     rw faultless (ap (option_and_then ask_of) (sym ((has (ap is_simple is)).1 ∙ ap (λ a. subcommand_of a words) is)))
 
@@ -283,27 +283,27 @@ pub no_logs : (found : Found) → None ≡ option_map raw_values (matched_of fou
 no_logs found is = ap (λ all. unwrap_or all []) (is ∙ raw_values-rows found (codes "log"))
 
 -- What a command alone asks for, whatever the program's name is.
-pub plain_replay : (name : Text) → asked_by (name ∷ codes "replay" ∷ [])
+pub plain_replay : (name : Text) → parsed_command_line (name ∷ codes "replay" ∷ [])
     ≡ Some (play playing.Replay None None None, ByTerminal)
-unfolding asked_by answers_to clap_on_literals
+unfolding parsed_command_line answers_to clap_on_literals
 plain_replay name = refl
 
-pub plain_live : (name : Text) → asked_by (name ∷ codes "live" ∷ [])
+pub plain_live : (name : Text) → parsed_command_line (name ∷ codes "live" ∷ [])
     ≡ Some (play playing.Live None None None, ByTerminal)
-unfolding asked_by answers_to clap_on_literals
+unfolding parsed_command_line answers_to clap_on_literals
 plain_live name = refl
 
-pub plain_check : (name : Text) → asked_by (name ∷ codes "check" ∷ []) ≡ Some (check None false false [], ByTerminal)
-unfolding asked_by answers_to clap_on_literals
+pub plain_check : (name : Text) → parsed_command_line (name ∷ codes "check" ∷ []) ≡ Some (check None false false [], ByTerminal)
+unfolding parsed_command_line answers_to clap_on_literals
 plain_check name = refl
 
-pub plain_quiet : (name : Text) → asked_by (name ∷ codes "quiet" ∷ [])
+pub plain_quiet : (name : Text) → parsed_command_line (name ∷ codes "quiet" ∷ [])
     ≡ Some (play playing.Quiet None None None, ByTerminal)
-unfolding asked_by answers_to clap_on_literals
+unfolding parsed_command_line answers_to clap_on_literals
 plain_quiet name = refl
 
-pub plain_show : (name : Text) → asked_by (name ∷ codes "show" ∷ []) ≡ Some (show Lines false None, ByTerminal)
-unfolding asked_by answers_to clap_on_literals
+pub plain_show : (name : Text) → parsed_command_line (name ∷ codes "show" ∷ []) ≡ Some (show Lines false None, ByTerminal)
+unfolding parsed_command_line answers_to clap_on_literals
 plain_show name = refl
 
 -- the options of a command alone
@@ -313,16 +313,16 @@ plain_options = record
 
 -- What a word after the program's name asks for, is what the two words ask for.
 plain_asks : (program name : Text) (ask : Task) → task_for name plain_options [] ≡ Some ask →
-    asked_by (program ∷ name ∷ []) ≡ Some (ask, ByTerminal)
+    parsed_command_line (program ∷ name ∷ []) ≡ Some (ask, ByTerminal)
 plain_asks program name ask is =
     go (bytes_eq name (codes "replay")) (bytes_eq name (codes "live")) (bytes_eq name (codes "check"))
     (bytes_eq name (codes "quiet")) (bytes_eq name (codes "show")) refl refl refl refl refl is
   where
     named : (word : Text) (task : Task) → bytes_eq name word ≡ true →
-        asked_by (program ∷ word ∷ []) ≡ Some (task, ByTerminal) → Some task ≡ Some ask
-        → asked_by (program ∷ name ∷ []) ≡ Some (ask, ByTerminal)
+        parsed_command_line (program ∷ word ∷ []) ≡ Some (task, ByTerminal) → Some task ≡ Some ask
+        → parsed_command_line (program ∷ name ∷ []) ≡ Some (ask, ByTerminal)
     named word task same asked so =
-        subst (λ n. asked_by (program ∷ n ∷ []) ≡ Some (ask, ByTerminal)) (sym ((bytes_eq-Decides name word).0 same))
+        subst (λ n. parsed_command_line (program ∷ n ∷ []) ≡ Some (ask, ByTerminal)) (sym ((bytes_eq-Decides name word).0 same))
         (asked ∙ ap (option_map (λ a. (a, ByTerminal))) so)
 
     go : (a b c d e : Bool) → bytes_eq name (codes "replay") ≡ a → bytes_eq name (codes "live") ≡ b →
@@ -332,7 +332,7 @@ plain_asks program name ask is =
         else if c then Some (check None false false [])
         else if d then Some (play playing.Quiet None None None) else if e then Some (show Lines false None) else None)
         ≡ Some ask
-        → asked_by (program ∷ name ∷ []) ≡ Some (ask, ByTerminal)
+        → parsed_command_line (program ∷ name ∷ []) ≡ Some (ask, ByTerminal)
     go true b c d e is_a is_b is_c is_d is_e so = named (codes "replay") _ is_a (plain_replay program) so
     go false true c d e is_a is_b is_c is_d is_e so = named (codes "live") _ is_b (plain_live program) so
     go false false true d e is_a is_b is_c is_d is_e so = named (codes "check") _ is_c (plain_check program) so
@@ -342,7 +342,7 @@ plain_asks program name ask is =
 
 -- The same of a list of two words.
 pub alone_asks : (words : List (Bor (List ℕ))) (d : Bor (List ℕ)) (ask : Task) → 2 ≤ length words → length words < 3
-    → task_for (get_or words 1 d).now plain_options [] ≡ Some ask → asked_by (texts_of words) ≡ Some (ask, ByTerminal)
+    → task_for (get_or words 1 d).now plain_options [] ≡ Some ask → parsed_command_line (to_texts words) ≡ Some (ask, ByTerminal)
 alone_asks [] d ask two below is = absurd (omega (arith, two))
 alone_asks (program ∷ []) d ask two below is = absurd (omega (arith, two))
 alone_asks (program ∷ name ∷ []) d ask two below is = plain_asks program.now name.now ask is

@@ -3,7 +3,7 @@ use Rattle.std.proofs.Common.{◌≡◌, ◌∙◌, ℕ, ◌+◌, ◌<◌, false
 use Rattle.std.proofs.Common.{OnOk, is_err, refl, sym, ap, subst}
 use Rattle.std.{specs.Borrow.Bor, proofs.lemmas.List.map-append, proofs.lemmas.List.take_more}
 use Rattle.session_log.specs.Command.{Status}
-use Rattle.hidlog.specs.{CommandLine.texts_of, Model.Model, Several.AreSame, Several.IsSameAt}
+use Rattle.hidlog.specs.{CommandLine.to_texts, Model.Model, Several.AreSame, Several.IsSameAt}
 
 pub on_ok : {P : Type 0} (r : Status) → P → OnOk r P
 on_ok (Ok x) h = h
@@ -22,14 +22,14 @@ module _ {D I O F : Type 0} (model : Model D I O F) where
   -- the next of several, where it didn't fail
   pub next_same : (load : Option (List ℕ)) (files files' : D) (paths : List (Bor (List ℕ))) (place : ℕ)
       (d : Bor (List ℕ)) (r : Status) (input between after : I) → place < length paths → files' ≡ files
-      → AreSame model load files (texts_of (take place paths)) (input, between) → is_err r ≡ false
+      → AreSame model load files (to_texts (take place paths)) (input, between) → is_err r ≡ false
       → OnOk r (IsSameAt model load files' (get_or paths place d).now (between, after)) →
-      AreSame model load files (texts_of (take (place + 1) paths)) (input, after)
+      AreSame model load files (to_texts (take (place + 1) paths)) (input, after)
   next_same load files files' paths place d (Err code) input between after below same are none is = cc
   next_same load files files' paths place d (Ok x) input between after below same are none is =
-      let names : texts_of (take (place + 1) paths) ≡ texts_of (take place paths) ++ (get_or paths place d).now ∷ [] =
-      ap texts_of (take_more paths place d below) ∙ map-append (λ (w : Bor (List ℕ)). w.now) (take place paths)
+      let names : to_texts (take (place + 1) paths) ≡ to_texts (take place paths) ++ (get_or paths place d).now ∷ [] =
+      ap to_texts (take_more paths place d below) ∙ map-append (λ (w : Bor (List ℕ)). w.now) (take place paths)
       (get_or paths place d ∷ []) in
       subst (λ (logs : List (List ℕ)). AreSame model load files logs (input, after)) (sym names)
-      (one_more_same load files (texts_of (take place paths)) (get_or paths place d).now input between after are
+      (one_more_same load files (to_texts (take place paths)) (get_or paths place d).now input between after are
       (subst (λ (f : D). IsSameAt model load f (get_or paths place d).now (between, after)) same is))

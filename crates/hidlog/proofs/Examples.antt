@@ -2,10 +2,10 @@
 use Rattle.std.proofs.Common.{◌≡◌, ℕ, true, false, List, [], ◌∷◌, Option, Some, None, codes, refl}
 use Rattle.clap.proofs.OnLiterals.{clap_on_literals}
 use Rattle.clap.specs.{Kinds.Kinds, declared.error.kind.ErrorKind.TheVariants.DisplayVersion}
-use Rattle.hidlog.specs.declared.args.Form.TheVariants.{Json, JsonSummary, Lines, Summary}
+use Rattle.hidlog.specs.declared.args.ShowFormat.TheVariants.{Json, JsonSummary, Lines, Summary}
 use Rattle.hidlog.specs.declared.args.Verbosity.{Verbosity}
 use Rattle.hidlog.specs.declared.args.Verbosity.TheVariants.{ByTerminal, Explained, Fixed}
-use Rattle.hidlog.specs.CommandLine.{Task, play, check, show, answers_to, asked_by}
+use Rattle.hidlog.specs.CommandLine.{Task, play, check, show, answers_to, parsed_command_line}
 use Rattle.session_log.specs.declared.command.ReplayMode.TheVariants as playing
 
 -- what clap answers to these words after the program's name
@@ -14,8 +14,8 @@ unfolding answers_to clap_on_literals
 answers words = answers_to (codes "hidlog" ∷ words)
 
 asked : List (List ℕ) → Option (Task × Verbosity)
-unfolding asked_by answers_to clap_on_literals
-asked words = asked_by (codes "hidlog" ∷ words)
+unfolding parsed_command_line answers_to clap_on_literals
+asked words = parsed_command_line (codes "hidlog" ∷ words)
 
 version_asked : answers (codes "--version" ∷ []) ≡ DisplayVersion ∷ []
 unfolding answers

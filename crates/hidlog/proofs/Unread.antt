@@ -14,11 +14,11 @@ handed_on at n held out copied fits same =
     ∙ ap (λ l. take n (copied ++ drop n out) ++ l) (drop-drop n at held)
 
 -- what was read behind all that was handed on is unread
-pub read_behind : (a b : Option (List ℕ)) (end n : ℕ) (held : List ℕ) → Consumes a b (take n (drop end held))
+pub read_after : (a b : Option (List ℕ)) (end n : ℕ) (held : List ℕ) → Consumes a b (take n (drop end held))
     → Keeps a (prepend_known (drop end (take (end + n) held)) b)
-read_behind None b end n held p = tt
-read_behind (Some x) None end n held p = absurd p
-read_behind (Some x) (Some y) end n held p = ap (λ l. l ++ y) (drop-take end n held) ∙ sym p
+read_after None b end n held p = tt
+read_after (Some x) None end n held p = absurd p
+read_after (Some x) (Some y) end n held p = ap (λ l. l ++ y) (drop-take end n held) ∙ sym p
 
 -- where nothing is unread, nothing was read
 pub none_read : (end n : ℕ) (held : List ℕ) → end + n ≤ length held → drop end (take (end + n) held) ≡ [] → n ≡ 0

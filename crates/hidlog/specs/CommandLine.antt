@@ -5,9 +5,9 @@ use Rattle.std.specs.{Borrow.Bor, Option.option_map_or, Str.bytes_eq}
 use Rattle.clap.specs.Simple.{App, Shape, new_rule, new_shape, subcommand_of}
 use Rattle.clap.specs.{Kinds.Kinds, Faults.fault_of, Walk.Row, Walk.Rule, Walk.all_of, Walk.first_of}
 use Rattle.clap.specs.declared.builder.action.ArgAction.TheVariants.{Append, SetTrue}
-use Rattle.hidlog.specs.declared.args.{Form.Form, Verbosity.Verbosity, CommandOptions.CommandOptions}
+use Rattle.hidlog.specs.declared.args.{ShowFormat.ShowFormat, Verbosity.Verbosity, CommandOptions.CommandOptions}
 use Rattle.hidlog.specs.declared.args.{Invocation.Invocation, Action.Action}
-use Rattle.hidlog.specs.declared.args.Form.TheVariants.{Json, JsonSummary, Lines, Summary}
+use Rattle.hidlog.specs.declared.args.ShowFormat.TheVariants.{Json, JsonSummary, Lines, Summary}
 use Rattle.hidlog.specs.declared.cli.{CommandEntry.CommandEntry, CommandParameter.CommandParameter}
 use Rattle.hidlog.specs.declared.cli.ParameterForm.{ParameterForm, TheVariants.Flag, TheVariants.Log, TheVariants.Logs, TheVariants.PathOption}
 use Rattle.hidlog.specs.declared.args.Verbosity.TheVariants.{ByTerminal, Explained, Fixed}
@@ -33,22 +33,22 @@ abbrev pub log_paths : Rule
 log_paths = record (new_rule (codes "log")) { value_names = 1; action = Some Append }
 
 -- The two options on the output that each command takes, and then its logs.
-abbrev pub worded : Rule → List Rule
-worded logs = flag (codes "explain") ∷ flag (codes "plain") ∷ logs ∷ []
+abbrev pub with_text_options : Rule → List Rule
+with_text_options logs = flag (codes "explain") ∷ flag (codes "plain") ∷ logs ∷ []
 
 -- A command with these options.
 abbrev pub command : List ℕ → List Rule → Shape
 command name options = record (new_shape name) { rules = options }
 
 -- The arguments that clap accepts after a command's name.
-abbrev pub rule_as : ParameterForm → List ℕ → Rule
-rule_as PathOption word = path_option word
-rule_as Flag word = flag word
-rule_as Log word = record (new_rule word) { value_names = 1 }
-rule_as Logs word = record (new_rule word) { value_names = 1; action = Some Append }
+abbrev pub rule_of_form : ParameterForm → List ℕ → Rule
+rule_of_form PathOption word = path_option word
+rule_of_form Flag word = flag word
+rule_of_form Log word = record (new_rule word) { value_names = 1 }
+rule_of_form Logs word = record (new_rule word) { value_names = 1; action = Some Append }
 
 abbrev pub rule_for : CommandParameter → Rule
-rule_for parameter = rule_as parameter.form parameter.word.now
+rule_for parameter = rule_of_form parameter.form parameter.word.now
 
 abbrev pub command_for : CommandEntry → Shape
 command_for entry = command entry.word.now (map rule_for entry.parameters.now)
@@ -57,12 +57,12 @@ command_for entry = command entry.word.now (map rule_for entry.parameters.now)
 abbrev pub grammar : App
 grammar = record {
   top = record (new_shape (codes "hidlog")) { has_version = true; subcommand_required = true; is_leaf = false };
-  subs = command (codes "replay") (path_option (codes "load") ∷ path_option (codes "save") ∷ worded log_path)
-      ∷ command (codes "live") (path_option (codes "load") ∷ path_option (codes "save") ∷ worded log_path)
+  subs = command (codes "replay") (path_option (codes "load") ∷ path_option (codes "save") ∷ with_text_options log_path)
+      ∷ command (codes "live") (path_option (codes "load") ∷ path_option (codes "save") ∷ with_text_options log_path)
       ∷ command (codes "check") (path_option (codes "load") ∷ flag (codes "all") ∷ flag (codes "json")
-      ∷ worded log_paths)
-      ∷ command (codes "quiet") (path_option (codes "load") ∷ worded log_path)
-      ∷ command (codes "show") (flag (codes "summary") ∷ flag (codes "json") ∷ flag (codes "wide") ∷ worded log_path)
+      ∷ with_text_options log_paths)
+      ∷ command (codes "quiet") (path_option (codes "load") ∷ with_text_options log_path)
+      ∷ command (codes "show") (flag (codes "summary") ∷ flag (codes "json") ∷ flag (codes "wide") ∷ with_text_options log_path)
       ∷ [];
 }
 
@@ -76,14 +76,14 @@ answers_to words = fault_of grammar words
 pub data Task : Type 0 where
   play : (command : ReplayMode) (load save log : Option (List ℕ)) → Task
   check : (load : Option (List ℕ)) (all json : Bool) (logs : List (List ℕ)) → Task
-  show : (form : Form) (wide : Bool) (log : Option (List ℕ)) → Task
+  show : (form : ShowFormat) (wide : Bool) (log : Option (List ℕ)) → Task
 
 abbrev pub path_of : Option (Bor (List ℕ)) → Option (List ℕ)
 path_of = option_map (λ path. path.now)
 
 -- the words' bytes
-abbrev pub texts_of : List (Bor (List ℕ)) → List (List ℕ)
-texts_of words = map (λ word. word.now) words
+abbrev pub to_texts : List (Bor (List ℕ)) → List (List ℕ)
+to_texts words = map (λ word. word.now) words
 
 -- Converts a task of the code to one of the definitions, with the paths of all logs.
 abbrev pub task_of : Action → (logs : List (List ℕ)) → Task
@@ -96,7 +96,7 @@ abbrev pub is_set : List ℕ → List Row → Bool
 is_set name found = option_map_or (λ text. bytes_eq text (codes "true")) (first_of name found) false
 
 -- The requested output format.
-abbrev pub form_of : List Row → Form
+abbrev pub form_of : List Row → ShowFormat
 form_of found =
     if is_set (codes "json") found then if is_set (codes "summary") found then JsonSummary else Json
     else if is_set (codes "summary") found then Summary else Lines
@@ -118,11 +118,11 @@ logs_of found = unwrap_or (all_of (codes "log") found) []
 
 -- Converts the code's arguments to a task and a level of detail of the definitions.
 abbrev pub task_and_verbosity : Invocation → Task × Verbosity
-task_and_verbosity asked = (task_of asked.task (texts_of asked.logs.items), asked.manner)
+task_and_verbosity asked = (task_of asked.task (to_texts asked.logs.items), asked.manner)
 
 -- These are the parsed options.
-abbrev pub AreFound : CommandOptions → List Row → Type 0
-AreFound options found = (path_of options.load ≡ first_of (codes "load") found)
+abbrev pub AreParsedOptions : CommandOptions → List Row → Type 0
+AreParsedOptions options found = (path_of options.load ≡ first_of (codes "load") found)
     × (path_of options.save ≡ first_of (codes "save") found)
     × (path_of options.log ≡ first_of (codes "log") found)
     × (options.all ≡ is_set (codes "all") found)
@@ -169,8 +169,8 @@ unless (kind ∷ kinds) ask = None
 
 -- The task and the level of detail that the arguments specify, or None if the arguments are invalid. The first
 -- argument is the program's name.
-unfoldable pub asked_by : List (List ℕ) → Option (Task × Verbosity)
-asked_by words = unless (answers_to words) (option_and_then ask_of (subcommand_of grammar words))
+unfoldable pub parsed_command_line : List (List ℕ) → Option (Task × Verbosity)
+parsed_command_line words = unless (answers_to words) (option_and_then ask_of (subcommand_of grammar words))
 
 -- The log at a path: no path and `-` mean standard input.
 abbrev pub named : Option (List ℕ) → Option (List ℕ)

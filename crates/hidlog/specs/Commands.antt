@@ -12,17 +12,17 @@ use Rattle.session_log.specs.{Ending.ending_of, Replay.ReadsTo, Streams.IsAtEndO
 use Rattle.session_log.specs.declared.command.ReplayMode.{ReplayMode, TheVariants.Check, TheVariants.Live}
 use Rattle.session_show.specs.Shown.{IsLineText, Shows, read_only_world}
 use Rattle.session_show.specs.declared.detail.Detail.{Detail, TheVariants.Explained, TheVariants.Fixed}
-use Rattle.hidlog.specs.CommandLine.{Task, answers_to, asked_by, explains, named, play, check, show}
-use Rattle.hidlog.specs.declared.args.Form.{Form, TheVariants.Lines}
+use Rattle.hidlog.specs.CommandLine.{Task, answers_to, parsed_command_line, explains, named, play, check, show}
+use Rattle.hidlog.specs.declared.args.ShowFormat.{ShowFormat, TheVariants.Lines}
 use Rattle.hidlog.specs.{declared.host.Host.Host, Model.Model, Several.AreSame, Program.writing_failed}
-use Rattle.hidlog.specs.Fault.{RunResult, WritesFault, result_from, of_log, reasoned}
+use Rattle.hidlog.specs.Fault.{RunResult, WritesFault, to_run_result, of_log, reasoned}
 use Rattle.hidlog.specs.Program.{Ended, IsWrittenTo, IsWhole, WritesMore, FlushesPending, cannot_read_log, is_help, no_memory}
 use Rattle.hidlog.specs.Saved.{FailsToOpen, FailsToSave, OpenSource, Saves}
 
 -- The path for `--save` that is checked before the log is read: only for `live`, whose input may arrive slowly.
-abbrev pub looked_at : ReplayMode → Option (List ℕ) → Option (List ℕ)
-looked_at Live save = save
-looked_at _ save = None
+abbrev pub checked_save_path : ReplayMode → Option (List ℕ) → Option (List ℕ)
+checked_save_path Live save = save
+checked_save_path _ save = None
 
 -- The logs to compare: standard input if none is named.
 abbrev pub or_input : List (List ℕ) → List (List ℕ)
@@ -32,7 +32,7 @@ or_input (log ∷ logs) = log ∷ logs
 -- The log was shown in this format. The text for each line begins with the line's number, and no more was read than it
 -- takes to find an error. Without an error, the whole log was read, and no read or write failed. A pair is a source or
 -- a target before and after.
-abbrev pub ShowsIn : {I O : Type 0} → Form → Detail → (left : I → Option (List ℕ)) → (unread : I → ℕ) →
+abbrev pub ShowsIn : {I O : Type 0} → ShowFormat → Detail → (left : I → Option (List ℕ)) → (unread : I → ℕ) →
     (ended : I → Bool)
     → (taken : O → Option (List ℕ)) → (unput : O → ℕ) → Ended → (I × I) → (O × O) → Type 0
 ShowsIn Lines detail left unread ended taken unput answer input output =
@@ -43,9 +43,9 @@ ShowsIn _ detail left unread ended taken unput answer input output =
     OnOk answer (IsWhole left ended unread unput input output)
 
 -- The level of detail.
-abbrev pub wording_for : (explained : Bool) → Detail
-wording_for true = Explained
-wording_for false = Fixed
+abbrev pub detail_for : (explained : Bool) → Detail
+detail_for true = Explained
+detail_for false = Fixed
 
 module _ {D I O F : Type 0} (model : Model D I O F) where
   -- The log at the path is read, or standard input without a path. If it cannot be opened, the status is 1, and
@@ -58,8 +58,8 @@ module _ {D I O F : Type 0} (model : Model D I O F) where
 
   -- The log is played on a new session with the credentials of the snapshot at the path. If the snapshot cannot be
   -- opened, the status is 2, the log is not read, and nothing is written.
-  abbrev pub Begins : Option (List ℕ) → (Start → Type 0) → RunResult → (old new : Host D I O F) → Type 0
-  Begins path Goes came old new =
+  abbrev pub StartsFromSnapshot : Option (List ℕ) → (Start → Type 0) → RunResult → (old new : Host D I O F) → Type 0
+  StartsFromSnapshot path Goes came old new =
       ((new ≡ old) × FailsToOpen model.holds model.unreadable old.files path came)
       ⊎ ((rows : List Row) × OpenSource model.holds old.files path rows × Goes (start_with rows))
 
@@ -80,13 +80,13 @@ module _ {D I O F : Type 0} (model : Model D I O F) where
   -- not read, and nothing is written.
   abbrev pub RunsCommand : ReplayMode → (load save log : Option (List ℕ)) → RunResult → (old new : Host D I O F) → Type 0
   RunsCommand command load save log came old new =
-      Reads log (λ read. Begins load (λ start.
-      ((new ≡ read) × FailsToSave model.unwritable read.files (looked_at command save) came)
+      Reads log (λ read. StartsFromSnapshot load (λ start.
+      ((new ≡ read) × FailsToSave model.unwritable read.files (checked_save_path command save) came)
       ⊎ RunsOn command save came read new start) came read new) came old new
 
   -- The log was shown, and then the buffered output was written.
-  abbrev pub ShowsLog : Form → Detail → RunResult → (old new : Host D I O F) → Type 0
-  ShowsLog form detail came old new = (answer : Ended) × (whole : Ended) × (put : O) × (came ≡ result_from whole)
+  abbrev pub ShowsLog : ShowFormat → Detail → RunResult → (old new : Host D I O F) → Type 0
+  ShowsLog form detail came old new = (answer : Ended) × (whole : Ended) × (put : O) × (came ≡ to_run_result whole)
       × ShowsIn form detail model.left model.unread model.ended model.taken model.unput answer (old.input, new.input)
       (old.output, put)
       × FlushesPending model.taken model.unput model.waits answer (put, new.output) whole
@@ -112,17 +112,17 @@ module _ {D I O F : Type 0} (model : Model D I O F) where
       × OnOk status (AreSame model load old.files logs (old.input, new.input))
 
   -- The task is carried out. Several logs are compared one by one, and so are logs with `--json`.
-  abbrev pub Does : Task → Detail → (explained : Bool) → Status → (old new : Host D I O F) → Type 0
-  Does (play command load save log) detail explained status old new =
+  abbrev pub CarriesOut : Task → Detail → (explained : Bool) → Status → (old new : Host D I O F) → Type 0
+  CarriesOut (play command load save log) detail explained status old new =
       DoesCommand command load save log explained status old new
-  Does (check load all true logs) detail explained status old new = Compares load (or_input logs) status old new
-  Does (check load all false []) detail explained status old new =
+  CarriesOut (check load all true logs) detail explained status old new = Compares load (or_input logs) status old new
+  CarriesOut (check load all false []) detail explained status old new =
       DoesCommand Check load None None explained status old new
-  Does (check load all false (log ∷ [])) detail explained status old new =
+  CarriesOut (check load all false (log ∷ [])) detail explained status old new =
       DoesCommand Check load None (Some log) explained status old new
-  Does (check load all false (log ∷ next ∷ logs)) detail explained status old new =
+  CarriesOut (check load all false (log ∷ next ∷ logs)) detail explained status old new =
       Compares load (log ∷ next ∷ logs) status old new
-  Does (show form wide log) detail explained status old new = (came : RunResult) × (shown : Host D I O F)
+  CarriesOut (show form wide log) detail explained status old new = (came : RunResult) × (shown : Host D I O F)
       × Reads log (λ read. ShowsLog form detail came read shown) came old shown
       × Reports explained came status shown new
 
@@ -137,8 +137,8 @@ module _ {D I O F : Type 0} (model : Model D I O F) where
       × ((text : List ℕ) × IsWrittenTo model.parsed model.unsaid (old.faults, new.faults) text)
 
   -- The help was written; or writing failed, and that was reported.
-  abbrev pub Helps : Status → (old new : Host D I O F) → Type 0
-  Helps status old new = (text : List ℕ) × (answer : Ended) × (ended : Ended) × (put : O)
+  abbrev pub WritesHelp : Status → (old new : Host D I O F) → Type 0
+  WritesHelp status old new = (text : List ℕ) × (answer : Ended) × (ended : Ended) × (put : O)
       × PutsLine model.taken model.unput (old.output, put) text answer
       × FlushesPending model.taken model.unput model.waits answer (put, new.output) ended
       × MatchResult ended (λ _. (status ≡ Ok tt) × (new ≡ record old { output = new.output }))
@@ -148,15 +148,15 @@ module _ {D I O F : Type 0} (model : Model D I O F) where
   -- clap's message of this kind was written, or an allocation failed.
   abbrev pub Explains : ErrorKind → Status → (old new : Host D I O F) → Type 0
   Explains kind status old new = LacksMemory status old new
-      ⊎ ((kind ≢ OutOfMemory) × MatchBool (is_help kind) (Helps status old new) (Refuses status old new))
+      ⊎ ((kind ≢ OutOfMemory) × MatchBool (is_help kind) (WritesHelp status old new) (Refuses status old new))
 
   -- The task of the arguments was carried out, or an allocation failed. If the arguments are invalid, clap's error is
   -- returned. Otherwise the files and the log are used only as the command says. Texts are explained with
   -- `--explain`, or if they go to a terminal.
   abbrev pub Answers : List (List ℕ) → Status → (old new : Host D I O F) → Type 0
-  Answers words status old new = MatchOption (asked_by words)
+  Answers words status old new = MatchOption (parsed_command_line words)
       ((kind : ErrorKind) × IsAmong kind (OutOfMemory ∷ answers_to words) × Explains kind status old new)
-      (λ asked. Does asked.0 (wording_for (explains asked.1 old.terminals.output))
+      (λ asked. CarriesOut asked.0 (detail_for (explains asked.1 old.terminals.output))
       (explains asked.1 old.terminals.faults)
       status old new
       ⊎ LacksMemory status old new)

@@ -45,9 +45,9 @@ result_of (Ok x) = Ok tt
 result_of (Err fault) = Err (fault_message_of fault)
 
 -- Converts the result of playing a log.
-abbrev pub result_from : Ended → RunResult
-result_from (Ok x) = Ok tt
-result_from (Err fault) = Err of_log
+abbrev pub to_run_result : Ended → RunResult
+to_run_result (Ok x) = Ok tt
+to_run_result (Err fault) = Err of_log
 
 -- The error was reported, and nothing else. The exit status is that of the error. A pair is a target before and after
 -- the call.

@@ -6,8 +6,8 @@ abbrev pub unread : List ℕ → ℕ → ℕ → List ℕ
 unread held at end = drop at (take end held)
 
 -- The bytes of a file after writing a piece at an offset.
-abbrev pub over : List ℕ → ℕ → List ℕ → List ℕ
-over has at piece = take at has ++ (piece ++ drop (at + length piece) has)
+abbrev pub overwritten_at : List ℕ → ℕ → List ℕ → List ℕ
+overwritten_at has at piece = take at has ++ (piece ++ drop (at + length piece) has)
 
 -- The file at the path has these bytes, if the contents of files are known.
 abbrev pub IsWritten : {F : Type 0} → (is_at : List ℕ → F → Type 0) → (is_known : Bool) → (has : F → Option (List ℕ))

@@ -1,7 +1,7 @@
 //! The program's command line arguments.
 ghost use Rattle.std.specs.Prelude.{◌≡◌, List, ℕ, Some, IfOk, IfErr, IfSome, option_map, option_and_then};
 ghost use Rattle.clap.specs.Words.{HasKind, subcommand_rows_of};
-ghost use Rattle.hidlog.specs.CommandLine.{AreFound, answers_to, ask_of, task_and_verbosity, asked_by, task_of, explains, form_of, is_set as is_found, logs_of, verbosity_of, task_for, texts_of};
+ghost use Rattle.hidlog.specs.CommandLine.{AreParsedOptions, answers_to, ask_of, task_and_verbosity, parsed_command_line, task_of, explains, form_of, is_set as is_found, logs_of, verbosity_of, task_for, report_for};
 ghost use Rattle.clap.specs.Matches.{found_of};
 ghost use Rattle.clap.specs.Walk.{rows_of};
 
@@ -13,7 +13,7 @@ use std::alloc::{AllocError, Global};
 
 /// The output format of `show`.
 #[derive(Clone, Copy)]
-pub enum Form {
+pub enum ShowFormat {
     /// Line by line.
     Lines,
     /// A summary of the session.
@@ -37,7 +37,7 @@ pub enum Action<'a> {
     },
     /// `hidlog show [--summary] [--json] [--wide] [FILE]`
     Show {
-        form: Form,
+        form: ShowFormat,
         wide: bool,
         log: Option<&'a str>,
     },
@@ -85,7 +85,7 @@ struct CommandOptions<'a> {
     all: bool,
     json: bool,
     wide: bool,
-    form: Form,
+    form: ShowFormat,
     manner: Verbosity,
 }
 
@@ -138,19 +138,19 @@ fn is_set(options: &ArgMatches<'_>, name: &str) -> bool
 }
 
 /// Returns the requested format.
-fn form_in(options: &ArgMatches<'_>) -> Form
+fn parse_show_format(options: &ArgMatches<'_>) -> ShowFormat
     ensures { result ≡ form_of (rows_of (found_of options.now)) }
 {
     match (is_set(options, "json"), is_set(options, "summary")) {
-        (true, true) => Form::JsonSummary,
-        (true, false) => Form::Json,
-        (false, true) => Form::Summary,
-        (false, false) => Form::Lines,
+        (true, true) => ShowFormat::JsonSummary,
+        (true, false) => ShowFormat::Json,
+        (false, true) => ShowFormat::Summary,
+        (false, false) => ShowFormat::Lines,
     }
 }
 
 /// Returns the level of detail; `--plain` overrides `--explain`.
-fn manner_in(options: &ArgMatches<'_>) -> Verbosity
+fn parse_verbosity(options: &ArgMatches<'_>) -> Verbosity
     ensures { result ≡ verbosity_of (rows_of (found_of options.now)) }
 {
     if is_set(options, "plain") {
@@ -164,7 +164,7 @@ fn manner_in(options: &ArgMatches<'_>) -> Verbosity
 
 /// Returns the paths of the logs.
 fn logs_in<'a>(alloc: Global, options: &ArgMatches<'a>) -> Result<Vec<&'a str>, AllocError>
-    ensures { IfOk result (λ logs. texts_of logs.items ≡ logs_of (rows_of (found_of options.now))) }
+    ensures { IfOk result (λ logs. to_texts logs.items ≡ logs_of (rows_of (found_of options.now))) }
 {
     match options.get_strs("log") {
         Some(paths) => {
@@ -177,7 +177,7 @@ fn logs_in<'a>(alloc: Global, options: &ArgMatches<'a>) -> Result<Vec<&'a str>, 
 
 /// Returns the arguments after a command's name.
 fn options_in<'a>(options: &ArgMatches<'a>) -> CommandOptions<'a>
-    ensures { AreFound result (rows_of (found_of options.now)) }
+    ensures { AreParsedOptions result (rows_of (found_of options.now)) }
 {
     CommandOptions {
         load: options.get_str("load"),
@@ -186,8 +186,8 @@ fn options_in<'a>(options: &ArgMatches<'a>) -> CommandOptions<'a>
         all: is_set(options, "all"),
         json: is_set(options, "json"),
         wide: is_set(options, "wide"),
-        form: form_in(options),
-        manner: manner_in(options),
+        form: parse_show_format(options),
+        manner: parse_verbosity(options),
     }
 }
 
@@ -214,8 +214,8 @@ fn task_in<'a>(
 
 /// Returns the action of a command without options. Doesn't use clap, whose parsing takes a fifth of the instructions
 /// up to the first line of a log.
-fn alone<'a>(alloc: Global, words: &[&str]) -> Option<Invocation<'a>>
-    ensures { IfSome result (λ asked. asked_by (texts_of words.now) ≡ Some (task_and_verbosity asked)) }
+fn parse_without_options<'a>(alloc: Global, words: &[&str]) -> Option<Invocation<'a>>
+    ensures { IfSome result (λ asked. parsed_command_line (to_texts words.now) ≡ Some (task_and_verbosity asked)) }
 {
     let [_, name] = words else {
         return None;
@@ -227,7 +227,7 @@ fn alone<'a>(alloc: Global, words: &[&str]) -> Option<Invocation<'a>>
         all: false,
         json: false,
         wide: false,
-        form: Form::Lines,
+        form: ShowFormat::Lines,
         manner: Verbosity::ByTerminal,
     };
     match options.task(name) {
@@ -243,10 +243,10 @@ fn alone<'a>(alloc: Global, words: &[&str]) -> Option<Invocation<'a>>
 /// Returns the action, or clap's help or error. The first argument is the program's name.
 #[inline(never)]
 pub fn parse_args<'a>(alloc: Global, words: &'a [&'a str]) -> Result<Invocation<'a>, Error>
-    ensures task { IfOk result (λ asked. asked_by (texts_of words.now) ≡ Some (task_and_verbosity asked)) }
-    ensures answer { IfErr result (λ error. HasKind (answers_to (texts_of words.now)) error) }
+    ensures task { IfOk result (λ asked. parsed_command_line (to_texts words.now) ≡ Some (task_and_verbosity asked)) }
+    ensures answer { IfErr result (λ error. HasKind (answers_to (to_texts words.now)) error) }
 {
-    if let Some(asked) = alone(alloc, words) {
+    if let Some(asked) = parse_without_options(alloc, words) {
         return Ok(asked);
     }
     let matches = program(alloc)?.try_get_matches_from(words)?;

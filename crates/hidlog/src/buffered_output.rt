@@ -7,7 +7,7 @@ use session_log::{Failed, LogFault, Target};
 use std::cell::Cell;
 
 /// Capacity of the buffer in bytes.
-const HELD: usize = 8192;
+const OUTPUT_BUFFER_LEN: usize = 8192;
 
 /// The last complete line that was read but not played, for which text may be written.
 #[derive(Clone, Copy)]
@@ -140,7 +140,7 @@ impl<T: Target> Target for BufferedOutput<'_, T> {
             _ => true,
         };
         if lies_ahead
-            && self.bytes.len().saturating_add(piece.len()) <= HELD
+            && self.bytes.len().saturating_add(piece.len()) <= OUTPUT_BUFFER_LEN
             && self.bytes.extend_from_slice(piece).is_ok()
         {
             return Ok(piece.len());

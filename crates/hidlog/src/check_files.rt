@@ -1,12 +1,12 @@
 //! Checks several logs, one after the other.
 ghost use Rattle.std.specs.Prelude.{◌≡◌, ◌<◌, ◌-◌, ◌^◌, ◌⊎◌, IfErr, OnOk};
-ghost use Rattle.hidlog.specs.CommandLine.{path_of, texts_of};
+ghost use Rattle.hidlog.specs.CommandLine.{path_of, report_for};
 ghost use Rattle.hidlog.specs.Commands.{Compares};
 ghost use Rattle.hidlog.specs.Model.{CanFail};
 ghost use Rattle.hidlog.specs.Several.{IsSameAt};
 
 use crate::buffered_output::Output;
-use crate::commands::{fresh, open_log};
+use crate::commands::{new_program_session, open_log};
 use crate::differences::report_differences;
 use crate::escape::{EscapedText, StreamFailure};
 use crate::fault::ProgramFault;
@@ -16,7 +16,7 @@ use crate::json_report::ProgramFaultObject;
 use crate::logs::{LogState, Logs};
 use crate::notes::{CheckEnd, Notes};
 use crate::parse_hint::first_parse_hint;
-use crate::process::{WRITING_FAILED, say};
+use crate::process::{WRITING_FAILED, write_error_message};
 use crate::report_options::{FaultLine, ReportOptions};
 use crate::snapshots::load;
 use crate::split::Pieces;
@@ -24,7 +24,7 @@ use session_log::{LogFault, ReplayMode, Target, ToWrite};
 use session_show::{TextBuf, Written};
 
 /// Maximum length of a log that is read again to compare the signed bytes.
-const READ_AGAIN_AT_MOST: u64 = 1 << 26;
+const MAX_REREAD_LEN: u64 = 1 << 26;
 
 /// The report that nothing differs, from its text: `same 14 inputs 22 packets`.
 #[derive(Clone, Copy)]
@@ -65,12 +65,12 @@ pub fn report_cause<E: Target>(
     match fault {
         LogFault::BadLine(_) | LogFault::TooLong(_) => {
             if let Some(hint) = first_parse_hint(state.lines) {
-                say(faults, &hint);
+                write_error_message(faults, &hint);
             }
         }
         LogFault::Read(_) => {
             if let Some(error) = state.failure {
-                say(faults, &StreamFailure { name, error });
+                write_error_message(faults, &StreamFailure { name, error });
             }
         }
         _ => {}
@@ -97,8 +97,8 @@ pub fn report_note<D: Files, L: Logs, E: Target>(
         seen,
         ending: &*ending,
     };
-    say(faults, &notes);
-    if ending.has_served && len <= READ_AGAIN_AT_MOST {
+    write_error_message(faults, &notes);
+    if ending.has_served && len <= MAX_REREAD_LEN {
         let mut same = *wish;
         same.is_same = true;
         let again = input.again(false);
@@ -121,7 +121,7 @@ impl<D: Files, L: Logs, O: Output, E: Target> Host<D, L, O, E> {
         ensures same { OnOk result (IsSameAt ⟦<Self as Modeled>⟧.model (path_of wish.now.load) self.old.files path.now
             (self.old.input, self.new.input)) }
     {
-        let session = &mut fresh();
+        let session = &mut new_program_session();
         let input = &mut self.input;
         if path == "-"
             && let Err(error) = input.open(None)
@@ -148,10 +148,10 @@ impl<D: Files, L: Logs, O: Output, E: Target> Host<D, L, O, E> {
         ensures files { self.new.files ≡ self.old.files }
         ensures input { self.new.input ≡ self.old.input }
     {
-        if say(&mut self.output, &SameLog { wish, text }) {
+        if write_error_message(&mut self.output, &SameLog { wish, text }) {
             return Ok(());
         }
-        say(&mut self.faults, &EscapedText(WRITING_FAILED));
+        write_error_message(&mut self.faults, &EscapedText(WRITING_FAILED));
         Err(1)
     }
 
@@ -166,7 +166,7 @@ impl<D: Files, L: Logs, O: Output, E: Target> Host<D, L, O, E> {
         {
             let fault = *told;
             let faults = &mut self.faults;
-            if say(faults, &FaultLine { wish, fault }) && wish.explains {
+            if write_error_message(faults, &FaultLine { wish, fault }) && wish.explains {
                 report_cause(&self.input.state(), None, told, faults);
             }
             if let LogFault::Differs { .. } = told {
@@ -182,14 +182,14 @@ impl<D: Files, L: Logs, O: Output, E: Target> Host<D, L, O, E> {
             if !wish.explains
                 && let Some(notice) = fault.notice()
             {
-                say(&mut self.faults, &notice);
+                write_error_message(&mut self.faults, &notice);
             }
         }
         if wish.is_json {
             let output = &mut self.output;
-            say(output, &ProgramFaultObject { wish, fault });
+            write_error_message(output, &ProgramFaultObject { wish, fault });
             if output.failures() > 0 {
-                say(&mut self.faults, &EscapedText(WRITING_FAILED));
+                write_error_message(&mut self.faults, &EscapedText(WRITING_FAILED));
             }
         }
     }
@@ -237,7 +237,7 @@ impl<D: Files, L: Logs, O: Output, E: Target> Host<D, L, O, E> {
     /// If a snapshot cannot be loaded, no further log is read.
     pub fn check_each(&mut self, wished: &ReportOptions<'_>, paths: &[&str]) -> Result<(), u8>
         ensures status { IfErr result (λ code. (code ≡ 1) ⊎ (code ≡ 2)) }
-        ensures compares { Compares ⟦<Self as Modeled>⟧.model (path_of wished.now.load) (texts_of paths.now) result
+        ensures compares { Compares ⟦<Self as Modeled>⟧.model (path_of wished.now.load) (to_texts paths.now) result
             self.old self.new }
     {
         let mut has_failed = false;

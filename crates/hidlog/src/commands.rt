@@ -3,7 +3,7 @@ ghost use Rattle.std.specs.Prelude.{◌≡◌, ◌⊎◌, [], None, Some, IfErr,
 ghost use Rattle.session_log.specs.Command.{start_with};
 ghost use Rattle.token_session.specs.Meters.{session_of};
 ghost use Rattle.hidlog.specs.CommandLine.{named, path_of};
-ghost use Rattle.hidlog.specs.Commands.{Begins, RunsCommand, RunsOn, looked_at};
+ghost use Rattle.hidlog.specs.Commands.{StartsFromSnapshot, RunsCommand, RunsOn, checked_save_path};
 ghost use Rattle.hidlog.specs.Fault.{result_of, reasoned, fault_message_of};
 ghost use Rattle.hidlog.specs.Model.{CanFail};
 ghost use Rattle.hidlog.specs.Program.{cannot_read_log};
@@ -15,7 +15,7 @@ use crate::files::Files;
 use crate::host::{Host, Modeled};
 use crate::logs::Logs;
 use crate::notes::CheckEnd;
-use crate::snapshots::{hold, load, look, save_rows};
+use crate::snapshots::{lock_snapshot, load, check_writable, save_rows};
 use session_log::{CAPACITY, ReplayMode, Target};
 use token_session::Session;
 
@@ -55,7 +55,7 @@ pub fn open_log<'a, L: Logs>(
 
 /// Returns the program's initial session, without credentials.
 // This function creates it in the caller's stack frame; calling `Session::bare` there would copy it.
-pub fn fresh() -> Session<CAPACITY>
+pub fn new_program_session() -> Session<CAPACITY>
     ensures { result ≡ session_of (start_with []) [] }
 {
     Session::bare([0; 16], 0)
@@ -72,17 +72,17 @@ impl<D: Files, L: Logs, O: Output, E: Target> Host<D, L, O, E> {
         is_held: bool,
     ) -> Result<CheckEnd, ProgramFault<'a>>
         requires { CanFail ⟦<Self as Modeled>⟧.model self.old }
-        ensures { Begins ⟦<Self as Modeled>⟧.model (path_of play.now.load)
+        ensures { StartsFromSnapshot ⟦<Self as Modeled>⟧.model (path_of play.now.load)
             (λ start. ((self.new ≡ self.old) × FailsToSave D.unwritable self.old.files
-            (looked_at play.now.command (path_of play.now.save)) (result_of result))
+            (checked_save_path play.now.command (path_of play.now.save)) (result_of result))
             ⊎ RunsOn ⟦<Self as Modeled>⟧.model play.now.command (path_of play.now.save) (result_of result) self.old self.new start)
             (result_of result) self.old self.new }
     {
-        let session = &mut fresh();
+        let session = &mut new_program_session();
         if let Err(fault) = load(session, &self.files, play.load) {
             return Err(fault);
         }
-        if let Err(fault) = look(&self.files, play.command, play.save, log, is_held) {
+        if let Err(fault) = check_writable(&self.files, play.command, play.save, log, is_held) {
             return Err(fault);
         }
         let answer = play
@@ -115,7 +115,7 @@ impl<D: Files, L: Logs, O: Output, E: Target> Host<D, L, O, E> {
             Ok(log) => log,
             Err(fault) => return Err(fault),
         };
-        let held = match hold(&self.files, play.load, play.save) {
+        let held = match lock_snapshot(&self.files, play.load, play.save) {
             Ok(held) => held,
             Err(fault) => return Err(fault),
         };

@@ -10,7 +10,7 @@ const ROW: usize = 16;
 const SPACES: &[u8] = b"                                                     ";
 
 /// Maximum depth of nested members that are named.
-const LEVELS: usize = 3;
+const MAX_MEMBER_DEPTH: usize = 3;
 
 /// Formats for the first byte in which two packets differ, with both values.
 const IN_CHANNEL: &[u8] =
@@ -25,7 +25,7 @@ const SEQUENCE_NUMBER: &[u8] =
 const IN_LENGTH: &[u8] =
     b"  byte %d of the packet, in the length, is %x in the log and %x from the key:\n";
 
-const ELSEWHERE: &[u8] = b"  byte %d of the packet is %x in the log and %x from the key:\n";
+const OTHER_BYTE: &[u8] = b"  byte %d of the packet is %x in the log and %x from the key:\n";
 
 /// Writes the line of one packet, and those lines of its message that differ from the other message's line at the same
 /// position.
@@ -90,7 +90,7 @@ pub fn write_first_difference(
         (4, View::Start { .. }, View::Start { .. }) => COMMAND,
         (4, View::More { .. }, View::More { .. }) => SEQUENCE_NUMBER,
         (5 | 6, View::Start { .. }, View::Start { .. }) => IN_LENGTH,
-        _ => ELSEWHERE,
+        _ => OTHER_BYTE,
     };
     buf.format(
         form,
@@ -137,8 +137,8 @@ fn member_in(line: &[u8]) -> (Option<usize>, &[u8]) {
 }
 
 /// Returns the names of the members in which two messages differ first, outermost first.
-pub fn differing_members<'a>(logged: &'a [u8], sent: &[u8]) -> [&'a [u8]; LEVELS] {
-    let mut names: [&[u8]; LEVELS] = [b""; LEVELS];
+pub fn differing_members<'a>(logged: &'a [u8], sent: &[u8]) -> [&'a [u8]; MAX_MEMBER_DEPTH] {
+    let mut names: [&[u8]; MAX_MEMBER_DEPTH] = [b""; MAX_MEMBER_DEPTH];
     let mut depth = 0;
     let mut others = Pieces {
         rest: sent,
@@ -158,7 +158,7 @@ pub fn differing_members<'a>(logged: &'a [u8], sent: &[u8]) -> [&'a [u8]; LEVELS
         let (Some(level), name) = member_in(line) else {
             continue;
         };
-        if level != depth || level >= LEVELS || name != member_in(other).1 {
+        if level != depth || level >= MAX_MEMBER_DEPTH || name != member_in(other).1 {
             break;
         }
         names[level] = name;
@@ -168,11 +168,11 @@ pub fn differing_members<'a>(logged: &'a [u8], sent: &[u8]) -> [&'a [u8]; LEVELS
 }
 
 /// Writes the names of members, innermost first.
-fn write_path(buf: &mut TextBuf, names: &[&[u8]; LEVELS]) {
+fn write_path(buf: &mut TextBuf, names: &[&[u8]; MAX_MEMBER_DEPTH]) {
     let mut front: &[u8] = b"  the messages differ first in ";
     let mut end: &[u8] = b"";
-    for level in 0..LEVELS {
-        let name = names[LEVELS - 1 - level];
+    for level in 0..MAX_MEMBER_DEPTH {
+        let name = names[MAX_MEMBER_DEPTH - 1 - level];
         if !name.is_empty() {
             buf.bytes(front);
             buf.bytes(name);

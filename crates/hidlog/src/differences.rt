@@ -1,12 +1,12 @@
 //! The packets in which a log differs from those that the key sends.
-use crate::commands::fresh;
+use crate::commands::new_program_session;
 use crate::fault::ProgramFault;
 use crate::files::Files;
 use crate::finding::{DifferenceReport, Finding};
 use crate::json_report::ProgramFaultObject;
 use crate::notes::{Note, NoteText};
 use crate::parse_hint::first_parse_hint;
-use crate::process::say;
+use crate::process::write_error_message;
 use crate::report_options::{FaultLine, ReportOptions};
 use crate::snapshots::load;
 use crate::terminal_output::{Style, StyledLines};
@@ -16,24 +16,24 @@ use std::alloc::Global;
 use token_session::Session;
 
 /// Maximum number of differences that are written.
-const MOST: u64 = 20;
+const MAX_DIFFERENCES: u64 = 20;
 
 /// The note if the log cannot be read again.
-const READ_ONCE: Note = Note::Differences(
+const NOT_READ_AGAIN: Note = Note::Differences(
     "to see the packets, name the log as a file: hidlog check FILE",
 );
 
 /// The note if the log changed before it was read again.
-const CHANGED: Note = Note::Differences("the log changed while it was being checked");
+const LOG_CHANGED: Note = Note::Differences("the log changed while it was being checked");
 
-const INPUTS_ALONE: Note = Note::Differences(
+const NO_KEY_PACKETS: Note = Note::Differences(
     "the log has no packets from the key; run `hidlog replay` first, then check its output",
 );
 
 /// Returns a comparison before the first line.
 // Takes 40 kB, which are never on the stack together with a session.
 #[inline(never)]
-fn begun(alloc: Global) -> Option<Box<Comparison>> {
+fn new_comparison(alloc: Global) -> Option<Box<Comparison>> {
     Box::new(alloc, Comparison::new()).ok()
 }
 
@@ -51,37 +51,37 @@ pub fn report_differences<D: Files, S: Source + Drop, E: Target>(
     }
     let Some(mut reader) = again else {
         if !wish.is_same {
-            let (wish, remark) = (&*wish, READ_ONCE);
-            say(faults, &NoteText { wish, remark });
+            let (wish, remark) = (&*wish, NOT_READ_AGAIN);
+            write_error_message(faults, &NoteText { wish, remark });
         }
         return;
     };
-    compare_anew(files, wish, &mut reader, told, faults);
+    compare_again(files, wish, &mut reader, told, faults);
 }
 
 /// Compares the log on a session of its own and reports the differences. Not inlined, so that the session is on the
 /// stack only here.
 #[inline(never)]
-fn compare_anew<D: Files, S: Source, E: Target>(
+fn compare_again<D: Files, S: Source, E: Target>(
     files: &D,
     wish: &ReportOptions<'_>,
     reader: &mut S,
     told: Option<LogFault>,
     faults: &mut E,
 ) {
-    let session = &mut fresh();
+    let session = &mut new_program_session();
     // The snapshot was loaded before, so it is valid.
     if load(session, files, wish.load).is_err() {
         return;
     }
-    if let Some(mut comparison) = begun(wish.alloc) {
+    if let Some(mut comparison) = new_comparison(wish.alloc) {
         report_each(&mut *comparison, session, wish, reader, told, faults);
     }
 }
 
 /// The differences of a log reported so far.
 #[derive(Clone, Copy, Default)]
-struct Parsed {
+struct ReportedDifferences {
     /// Number of differences.
     count: u64,
     /// Whether the two keys' credentials may differ because of one of these differences.
@@ -97,7 +97,7 @@ fn report_each<S: Source, E: Target>(
     told: Option<LogFault>,
     faults: &mut E,
 ) {
-    let mut parsed = Parsed::default();
+    let mut parsed = ReportedDifferences::default();
     let mut fault = None;
     for _ in 0..u64::MAX {
         let difference = match comparison.find(reader, session) {
@@ -115,8 +115,8 @@ fn report_each<S: Source, E: Target>(
             _ => false,
         };
         if !is_told && parsed.count == 0 {
-            let (wish, remark) = (&*wish, CHANGED);
-            say(faults, &NoteText { wish, remark });
+            let (wish, remark) = (&*wish, LOG_CHANGED);
+            write_error_message(faults, &NoteText { wish, remark });
             return;
         }
         let changes = report_one(comparison, wish, reader, &difference, parsed, faults);
@@ -142,7 +142,7 @@ fn report_end<S: Source, E: Target>(
     if wish.is_same && fault.is_none() {
         if let Some(otherwise) = comparison.signed_bytes_mismatch() {
             let (wish, remark) = (&*wish, Note::Signed(otherwise));
-            say(faults, &NoteText { wish, remark });
+            write_error_message(faults, &NoteText { wish, remark });
         }
         return;
     }
@@ -153,11 +153,11 @@ fn report_end<S: Source, E: Target>(
             fault,
             ahead: comparison.window.as_slice(),
         };
-        say(faults, &counted);
+        write_error_message(faults, &counted);
     }
     if (wish.explains || wish.is_json) && comparison.has_only_inputs(reader) {
-        let (wish, remark) = (&*wish, INPUTS_ALONE);
-        say(faults, &NoteText { wish, remark });
+        let (wish, remark) = (&*wish, NO_KEY_PACKETS);
+        write_error_message(faults, &NoteText { wish, remark });
     }
 }
 
@@ -196,7 +196,7 @@ impl Written for DifferenceCount<'_> {
         wish.begin_line(buf);
         let form: &[u8] = match self.count {
             1 => b"%d input with differences\n",
-            0..=MOST => b"%d inputs with differences\n",
+            0..=MAX_DIFFERENCES => b"%d inputs with differences\n",
             _ => b"%d inputs with differences, the first 20 are shown\n",
         };
         buf.format(form, &[Some(self.count)]);
@@ -210,13 +210,13 @@ fn report_one<S: Source, E: Target>(
     wish: &ReportOptions<'_>,
     reader: &mut S,
     difference: &Difference,
-    parsed: Parsed,
+    parsed: ReportedDifferences,
     faults: &mut E,
 ) -> bool {
-    if parsed.count >= MOST && !wish.is_json {
+    if parsed.count >= MAX_DIFFERENCES && !wish.is_json {
         return false;
     }
-    let texts = texts_of(comparison, wish, reader, difference);
+    let texts = report_for(comparison, wish, reader, difference);
     let finding = Finding {
         wish,
         difference,
@@ -228,7 +228,7 @@ fn report_one<S: Source, E: Target>(
         && !wish.is_json
     {
         let mut text = Vec::new(wish.alloc);
-        say(&mut ToWrite::new(&mut text), &finding);
+        write_error_message(&mut ToWrite::new(&mut text), &finding);
         let style = Style {
             width,
             has_colours: false,
@@ -238,15 +238,15 @@ fn report_one<S: Source, E: Target>(
             text: &text,
             style: &style,
         };
-        say(faults, &lines);
+        write_error_message(faults, &lines);
     } else {
-        say(faults, &finding);
+        write_error_message(faults, &finding);
     }
     finding.can_change_credentials()
 }
 
 /// Returns the finding for a difference, if it is to be reported.
-fn texts_of<S: Source>(
+fn report_for<S: Source>(
     comparison: &mut Comparison,
     wish: &ReportOptions<'_>,
     reader: &mut S,

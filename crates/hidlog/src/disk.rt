@@ -1,13 +1,13 @@
 //! The disk, path by path, and its open files.
 ghost use Rattle.std.specs.Prelude.{◌≡◌, ◌≤◌, ℕ, Bool, true, false, List, None, Option, Some, is_some, length, take, IfOk, IfSome, OnOk};
-ghost use Rattle.hidlog.specs.Streams.{over};
+ghost use Rattle.hidlog.specs.Streams.{overwritten_at};
 
 use std::fs::{self, File, Metadata, OpenOptions, TryLockError};
 use std::io::{self, Error, ErrorKind, Read, Write};
 use std::os::unix::fs::{FileExt, FileTypeExt, MetadataExt};
 
 /// An open file.
-pub trait Place {
+pub trait OpenFile {
     /// This is the file at a path.
     ghost is_at: { List ℕ → Self → Type 0 };
 
@@ -18,8 +18,8 @@ pub trait Place {
     ghost bytes: { Self → Option (List ℕ) };
 
     /// Writes all bytes at an offset that is at most the file's length.
-    fn put_at(&mut self, piece: &[u8], at: u64) -> io::Result<()>
-        ensures bytes { OnOk result (IfSome (bytes self.old) (λ has. at ≤ length has → bytes self.new ≡ Some (over has at piece.now))) }
+    fn write_at_offset(&mut self, piece: &[u8], at: u64) -> io::Result<()>
+        ensures bytes { OnOk result (IfSome (bytes self.old) (λ has. at ≤ length has → bytes self.new ≡ Some (overwritten_at has at piece.now))) }
         ensures place { (path : List ℕ) → is_at path self.old → is_at path self.new };
 
     /// Truncates the file to `len` bytes if longer, and syncs it to disk. Some file systems cannot sync.
@@ -30,7 +30,7 @@ pub trait Place {
 
 /// The kind of object at a writable path.
 #[derive(Clone, Copy)]
-pub enum Found {
+pub enum PathKind {
     Nothing,
     File,
     Pipe,
@@ -40,7 +40,7 @@ pub enum Found {
 
 /// A disk.
 pub trait Disk {
-    type File: Place + Drop;
+    type File: OpenFile + Drop;
 
     /// These are the bytes of the file at a path; if there are as many as the limit, the file may have more.
     ghost holds: { Self → List ℕ → ℕ → List ℕ → Type 0 };
@@ -53,7 +53,7 @@ pub trait Disk {
         ensures { IfOk result (λ bytes. holds self.now path.now most bytes.items) };
 
     /// Examines a path. Rejects a directory, the log, and the file that is standard output.
-    fn look(&self, path: &str, log: Option<&str>) -> io::Result<Found>;
+    fn look(&self, path: &str, log: Option<&str>) -> io::Result<PathKind>;
 
     /// Returns the inode number of the file at a path, or 0.
     fn number(&self, path: &str) -> u64;
@@ -82,19 +82,19 @@ pub trait Disk {
     fn remove(&self, path: &str) -> io::Result<()>;
 
     /// Writes bytes to an object at a path that isn't a regular file.
-    fn hand(&self, path: &str, bytes: &[u8], found: Found) -> io::Result<()>
+    fn write_special(&self, path: &str, bytes: &[u8], found: PathKind) -> io::Result<()>
         ensures { OnOk result (handed path.now bytes.now) };
 }
 
 /// The system's files. The contracts state nothing about their content.
-impl Place for File {
+impl OpenFile for File {
     ghost is_at = { λ _ _. Unit {0} };
 
     ghost is_known = { false };
 
     ghost bytes = { λ _. None };
 
-    fn put_at(&mut self, piece: &[u8], at: u64) -> io::Result<()> {
+    fn write_at_offset(&mut self, piece: &[u8], at: u64) -> io::Result<()> {
         self.write_all_at(piece, at)
     }
 
@@ -143,7 +143,7 @@ impl Disk for HostDisk<'_> {
         Ok(bytes)
     }
 
-    fn look(&self, path: &str, log: Option<&str>) -> io::Result<Found> {
+    fn look(&self, path: &str, log: Option<&str>) -> io::Result<PathKind> {
         let found = match fs::metadata(self.0, path) {
             Ok(found) => found,
             Err(error) => {
@@ -152,9 +152,9 @@ impl Disk for HostDisk<'_> {
                 }
                 let is_link = fs::symlink_metadata(self.0, path).is_ok();
                 return Ok(if is_link {
-                    Found::Other
+                    PathKind::Other
                 } else {
-                    Found::Nothing
+                    PathKind::Nothing
                 });
             }
         };
@@ -163,14 +163,14 @@ impl Disk for HostDisk<'_> {
         }
         if !found.is_file() {
             let is_pipe = found.file_type().is_fifo();
-            return Ok(if is_pipe { Found::Pipe } else { Found::Other });
+            return Ok(if is_pipe { PathKind::Pipe } else { PathKind::Other });
         }
         let message = if is_at(self.0, log.unwrap_or("/dev/stdin"), &found) {
             "it is the input log"
         } else if is_at(self.0, "/dev/stdout", &found) {
             "it is the file that standard output goes to"
         } else {
-            return Ok(Found::File);
+            return Ok(PathKind::File);
         };
         Err(Error::new(ErrorKind::InvalidInput, message))
     }
@@ -202,7 +202,7 @@ impl Disk for HostDisk<'_> {
 
     fn create(&self, path: &str, bytes: &[u8]) -> io::Result<File> {
         let mut file = File::create_new(self.0, path)?;
-        let mut written = file.put_at(bytes, 0);
+        let mut written = file.write_at_offset(bytes, 0);
         if written.is_ok() {
             written = file.cut(bytes.len() as u64);
         }
@@ -222,8 +222,8 @@ impl Disk for HostDisk<'_> {
         fs::remove_file(self.0, path)
     }
 
-    fn hand(&self, path: &str, bytes: &[u8], found: Found) -> io::Result<()> {
-        let Found::Pipe = found else {
+    fn write_special(&self, path: &str, bytes: &[u8], found: PathKind) -> io::Result<()> {
+        let PathKind::Pipe = found else {
             return fs::write(self.0, path, bytes);
         };
         // Opening a pipe for both reading and writing never waits for a reader. After `both` is dropped, writing fails

@@ -2,7 +2,7 @@
 ghost use Rattle.std.specs.Prelude.{◌≡◌, ◌⊎◌};
 
 use crate::escape::write_display;
-use crate::files::{COPY, DAMAGED, HELD, SaveError};
+use crate::files::{COPY, DAMAGED_REASON, HELD, SaveError};
 use cred_table::SnapshotFault;
 use session_log::{CAPACITY, LogFault};
 use session_show::{TextBuf, Written, write_escaped};
@@ -90,7 +90,7 @@ impl Written for Notice {
         buf.text("  ");
         buf.text(match self {
             Notice::Held => HELD,
-            Notice::Damaged => DAMAGED,
+            Notice::Damaged => DAMAGED_REASON,
         });
         buf.text("\n");
     }

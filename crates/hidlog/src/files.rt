@@ -3,7 +3,7 @@ ghost use Rattle.std.specs.Prelude.{◌≡◌, ◌⊎◌, ◌^◌, ℕ, List, So
 ghost use Rattle.std.specs.IoError.{error_kind};
 ghost use Rattle.hidlog.specs.Streams.{IsWritten};
 
-use crate::disk::{Disk, Found, Place};
+use crate::disk::{Disk, PathKind, OpenFile};
 use crate::sums::{SUMS, SumLine, are_sums};
 use std::alloc::Global;
 use std::io::{self, Error, ErrorKind};
@@ -76,7 +76,7 @@ pub struct HostFiles<D>(pub D, pub Global);
 
 /// Maximum number of bytes of a snapshot that are read. It is much larger than the longest snapshot, so that the
 /// snapshot of a key with more capacity is rejected for this reason.
-const MOST: u64 = 1 << 20;
+const MAX_SNAPSHOT_LEN: u64 = 1 << 20;
 
 /// The system's error number for a missing path, ENOENT.
 const ENOENT: i32 = 2;
@@ -85,15 +85,15 @@ const ENOENT: i32 = 2;
 pub const COPY: &str = ".hidlog-copy";
 
 /// Maximum number of copies beside a file. An existing file is never overwritten, because it may not be a copy.
-const COPIES: u64 = 100;
+const MAX_COPIES: u64 = 100;
 
 /// The suffix of a file's checksums (src/sums.rt): a line for the content that it has or is about to have, preceded by
 /// a line for its previous content if that was intact.
-const SUMS_OF: &str = ".hidlog-sum";
+const CHECKSUM_SUFFIX: &str = ".hidlog-sum";
 
 /// Returns the path of a file's checksums.
-fn sums_path(alloc: Global, path: &str) -> io::Result<String> {
-    Ok(format!(in alloc; "{path}{SUMS_OF}")?)
+fn checksum_path(alloc: Global, path: &str) -> io::Result<String> {
+    Ok(format!(in alloc; "{path}{CHECKSUM_SUFFIX}")?)
 }
 
 /// Returns the path of a copy of a file.
@@ -105,33 +105,33 @@ fn copy_path(alloc: Global, path: &str, number: u64) -> io::Result<String> {
 }
 
 /// The reason why a file that is loaded and then saved to cannot be loaded: another program has locked it.
-pub const HELD: &str = "another program has loaded it, and is going to save to it";
+pub const LOCKED_REASON: &str = "another program has loaded it, and is going to save to it";
 
 /// The reason why a file whose bytes don't match its checksums cannot be loaded. At most 80 bytes.
-pub const DAMAGED: &str =
+pub const DAMAGED_REASON: &str =
     "its bytes don't match its .hidlog-sum: it is damaged; else remove that file";
 
 /// A file that was created beside another one.
 #[derive(Drop)]
-struct Beside<F> {
+struct CopyFile<F> {
     file: F,
     name: String,
     number: u64,
 }
 
 /// Creates a file with these bytes beside a path, under the first free name of a copy.
-fn make_beside<D: Disk>(
+fn create_copy<D: Disk>(
     files: &HostFiles<D>,
     path: &str,
     bytes: &[u8],
-) -> io::Result<Beside<D::File>>
+) -> io::Result<CopyFile<D::File>>
     ensures { IfOk result (λ made. D.File.is_known ≡ true → D.File.bytes made.file ≡ Some bytes.now) }
 {
-    for number in 0..COPIES {
+    for number in 0..MAX_COPIES {
         let name = copy_path(files.1, path, number)?;
         match files.0.create(name.as_str(), bytes) {
             Ok(file) => {
-                return Ok(Beside { file, name, number });
+                return Ok(CopyFile { file, name, number });
             }
             Err(error) => {
                 if !matches!(error.kind(), ErrorKind::AlreadyExists) {
@@ -147,7 +147,7 @@ fn make_beside<D: Disk>(
 }
 
 /// Returns the error of a checksum file that cannot be read or has no checksums.
-fn not_sums(kind: ErrorKind) -> Error {
+fn checksum_error(kind: ErrorKind) -> Error {
     match kind {
         ErrorKind::InvalidInput => Error::new(
             kind,
@@ -158,26 +158,26 @@ fn not_sums(kind: ErrorKind) -> Error {
 }
 
 /// Returns a file's checksums, if any.
-fn sums_of<D: Disk>(files: &HostFiles<D>, path: &str) -> io::Result<Option<Vec<u8>>> {
-    let name = sums_path(files.1, path)?;
+fn read_checksums<D: Disk>(files: &HostFiles<D>, path: &str) -> io::Result<Option<Vec<u8>>> {
+    let name = checksum_path(files.1, path)?;
     match files.0.look(name.as_str(), None) {
-        Ok(Found::Nothing) => Ok(None),
-        Ok(Found::File) => match files.0.read(name.as_str(), SUMS as u64 + 1) {
+        Ok(PathKind::Nothing) => Ok(None),
+        Ok(PathKind::File) => match files.0.read(name.as_str(), SUMS as u64 + 1) {
             Ok(sums) if are_sums(&sums) => Ok(Some(sums)),
-            Ok(_) => Err(not_sums(ErrorKind::InvalidInput)),
+            Ok(_) => Err(checksum_error(ErrorKind::InvalidInput)),
             Err(error) => match error.kind() {
                 ErrorKind::OutOfMemory => Err(error),
-                kind => Err(not_sums(kind)),
+                kind => Err(checksum_error(kind)),
             },
         },
         // Opening a pipe would block.
-        Ok(_) => Err(not_sums(ErrorKind::InvalidInput)),
+        Ok(_) => Err(checksum_error(ErrorKind::InvalidInput)),
         Err(error) => match error.kind() {
             // No file can have a name of this length.
             ErrorKind::InvalidFilename => Ok(None),
             ErrorKind::OutOfMemory => Err(error),
-            ErrorKind::IsADirectory => Err(not_sums(ErrorKind::InvalidInput)),
-            kind => Err(not_sums(kind)),
+            ErrorKind::IsADirectory => Err(checksum_error(ErrorKind::InvalidInput)),
+            kind => Err(checksum_error(kind)),
         },
     }
 }
@@ -185,20 +185,20 @@ fn sums_of<D: Disk>(files: &HostFiles<D>, path: &str) -> io::Result<Option<Vec<u
 /// Writes the checksums of the file with this inode number before the file itself is written: those of the new bytes,
 /// and those of its present content unless that is damaged. So the file can be loaded with either content after an
 /// interrupted write. A file without checksums may stay without them.
-fn write_sums<D: Disk>(
+fn write_checksums<D: Disk>(
     files: &HostFiles<D>,
     path: &str,
     number: u64,
     old: Option<&[u8]>,
     bytes: &[u8],
 ) -> io::Result<()> {
-    let known = sums_of(files, path)?;
-    let name = sums_path(files.1, path)?;
+    let known = read_checksums(files, path)?;
+    let name = checksum_path(files.1, path)?;
     let mut text = Vec::new(files.1);
     if let Some(old) = old {
         let line = SumLine::of(old, number);
         let is_whole = match &known {
-            Some(sums) => line.is_in(sums) || !line.is_of(sums),
+            Some(sums) => line.is_in(sums) || !line.is_for_same_file(sums),
             None => true,
         };
         if is_whole {
@@ -206,7 +206,7 @@ fn write_sums<D: Disk>(
         }
     }
     text.extend_from_slice(SumLine::of(bytes, number).text())?;
-    let written = write_beside(files, path, name.as_str(), &text);
+    let written = write_and_rename(files, path, name.as_str(), &text);
     match (written, known) {
         (Err(error), Some(_)) => Err(error),
         _ => Ok(()),
@@ -215,24 +215,24 @@ fn write_sums<D: Disk>(
 
 /// Overwrites an open file of this length, truncates it to the new length and syncs it. The part beyond the old length
 /// is written first, so that a full disk leaves the old content unchanged.
-fn write_over<F: Place>(file: &mut F, old: u64, bytes: &[u8]) -> io::Result<()>
+fn write_over<F: OpenFile>(file: &mut F, old: u64, bytes: &[u8]) -> io::Result<()>
     ensures bytes { OnOk result (IfSome (F.bytes file.old) (λ has. length has ≡ old → F.bytes file.new ≡ Some bytes.now)) }
     ensures place { (path : List ℕ) → F.is_at path file.old → F.is_at path file.new }
 {
     let shared = usize::try_from(old).unwrap_or(bytes.len()).min(bytes.len());
     let (front, more) = bytes.split_at(shared);
-    let written = file.put_at(more, old);
+    let written = file.write_at_offset(more, old);
     if written.is_err() {
         let _ = file.cut(old);
         return written;
     }
-    file.put_at(front, 0)?;
+    file.write_at_offset(front, 0)?;
     file.cut(bytes.len() as u64)
 }
 
 /// Writes and syncs a file beside a path, then renames it to another path, so that the file at that path is always
 /// complete.
-fn write_beside<D: Disk>(
+fn write_and_rename<D: Disk>(
     files: &HostFiles<D>,
     path: &str,
     to: &str,
@@ -240,7 +240,7 @@ fn write_beside<D: Disk>(
 ) -> io::Result<D::File>
     ensures { IfOk result (λ file. IsWritten D.File.is_at D.File.is_known D.File.bytes to.now bytes.now file) }
 {
-    let Beside { file, name, .. } = make_beside(files, path, bytes)?;
+    let CopyFile { file, name, .. } = create_copy(files, path, bytes)?;
     let written = files.0.rename(file, name.as_str(), to);
     if written.is_err() {
         let _ = files.0.remove(name.as_str());
@@ -252,9 +252,9 @@ fn write_beside<D: Disk>(
 fn write_new<D: Disk>(files: &HostFiles<D>, path: &str, bytes: &[u8]) -> io::Result<D::File>
     ensures { IfOk result (λ file. IsWritten D.File.is_at D.File.is_known D.File.bytes path.now bytes.now file) }
 {
-    let Beside { file, name, .. } = make_beside(files, path, bytes)?;
+    let CopyFile { file, name, .. } = create_copy(files, path, bytes)?;
     let number = files.0.number(name.as_str());
-    let written = match write_sums(files, path, number, None, bytes) {
+    let written = match write_checksums(files, path, number, None, bytes) {
         Ok(()) => files.0.rename(file, name.as_str(), path),
         Err(error) => Err(error),
     };
@@ -284,10 +284,10 @@ fn replace<D: Disk>(
         Some(old) => Some(old.as_slice()),
         None => None,
     };
-    if let Err(error) = write_sums(files, path, disk.number(path), had, bytes) {
+    if let Err(error) = write_checksums(files, path, disk.number(path), had, bytes) {
         return Err(SaveError::Kept(error));
     }
-    let copy = make_beside(files, path, bytes).ok();
+    let copy = create_copy(files, path, bytes).ok();
     if let Err(error) = write_over(&mut file, size, bytes) {
         let is_back = match &old {
             Some(old) => write_over(&mut file, old.len() as u64, old.as_slice()).is_ok(),
@@ -333,7 +333,7 @@ impl<D: Disk> Files for HostFiles<D> {
                     // Other errors are reported when the file is written.
                     return Ok(None);
                 }
-                Err(Error::new(ErrorKind::WouldBlock, HELD))
+                Err(Error::new(ErrorKind::WouldBlock, LOCKED_REASON))
             }
         }
     }
@@ -341,25 +341,25 @@ impl<D: Disk> Files for HostFiles<D> {
     fn read(&self, path: &str) -> io::Result<Vec<u8>> {
         // Another program may be writing the file, whose checksums it has already written; so this tries again.
         for _ in 0..3 {
-            let bytes = self.0.read(path, MOST)?;
-            let Some(sums) = sums_of(self, path)? else {
+            let bytes = self.0.read(path, MAX_SNAPSHOT_LEN)?;
+            let Some(sums) = read_checksums(self, path)? else {
                 return Ok(bytes);
             };
             let line = SumLine::of(&bytes, self.0.number(path));
-            if line.is_in(&sums) || !line.is_of(&sums) {
+            if line.is_in(&sums) || !line.is_for_same_file(&sums) {
                 return Ok(bytes);
             }
         }
-        Err(Error::new(ErrorKind::InvalidData, DAMAGED))
+        Err(Error::new(ErrorKind::InvalidData, DAMAGED_REASON))
     }
 
     fn copy(&self, path: &str) -> Option<u64> {
-        let sums = sums_of(self, path).ok()?;
+        let sums = read_checksums(self, path).ok()?;
         let file = self.0.number(path);
-        for number in 0..COPIES {
+        for number in 0..MAX_COPIES {
             let name = copy_path(self.1, path, number).ok()?;
-            if let Ok(Found::File) = self.0.look(name.as_str(), None)
-                && let Ok(bytes) = self.0.read(name.as_str(), MOST)
+            if let Ok(PathKind::File) = self.0.look(name.as_str(), None)
+                && let Ok(bytes) = self.0.read(name.as_str(), MAX_SNAPSHOT_LEN)
             {
                 let is_last = match &sums {
                     Some(sums) => sums.ends_with(SumLine::of(&bytes, file).text()),
@@ -375,17 +375,17 @@ impl<D: Disk> Files for HostFiles<D> {
 
     fn look(&self, path: &str, log: Option<&str>, is_held: bool) -> io::Result<()> {
         let found = self.0.look(path, log)?;
-        if let Found::File = found {
+        if let PathKind::File = found {
             self.0.open(path, is_held)?;
         }
-        let Found::Nothing = found else {
+        let PathKind::Nothing = found else {
             return Ok(());
         };
         if path.is_empty() {
             return Err(Error::from_raw_os_error(ENOENT));
         }
         // Whether a missing file can be created is tested by creating another file beside it.
-        let made = make_beside(self, path, b"")?;
+        let made = create_copy(self, path, b"")?;
         self.0.remove(made.name.as_str())
     }
 
@@ -397,15 +397,15 @@ impl<D: Disk> Files for HostFiles<D> {
         is_held: bool,
     ) -> Result<(), SaveError> {
         match self.0.look(path, log) {
-            Ok(Found::Nothing) => match write_new(self, path, bytes) {
+            Ok(PathKind::Nothing) => match write_new(self, path, bytes) {
                 Ok(_) => Ok(()),
                 Err(error) => Err(SaveError::Kept(error)),
             },
-            Ok(Found::File) => match replace(self, path, bytes, is_held) {
+            Ok(PathKind::File) => match replace(self, path, bytes, is_held) {
                 Ok(_) => Ok(()),
                 Err(unwritten) => Err(unwritten),
             },
-            Ok(found) => match self.0.hand(path, bytes, found) {
+            Ok(found) => match self.0.write_special(path, bytes, found) {
                 Ok(()) => Ok(()),
                 Err(error) => Err(SaveError::Kept(error)),
             },

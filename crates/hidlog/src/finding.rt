@@ -12,7 +12,7 @@ use session_show::status::{
 use session_show::{AwaitedReply, Difference, TextBuf, Transaction, Written};
 
 /// Commands that change no credentials.
-const KEEPING: [&str; 6] = [
+const READ_ONLY_COMMANDS: [&str; 6] = [
     "INIT",
     "PING",
     "authenticatorGetAssertion",
@@ -111,7 +111,7 @@ impl Finding<'_> {
         let Some(transaction) = &self.texts.transaction else {
             return true;
         };
-        !KEEPING.contains(&transaction.name()) && self.hint().is_none()
+        !READ_ONLY_COMMANDS.contains(&transaction.name()) && self.hint().is_none()
     }
 }
 

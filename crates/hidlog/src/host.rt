@@ -6,7 +6,7 @@ use crate::buffered_output::Output;
 use crate::fault::{ErrorDetail, ProgramFault};
 use crate::files::Files;
 use crate::logs::Logs;
-use crate::process::{report_error, tell};
+use crate::process::{report_error, write_error_text};
 use session_log::{Target, write_error};
 use std::alloc::Global;
 
@@ -82,13 +82,13 @@ impl<D: Files, L: Logs, O: Output, E: Target> Host<D, L, O, E> {
     ghost use Rattle.hidlog.specs.Fault.{code_of, fault_message_of};
 
     /// Writes an error message, with the reason if errors are explained.
-    pub fn tell(&mut self, fault: &ProgramFault<'_>, explains: bool)
+    pub fn report(&mut self, fault: &ProgramFault<'_>, explains: bool)
         requires { E.failed self.old.faults < 2 ^ 64 - 1 }
         ensures { Reports ⟦<Self as Modeled>⟧.model explains (Err (fault_message_of fault.now)) (Err (code_of fault.now)) self.old self.new }
     {
         match fault {
             ProgramFault::Log(fault) => write_error(&mut self.faults, fault),
-            ProgramFault::Memory => tell(&mut self.faults, fault.text()),
+            ProgramFault::Memory => write_error_text(&mut self.faults, fault.text()),
             ProgramFault::LogOpenError(path, _)
             | ProgramFault::SnapshotReadError(path, _)
             | ProgramFault::RefusedSnapshot(path, _, _)

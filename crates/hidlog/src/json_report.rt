@@ -8,7 +8,7 @@ use session_log::ToWrite;
 use session_show::{TextBuf, Written, put_json_fault, write_hex, write_string, write_text};
 
 /// The beginning of an error's JSON object.
-const FAULT: &[u8] = b"{\"kind\":\"fault\"";
+const FAULT_OBJECT_START: &[u8] = b"{\"kind\":\"fault\"";
 
 /// Writes the object of a difference.
 pub fn write_difference(buf: &mut TextBuf, finding: &Finding<'_>) {
@@ -78,7 +78,7 @@ impl Written for ProgramFaultObject<'_> {
         if let ProgramFault::Log(fault) = self.fault {
             let mut object = Vec::new(self.wish.alloc);
             let _ = put_json_fault(&mut ToWrite::new(&mut object), fault);
-            buf.bytes(object.strip_prefix(FAULT).unwrap_or(b"}\n"));
+            buf.bytes(object.strip_prefix(FAULT_OBJECT_START).unwrap_or(b"}\n"));
             return;
         }
         let text = self.fault.text();

@@ -127,7 +127,7 @@ const STANDARD_INPUT: &str = "/dev/stdin";
 const EISDIR: i32 = 21;
 
 /// The note when a terminal is read.
-const AWAITED: &[u8] = b"hidlog: reading a log from the terminal; end it with Ctrl-D\n";
+const TERMINAL_NOTE: &[u8] = b"hidlog: reading a log from the terminal; end it with Ctrl-D\n";
 
 /// The progress shown at a terminal while a log is read.
 #[derive(Clone, Copy, Default)]
@@ -207,7 +207,7 @@ impl<S: OpenSource> Source for HostLog<'_, S> {
         let recent = &mut self.recent;
         if recent.unread().is_empty() {
             if self.is_awaited && rt.stdin().is_terminal() {
-                let _ = rt.stderr().write_all(AWAITED);
+                let _ = rt.stderr().write_all(TERMINAL_NOTE);
             }
             self.is_awaited = false;
             if let Err(error) = recent.fill(&mut self.stream) {

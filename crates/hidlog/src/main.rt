@@ -2,7 +2,7 @@
 #![tactic(auto)]
 
 ghost use Rattle.std.specs.Prelude.{◌≡◌, ◌<◌, ◌-◌, ◌^◌, ◌⊎◌, IfErr};
-ghost use Rattle.hidlog.specs.CommandLine.{texts_of};
+ghost use Rattle.hidlog.specs.CommandLine.{report_for};
 ghost use Rattle.hidlog.specs.Commands.{Plays};
 ghost use Rattle.hidlog.specs.Model.{CanFail};
 
@@ -44,7 +44,7 @@ use escape::StreamFailure;
 use files::{Files, HostFiles};
 use host::{Host, Modeled};
 use logs::{Logs, ProcessLog};
-use process::{no_memory, program_args, say, tell};
+use process::{no_memory, program_args, write_error_message, write_error_text};
 use program::RunOutcome;
 use remember_error::RememberError;
 use session_log::{LogFault, Target, ToWrite};
@@ -64,7 +64,7 @@ impl<D: Files, L: Logs, O: Output, E: Target> Host<D, L, O, E> {
         let mut more = Vec::new(self.alloc);
         let mut target = ToWrite::new(&mut more);
         if let Some(notice) = &outcome.notice {
-            say(&mut target, notice);
+            write_error_message(&mut target, notice);
         }
         match &outcome.fault {
             None => {
@@ -95,14 +95,14 @@ impl<D: Files, L: Logs, O: Output, E: Target> Host<D, L, O, E> {
         requires { CanFail ⟦<Self as Modeled>⟧.model self.old }
         ensures status { IfErr result.status (λ code. (code ≡ 1) ⊎ (code ≡ 2)) }
         // The action was carried out. At most one text is written to standard error after it.
-        ensures played { Plays ⟦<Self as Modeled>⟧.model (texts_of words.now) result.status self.old self.new }
+        ensures played { Plays ⟦<Self as Modeled>⟧.model (to_texts words.now) result.status self.old self.new }
     {
         let outcome = self.run(words);
         if self.faults.failures() > 0 || self.output.failures() > 0 {
             return outcome;
         }
         let more = self.further_report(&outcome);
-        tell(&mut self.faults, more.as_slice());
+        write_error_text(&mut self.faults, more.as_slice());
         outcome
     }
 }
@@ -172,7 +172,7 @@ fn main(rt: HostRuntime) -> ExitCode {
     {
         let name = Some("standard output");
         let failure = StreamFailure { name, error };
-        say(&mut ToWrite::new(&mut errors), &failure);
+        write_error_message(&mut ToWrite::new(&mut errors), &failure);
     }
     match outcome.status {
         Ok(()) => ExitCode::SUCCESS,

@@ -4,7 +4,7 @@ use session_log::parse_line;
 use session_show::{TextBuf, Written};
 
 /// Maximum length of a log line in bytes.
-const LONGEST: usize = 255;
+const MAX_LINE_LEN: usize = 255;
 
 const BYTE_ORDER_MARK: &[u8] = &[0xEF, 0xBB, 0xBF];
 
@@ -41,7 +41,7 @@ const UTF_16: &str =
 const LETTERS: &[u8] = b"<>tpks";
 
 /// The largest timestamp.
-const LARGEST: &[u8] = b"18446744073709551615";
+const MAX_TIMESTAMP: &[u8] = b"18446744073709551615";
 
 /// A hexadecimal digit in a format.
 const DIGIT: u8 = b'.';
@@ -67,7 +67,7 @@ static FORMS: [&[&[u8]]; 6] = [
 ];
 
 /// Returns how many bytes at the start fit a format.
-fn fitting(fields: &[u8], form: &[u8]) -> usize {
+fn fitting_field_len(fields: &[u8], form: &[u8]) -> usize {
     let len = fields.len().min(form.len());
     for place in 0..len {
         let (byte, wanted) = (fields[place], form[place]);
@@ -97,11 +97,11 @@ fn fitting_len(line: &[u8]) -> usize {
     let mut fields = after(line, 2);
     let mut front = 2;
     if *letter != b'<' {
-        let mut most = LARGEST.len() - 1;
-        if let Some(number) = fields.get(..LARGEST.len())
-            && number <= LARGEST
+        let mut most = MAX_TIMESTAMP.len() - 1;
+        if let Some(number) = fields.get(..MAX_TIMESTAMP.len())
+            && number <= MAX_TIMESTAMP
         {
-            most = LARGEST.len();
+            most = MAX_TIMESTAMP.len();
         }
         // A timestamp has no leading zero.
         if fields.starts_with(b"0") {
@@ -118,7 +118,7 @@ fn fitting_len(line: &[u8]) -> usize {
     }
     let mut most = 0;
     for form in *forms {
-        most = most.max(fitting(fields, form));
+        most = most.max(fitting_field_len(fields, form));
     }
     front.saturating_add(most)
 }
@@ -127,7 +127,7 @@ fn fitting_len(line: &[u8]) -> usize {
 type Expected = (&'static [u8], Option<u64>);
 
 /// Returns the number of hexadecimal digits at the start.
-fn digits_in_front(text: &[u8]) -> u64 {
+fn count_leading_digits(text: &[u8]) -> u64 {
     for place in 0..text.len() {
         if !text[place].is_ascii_hexdigit() {
             return place as u64;
@@ -138,7 +138,7 @@ fn digits_in_front(text: &[u8]) -> u64 {
 
 /// Returns the format that is expected in the field after the timestamp, or in a packet from the key.
 fn expected_in_field(letter: u8, field: &[u8]) -> Expected {
-    let digits = digits_in_front(field);
+    let digits = count_leading_digits(field);
     let is_whole = digits == field.len() as u64;
     match letter {
         b'<' | b'>' if is_whole => (
@@ -263,7 +263,7 @@ pub fn first_parse_hint(lines: &[u8]) -> Option<ParseHint<'_>> {
         end: b'\n',
     };
     for line in lines {
-        if line.len() > LONGEST {
+        if line.len() > MAX_LINE_LEN {
             let hint = ParseHint { line, place: 0 };
             return match hint.other_file() {
                 Some(_) => Some(hint),

@@ -12,7 +12,7 @@ use std::io::ErrorKind;
 pub const WRITING_FAILED: &[u8] = b"hidlog: writing failed\n";
 
 /// Writes a text to standard error. Errors are ignored.
-pub fn tell<E: Target>(faults: &mut E, text: &[u8])
+pub fn write_error_text<E: Target>(faults: &mut E, text: &[u8])
     requires { E.failed faults.old < 2 ^ 64 - 1 }
     ensures { IsWrittenTo E.taken E.failed (faults.old, faults.new) text.now }
 {
@@ -20,7 +20,7 @@ pub fn tell<E: Target>(faults: &mut E, text: &[u8])
 }
 
 /// Writes a text to standard error, unless too many writes failed. Returns whether all was written.
-pub fn say<E: Target, W: Written>(faults: &mut E, what: &W) -> bool
+pub fn write_error_message<E: Target, W: Written>(faults: &mut E, what: &W) -> bool
     ensures { E.failed faults.old < 2 ^ 64 - 1 → (text : List ℕ) × IsWrittenTo E.taken E.failed (faults.old, faults.new) text }
 {
     if faults.failures() == u64::MAX {
@@ -35,11 +35,11 @@ pub fn report_error<E: Target>(faults: &mut E, explains: bool, text: &[u8], why:
     ensures { IsReported explains E.taken E.failed (faults.old, faults.new) text.now }
 {
     if !explains {
-        tell(faults, text);
+        write_error_text(faults, text);
         return;
     }
     if put_all(faults, text).is_ok() {
-        say(faults, why);
+        write_error_message(faults, why);
     }
 }
 
@@ -49,7 +49,7 @@ pub fn no_memory<E: Target>(faults: &mut E) -> u8
     ensures status { result ≡ 2 }
     ensures told { IsWrittenTo E.taken E.failed (faults.old, faults.new) no_memory_text }
 {
-    tell(faults, b"hidlog: no memory\n");
+    write_error_text(faults, b"hidlog: no memory\n");
     2
 }
 
@@ -71,7 +71,7 @@ pub fn program_args<E: Target>(rt: &HostRuntime, faults: &mut E) -> Result<Vec<S
             if error.kind() == ErrorKind::OutOfMemory {
                 return Err(no_memory(faults));
             }
-            tell(faults, b"hidlog: an argument is not UTF-8\n");
+            write_error_text(faults, b"hidlog: an argument is not UTF-8\n");
             Err(2)
         }
     }

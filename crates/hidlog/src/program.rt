@@ -2,15 +2,15 @@
 ghost use Rattle.std.specs.Prelude.{◌≡◌, ◌<◌, ◌-◌, ◌^◌, ◌⊎◌, ◌∷◌, ℕ, List, [], false, true, None, Some, Result, IfErr, OnOk, codes};
 ghost use Rattle.clap.specs.Words.{kind_of};
 ghost use Rattle.session_log.specs.Streams.{PutsLine};
-ghost use Rattle.hidlog.specs.CommandLine.{check, show as shown, path_of, texts_of};
+ghost use Rattle.hidlog.specs.CommandLine.{check, show as shown, path_of, report_for};
 ghost use Rattle.hidlog.specs.Fault.{result_of};
 ghost use Rattle.hidlog.specs.Model.{CanFail};
 ghost use Rattle.hidlog.specs.Program.{IsWhole};
 ghost use Rattle.session_log.specs.declared.command.ReplayMode.TheVariants.{Check as comparing};
 ghost use Rattle.session_show.specs.declared.detail.Detail.TheVariants.{Fixed as fixed};
-ghost use Rattle.hidlog.specs.Commands.{Answers, Does, DoesCommand, Explains, Reads, Reports, ShowsIn, ShowsLog, wording_for};
+ghost use Rattle.hidlog.specs.Commands.{Answers, CarriesOut, DoesCommand, Explains, Reads, Reports, ShowsIn, ShowsLog, detail_for};
 
-use crate::args::{Action, Form, parse_args};
+use crate::args::{Action, ShowFormat, parse_args};
 use crate::buffered_output::{Output, flush_then};
 use crate::commands::{Play, open_log};
 use crate::escape::EscapedText;
@@ -19,7 +19,7 @@ use crate::files::Files;
 use crate::host::{Host, Modeled};
 use crate::logs::Logs;
 use crate::notes::CheckEnd;
-use crate::process::{WRITING_FAILED, no_memory, say, tell};
+use crate::process::{WRITING_FAILED, no_memory, write_error_message, write_error_text};
 use crate::report_options::ReportOptions;
 use clap::Error;
 use clap::error::ErrorKind;
@@ -73,7 +73,7 @@ fn put_text<O: Target>(output: &mut O, text: &[u8]) -> Result<(), LogFault>
 /// Writes the log in a format, up to its first error, if any. In JSON, the last object is that of the error, after
 /// those of open transactions.
 #[inline(never)]
-fn show_form<L: Logs, O: Target>(
+fn show_in_format<L: Logs, O: Target>(
     form: OutputFormat,
     input: &mut L,
     output: &mut O,
@@ -108,29 +108,29 @@ fn show_form<L: Logs, O: Target>(
 
 /// Shows the log in a format, line by line.
 fn show_in<L: Logs, O: Target>(
-    form: Form,
+    form: ShowFormat,
     is_worded: bool,
     input: &mut L,
     output: &mut O,
 ) -> Result<(), LogFault>
     requires reads { L.failed input.old < 2 ^ 64 - 1 }
     requires writes { O.failed output.old < 2 ^ 64 - 1 }
-    ensures { ShowsIn form (wording_for is_worded) L.left L.failed L.ended O.taken O.failed result (input.old, input.new)
+    ensures { ShowsIn form (detail_for is_worded) L.left L.failed L.ended O.taken O.failed result (input.old, input.new)
         (output.old, output.new) }
 {
     match (form, is_worded) {
-        (Form::Lines, false) => show(input, output),
-        (Form::Lines, true) => explain(input, output),
-        (Form::Summary, _) => show_form(OutputFormat::Table, input, output),
-        (Form::JsonSummary, _) => show_form(OutputFormat::Summary, input, output),
-        (Form::Json, _) => show_form(OutputFormat::Objects, input, output),
+        (ShowFormat::Lines, false) => show(input, output),
+        (ShowFormat::Lines, true) => explain(input, output),
+        (ShowFormat::Summary, _) => show_in_format(OutputFormat::Table, input, output),
+        (ShowFormat::JsonSummary, _) => show_in_format(OutputFormat::Summary, input, output),
+        (ShowFormat::Json, _) => show_in_format(OutputFormat::Objects, input, output),
     }
 }
 
 impl<D: Files, L: Logs, O: Output, E: Target> Host<D, L, O, E> {
     /// Writes clap's help to the output, or its error to standard error. The status is 0 for help that was written,
     /// else 2.
-    fn answer_words(&mut self, error: &Error) -> Result<(), u8>
+    fn write_clap_message(&mut self, error: &Error) -> Result<(), u8>
         requires { CanFail ⟦<Self as Modeled>⟧.model self.old }
         ensures status { IfErr result (λ code. (code ≡ 1) ⊎ (code ≡ 2)) }
         ensures explains { Explains ⟦<Self as Modeled>⟧.model (kind_of error.now) result self.old self.new }
@@ -143,12 +143,12 @@ impl<D: Files, L: Logs, O: Output, E: Target> Host<D, L, O, E> {
         };
         if error.use_stderr() {
             // Invisible characters in arguments are escaped.
-            say(&mut self.faults, &EscapedText(text.as_bytes()));
+            write_error_message(&mut self.faults, &EscapedText(text.as_bytes()));
             return Err(2);
         }
         let answer = put_text(&mut self.output, text.as_bytes());
         if flush_then(&mut self.output, answer).is_err() {
-            tell(&mut self.faults, WRITING_FAILED);
+            write_error_text(&mut self.faults, WRITING_FAILED);
             return Err(2);
         }
         Ok(())
@@ -158,13 +158,13 @@ impl<D: Files, L: Logs, O: Output, E: Target> Host<D, L, O, E> {
     #[inline(never)]
     fn show_log<'a>(
         &mut self,
-        form: Form,
+        form: ShowFormat,
         is_worded: bool,
         log: Option<&'a str>,
     ) -> Result<(), ProgramFault<'a>>
         requires { CanFail ⟦<Self as Modeled>⟧.model self.old }
         ensures { Reads ⟦<Self as Modeled>⟧.model (path_of log.entry)
-            (λ read. ShowsLog ⟦<Self as Modeled>⟧.model form (wording_for is_worded) (result_of result) read self.new)
+            (λ read. ShowsLog ⟦<Self as Modeled>⟧.model form (detail_for is_worded) (result_of result) read self.new)
             (result_of result) self.old self.new }
     {
         open_log(&mut self.input, log)?;
@@ -176,7 +176,7 @@ impl<D: Files, L: Logs, O: Output, E: Target> Host<D, L, O, E> {
     }
 
     /// Reports the result of work on a log.
-    fn conclude<'a, A>(
+    fn report_result<'a, A>(
         &mut self,
         came: &Result<A, ProgramFault<'_>>,
         explains: bool,
@@ -207,7 +207,7 @@ impl<D: Files, L: Logs, O: Output, E: Target> Host<D, L, O, E> {
             (path_of play.now.log) explains result.status self.old self.new }
     {
         let came = self.play_log(play);
-        let mut outcome = self.conclude(&came, explains);
+        let mut outcome = self.report_result(&came, explains);
         outcome.ending = came.ok();
         outcome
     }
@@ -234,8 +234,8 @@ impl<D: Files, L: Logs, O: Output, E: Target> Host<D, L, O, E> {
     fn check_logs<'a>(&mut self, wish: ReportOptions<'a>, logs: &[&'a str]) -> RunOutcome<'a>
         requires { CanFail ⟦<Self as Modeled>⟧.model self.old }
         ensures status { IfErr result.status (λ code. (code ≡ 1) ⊎ (code ≡ 2)) }
-        ensures does { Does ⟦<Self as Modeled>⟧.model (check (path_of wish.entry.load) wish.entry.is_all wish.entry.is_json
-            (texts_of logs.now)) fixed wish.entry.explains result.status self.old self.new }
+        ensures does { CarriesOut ⟦<Self as Modeled>⟧.model (check (path_of wish.entry.load) wish.entry.is_all wish.entry.is_json
+            (to_texts logs.now)) fixed wish.entry.explains result.status self.old self.new }
     {
         match (wish.is_json, logs) {
             (false, []) => self.check_log(wish, None),
@@ -252,12 +252,12 @@ impl<D: Files, L: Logs, O: Output, E: Target> Host<D, L, O, E> {
         requires { CanFail ⟦<Self as Modeled>⟧.model self.old }
         ensures status { IfErr result.status (λ code. (code ≡ 1) ⊎ (code ≡ 2)) }
         // The action was carried out.
-        ensures answered { Answers ⟦<Self as Modeled>⟧.model (texts_of words.now) result.status self.old self.new }
+        ensures answered { Answers ⟦<Self as Modeled>⟧.model (to_texts words.now) result.status self.old self.new }
     {
         let alloc = self.alloc;
         let asked = match parse_args(alloc, words) {
             Ok(asked) => asked,
-            Err(error) => return RunOutcome::of(self.answer_words(&error), false),
+            Err(error) => return RunOutcome::of(self.write_clap_message(&error), false),
         };
         let explains = asked.manner.explains(self.terminals.faults);
         match asked.task {
@@ -283,7 +283,7 @@ impl<D: Files, L: Logs, O: Output, E: Target> Host<D, L, O, E> {
             Action::Show { form, wide: _, log } => {
                 let is_worded = asked.manner.explains(self.terminals.output);
                 let came = self.show_log(form, is_worded, log);
-                self.conclude(&came, explains)
+                self.report_result(&came, explains)
             }
         }
     }

@@ -8,10 +8,10 @@ use std::alloc::{AllocError, Global};
 use std::io::{self, Read};
 
 /// Capacity in bytes.
-const HELD: usize = 8192;
+const RECENT_CAPACITY: usize = 8192;
 
 /// Number of bytes that are kept when the buffer is full. An invalid line begins in the last 256 bytes read.
-const KEPT: usize = 4096;
+const KEPT_LEN: usize = 4096;
 
 /// The most recent bytes of a stream: consumed ones, then the others.
 #[derive(Drop)]
@@ -26,7 +26,7 @@ pub struct RecentBytes {
 }
 
 /// Reads once, appending after `len` bytes.
-fn read_behind<R: Read>(stream: &mut R, held: &mut Vec<u8>, end: usize) -> io::Result<usize>
+fn read_after<R: Read>(stream: &mut R, held: &mut Vec<u8>, end: usize) -> io::Result<usize>
     requires { end ≤ vec_len held.old }
     ensures len { vec_len held.new ≡ vec_len held.old }
     ensures bound { IfOk result (λ n. end + n ≤ vec_len held.new) }
@@ -43,7 +43,7 @@ impl RecentBytes {
         ensures { IfOk result (λ recent. unread recent.held.items recent.at recent.end ≡ []) }
     {
         Ok(RecentBytes {
-            held: vec![in alloc; 0; HELD]?,
+            held: vec![in alloc; 0; RECENT_CAPACITY]?,
             at: 0,
             end: 0,
             forgot: false,
@@ -69,8 +69,8 @@ impl RecentBytes {
             (prepend_known (unread self.new.held.items self.new.at self.new.end) (R.remaining stream.new)) }
         ensures end { OnOk result (unread self.new.held.items self.new.at self.new.end ≡ [] → IsAtEnd (R.remaining stream.new)) }
     {
-        self.forget();
-        let n = read_behind(stream, &mut self.held, self.end)?;
+        self.drop_old();
+        let n = read_after(stream, &mut self.held, self.end)?;
         self.end += n;
         Ok(())
     }
@@ -100,15 +100,15 @@ impl RecentBytes {
     }
 
     /// If the buffer is full, drops old bytes, all of which were consumed.
-    fn forget(&mut self)
+    fn drop_old(&mut self)
         ensures at { self.new.at ≡ self.new.end }
         ensures space { self.new.end ≤ 4096 }
     {
-        if self.end > KEPT {
+        if self.end > KEPT_LEN {
             self.held
                 .as_mut_slice()
-                .copy_within(self.end - KEPT..self.end, 0);
-            self.end = KEPT;
+                .copy_within(self.end - KEPT_LEN..self.end, 0);
+            self.end = KEPT_LEN;
             self.forgot = true;
         }
         self.at = self.end;

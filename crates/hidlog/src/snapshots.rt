@@ -3,7 +3,7 @@ ghost use Rattle.std.specs.Prelude.{◌≡◌, [], List, IfErr, OnOk};
 ghost use Rattle.cred_table.specs.declared.row.Row.{Row as AnyRow};
 ghost use Rattle.token_session.specs.Meters.{IsStateAfter, session_of};
 ghost use Rattle.hidlog.specs.CommandLine.{path_of};
-ghost use Rattle.hidlog.specs.Commands.{looked_at};
+ghost use Rattle.hidlog.specs.Commands.{checked_save_path};
 ghost use Rattle.hidlog.specs.Fault.{result_of, fault_message_of};
 ghost use Rattle.session_log.specs.Command.{start_with};
 ghost use Rattle.hidlog.specs.Saved.{FailsToOpen, FailsToSave, OpenSource, Saves};
@@ -49,7 +49,7 @@ pub fn load<'a, D: Files>(
 
 /// Locks the snapshot at the path, if it is loaded and later saved to, until the result is dropped. So of two
 /// programs that do this at the same time, neither overwrites what the other saved.
-pub fn hold<'a, D: Files>(
+pub fn lock_snapshot<'a, D: Files>(
     files: &D,
     path: Option<&'a str>,
     save: Option<&str>,
@@ -66,7 +66,7 @@ pub fn hold<'a, D: Files>(
 }
 
 /// Checks whether a snapshot can be written to the path, if any. Only for `live`, whose log may take long to arrive.
-pub fn look<'a, D: Files>(
+pub fn check_writable<'a, D: Files>(
     files: &D,
     command: ReplayMode,
     path: Option<&'a str>,
@@ -74,7 +74,7 @@ pub fn look<'a, D: Files>(
     is_held: bool,
 ) -> Result<(), ProgramFault<'a>>
     ensures { IfErr result (λ fault.
-        FailsToSave D.unwritable files.now (looked_at command (path_of path.entry)) (Err (fault_message_of fault))) }
+        FailsToSave D.unwritable files.now (checked_save_path command (path_of path.entry)) (Err (fault_message_of fault))) }
 {
     let (ReplayMode::Live, Some(path)) = (command, path) else {
         return Ok(());

@@ -38,7 +38,7 @@ impl SumLine {
     }
 
     /// Returns whether the checksum file is for the same file. If another file replaced it, the checksums don't apply.
-    pub fn is_of(&self, sums: &[u8]) -> bool {
+    pub fn is_for_same_file(&self, sums: &[u8]) -> bool {
         sums.ends_with(&self.0[DIGITS..])
     }
 }

@@ -1,5 +1,5 @@
 //! The terminal of the program's process.
-use crate::args::{Action, Form, parse_args};
+use crate::args::{Action, ShowFormat, parse_args};
 use crate::buffered_output::FlushPolicy;
 use crate::host::TerminalFlags;
 use crate::logs::ProgressMode;
@@ -11,12 +11,12 @@ use std::io::IsTerminal;
 const COLUMNS: usize = 80;
 
 /// The minimum and the maximum width at which lines are truncated.
-const FEWEST: usize = 20;
+const MIN_WIDTH: usize = 20;
 
-const MOST: usize = 1000;
+const MAX_WIDTH: usize = 1000;
 
 /// The column in which line numbers end.
-const NUMBERS: usize = 5;
+const NUMBER_COLUMN: usize = 5;
 
 /// The terminals of the process, for these arguments.
 #[derive(Clone, Copy)]
@@ -50,7 +50,7 @@ pub fn terminal_info(rt: &HostRuntime, words: &[&str]) -> TerminalInfo {
         Ok(text) => text.as_str().parse::<usize>().unwrap_or(COLUMNS),
         Err(_) => COLUMNS,
     };
-    let columns = columns.clamp(FEWEST, MOST);
+    let columns = columns.clamp(MIN_WIDTH, MAX_WIDTH);
     let mut around = TerminalInfo {
         terminals,
         is_check,
@@ -79,7 +79,7 @@ pub fn terminal_info(rt: &HostRuntime, words: &[&str]) -> TerminalInfo {
 fn style_of(rt: &HostRuntime, task: &Action<'_>, columns: usize) -> Option<Style> {
     match task {
         Action::Show {
-            form: Form::Lines | Form::Summary,
+            form: ShowFormat::Lines | ShowFormat::Summary,
             wide,
             ..
         } => Some(Style {
@@ -89,7 +89,7 @@ fn style_of(rt: &HostRuntime, task: &Action<'_>, columns: usize) -> Option<Style
                 Ok(text) => text.as_str().is_empty(),
                 Err(_) => true,
             },
-            numbers: NUMBERS,
+            numbers: NUMBER_COLUMN,
         }),
         _ => None,
     }

@@ -14,62 +14,62 @@ use Rattle.hidlog_c.specs.declared.causes.CauseReport.{CauseReport}
 use Rattle.hidlog_c.specs.declared.fault.TheConstants.{ERR_INVALID_ARGUMENT, ERR_NOT_INITIALIZED}
 use Rattle.hidlog_c.specs.Key.{DeviceState}
 
-abbrev pub plain : ℕ → ℕ → CauseReport
-plain code status = record { code = code; status = status; first = 0; second = 0 }
+abbrev pub without_values : ℕ → ℕ → CauseReport
+without_values code status = record { code = code; status = status; first = 0; second = 0 }
 
-abbrev pub with_two : ℕ → ℕ → ℕ → ℕ → CauseReport
-with_two code status first second = record { code = code; status = status; first = first; second = second }
+abbrev pub with_values : ℕ → ℕ → ℕ → ℕ → CauseReport
+with_values code status first second = record { code = code; status = status; first = first; second = second }
 
 abbrev pub transport_report : TransportRefusal → CauseReport
-transport_report (transport.NoSuchCommand cmd) = with_two 1 0x01 cmd 0
-transport_report (transport.InitLength len) = with_two 2 0x03 len 0
-transport_report (transport.MessageLength cmd len) = with_two 3 0x03 cmd len
-transport_report (transport.WrongNumber came due) = with_two 4 0x04 came due
-transport_report (transport.BrokenOff due) = with_two 5 0x04 due 0
-transport_report (transport.Overdue last at) = with_two 6 0x05 last at
-transport_report (transport.BusyElsewhere channel) = with_two 7 0x06 channel 0
-transport_report transport.BusyHere = plain 8 0x06
-transport_report (transport.NoSuchChannel given) = with_two 9 0x0b given 0
-transport_report transport.NoChannelLeft = plain 10 0x7f
+transport_report (transport.NoSuchCommand cmd) = with_values 1 0x01 cmd 0
+transport_report (transport.InitLength len) = with_values 2 0x03 len 0
+transport_report (transport.MessageLength cmd len) = with_values 3 0x03 cmd len
+transport_report (transport.WrongNumber came due) = with_values 4 0x04 came due
+transport_report (transport.BrokenOff due) = with_values 5 0x04 due 0
+transport_report (transport.Overdue last at) = with_values 6 0x05 last at
+transport_report (transport.BusyElsewhere channel) = with_values 7 0x06 channel 0
+transport_report transport.BusyHere = without_values 8 0x06
+transport_report (transport.NoSuchChannel given) = with_values 9 0x0b given 0
+transport_report transport.NoChannelLeft = without_values 10 0x7f
 
 abbrev pub request_report : RequestFault → CauseReport
-request_report fault.Empty = plain 20 0x03
-request_report (fault.NoSuchCommand byte) = with_two 21 0x01 byte 0
-request_report (fault.Trailing count) = with_two 22 0x03 count 0
-request_report (fault.NotCanonical found) = with_two 23 0x12 found.at (number_of found.kind)
-request_report fault.WrongType = plain 24 0x11
-request_report (fault.Missing asked parameter) = with_two 25 0x14 asked parameter
-request_report (fault.EntryNotWhole asked parameter) = with_two 26 0x14 asked parameter
-request_report (fault.HashLength len) = with_two 27 0x03 len 0
-request_report (fault.UserIdLength len) = with_two 28 0x03 len 0
-request_report fault.PinUvAuthParam = plain 29 0x02
-request_report fault.NoAlgorithm = plain 30 0x26
-request_report fault.UvOption = plain 31 0x2c
-request_report fault.UpOption = plain 32 0x2c
-request_report fault.RkOption = plain 33 0x2b
-request_report fault.EnterpriseAttestation = plain 34 0x02
+request_report fault.Empty = without_values 20 0x03
+request_report (fault.NoSuchCommand byte) = with_values 21 0x01 byte 0
+request_report (fault.Trailing count) = with_values 22 0x03 count 0
+request_report (fault.NotCanonical found) = with_values 23 0x12 found.at (number_of found.kind)
+request_report fault.WrongType = without_values 24 0x11
+request_report (fault.Missing asked parameter) = with_values 25 0x14 asked parameter
+request_report (fault.EntryNotWhole asked parameter) = with_values 26 0x14 asked parameter
+request_report (fault.HashLength len) = with_values 27 0x03 len 0
+request_report (fault.UserIdLength len) = with_values 28 0x03 len 0
+request_report fault.PinUvAuthParam = without_values 29 0x02
+request_report fault.NoAlgorithm = without_values 30 0x26
+request_report fault.UvOption = without_values 31 0x2c
+request_report fault.UpOption = without_values 32 0x2c
+request_report fault.RkOption = without_values 33 0x2b
+request_report fault.EnterpriseAttestation = without_values 34 0x02
 
 abbrev pub bit_of : Bool → ℕ
 bit_of true = 1
 bit_of false = 0
 
 abbrev pub command_report : CommandRefusal → CauseReport
-command_report (command.BadRequest status) = plain 35 status
-command_report command.Cancelled = plain 50 0x2d
-command_report command.Denied = plain 51 0x27
-command_report command.NoConsentInTime = plain 52 0x27
-command_report command.TimedOut = plain 53 0x2f
-command_report command.Excluded = plain 54 0x19
-command_report command.Full = plain 55 0x28
-command_report command.KeyRefused = plain 56 0x7f
-command_report command.KeyIdTaken = plain 57 0x7f
-command_report command.SignatureRefused = plain 58 0x7f
-command_report (command.NoCredential listed) = with_two 59 0x2e (bit_of listed) 0
-command_report command.CounterSpent = plain 60 0x15
-command_report command.NothingPending = plain 61 0x30
-command_report (command.PendingElsewhere channel) = with_two 62 0x30 channel 0
-command_report (command.NextTooLate since at) = with_two 63 0x30 since at
-command_report (command.ResetTooLate since at) = with_two 64 0x30 since at
+command_report (command.BadRequest status) = without_values 35 status
+command_report command.Cancelled = without_values 50 0x2d
+command_report command.Denied = without_values 51 0x27
+command_report command.NoConsentInTime = without_values 52 0x27
+command_report command.TimedOut = without_values 53 0x2f
+command_report command.Excluded = without_values 54 0x19
+command_report command.Full = without_values 55 0x28
+command_report command.KeyRefused = without_values 56 0x7f
+command_report command.KeyIdTaken = without_values 57 0x7f
+command_report command.SignatureRefused = without_values 58 0x7f
+command_report (command.NoCredential listed) = with_values 59 0x2e (bit_of listed) 0
+command_report command.CounterSpent = without_values 60 0x15
+command_report command.NothingPending = without_values 61 0x30
+command_report (command.PendingElsewhere channel) = with_values 62 0x30 channel 0
+command_report (command.NextTooLate since at) = with_values 63 0x30 since at
+command_report (command.ResetTooLate since at) = with_values 64 0x30 since at
 
 abbrev pub report_of : Cause → CauseReport
 report_of (Transport why) = transport_report why

@@ -27,7 +27,7 @@ abbrev pub StartsWith : DeviceState → Option DeviceState → (at : ℕ) → Li
 StartsWith d after at rows = (e : DeviceState) × (after ≡ Some e) × IsStarted e d.aaguid at rows
 
 -- The C struct describes this credential.
-pub record Says (c : Credential) (row : Row) : Type 0 where
+pub record Describes (c : Credential) (row : Row) : Type 0 where
   pub rp : row.rp ≡ c.rp
   pub id : row.id ≡ c.id
   pub x : row.x ≡ c.x
@@ -40,22 +40,22 @@ pub record Says (c : Credential) (row : Row) : Type 0 where
   pub counter : row.counter ≡ c.counter
 
 -- The C struct is not a valid credential.
-abbrev pub SaysNone : Credential → Type 0
-SaysNone c = (row : Row) → IsUtf8 row.name → Says c row → ⊥
+abbrev pub DescribesNoRow : Credential → Type 0
+DescribesNoRow c = (row : Row) → IsUtf8 row.name → Describes c row → ⊥
 
 -- The rows with a credential appended; an earlier one with the same ID is removed.
 abbrev pub with_row : Row → List Row → List Row
 with_row row rows = without row.id rows ++ row ∷ []
 
 abbrev pub IsAdded : DeviceState → Option DeviceState → (at : ℕ) → Credential → Type 0
-IsAdded d after at c = (row : Row) × (rows : List Row) × IsIdle d × Says c row × HasRows d rows
+IsAdded d after at c = (row : Row) × (rows : List Row) × IsIdle d × Describes c row × HasRows d rows
     × StartsWith d after at (with_row row rows)
 
 -- The error of a credential that is not added, the first of these: the key is busy; the struct is invalid; the key is
 -- full; another discoverable credential has the same RP and user handle.
 abbrev pub IsNotAdded : DeviceState → Credential → ℤ → Type 0
-IsNotAdded d c result = IsBusy d result ⊎ (IsIdle d × ((SaysNone c × (result ≡ ERR_INVALID_ARGUMENT))
-    ⊎ ((row : Row) × (rows : List Row) × Says c row × HasRows d rows
+IsNotAdded d c result = IsBusy d result ⊎ (IsIdle d × ((DescribesNoRow c × (result ≡ ERR_INVALID_ARGUMENT))
+    ⊎ ((row : Row) × (rows : List Row) × Describes c row × HasRows d rows
     × (((CAPACITY ≤ length (without row.id rows)) × (result ≡ ERR_FULL))
     ⊎ ((length (without row.id rows) < CAPACITY) × (clashes row (without row.id rows) ≡ true) × (result ≡ ERR_DUPLICATE_USER))))))
 

@@ -18,8 +18,8 @@ abbrev pub no_causes : TwoCauses
 no_causes = record { time = None; input = None }
 
 -- The session processes the input, and the packets that it sends are queued.
-abbrev pub served : DeviceState → Timed → DeviceState
-served d x = record {
+abbrev pub device_after : DeviceState → Timed → DeviceState
+device_after d x = record {
   aaguid = d.aaguid;
   session = stepped d.session x;
   waiting = sent_by d.session x;
@@ -27,13 +27,13 @@ served d x = record {
 }
 
 -- A key that is not initialized rejects each call, and a key with queued packets rejects inputs.
-abbrev pub taken_by : DeviceState → List (List ℕ) → Timed → Option DeviceState
-taken_by d [] x = Some (served d x)
-taken_by d (packet ∷ more) x = Some d
+abbrev pub device_after_input : DeviceState → List (List ℕ) → Timed → Option DeviceState
+device_after_input d [] x = Some (device_after d x)
+device_after_input d (packet ∷ more) x = Some d
 
 abbrev pub after_input : Option DeviceState → Timed → Option DeviceState
 after_input None x = None
-after_input (Some d) x = taken_by d d.waiting x
+after_input (Some d) x = device_after_input d d.waiting x
 
 abbrev pub answer_of : DeviceState → List (List ℕ) → Timed → ℤ
 answer_of d [] x = pos (length (sent_by d.session x))
@@ -47,7 +47,7 @@ input_answer (Some d) x = answer_of d d.waiting x
 -- packets that are defined for the input are queued.
 abbrev pub FollowsHistory : DeviceState → Timed → Type 0
 FollowsHistory d x = (start : Start) (h : List Timed) → IsStateAfterValidStart d.session start h
-    → IsStateAfterValidStart (served d x).session start (x ∷ h) × ((served d x).waiting ≡ packets_sent_now start h x)
+    → IsStateAfterValidStart (device_after d x).session start (x ∷ h) × ((device_after d x).waiting ≡ packets_sent_now start h x)
 
 -- The state after a call with an input, and the call's return value.
 pub record Answers (before after : Option DeviceState) (x : Timed) (result : ℤ) : Type 0 where

@@ -10,13 +10,13 @@ use Rattle.hidlog_c.specs.Numbers.{outcome_of}
 
 -- The lines were played as `live` plays them, from one state of the session to another: `bytes` of them were read,
 -- all but `rest`, and this text was written.
-abbrev pub LinesDo : SessionState → SessionState → (bytes rest text : List ℕ) → Ending → Type 0
-LinesDo s t bytes rest text ending = Plays live_machine s t bytes text ending
+abbrev pub PlaysLines : SessionState → SessionState → (bytes rest text : List ℕ) → Ending → Type 0
+PlaysLines s t bytes rest text ending = Plays live_machine s t bytes text ending
     × ReadsUpToEnding live_machine s bytes (rest ≡ []) ending
 
--- As `LinesDo`, for a history and its extension by the inputs of the lines.
-abbrev pub HistoryDoes : Start → List Timed → List Timed → (bytes rest text : List ℕ) → Ending → Type 0
-HistoryDoes start h later bytes rest text ending = Writes (live_history start) h later bytes text ending
+-- As `PlaysLines`, for a history and its extension by the inputs of the lines.
+abbrev pub PlaysLinesOnHistory : Start → List Timed → List Timed → (bytes rest text : List ℕ) → Ending → Type 0
+PlaysLinesOnHistory start h later bytes rest text ending = Writes (live_history start) h later bytes text ending
     × ReadsUpToEnding (live_history start) h bytes (rest ≡ []) ending
 
 -- For each history that leads to the session's state before: the lines extend it to one that leads to the state
@@ -24,20 +24,20 @@ HistoryDoes start h later bytes rest text ending = Writes (live_history start) h
 abbrev pub FollowsLines : SessionState → SessionState → (log out : List ℕ) → (written : ℕ) → Result (Unit {0}) LogFault
     → Type 0
 FollowsLines s t log out written answer = (start : Start) (h : List Timed) → IsStateAfter s start h
-    → (later : List Timed) × IsStateAfter t start later × IsWritten log out written answer (HistoryDoes start h later)
+    → (later : List Timed) × IsStateAfter t start later × IsWritten log out written answer (PlaysLinesOnHistory start h later)
 
 abbrev pub ArePlayed : SessionState → SessionState → (log out : List ℕ) → CResult → Type 0
 ArePlayed s t log out outcome = (answer : Result (Unit {0}) LogFault) × (outcome ≡ outcome_of answer outcome.written)
-    × IsWritten log out outcome.written answer (LinesDo s t) × FollowsLines s t log out outcome.written answer
+    × IsWritten log out outcome.written answer (PlaysLines s t) × FollowsLines s t log out outcome.written answer
 
 -- The device with another session, no queued packet and no cause.
-abbrev pub played_to : DeviceState → SessionState → DeviceState
-played_to d t = record { aaguid = d.aaguid; session = t; waiting = []; causes = no_causes }
+abbrev pub with_session : DeviceState → SessionState → DeviceState
+with_session d t = record { aaguid = d.aaguid; session = t; waiting = []; causes = no_causes }
 
 -- A key plays lines if no packet is queued. A pair is the caller's memory before and after the call.
 abbrev pub PlaysOn : DeviceState → List (List ℕ) → Option DeviceState → (log : List ℕ) → (List ℕ × List ℕ)
     → (CResult × CResult) → ℤ → Type 0
-PlaysOn d [] after log out outcome result = (t : SessionState) × (after ≡ Some (played_to d t))
+PlaysOn d [] after log out outcome result = (t : SessionState) × (after ≡ Some (with_session d t))
     × ArePlayed d.session t log out.1 outcome.1 × (result ≡ pos outcome.1.status)
 PlaysOn d (packet ∷ more) after log out outcome result =
     (after ≡ Some d) × (out.1 ≡ out.0) × (outcome.1 ≡ outcome.0) × (result ≡ ERR_PACKETS_QUEUED)

@@ -6,9 +6,9 @@ use Rattle.session_show.specs.declared.detail.Detail.{Detail, TheVariants.Explai
 use Rattle.hidlog_c.specs.{declared.outcome.CResult.CResult, Commands.IsWritten, Numbers.outcome_of}
 
 -- The level of detail.
-abbrev pub wording_for : (explained : Bool) → Detail
-wording_for true = Explained
-wording_for false = Fixed
+abbrev pub detail_for : (explained : Bool) → Detail
+detail_for true = Explained
+detail_for false = Fixed
 
 -- `bytes` of the log were read, all but `rest`. Without an error, every line is a log line; an error is that of the
 -- first invalid line, and the text shows the lines before it. The bytes after the invalid line don't matter.

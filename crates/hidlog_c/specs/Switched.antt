@@ -37,8 +37,8 @@ IsRefused snapshot after result = (fault : SnapshotFault) × (snapshot ≢ []) �
     × (after ≡ None) × (result ≡ refusal fault)
 
 -- The effect of initializing a key. An initialized key is not changed.
-abbrev pub Makes : (before after : Option DeviceState) → (aaguid : List ℕ) → (moment : ℕ) → (snapshot : List ℕ) → ℤ
+abbrev pub Initializes : (before after : Option DeviceState) → (aaguid : List ℕ) → (moment : ℕ) → (snapshot : List ℕ) → ℤ
     → Type 0
-Makes (Some d) after aaguid moment snapshot result = (after ≡ Some d) × (result ≡ ERR_ALREADY_INITIALIZED)
-Makes None after aaguid moment snapshot result =
+Initializes (Some d) after aaguid moment snapshot result = (after ≡ Some d) × (result ≡ ERR_ALREADY_INITIALIZED)
+Initializes None after aaguid moment snapshot result =
     (Begins aaguid moment snapshot after × (result ≡ pos 0)) ⊎ IsRefused snapshot after result

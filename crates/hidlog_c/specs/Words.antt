@@ -21,6 +21,6 @@ refusal_of None = ERR_NOT_INITIALIZED
 refusal_of (Some d) = ERR_INVALID_ARGUMENT
 
 -- A call whose argument may be invalid: then it returns an error, and the key is not changed.
-abbrev pub AnswersWord : (before after : Option DeviceState) → (at : ℕ) → Option Input → ℤ → Type 0
-AnswersWord before after at None result = (after ≡ before) × (result ≡ refusal_of before)
-AnswersWord before after at (Some input) result = Answers before after (record { at = at; input = input }) result
+abbrev pub AnswersChecked : (before after : Option DeviceState) → (at : ℕ) → Option Input → ℤ → Type 0
+AnswersChecked before after at None result = (after ≡ before) × (result ≡ refusal_of before)
+AnswersChecked before after at (Some input) result = Answers before after (record { at = at; input = input }) result

@@ -9,10 +9,10 @@ ghost use Rattle.hidlog_c.specs.Causes.{ReportsCause};
 ghost use Rattle.hidlog_c.specs.Held.{held};
 ghost use Rattle.hidlog_c.specs.Changed.{Adds, Clears, Removes, SavesKey};
 ghost use Rattle.hidlog_c.specs.Key.{Answers, Sends};
-ghost use Rattle.hidlog_c.specs.Words.{AnswersWord, presence_of, signature_input};
+ghost use Rattle.hidlog_c.specs.Words.{AnswersChecked, presence_of, signature_input};
 ghost use Rattle.hidlog_c.specs.Lines.{TakesLines};
 ghost use Rattle.hidlog_c.specs.Reports.{ReportsCredential, ReportsMeters, ReportsNeed, count_or, credential_count, pending_assertions, waiting_packets};
-ghost use Rattle.hidlog_c.specs.Switched.{Makes};
+ghost use Rattle.hidlog_c.specs.Switched.{Initializes};
 
 use crate::capacity::CAPACITY;
 use crate::causes::CauseReport;
@@ -65,7 +65,7 @@ pub extern "C" fn hidlog_key_init(
     at: u64,
     snapshot: &[u8],
 ) -> i32
-    ensures { Makes (held key.old) (held key.new) aaguid.now at snapshot.now result }
+    ensures { Initializes (held key.old) (held key.new) aaguid.now at snapshot.now result }
 {
     if key.is_initialized() {
         return ERR_ALREADY_INITIALIZED;
@@ -107,7 +107,7 @@ pub extern "C" fn hidlog_key_read_packet(key: &mut KeyHandle, packet: &mut [u8; 
 /// Provides user presence: 0 granted, 1 denied, 2 timed out.
 #[unsafe(no_mangle)]
 pub extern "C" fn hidlog_key_provide_presence(key: &mut KeyHandle, at: u64, presence: u32) -> i32
-    ensures { AnswersWord (held key.old) (held key.new) at (option_map inputs.Presence (presence_of presence)) result }
+    ensures { AnswersChecked (held key.old) (held key.new) at (option_map inputs.Presence (presence_of presence)) result }
 {
     match presence_of(presence) {
         Some(presence) => key.take(at, Input::Presence(presence)),
@@ -150,7 +150,7 @@ pub extern "C" fn hidlog_key_provide_signature(
     at: u64,
     signature: &[u8],
 ) -> i32
-    ensures { AnswersWord (held key.old) (held key.new) at (signature_input signature.now) result }
+    ensures { AnswersChecked (held key.old) (held key.new) at (signature_input signature.now) result }
 {
     match Signature::new(signature) {
         Some(signature) => key.take(at, Input::Signature(Some(signature))),

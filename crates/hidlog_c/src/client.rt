@@ -22,7 +22,7 @@ pub struct ClientReport {
 const ERR_BUFFER_TOO_SMALL: i64 = -100;
 
 /// Returns the number of a DOM error (enum hidlog_client_error).
-fn number_of(error: DomError) -> i64 {
+fn error_number(error: DomError) -> i64 {
     match error {
         DomError::Type => -1,
         DomError::Encoding => -2,
@@ -55,7 +55,7 @@ fn reject(rejection: Rejection, report: &mut ClientReport, out: &mut [u8]) -> i6
         u32::try_from(member.len()),
         u32::try_from(reason.len()),
     ) else {
-        return number_of(rejection.error);
+        return error_number(rejection.error);
     };
     if let Some((front, rest)) = out.split_at_mut_checked(member.len())
         && let Some((next, _)) = rest.split_at_mut_checked(reason.len())
@@ -65,7 +65,7 @@ fn reject(rejection: Rejection, report: &mut ClientReport, out: &mut [u8]) -> i6
         report.member_len = member_len;
         report.reason_len = reason_len;
     }
-    number_of(rejection.error)
+    error_number(rejection.error)
 }
 
 /// Converts bits (enum hidlog_client_ability) to the authenticator's abilities.

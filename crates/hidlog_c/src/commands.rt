@@ -8,7 +8,7 @@ ghost use Rattle.hidlog_c.specs.Switched.{start_with};
 use crate::buffer_target::BufferTarget;
 use crate::capacity::CAPACITY;
 use crate::outcome::CResult;
-use crate::session_start::{fresh, open};
+use crate::session_start::{new_command_session, open};
 use session_log::{LogFault, ReplayMode, SliceIn};
 use token_session::Session;
 
@@ -57,5 +57,5 @@ fn play_on(
 pub fn run(command: ReplayMode, log: &[u8], snapshot: &[u8], out: &mut [u8]) -> CResult
     ensures { Answers command log.now snapshot.now (out.old, out.new) result }
 {
-    play_on(&mut fresh(), command, log, snapshot, out)
+    play_on(&mut new_command_session(), command, log, snapshot, out)
 }

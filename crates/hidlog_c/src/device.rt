@@ -181,7 +181,7 @@ impl Device {
     }
 
     /// Returns the error if the key can't start a new session: packets are queued, or a request is pending.
-    fn busy(&self) -> Option<i32>
+    fn busy_error(&self) -> Option<i32>
         ensures busy { IfSome result (λ fault. IsBusy self.now fault) }
         ensures idle { IfNone result (IsIdle self.now) }
     {
@@ -219,7 +219,7 @@ impl Device {
     pub fn add(&mut self, at: u64, credential: &Credential) -> i32
         ensures { Adds (Some self.old) (Some self.new) at credential.now result }
     {
-        if let Some(fault) = self.busy() {
+        if let Some(fault) = self.busy_error() {
             return fault;
         }
         let Some(row) = row_of(credential) else {
@@ -240,7 +240,7 @@ impl Device {
     pub fn remove(&mut self, at: u64, id: &[u8; 32]) -> i32
         ensures { Removes (Some self.old) (Some self.new) at id.now result }
     {
-        if let Some(fault) = self.busy() {
+        if let Some(fault) = self.busy_error() {
             return fault;
         }
         let (rows, is_there) = self.rows_without(id);
@@ -255,7 +255,7 @@ impl Device {
     pub fn clear(&mut self, at: u64) -> i32
         ensures { Clears (Some self.old) (Some self.new) at result }
     {
-        if let Some(fault) = self.busy() {
+        if let Some(fault) = self.busy_error() {
             return fault;
         }
         self.start(at, Store::new());

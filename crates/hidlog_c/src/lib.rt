@@ -26,7 +26,7 @@ mod transactions;
 
 ghost use Rattle.session_log.specs.declared.command.ReplayMode.TheVariants as commands;
 ghost use Rattle.hidlog_c.specs.Commands.{Answers};
-ghost use Rattle.hidlog_c.specs.Shown.{IsShown, wording_for};
+ghost use Rattle.hidlog_c.specs.Shown.{IsShown, detail_for};
 ghost use Rattle.session_show.specs.declared.detail.Detail.TheVariants.{Fixed as fixed};
 ghost use Rattle.std.specs.Prelude.{◌≡◌, ◌≤◌, ◌==◌, length, not};
 
@@ -72,8 +72,8 @@ pub extern "C" fn hidlog_quiet(log: &[u8], snapshot: &[u8], out: &mut [u8], outc
 }
 
 /// Converts a C number to a level of detail; 0 is the fixed text.
-fn wording_for(explain: u32) -> Detail
-    ensures { result ≡ wording_for (not (explain == 0)) }
+fn detail_for(explain: u32) -> Detail
+    ensures { result ≡ detail_for (not (explain == 0)) }
 {
     if explain == 0 {
         Detail::Fixed
@@ -85,9 +85,9 @@ fn wording_for(explain: u32) -> Detail
 /// Writes the log's fixed text, or its explanation if `explain` isn't 0, to the start of `out`.
 #[unsafe(no_mangle)]
 pub extern "C" fn hidlog_show(log: &[u8], explain: u32, out: &mut [u8], outcome: &mut CResult)
-    ensures { IsShown (wording_for (not (explain == 0))) log.now out.new outcome.new }
+    ensures { IsShown (detail_for (not (explain == 0))) log.now out.new outcome.new }
 {
-    *outcome = show_log(wording_for(explain), log, out);
+    *outcome = show_log(detail_for(explain), log, out);
 }
 
 /// Writes the transaction of each line and the end of each transaction, as numbers (hidlog.h), to the start of `out`.

@@ -1,7 +1,7 @@
 //! Lines of a log, played on the session of a key.
 ghost use Rattle.std.specs.Prelude.{◌≡◌, [], take, Option};
 ghost use Rattle.hidlog_c.specs.Commands.{IsWritten};
-ghost use Rattle.hidlog_c.specs.Lines.{ArePlayed, FollowsLines, LinesDo};
+ghost use Rattle.hidlog_c.specs.Lines.{ArePlayed, FollowsLines, PlaysLines};
 
 use crate::buffer_target::BufferTarget;
 use crate::capacity::CAPACITY;
@@ -18,7 +18,7 @@ fn play(
     requires none { writer.old.len ≡ 0 }
     requires unfailed { writer.old.failures ≡ 0 }
     ensures same_reference { writer.new.buffer.ghost_name ≡ writer.old.buffer.ghost_name }
-    ensures does { IsWritten log.now writer.new.buffer.now writer.new.len result (LinesDo session.old session.new) }
+    ensures does { IsWritten log.now writer.new.buffer.now writer.new.len result (PlaysLines session.old session.new) }
     ensures history { FollowsLines session.old session.new log.now writer.new.buffer.now writer.new.len result }
 {
     process_live_lines(&mut SliceIn::new(log), writer, session)

@@ -1,6 +1,6 @@
 //! Converts C credentials to rows.
 ghost use Rattle.std.specs.Prelude.{◌≡◌, ◌≤◌, ◌<◌, length, take, option_map, IfSome, IfNone};
-ghost use Rattle.hidlog_c.specs.Changed.{Says, SaysNone};
+ghost use Rattle.hidlog_c.specs.Changed.{Describes, DescribesNoRow};
 
 use crate::structs::Credential;
 use arrayvec::ArrayVec;
@@ -17,8 +17,8 @@ fn front(bytes: &[u8; 64], len: u32) -> Option<&[u8]>
 
 /// Returns the row of a credential, if it is valid.
 pub fn row_of(credential: &Credential) -> Option<Row>
-    ensures says { IfSome result (λ row. Says credential.now row) }
-    ensures none { IfNone result (SaysNone credential.now) }
+    ensures says { IfSome result (λ row. Describes credential.now row) }
+    ensures none { IfNone result (DescribesNoRow credential.now) }
 {
     let user = front(&credential.user, credential.user_id_len)?;
     let name = front(&credential.name, credential.user_name_len)?;

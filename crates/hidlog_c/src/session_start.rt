@@ -20,7 +20,7 @@ pub fn new_session(aaguid: [u8; 16], start: u64, rows: Store<CAPACITY>) -> Sessi
 
 /// Returns a session without credentials, with AAGUID zero, that begins at time 0.
 // This function creates it in the caller's stack frame; calling `Session::bare` there would copy it.
-pub fn fresh() -> Session<CAPACITY>
+pub fn new_command_session() -> Session<CAPACITY>
     ensures { result ≡ session_of (start_with []) [] }
 {
     Session::bare([0; 16], 0)

@@ -17,8 +17,8 @@ use Rattle.session_log.proofs.Cutting.{last_line, some_line}
 use Rattle.session_log.proofs.{Exits.short_in_front, Exits.stops_at_line, Gathering.in_count, Through.unread}
 use Rattle.session_log.proofs.Through.{Through, lines_are, played_last, played_sound, refused, said_fault, through_line}
 use Rattle.session_log.proofs.Through.{too_long, too_many, unwritten}
-use Rattle.session_show.specs.Shown.{AreShownBy, IsShownText, LineTextRule, Shows, ShowsLine, WritesEnd, WritesLine, ShownLine}
-use Rattle.session_show.specs.Shown.{failures_of, read_only_world, shown_in, unknown}
+use Rattle.session_show.specs.Shown.{AreLineTexts, IsShownText, LineTextRule, Shows, ShowsLine, WritesEnd, WritesLine, ShownLine}
+use Rattle.session_show.specs.Shown.{failures_of, read_only_world, rule_for_format, unknown}
 use Rattle.session_show.specs.declared.detail.Detail.{TheVariants.Fixed, TheVariants.Explained}
 use Rattle.session_show.specs.declared.log_writer.OutputFormat.{OutputFormat, TheVariants.Text, TheVariants.Page}
 use Rattle.session_show.specs.declared.log_writer.OutputFormat.TheVariants.{Table, Summary, Objects}
@@ -33,7 +33,7 @@ pub told_none : (shows : LineTextRule) → (t : IsShownText shows [] []) × (1 �
 told_none shows = (record { told = []; lines_are = refl; text_is = refl; each = tt }, refl)
 
 one_told : (shows : LineTextRule) (m n : ℕ) (told : List ShownLine) (t : ShownLine) → n ≡ m + length told →
-    AreShownBy shows m told → shows n (Some t.line) t.text → AreShownBy shows m (told ++ t ∷ [])
+    AreLineTexts shows m told → shows n (Some t.line) t.text → AreLineTexts shows m (told ++ t ∷ [])
 one_told shows m n [] t is all one = (subst (λ (k : ℕ). shows k (Some t.line) t.text) (omega (arith, is)) one, tt)
 one_told shows m n (first ∷ more) t is all one = (all.0, one_told shows (m + 1) n more t (omega (arith, is)) all.1 one)
 
@@ -319,7 +319,7 @@ unwritten_back {read} {shown} {n} t more =
     )
 
 -- in each form there may be nothing behind the last line
-pub behind_nothing : (format : OutputFormat) (n : ℕ) → shown_in format n None []
+pub behind_nothing : (format : OutputFormat) (n : ℕ) → rule_for_format format n None []
 behind_nothing (Text Fixed) n = refl
 behind_nothing (Text Explained) n = inl refl
 behind_nothing Page n = refl

@@ -24,9 +24,9 @@ has_text detail line Count = false
 abbrev pub IsNumbered : ℕ → List ℕ → Type 0
 IsNumbered n text = (more : List ℕ) × (text ≡ decimal n ++ 32 ∷ more)
 
-abbrev pub IsTextBy : Detail → ℕ → List ℕ → Option Line → List ℕ → Type 0
-IsTextBy detail n line None text = ⊥
-IsTextBy detail n line (Some l) text = MatchBool (has_text detail line l) (IsNumbered n text) (text ≡ [])
+abbrev pub IsTextOfParsed : Detail → ℕ → List ℕ → Option Line → List ℕ → Type 0
+IsTextOfParsed detail n line None text = ⊥
+IsTextOfParsed detail n line (Some l) text = MatchBool (has_text detail line l) (IsNumbered n text) (text ≡ [])
 
 -- A statement about a text: the text for line n, or, without a line, the text after the last line, whose number is n.
 abbrev pub LineTextRule : Type 1
@@ -35,7 +35,7 @@ LineTextRule = ℕ → Option (List ℕ) → List ℕ → Type 0
 -- The text for line n: its number, a space and more; or empty, if there is nothing to show. After the last line the
 -- text is empty; with explanations it may be the last line's number, a space and more.
 abbrev pub IsLineText : Detail → LineTextRule
-IsLineText detail n (Some line) text = IsTextBy detail n line (parsed line) text
+IsLineText detail n (Some line) text = IsTextOfParsed detail n line (parsed line) text
 IsLineText Fixed n None text = text ≡ []
 IsLineText Explained n None text = (text ≡ []) ⊎ IsNumbered n text
 
@@ -44,18 +44,18 @@ abbrev pub Unspecified : LineTextRule
 Unspecified n line text = Unit {0}
 
 -- The level of detail of a format with text for each line.
-abbrev pub wording_of : OutputFormat → Option Detail
-wording_of (Text detail) = Some detail
-wording_of Page = Some Fixed
-wording_of _ = None
+abbrev pub detail_of : OutputFormat → Option Detail
+detail_of (Text detail) = Some detail
+detail_of Page = Some Fixed
+detail_of _ = None
 
-abbrev pub shown_by : Option Detail → LineTextRule
-shown_by (Some detail) = IsLineText detail
-shown_by None = Unspecified
+abbrev pub rule_for_detail : Option Detail → LineTextRule
+rule_for_detail (Some detail) = IsLineText detail
+rule_for_detail None = Unspecified
 
 -- The statement about the texts of a format.
-abbrev pub shown_in : OutputFormat → LineTextRule
-shown_in format = shown_by (wording_of format)
+abbrev pub rule_for_format : OutputFormat → LineTextRule
+rule_for_format format = rule_for_detail (detail_of format)
 
 -- ---- the lines
 
@@ -77,16 +77,16 @@ pub record ShownLine : Type 0 where
   pub text : List ℕ
 
 -- From line n on, the statement holds for the text of each line.
-abbrev pub AreShownBy : LineTextRule → ℕ → List ShownLine → Type 0
-AreShownBy shows n [] = Unit {0}
-AreShownBy shows n (t ∷ more) = shows n (Some t.line) t.text × AreShownBy shows (n + 1) more
+abbrev pub AreLineTexts : LineTextRule → ℕ → List ShownLine → Type 0
+AreLineTexts shows n [] = Unit {0}
+AreLineTexts shows n (t ∷ more) = shows n (Some t.line) t.text × AreLineTexts shows (n + 1) more
 
 -- The text consists of the texts of these lines, each of which ends with a line feed.
 pub record IsShownText (shows : LineTextRule) (lines text : List ℕ) : Type 0 where
   pub told : List ShownLine
   pub lines_are : lines ≡ flat_map (λ t. with_line_feed t.line) told
   pub text_is : text ≡ flat_map (λ t. t.text) told
-  pub each : AreShownBy shows 1 told
+  pub each : AreLineTexts shows 1 told
 
 -- The text consists of the texts of these lines and a text after the last line.
 pub record IsWholeText (shows : LineTextRule) (lines text : List ℕ) : Type 0 where

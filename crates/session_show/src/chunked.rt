@@ -8,7 +8,7 @@ use itoa::Buffer;
 use session_log::{Failed, Target, put_all};
 
 /// Maximum number of chunks of a text, which is never reached, because a line shows one message of at most 7609 bytes.
-const PARTS: usize = 1 << 32;
+const MAX_CHUNKS: usize = 1 << 32;
 
 /// A value that can be written as text.
 pub trait Written {
@@ -31,11 +31,11 @@ pub fn put_with_line_number<T: Target, W: Written>(
     let _ = front.try_extend_from_slice(buffer.format(number).as_bytes());
     front.push(b' ');
     put_all(writer, front.as_slice())?;
-    put_parts(writer, buf, written)
+    put_chunks(writer, buf, written)
 }
 
 /// Writes a text. After a failure, only a part of it was written.
-pub fn put_parts<T: Target, W: Written>(
+pub fn put_chunks<T: Target, W: Written>(
     writer: &mut T,
     buf: &mut TextBuf,
     written: &W,
@@ -43,7 +43,7 @@ pub fn put_parts<T: Target, W: Written>(
     requires { T.failed writer.old < 2 ^ 64 - 1 }
     ensures { Writes T.taken T.failed (writer.old, writer.new) result }
 {
-    'parts: for number in 0..PARTS {
+    'parts: for number in 0..MAX_CHUNKS {
         buf.begin(number * CHUNK_LEN);
         written.write(buf);
         put_all(writer, buf.part())?;

@@ -19,7 +19,7 @@ pub struct CountFormats {
 }
 
 /// As lines of text.
-pub static LINES: CountFormats = CountFormats {
+pub static TEXT_FORMATS: CountFormats = CountFormats {
     credentials: b"registrations: %d%-\nassertions: %d%-\nregistrations excluded: %d\nrequests refused: %d\n",
     statuses: [b"%-%-  %s %x: %d\n", b"%-%-  %s %x: %d\n"],
     messages: b"transport errors: %d%-\n",
@@ -28,7 +28,7 @@ pub static LINES: CountFormats = CountFormats {
 };
 
 /// As a JSON object.
-pub static OBJECT: CountFormats = CountFormats {
+pub static JSON_FORMATS: CountFormats = CountFormats {
     credentials: b"{\"kind\":\"summary\",\"registrations\":%d,\"credentialsMade\":%d,\"assertions\":%d,\
         \"credentialsUsed\":%d,\"credentialsExcluded\":%d,\"requestsRefused\":%d,\"statuses\":[",
     statuses: [

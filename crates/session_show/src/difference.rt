@@ -1,12 +1,12 @@
 //! Differences between a log's packets and those that a session sends.
 ghost use Rattle.std.specs.Prelude.{◌<◌, ◌-◌, ◌^◌};
 
-use crate::chunked::{Written, put_parts};
+use crate::chunked::{Written, put_chunks};
 use crate::detail::Detail;
 use crate::entry::write_message;
 use crate::packet_line::write_packet;
 use crate::reason::Reason;
-use crate::replayed_log::{PACKETS, ReplayedLog};
+use crate::replayed_log::{PACKET_BOUND, ReplayedLog};
 use crate::signed_bytes::SignedBytesMismatch;
 use crate::text_buf::{TextBuf, front};
 use hid_packet::{BROADCAST, Packet};
@@ -15,7 +15,7 @@ use session_walk::{AwaitedReply, Transaction, TransactionTracker, channel_of};
 use token_session::{Causes, Session};
 
 /// A bound for loops over the lines of a log, greater than their maximum number.
-const LINES: u64 = 1 << 33;
+const LINE_BOUND: u64 = 1 << 33;
 
 /// A packet that differs, is missing or is one too many.
 #[derive(Clone, Copy)]
@@ -69,14 +69,14 @@ impl Difference {
 
 /// A packet of the log or the session, with the message that it and the following packets complete.
 #[derive(Clone, Copy)]
-struct Side<'a> {
+struct ComparedPacket<'a> {
     /// The tracker that processed these packets.
     walk: &'a TransactionTracker,
     packet: &'a Packet,
     line: u64,
 }
 
-impl Written for Side<'_> {
+impl Written for ComparedPacket<'_> {
     fn write(&self, buf: &mut TextBuf) {
         buf.text("< ");
         write_packet(buf, self.packet, false);
@@ -119,8 +119,8 @@ impl Comparison {
         reader: &mut S,
         session: &mut Session<CAPACITY>,
     ) -> Result<Option<Difference>, LogFault> {
-        self.played.pass_last();
-        for _ in 0..LINES {
+        self.played.resume_after_difference();
+        for _ in 0..LINE_BOUND {
             let number = self.lines.saturating_add(1);
             let end = match self.next_end(reader) {
                 Ok(Some(end)) => end,
@@ -220,7 +220,7 @@ impl Comparison {
     /// Returns whether the log has no packet from the key. Reads up to the first one, without comparing. Returns false
     /// after a read error.
     pub fn has_only_inputs<S: Source>(&mut self, reader: &mut S) -> bool {
-        for _ in 0..LINES {
+        for _ in 0..LINE_BOUND {
             if self.played.has_sent {
                 return false;
             }
@@ -245,7 +245,7 @@ impl Comparison {
     ) -> Result<(), Failed> {
         let line = difference.line;
         if let Some(packet) = &difference.sent {
-            for _ in 0..PACKETS {
+            for _ in 0..PACKET_BOUND {
                 if !self.played.key.channels.is_answering(channel_of(packet)) {
                     break;
                 }
@@ -255,13 +255,13 @@ impl Comparison {
                 self.played.take_sent(difference.input, &next);
             }
             let walk = &self.played.key;
-            let side = Side { walk, packet, line };
+            let side = ComparedPacket { walk, packet, line };
             put_counted(sent, &mut self.buf, &side)?;
         }
         if let Some(packet) = &difference.logged {
             self.follow_logged(packet, reader);
             let walk = &self.played.walk;
-            let side = Side { walk, packet, line };
+            let side = ComparedPacket { walk, packet, line };
             put_counted(logged, &mut self.buf, &side)?;
         }
         Ok(())
@@ -269,7 +269,7 @@ impl Comparison {
 
     /// Continues with the packets that complete a message of the log, up to the next input.
     fn follow_logged<S: Source>(&mut self, packet: &Packet, reader: &mut S) {
-        for _ in 0..LINES {
+        for _ in 0..LINE_BOUND {
             if !self.played.walk.channels.is_answering(channel_of(packet)) {
                 return;
             }
@@ -296,5 +296,5 @@ fn put_counted<T: Target, W: Written>(
     if writer.failures() == u64::MAX {
         return Err(Failed);
     }
-    put_parts(writer, buf, written)
+    put_chunks(writer, buf, written)
 }

@@ -159,7 +159,7 @@ pub fn write_page(buf: &mut TextBuf, entry: &Entry<'_>) {
         Some(deferred) if deferred.transaction.is_none() => Some(deferred.number),
         _ => None,
     };
-    let began = entry.own.began().unwrap_or(0);
+    let began = entry.own.first_line().unwrap_or(0);
     let message = entry.page.unwrap_or(0);
     buf.format(b"%d %d l%d", &[Some(began), Some(message), deferred]);
     for ended in entry.ended {

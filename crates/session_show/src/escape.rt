@@ -4,7 +4,7 @@ use crate::text_buf::TextBuf;
 
 /// Characters that are invisible or move others: control characters, line breaks, and those that fonts leave blank
 /// (Unicode's Default_Ignorable_Code_Point, U+FFF9 to U+FFFB, the blank Braille pattern).
-static HIDDEN: &[(char, char)] = &[
+static INVISIBLE_CHARS: &[(char, char)] = &[
     ('\0', '\u{1f}'),
     ('\u{7f}', '\u{9f}'),
     ('\u{ad}', '\u{ad}'),
@@ -29,7 +29,7 @@ static HIDDEN: &[(char, char)] = &[
 
 /// Returns whether a character is invisible or moves others.
 pub fn is_invisible(c: char) -> bool {
-    for (first, last) in HIDDEN {
+    for (first, last) in INVISIBLE_CHARS {
         if *first <= c && c <= *last {
             return true;
         }

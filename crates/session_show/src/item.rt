@@ -2,7 +2,7 @@
 ghost use Rattle.std.specs.Prelude.{◌<◌, ◌≤◌, ◌-◌, ◌^◌};
 ghost use Rattle.session_show.specs.Written.{Writes};
 
-use crate::chunked::{Written, put_parts};
+use crate::chunked::{Written, put_chunks};
 use crate::detail::Detail;
 use crate::escape::{is_printable, write_char};
 use crate::text_buf::TextBuf;
@@ -65,7 +65,7 @@ pub fn show_item<T: Target>(writer: &mut T, item: &[u8]) -> Result<(), Failed>
     requires { T.failed writer.old < 2 ^ 64 - 1 }
     ensures { Writes T.taken T.failed (writer.old, writer.new) result }
 {
-    put_parts(
+    put_chunks(
         writer,
         &mut TextBuf::new(Detail::Explained),
         &Diagnostic(item),
@@ -88,12 +88,12 @@ pub fn write_value(
     match cursor.item(level) {
         Ok(Item::Array(count)) if level < 5 => {
             buf.text("[");
-            write_inside(buf, cursor, level + 1, notation, count, None);
+            write_decoded(buf, cursor, level + 1, notation, count, None);
             buf.text("]");
         }
         Ok(Item::Map(count)) if level < 5 => {
             buf.text("{");
-            write_inside(buf, cursor, level + 1, notation, count, Some(names));
+            write_decoded(buf, cursor, level + 1, notation, count, Some(names));
             buf.text("}");
         }
         Ok(item) => write_scalar(buf, item, notation),
@@ -103,7 +103,7 @@ pub fn write_value(
 
 /// Writes `count` items, in a map each after its key.
 #[cycle(write)]
-fn write_inside(
+fn write_decoded(
     buf: &mut TextBuf,
     cursor: &mut Cursor<'_>,
     level: u8,

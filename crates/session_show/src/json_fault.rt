@@ -2,7 +2,7 @@
 ghost use Rattle.std.specs.Prelude.{◌<◌, ◌-◌, ◌^◌};
 ghost use Rattle.session_show.specs.Written.{Writes};
 
-use crate::chunked::{Written, put_parts};
+use crate::chunked::{Written, put_chunks};
 use crate::detail::Detail;
 use crate::text_buf::TextBuf;
 use session_log::{Failed, LogFault, Target};
@@ -53,7 +53,7 @@ pub fn put_json_fault<T: Target>(writer: &mut T, fault: &LogFault) -> Result<(),
     requires { T.failed writer.old < 2 ^ 64 - 1 }
     ensures { Writes T.taken T.failed (writer.old, writer.new) result }
 {
-    put_parts(
+    put_chunks(
         writer,
         &mut TextBuf::new(Detail::Explained),
         &FaultObject(fault),

@@ -15,7 +15,7 @@ use token_session::Input;
 
 /// Writes the objects of a line. A comment that isn't UTF-8 is written as hexadecimal digits.
 pub fn write_line(buf: &mut TextBuf, own: &LineEntry<'_>) {
-    let (line, began) = (Some(own.number), own.began());
+    let (line, began) = (Some(own.number), own.first_line());
     match own.parsed {
         Line::Input(timed) => {
             let at = Some(timed.at);
@@ -77,7 +77,7 @@ fn write_packet(buf: &mut TextBuf, own: &LineEntry<'_>, packet: &Packet) {
 
 /// Writes the object of a message.
 fn write_message(buf: &mut TextBuf, own: &LineEntry<'_>, channel: u32, message: &CborMessage<'_>) {
-    let (line, began) = (Some(own.number), own.began());
+    let (line, began) = (Some(own.number), own.first_line());
     let Some([first, item @ ..]) = message.bytes else {
         buf.format(b"{\"line\":%d,\"kind\":\"lost\"}\n", &[line]);
         return;
@@ -90,7 +90,7 @@ fn write_message(buf: &mut TextBuf, own: &LineEntry<'_>, channel: u32, message: 
         &[line, began, channel, code, code],
     );
     if message.is_request && checked.is_ok() {
-        write_string(buf, "rpId", RpId::of_request(*first, item).text());
+        write_string(buf, "rpId", RpId::request_sentence(*first, item).text());
     }
     if let Some(exchange) = message.exchange
         && let Some(command) = exchange.transaction.command

@@ -3,10 +3,10 @@ ghost use Rattle.std.specs.Prelude.{◌≡◌, ◌<◌, ◌-◌, ◌^◌, IfErr,
 ghost use Rattle.session_log.specs.Ending.{ending_of, read_fails, write_fails};
 ghost use Rattle.session_log.specs.Replay.{IsLineFault, ReadsTo};
 ghost use Rattle.session_log.specs.Streams.{Counts as CountsFailures, IsAtEndOfInput};
-ghost use Rattle.session_show.specs.Shown.{Shows, ShowsLine, WritesEnd, WritesLine, read_only_world, shown_in, wording_of};
+ghost use Rattle.session_show.specs.Shown.{Shows, ShowsLine, WritesEnd, WritesLine, read_only_world, rule_for_format, detail_of};
 ghost use Rattle.session_show.specs.Written.{Writes};
 
-use crate::chunked::{Written, put_parts, put_with_line_number};
+use crate::chunked::{Written, put_chunks, put_with_line_number};
 use crate::counts::{Counts, LINES, OBJECT};
 use crate::detail::Detail;
 use crate::entry::{write_ended, write_entry, write_page};
@@ -35,7 +35,7 @@ pub enum OutputFormat {
 impl OutputFormat {
     /// Returns the level of detail, if the format has text for each line.
     fn detail(self) -> Option<Detail>
-        ensures { result ≡ wording_of self }
+        ensures { result ≡ detail_of self }
     {
         match self {
             OutputFormat::Text(detail) => Some(detail),
@@ -47,19 +47,19 @@ impl OutputFormat {
 
 /// What is tracked from line to line, by output format.
 #[derive(Drop)]
-enum Following {
+enum LineTracker {
     /// The messages of the fixed text.
     Messages(PlainTranscript),
     /// The transactions.
     Transactions(TransactionTracker),
 }
 
-impl Following {
+impl LineTracker {
     /// Processes the next line, and returns its entry.
     fn next_entry<'a>(&'a mut self, number: u64, line: &'a [u8], parsed: &'a Line) -> Entry<'a> {
         match self {
-            Following::Messages(transcript) => transcript.next_entry(number, line, parsed),
-            Following::Transactions(walk) => {
+            LineTracker::Messages(transcript) => transcript.next_entry(number, line, parsed),
+            LineTracker::Transactions(walk) => {
                 walk.take(number, parsed);
                 Entry {
                     page: Some(walk.message_start),
@@ -74,7 +74,7 @@ impl Following {
 #[derive(Drop)]
 pub struct LogWriter {
     pub format: OutputFormat,
-    following: Following,
+    following: LineTracker,
     counts: Counts,
     /// Whether the table has a row.
     is_begun: bool,
@@ -91,12 +91,12 @@ impl LogWriter {
         let (following, detail) = match format {
             OutputFormat::Text(Detail::Fixed) => {
                 (
-                    Following::Messages(PlainTranscript::default()),
+                    LineTracker::Messages(PlainTranscript::default()),
                     Detail::Fixed,
                 )
             }
             _ => (
-                Following::Transactions(TransactionTracker::new()),
+                LineTracker::Transactions(TransactionTracker::new()),
                 Detail::Explained,
             ),
         };
@@ -116,7 +116,7 @@ impl LogWriter {
         ensures format { self.new.format ≡ self.old.format }
         ensures shown { ShowsLine number line.now (T.failed writer.old, T.failed writer.new) (ending_of result) }
         ensures own { IfErr result (IsLineFault number) }
-        ensures text { WritesLine (shown_in self.old.format) number line.now (T.taken writer.old, T.taken writer.new) (ending_of result) }
+        ensures text { WritesLine (rule_for_format self.old.format) number line.now (T.taken writer.old, T.taken writer.new) (ending_of result) }
     {
         let Some(parsed) = parse_line(line) else {
             return Err(LogFault::BadLine(number));
@@ -132,7 +132,7 @@ impl LogWriter {
         let Some(detail) = format.detail() else {
             self.counts.add_line(&entry);
             self.is_begun = self.is_begun || !entry.ended.is_empty();
-            return match put_parts(writer, &mut self.buf, &written) {
+            return match put_chunks(writer, &mut self.buf, &written) {
                 Ok(()) => Ok(()),
                 Err(_) => Err(LogFault::Write),
             };
@@ -148,14 +148,14 @@ impl LogWriter {
 
     /// Writes the text after the last line, whose number is `number`: with explanations, how much of each incomplete
     /// message was received.
-    fn tell_end<T: Target>(&mut self, number: u64, writer: &mut T) -> Result<(), LogFault>
+    fn write_after_last_line<T: Target>(&mut self, number: u64, writer: &mut T) -> Result<(), LogFault>
         requires { T.failed writer.old < 2 ^ 64 - 1 }
-        ensures { WritesEnd (shown_in self.old.format) T.taken T.failed number (writer.old, writer.new) (ending_of result) }
+        ensures { WritesEnd (rule_for_format self.old.format) T.taken T.failed number (writer.old, writer.new) (ending_of result) }
     {
         let OutputFormat::Text(Detail::Explained) = self.format else {
             return Ok(());
         };
-        let Following::Transactions(walk) = &self.following else {
+        let LineTracker::Transactions(walk) = &self.following else {
             return Ok(());
         };
         let left = LogEnd {
@@ -182,7 +182,7 @@ impl LogWriter {
         requires { T.failed writer.old < 2 ^ 64 - 1 }
         ensures { Writes T.taken T.failed (writer.old, writer.new) result }
     {
-        let Following::Transactions(walk) = &mut self.following else {
+        let LineTracker::Transactions(walk) = &mut self.following else {
             return Ok(());
         };
         walk.finish();
@@ -193,7 +193,7 @@ impl LogWriter {
             has_head: self.is_begun,
             last: self.last,
         };
-        put_parts(writer, &mut self.buf, &left)
+        put_chunks(writer, &mut self.buf, &left)
     }
 }
 
@@ -215,7 +215,7 @@ pub fn write_log<S: Source, T: Target>(
     // On success, every line is a log line and was shown. An invalid line is the first one, and the lines before it
     // were shown. A failed read names its line, and the lines before it were shown. After a failed write, only a part
     // of the text was written.
-    ensures shown { Shows (shown_in log_writer.old.format) (S.left reader.old, S.left reader.new)
+    ensures shown { Shows (rule_for_format log_writer.old.format) (S.left reader.old, S.left reader.new)
         (T.taken writer.old, T.taken writer.new) (ending_of result) }
     // For an invalid line, at most 256 bytes were read after the lines before it.
     ensures reach { ReadsTo read_only_world tt (S.left reader.old) (S.left reader.new)
@@ -230,7 +230,7 @@ pub fn write_log<S: Source, T: Target>(
     let mut number = 1;
     'lines: while let Some(end) = next_line(&mut window, reader, number)? {
         let line = window.as_slice().split_at(end).0;
-        log_writer.tell(number, line, writer)?;
+        log_writer.write_next_line(number, line, writer)?;
         window.drop_front(end + 1);
         number += 1;
     }
@@ -238,10 +238,10 @@ pub fn write_log<S: Source, T: Target>(
         if number == 1 {
             return Ok(());
         }
-        return log_writer.tell_end(number - 1, writer);
+        return log_writer.write_after_last_line(number - 1, writer);
     }
-    log_writer.tell(number, window.as_slice(), writer)?;
-    log_writer.tell_end(number, writer)
+    log_writer.write_next_line(number, window.as_slice(), writer)?;
+    log_writer.write_after_last_line(number, writer)
 }
 
 /// Writes a transaction that ended, with the number of the line that it ends at. In a table, the header precedes the

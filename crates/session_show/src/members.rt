@@ -10,7 +10,7 @@ use ctap_cbor::{Cursor, Item};
 use session_walk::{Pairs, item_at, name_in};
 
 /// The prefix of a member of a COSE key.
-const KEY: &[u8] = b"%d       ";
+const KEY_MEMBER_PREFIX: &[u8] = b"%d       ";
 
 /// Writes a line for each member of a map whose members have names. For a response, the RP ID is that of its request.
 pub fn write_members(buf: &mut TextBuf, number: u64, map: MapKind, item: &[u8], rp_id: &[u8]) {
@@ -32,9 +32,9 @@ pub fn write_members(buf: &mut TextBuf, number: u64, map: MapKind, item: &[u8], 
         write_member(buf, map, key, value);
         match (map, key) {
             (MapKind::Answer(command), Item::Int(key)) => {
-                write_inside(buf, number, command, key, value, rp_id);
+                write_decoded(buf, number, command, key, value, rp_id);
             }
-            (MapKind::Request(0x06), Item::Int(3)) => write_key(buf, KEY, number, value),
+            (MapKind::Request(0x06), Item::Int(3)) => write_key(buf, KEY_MEMBER_PREFIX, number, value),
             _ => {}
         }
     }
@@ -42,7 +42,7 @@ pub fn write_members(buf: &mut TextBuf, number: u64, map: MapKind, item: &[u8], 
 
 /// Decodes a member of a response: authenticator data, a signature, an attestation statement with a signature, or a
 /// key.
-fn write_inside(
+fn write_decoded(
     buf: &mut TextBuf,
     number: u64,
     command: u8,
@@ -68,7 +68,7 @@ fn write_inside(
                 write_signature(buf, number, signature);
             }
         }
-        (0x06, 1) | (0x0a, 8) => write_key(buf, KEY, number, value),
+        (0x06, 1) | (0x0a, 8) => write_key(buf, KEY_MEMBER_PREFIX, number, value),
         _ => {}
     }
 }

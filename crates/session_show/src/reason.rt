@@ -26,7 +26,7 @@ impl Written for Reason<'_> {
     /// Writes a line with the reason why the key sends nothing or refuses, if known.
     fn write(&self, buf: &mut TextBuf) {
         let Some(sent) = &self.difference.sent else {
-            match self.due() {
+            match self.next_keepalive() {
                 Some((due, served)) => {
                     self.begin(buf, &served, "");
                     let format = b"its next KEEPALIVE is due at %d ms; line %d is at %d ms\n";
@@ -156,7 +156,7 @@ impl Reason<'_> {
     }
 
     /// Returns the time at which the key's next KEEPALIVE is due, and its transaction, if the log has one too early.
-    fn due(&self) -> Option<(u64, Transaction)> {
+    fn next_keepalive(&self) -> Option<(u64, Transaction)> {
         let (Some((last, packet)), None, Some(logged)) = (
             self.difference.kept_alive,
             self.difference.reply,

@@ -9,7 +9,7 @@ use session_walk::{AwaitedReply, Role, TransactionTracker, channel_of};
 use token_session::{Causes, Session};
 
 /// A bound for loops over the packets of a message, greater than their maximum number.
-pub const PACKETS: usize = 130;
+pub const PACKET_BOUND: usize = 130;
 
 /// The state after the lines so far.
 #[derive(Drop)]
@@ -43,7 +43,7 @@ pub struct ReplayedLog {
     now: u64,
     /// The last KEEPALIVE that the session sent, with its timestamp.
     kept_alive: Option<(u64, Packet)>,
-    pub signed: Signed,
+    pub signed: SignedComments,
 }
 
 impl ReplayedLog {
@@ -68,7 +68,7 @@ impl ReplayedLog {
             at: 0,
             now: 0,
             kept_alive: None,
-            signed: Signed::default(),
+            signed: SignedComments::default(),
         }
     }
 
@@ -92,11 +92,11 @@ impl ReplayedLog {
             Line::Input(timed) => {
                 self.has_differed = false;
                 if let Some(sent) = self.outbox.pop() {
-                    return Some(self.differ(number, None, Some(sent)));
+                    return Some(self.record_difference(number, None, Some(sent)));
                 }
                 self.signed.end();
                 self.signed.len = 0;
-                self.reply = AwaitedReply::in_input(&timed.input);
+                self.reply = AwaitedReply::from_input(&timed.input);
                 if let Some(awaited) = self.awaited
                     && let Some(reply) = self.reply
                     && awaited as u8 == reply as u8
@@ -133,7 +133,7 @@ impl ReplayedLog {
             self.take_sent(number, packet);
             return None;
         }
-        Some(self.differ(number, Some(*packet), sent))
+        Some(self.record_difference(number, Some(*packet), sent))
     }
 
     /// Passes the log's last differing packet to its tracker. Before that, the excluded credential of the key's
@@ -167,9 +167,9 @@ impl ReplayedLog {
     }
 
     /// Continues after a difference with the session's packets.
-    pub fn pass_last(&mut self) {
+    pub fn resume_after_difference(&mut self) {
         self.take_last();
-        for _ in 0..PACKETS {
+        for _ in 0..PACKET_BOUND {
             let Some(packet) = self.outbox.pop() else {
                 break;
             };
@@ -198,13 +198,13 @@ impl ReplayedLog {
             return None;
         }
         match self.outbox.pop() {
-            Some(sent) => Some(self.differ(line, None, Some(sent))),
+            Some(sent) => Some(self.record_difference(line, None, Some(sent))),
             None => None,
         }
     }
 
     /// Records a difference at this line, and returns it.
-    fn differ(&mut self, line: u64, logged: Option<Packet>, sent: Option<Packet>) -> Difference {
+    fn record_difference(&mut self, line: u64, logged: Option<Packet>, sent: Option<Packet>) -> Difference {
         self.has_differed = true;
         let difference = Difference {
             input: self.input,

@@ -3,13 +3,13 @@
 use authn_core::Need;
 
 /// The prefix of a comment with bytes to sign.
-const FRONT: &[u8] = b"# signed ";
+const SIGNED_PREFIX: &[u8] = b"# signed ";
 
 /// The prefix of the comment that follows them.
 const NEED: &[u8] = b"# need ";
 
 /// Maximum number of bytes to sign on one line.
-const PIECE: usize = 123;
+const MAX_BYTES_PER_LINE: usize = 123;
 
 /// Length of the client data hash, the last bytes to be signed.
 const CLIENT_DATA_HASH: usize = 32;
@@ -24,7 +24,7 @@ pub struct SignedBytesMismatch {
 
 /// The comments after an input with the bytes to sign.
 #[derive(Clone, Copy, Default)]
-pub struct Signed {
+pub struct SignedComments {
     /// Number of bytes to sign in the comments so far.
     pub len: usize,
     /// Number of bytes that the session asks to sign.
@@ -35,16 +35,16 @@ pub struct Signed {
     pub otherwise: Option<SignedBytesMismatch>,
 }
 
-impl Signed {
+impl SignedComments {
     /// Processes a comment, given the reply that the session needs.
     pub fn take(&mut self, number: u64, line: &[u8], need: &Need<'_>) {
-        let Some(digits) = line.strip_prefix(FRONT) else {
+        let Some(digits) = line.strip_prefix(SIGNED_PREFIX) else {
             if line.starts_with(NEED) {
                 self.end();
             }
             return;
         };
-        let mut piece = [0; PIECE];
+        let mut piece = [0; MAX_BYTES_PER_LINE];
         let Some(bytes) = piece.get_mut(..digits.len() / 2) else {
             return;
         };
@@ -61,7 +61,7 @@ impl Signed {
         for byte in bytes.iter() {
             match asked.get(self.len) {
                 Some(own) if *own == *byte => {}
-                _ => self.differ(self.part()),
+                _ => self.record_mismatch(self.part()),
             }
             self.len = self.len.saturating_add(1);
         }
@@ -70,12 +70,12 @@ impl Signed {
     /// Ends the comments after an input, which may lack bytes.
     pub fn end(&mut self) {
         if self.len > 0 && self.len < self.asked {
-            self.differ("it lacks bytes at its end");
+            self.record_mismatch("it lacks bytes at its end");
         }
     }
 
     /// Records a mismatch at the last line, if it is the first one.
-    fn differ(&mut self, what: &'static str) {
+    fn record_mismatch(&mut self, what: &'static str) {
         if self.otherwise.is_none() {
             self.otherwise = Some(SignedBytesMismatch {
                 line: self.line,

@@ -6,7 +6,7 @@ use crate::transaction_end::end_formats;
 use session_walk::Ended;
 
 /// The header of the table.
-pub static HEAD: &str =
+pub static TABLE_HEADER: &str =
     "  line  channel   command                        status                            \
     user ms  KEEPALIVEs  RP id\n";
 

@@ -11,7 +11,7 @@ use std::fmt;
 pub const CHUNK_LEN: usize = 8192;
 
 /// Number of bytes that are written as hexadecimal digits at a time.
-const AT_ONCE: usize = 32;
+const HEX_BATCH_LEN: usize = 32;
 
 /// Padding for columns.
 const SPACES: &[u8] = b"                                ";
@@ -93,7 +93,7 @@ impl TextBuf {
     /// Writes a text.
     pub fn text(&mut self, text: &str) {
         if self.is_quoted {
-            self.quoted(text);
+            self.json_text(text);
         } else {
             self.bytes(text.as_bytes());
         }
@@ -101,7 +101,7 @@ impl TextBuf {
 
     /// Writes a text inside a JSON string.
     // Separate from `text`, which is called far more often.
-    fn quoted(&mut self, text: &str) {
+    fn json_text(&mut self, text: &str) {
         for byte in text.as_bytes() {
             if matches!(byte, b'"' | b'\\') {
                 self.bytes(b"\\");
@@ -135,7 +135,7 @@ impl TextBuf {
     pub fn format(&mut self, format: &[u8], numbers: &[Option<u64>]) {
         let mut rest = format;
         for number in numbers {
-            let (comma, place) = place_of_mark(rest);
+            let (comma, place) = find_mark(rest);
             let Some([_, mark, after @ ..]) = rest.get(place..) else {
                 break;
             };
@@ -200,8 +200,8 @@ impl TextBuf {
         // A long text is mostly digits, which are skipped together.
         let passed = bytes.len().min(self.before / 2);
         self.before -= 2 * passed;
-        for some in bytes.split_at(passed).1.chunks(AT_ONCE) {
-            let mut digits = [0; 2 * AT_ONCE];
+        for some in bytes.split_at(passed).1.chunks(HEX_BATCH_LEN) {
+            let mut digits = [0; 2 * HEX_BATCH_LEN];
             if let Some(digits) = digits.get_mut(..some.len().saturating_mul(2)) {
                 let _ = hex::encode_to_slice(some, digits);
                 self.bytes(digits);
@@ -235,7 +235,7 @@ impl fmt::Write for TextBuf {
 }
 
 /// Returns the offsets of the last comma before a format's first mark (0 if none) and of the mark.
-fn place_of_mark(format: &[u8]) -> (usize, usize) {
+fn find_mark(format: &[u8]) -> (usize, usize) {
     let mut comma = 0;
     let mut place = 0_usize;
     for byte in format {

@@ -112,7 +112,7 @@ pub fn end_formats(ended: &Ended) -> (&'static EndFormats, Option<u64>, Option<u
         End::Replaced(line) => (&REPLACED, Some(*line), None),
         End::Cut(extent) => (
             &CUT,
-            Some(extent.came() as u64),
+            Some(extent.received_len() as u64),
             Some(u64::from(extent.length)),
         ),
         End::Answered => (&ANSWERED, None, None),

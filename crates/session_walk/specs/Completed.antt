@@ -14,7 +14,7 @@ abbrev pub ended_bytes : KeptMessages → Option CompletedMessage → Option (Op
 ended_bytes kept = option_map (λ completed. complete_bytes_at kept completed.line)
 
 -- An ambiguous packet is shown once its transaction is known.
-pub record ShowsDecided (kept : KeptMessages) (resolved : Option Resolved) (deferred : Option LineEntry) : Type 0 where
+pub record ShowsResolved (kept : KeptMessages) (resolved : Option Resolved) (deferred : Option LineEntry) : Type 0 where
   pub line : option_map (λ own. own.number) deferred ≡ option_map (λ resolved. resolved.line) resolved
   pub parsed : option_map (λ own. own.parsed.now) deferred ≡ option_map (λ resolved. resolved.parsed) resolved
   pub transaction : option_map (λ own. own.transaction) deferred ≡ option_map (λ resolved. resolved.transaction) resolved

@@ -20,8 +20,8 @@ undecided_by input None unclear = unclear
 undecided_by input (Some contender) unclear = unclear || not (contender.transaction.line == input)
 
 -- After this input, the transaction of the device's next packet on the channel is ambiguous.
-abbrev pub is_open_question : ℕ → Channel → Bool
-is_open_question input c = undecided_by input c.contender (is_owner_unknown c)
+abbrev pub is_owner_undecided : ℕ → Channel → Bool
+is_owner_undecided input c = undecided_by input c.contender (is_owner_unknown c)
 
 -- The channel whose current message, if any, may still be pending.
 abbrev pub current_unidentified : Option OpenTransaction → Channel → Channel
@@ -33,8 +33,8 @@ abbrev pub both_unidentified : Channel → Channel
 both_unidentified c = let s = contender_accepted false c in record (current_unidentified s.current (current_ended s)) { is_ambiguous = false }
 
 -- The ended transactions, with those of the channel's messages, whose end is unknown.
-abbrev pub ends_lost : Channel → List Ended → List Ended
-ends_lost c ended = with_end_of (ends_by_contender false c ended) (contender_accepted false c).current Unknown
+abbrev pub with_unknown_ends : Channel → List Ended → List Ended
+with_unknown_ends c ended = with_end_of (ends_by_contender false c ended) (contender_accepted false c).current Unknown
 
 -- ERROR 05: the incomplete message timed out (CTAP 2.1, section 11.2.5.2). The continuation packet that arrived too
 -- late doesn't belong to it.
@@ -43,14 +43,14 @@ is_late_for None current = false
 is_late_for (Some d) current = current.transaction.line == d.transaction.line
 
 -- Whether a continuation packet that may have arrived too late has the sequence number that its message expects.
-abbrev pub next_of : Option Ambiguous → Bool
-next_of None = false
-next_of (Some d) = d.is_next
+abbrev pub has_expected_sequence : Option Ambiguous → Bool
+has_expected_sequence None = false
+has_expected_sequence (Some d) = d.is_next
 
 -- The message without a continuation packet that arrived too late.
 abbrev pub without_late : Option Ambiguous → OpenTransaction → OpenTransaction
 without_late ambiguous current =
-    if is_late_for ambiguous current && next_of ambiguous
+    if is_late_for ambiguous current && has_expected_sequence ambiguous
     then record current { progress = record current.progress { continuations = current.progress.continuations - 1 } }
     else current
 
@@ -116,14 +116,14 @@ is_for_contender answer c =
     else can_answer answer c.contender
 
 -- The response fits only one of the channel's messages.
-abbrev pub is_of_one : ResponseStart → Channel → Bool
-is_of_one answer c = not (is_owner_unknown c) && (can_answer answer c.current || is_for_contender answer c)
+abbrev pub fits_one_message : ResponseStart → Channel → Bool
+fits_one_message answer c = not (is_owner_unknown c) && (can_answer answer c.current || is_for_contender answer c)
     && not (can_answer answer c.current && is_for_contender answer c)
 
 -- The message that a response is for.
 abbrev pub answered_message : ResponseStart → Channel → Option OpenTransaction
 answered_message answer c =
-    if is_of_one answer c then (if can_answer answer c.current then c.current else c.contender) else None
+    if fits_one_message answer c then (if can_answer answer c.current then c.current else c.contender) else None
 
 -- A continuation packet of the device continues its last message if the sequence number fits (CTAP 2.1, section
 -- 11.2.4).
@@ -159,14 +159,14 @@ channel_processing status now (Some m) c =
     else record c { last_keepalive_at = now }
 
 -- The number of KEEPALIVEs for a message, or 0.
-abbrev pub kept_of : Option OpenTransaction → ℕ
-kept_of None = 0
-kept_of (Some m) = m.keepalives
+abbrev pub keepalive_count : Option OpenTransaction → ℕ
+keepalive_count None = 0
+keepalive_count (Some m) = m.keepalives
 
 -- The KEEPALIVE became due before the second message arrived.
-abbrev pub is_of_time : ℕ → ℕ → Channel → Bool
-is_of_time input now c =
-    nat_lt 0 (kept_of c.current) && (nat_le 100 (now - c.last_keepalive_at) && not (is_open_question input c))
+abbrev pub was_due_before_contender : ℕ → ℕ → Channel → Bool
+was_due_before_contender input now c =
+    nat_lt 0 (keepalive_count c.current) && (nat_le 100 (now - c.last_keepalive_at) && not (is_owner_undecided input c))
 
 -- The channel after a KEEPALIVE.
 abbrev pub after_keepalive : ℕ → ℕ → ℕ → Channel → Channel
@@ -174,7 +174,7 @@ after_keepalive status input now c =
     if is_owner_unknown c then c
     else if not (is_in_process c.contender) then channel_processing status now c.current c
     else if not (is_in_process c.current) then (let s = contender_accepted true c in channel_processing status now s.current s)
-    else if is_of_time input now c then channel_processing status now c.current c
+    else if was_due_before_contender input now c then channel_processing status now c.current c
     else c
 
 -- The transaction, if the device is processing it.
@@ -187,31 +187,31 @@ keepalive_transaction input now c =
     if is_owner_unknown c then None
     else if not (is_in_process c.contender) then transaction_if_processing c.current
     else if not (is_in_process c.current) then transaction_of c.contender
-    else if is_of_time input now c then transaction_of c.current
+    else if was_due_before_contender input now c then transaction_of c.current
     else None
 
 -- An ERROR other than a time-out, without a pending INIT, after a packet outside any transaction: it is for that packet
 -- if the current request has had a KEEPALIVE, because such a request isn't refused with these codes (CTAP 2.1, section
 -- 11.2.9.1.6).
-abbrev pub is_of_stray : ℕ → Channel → Bool
-is_of_stray code c = c.last_was_stray && (nat_lt 0 (kept_of c.current)
+abbrev pub refuses_stray : ℕ → Channel → Bool
+refuses_stray code c = c.last_was_stray && (nat_lt 0 (keepalive_count c.current)
     && ((code == 1) || (code == 4) || (code == 6) || (code == 0x0b)))
 
 -- The channel after its contender was refused.
-abbrev pub asked_refused : ℕ → Transaction → Channel → Channel
-asked_refused code refused c = if also_ends refused code c.current then current_ended c else c
+abbrev pub contender_refused : ℕ → Transaction → Channel → Channel
+contender_refused code refused c = if also_ends refused code c.current then current_ended c else c
 
 -- The channel after an ERROR.
 abbrev pub refused_by : ℕ → (contender current : Option OpenTransaction) → Channel → Channel
-refused_by code (Some contender) current c = asked_refused code contender.transaction (record c { contender = None })
+refused_by code (Some contender) current c = contender_refused code contender.transaction (record c { contender = None })
 refused_by code None None c = c
-refused_by code None (Some current) c = if is_of_stray code c then c else current_ended c
+refused_by code None (Some current) c = if refuses_stray code c then c else current_ended c
 
 -- The transaction of an ERROR.
 abbrev pub refused_transaction : ℕ → (contender current : Option OpenTransaction) → Channel → Option Transaction
 refused_transaction code (Some contender) current c = Some contender.transaction
 refused_transaction code None None c = None
-refused_transaction code None (Some current) c = if is_of_stray code c then None else Some current.transaction
+refused_transaction code None (Some current) c = if refuses_stray code c then None else Some current.transaction
 
 -- The transactions that an ERROR ends.
 abbrev pub ends_by_refusal : ℕ → (contender current : Option OpenTransaction) → Channel → List Ended → List Ended
@@ -219,4 +219,4 @@ ends_by_refusal code (Some contender) current c ended =
     let refused = with_end ended contender (Refused code) in
     if also_ends contender.transaction code current then with_end_of refused current (cause_of contender.transaction) else refused
 ends_by_refusal code None None c ended = ended
-ends_by_refusal code None (Some current) c ended = if is_of_stray code c then ended else with_end ended current (Refused code)
+ends_by_refusal code None (Some current) c ended = if refuses_stray code c then ended else with_end ended current (Refused code)

@@ -54,14 +54,14 @@ without_current true current c = record c { is_ambiguous = false }
 without_current false current c = with_unidentified current.transaction.line (record c { is_ambiguous = false })
 
 -- The contender becomes the channel's current message.
-abbrev pub contender_takes : Bool → OpenTransaction → Option OpenTransaction → Channel → Channel
-contender_takes is_shown contender None c = record c { contender = None; current = Some contender }
-contender_takes is_shown contender (Some current) c = record (without_current is_shown current c) { contender = None; current = Some contender }
+abbrev pub with_contender_accepted : Bool → OpenTransaction → Option OpenTransaction → Channel → Channel
+with_contender_accepted is_shown contender None c = record c { contender = None; current = Some contender }
+with_contender_accepted is_shown contender (Some current) c = record (without_current is_shown current c) { contender = None; current = Some contender }
 
 -- The channel after its contender, if any, was accepted.
 abbrev pub contender_accepted_by : Bool → Option OpenTransaction → Channel → Channel
 contender_accepted_by is_shown None c = c
-contender_accepted_by is_shown (Some contender) c = contender_takes is_shown contender c.current c
+contender_accepted_by is_shown (Some contender) c = with_contender_accepted is_shown contender c.current c
 
 -- The channel after its contender was accepted, as a packet shows or since it wasn't refused.
 abbrev pub contender_accepted : Bool → Channel → Channel
@@ -155,8 +155,8 @@ slot_after number now None = None
 slot_after number now (Some m) = Some (if is_complete_message m then m else with_continuation number now m)
 
 -- The message that a continuation packet is for.
-abbrev pub addressed : ℕ → Channel → Option OpenTransaction
-addressed number c = if expects_sequence number c.contender then c.contender else c.current
+abbrev pub continued_message : ℕ → Channel → Option OpenTransaction
+continued_message number c = if expects_sequence number c.contender then c.contender else c.current
 
 -- The continuation packet is outside any transaction.
 abbrev pub is_stray : Option ContinuationMatch → Bool
@@ -166,7 +166,7 @@ is_stray (Some c) = false
 -- The channel after a continuation packet.
 abbrev pub channel_continued : ℕ → ℕ → Channel → Channel
 channel_continued number now c =
-    let stray = is_stray (match_in number now (addressed number c)) in
+    let stray = is_stray (match_in number now (continued_message number c)) in
     if expects_sequence number c.contender
     then record c { contender = slot_after number now c.contender; last_was_stray = stray }
     else record c { current = slot_after number now c.current; last_was_stray = stray }
@@ -193,8 +193,8 @@ channel_cancelled line before =
     else c
 
 -- The transaction that a CANCEL cancels, if known.
-abbrev pub cancels : Channel → Option Transaction
-cancels c =
+abbrev pub cancelled_transaction : Channel → Option Transaction
+cancelled_transaction c =
     if nat_lt 0 c.ambiguous_count || is_in_process c.current && is_in_process c.contender then None
     else if is_in_process c.contender then transaction_of c.contender
     else if is_in_process c.current then transaction_of c.current

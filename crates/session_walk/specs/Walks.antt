@@ -12,23 +12,23 @@ use Rattle.session_walk.specs.declared.transaction.End.TheVariants.{Status, Answ
 use Rattle.session_walk.specs.declared.tracker.TransactionTracker.{TransactionTracker}
 use Rattle.session_walk.specs.Owners.{with_end, is_owner_unknown, is_in_process}
 use Rattle.session_walk.specs.Extents.{is_whole}
-use Rattle.session_walk.specs.Owners.{addressed, match_in}
+use Rattle.session_walk.specs.Owners.{continued_message, match_in}
 use Rattle.std.specs.Prelude.{position}
 use Rattle.std.specs.Option.{option_and_then}
 use Rattle.hid_packet.specs.Packet.{Fields, initialization, continuation}
 use Rattle.hid_packet.specs.Commands.{CANCEL}
 
 -- The latest timestamp after one more line.
-abbrev pub later : ℕ → Line → ℕ
-later now (Input timed) = max now timed.at
-later now (Sent packet) = now
-later now Comment = now
-later now Count = now
+abbrev pub time_after_line : ℕ → Line → ℕ
+time_after_line now (Input timed) = max now timed.at
+time_after_line now (Sent packet) = now
+time_after_line now Comment = now
+time_after_line now Count = now
 
 -- The latest timestamp of the lines.
-abbrev pub moment_of : List Line → ℕ
-moment_of [] = 0
-moment_of (line ∷ before) = later (moment_of before) line
+abbrev pub time_of_lines : List Line → ℕ
+time_of_lines [] = 0
+time_of_lines (line ∷ before) = time_after_line (time_of_lines before) line
 
 -- The line of the last input after one more line.
 abbrev pub input_by : ℕ → ℕ → Line → ℕ
@@ -38,14 +38,14 @@ input_by before number Comment = before
 input_by before number Count = before
 
 -- The line of the last input. Lines are numbered from 1.
-abbrev pub input_of : List Line → ℕ
-input_of [] = 0
-input_of (line ∷ before) = input_by (input_of before) (length before + 1) line
+abbrev pub last_input_line : List Line → ℕ
+last_input_line [] = 0
+last_input_line (line ∷ before) = input_by (last_input_line before) (length before + 1) line
 
 -- The tracker's state after these lines.
-pub record Follows (lines : List Line) (walk : TransactionTracker) : Type 0 where
-  pub moment : walk.now ≡ moment_of lines
-  pub input : walk.input ≡ input_of lines
+pub record IsTrackerAfter (lines : List Line) (walk : TransactionTracker) : Type 0 where
+  pub moment : walk.now ≡ time_of_lines lines
+  pub input : walk.input ≡ last_input_line lines
 
 -- The minimum time-out of a message in any device, in milliseconds: a continuation packet that arrives at least this
 -- long after the previous packet may be too late (CTAP 2.1, section 11.2.5.2).
@@ -68,9 +68,9 @@ ambiguity_of number parsed (Some c) before =
     else before
 
 -- The transaction that a continuation packet continues.
-abbrev pub of_continued : Option ContinuationMatch → Option Transaction
-of_continued None = None
-of_continued (Some c) = Some c.transaction
+abbrev pub continued_transaction : Option ContinuationMatch → Option Transaction
+continued_transaction None = None
+continued_transaction (Some c) = Some c.transaction
 
 -- The line of the message that a continuation packet continues, or 0.
 abbrev pub message_continued : Option ContinuationMatch → ℕ
@@ -125,13 +125,13 @@ status_of command len (first ∷ rest) =
     if ((command == CBOR) || (command == KEEPALIVE)) && nat_lt 0 len || (command == ERROR) then Some first else None
 
 -- The timestamp of the last packet of a message.
-abbrev pub at_of : Option OpenTransaction → Option ℕ
-at_of None = None
-at_of (Some m) = Some m.at
+abbrev pub packet_time_of : Option OpenTransaction → Option ℕ
+packet_time_of None = None
+packet_time_of (Some m) = Some m.at
 
 -- The timestamp of the last packet of a channel's current message.
 abbrev pub current_time_at : ℕ → TransactionTracker → Option (Option ℕ)
-current_time_at place walk = option_map (λ c. at_of c.current) (slice_get walk.channels.list place)
+current_time_at place walk = option_map (λ c. packet_time_of c.current) (slice_get walk.channels.list place)
 
 -- The tracked channel has this ID.
 abbrev pub is_on : ℕ → Channel → Bool
@@ -154,4 +154,4 @@ channel_on number channels = option_and_then (slice_get channels) (index_on numb
 abbrev pub host_message : (line : ℕ) → Fields → (now : ℕ) → Channel → ℕ
 host_message line (initialization channel command size part) now c = if command == CANCEL then 0 else line
 host_message line (continuation channel number part) now c =
-    message_continued (match_in number now (addressed number c))
+    message_continued (match_in number now (continued_message number c))

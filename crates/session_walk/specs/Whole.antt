@@ -4,8 +4,8 @@ use Rattle.std.specs.Prelude.{ℕ, Bool, true, false, not, ◌&&◌, ◌||◌, �
 use Rattle.std.specs.Prelude.{◌∷◌, ◌++◌, length, drop, remove, replicate, position, slice_get, Option, Some}
 use Rattle.std.specs.Prelude.{None, is_none, is_some, unwrap_or, if◌then◌else◌}
 use Rattle.hid_packet.specs.Commands.{BROADCAST, INIT}
-use Rattle.session_walk.specs.Ends.{also_ends, asked_refused, can_answer, cause_of, is_late_by}
-use Rattle.session_walk.specs.Ends.{is_open_question, ends_lost, both_unidentified, is_for_contender}
+use Rattle.session_walk.specs.Ends.{also_ends, contender_refused, can_answer, cause_of, is_late_by}
+use Rattle.session_walk.specs.Ends.{is_owner_undecided, with_unknown_ends, both_unidentified, is_for_contender}
 use Rattle.session_walk.specs.Ends.{refused_transaction, timeout_transaction, refused_by, ends_by_refusal, timed_out, ends_by_timeout}
 use Rattle.session_walk.specs.Extents.{is_whole}
 use Rattle.session_walk.specs.Owners.{with_end, with_end_of, pending_init, is_complete_message, current_ended, after_idle, is_owner_unknown}
@@ -13,7 +13,7 @@ use Rattle.session_walk.specs.Owners.{channel_with_message, nonce_of, contender_
 use Rattle.session_walk.specs.declared.answer.ResponseStart.{ResponseStart}
 use Rattle.session_walk.specs.declared.channel.{Channel.Channel, ResponseMessage.ResponseMessage, PendingInit.PendingInit}
 use Rattle.session_walk.specs.declared.ambiguous.Ambiguous.{Ambiguous}
-use Rattle.session_walk.specs.declared.transaction.{Ended.Ended, OpenTransaction.OpenTransaction, Named.Named}
+use Rattle.session_walk.specs.declared.transaction.{Ended.Ended, OpenTransaction.OpenTransaction, RequestNames.RequestNames}
 use Rattle.session_walk.specs.declared.transaction.Transaction.{Transaction}
 use Rattle.session_walk.specs.declared.transaction.End.TheVariants.{Cut, Dropped, Forgotten, Refused}
 
@@ -26,8 +26,8 @@ pub record PacketResult : Type 0 where
   pub deferred : Bool
 
 -- No RP ID and no credentials.
-abbrev pub unnamed : Named
-unnamed = record {
+abbrev pub no_names : RequestNames
+no_names = record {
   rp_id = record { bytes = replicate 253 0; len = 0 };
   excluded = None;
   account = None;
@@ -46,7 +46,7 @@ open_init channel g = record {
   presence_ms = None;
   awaited = None;
   keepalives = 0;
-  named = unnamed;
+  named = no_names;
 }
 
 -- The maximum number of unanswered INITs per channel.
@@ -135,7 +135,7 @@ init_refused code (Some init) c ended =
     let refused = with_end ended init (Refused code) in
     let also = also_ends init.transaction code c.current in
     record {
-      channel = asked_refused code init.transaction c;
+      channel = contender_refused code init.transaction c;
       ended = if also then with_end_of refused c.current (cause_of init.transaction) else refused;
       transaction = Some init;
       deferred = false;
@@ -162,8 +162,8 @@ abbrev pub last_init : ℕ → Channel → List Ended → PacketResult
 last_init code c ended = init_refused_last code (init_at (last_of c) c) c ended
 
 -- The result of an ERROR that isn't for an INIT: it refuses the contender, or else the current message.
-abbrev pub refused_plain : ℕ → Option OpenTransaction → Channel → List Ended → PacketResult
-refused_plain code contender c ended = record {
+abbrev pub refused_message : ℕ → Option OpenTransaction → Channel → List Ended → PacketResult
+refused_message code contender c ended = record {
   channel = refused_by code contender c.current c;
   ended = ends_by_refusal code contender c.current c ended;
   transaction = owner_of contender c.current (refused_transaction code contender c.current c);
@@ -171,35 +171,35 @@ refused_plain code contender c ended = record {
 }
 
 -- The result of an ERROR other than a time-out.
-abbrev pub refused_one : ℕ → ℕ → Channel → List Ended → PacketResult
-refused_one code input c ended =
+abbrev pub error_result : ℕ → ℕ → Channel → List Ended → PacketResult
+error_result code input c ended =
     let place = refused_init code input c in
     if nat_lt place (length c.pending_inits.items) then init_refused code (init_at place c) (without_at place c) ended
-    else if is_open_question input c
-    then record { channel = record (both_unidentified c) { last_asserted_rp = unnamed.rp_id }; ended = ends_lost c ended; transaction = None; deferred = false }
-    else if c.last_was_init && is_some c.current || (not c.last_was_init && (is_some c.contender || is_some c.current)) then refused_plain code (if c.last_was_init then None else c.contender) c ended
+    else if is_owner_undecided input c
+    then record { channel = record (both_unidentified c) { last_asserted_rp = unnamed.rp_id }; ended = with_unknown_ends c ended; transaction = None; deferred = false }
+    else if c.last_was_init && is_some c.current || (not c.last_was_init && (is_some c.contender || is_some c.current)) then refused_message code (if c.last_was_init then None else c.contender) c ended
     else if c.last_was_stray then record { channel = c; ended = ended; transaction = None; deferred = false }
     else last_init code c ended
 
 -- The result of ERROR 05 without a contender, or with a complete one (CTAP 2.1, section 11.2.5.2).
-abbrev pub time_out_or : Option Transaction → Option Ambiguous → ℕ → Channel → List Ended → PacketResult
-time_out_or (Some transaction) ambiguous input c ended = record {
+abbrev pub timeout_or_refusal : Option Transaction → Option Ambiguous → ℕ → Channel → List Ended → PacketResult
+timeout_or_refusal (Some transaction) ambiguous input c ended = record {
   channel = timed_out ambiguous c;
   ended = ends_by_timeout ambiguous c.current ended;
   transaction = c.current;
   deferred = is_late_by ambiguous c.current;
 }
-time_out_or None ambiguous input c ended =
-    let other = refused_one 5 input (timed_out ambiguous c) ended in
+timeout_or_refusal None ambiguous input c ended =
+    let other = error_result 5 input (timed_out ambiguous c) ended in
     record other { deferred = is_late_by ambiguous c.current }
 
 -- The result of ERROR 05 for the current message: it times out, or another message is refused.
-abbrev pub time_out_one : Option Ambiguous → ℕ → Channel → List Ended → PacketResult
-time_out_one ambiguous input c ended = time_out_or (timeout_transaction ambiguous c.current) ambiguous input c ended
+abbrev pub current_timed_out : Option Ambiguous → ℕ → Channel → List Ended → PacketResult
+current_timed_out ambiguous input c ended = timeout_or_refusal (timeout_transaction ambiguous c.current) ambiguous input c ended
 
 -- The result of ERROR 05 for the contender, while the current message is processed.
-abbrev pub time_out_asked : Option Ambiguous → Channel → List Ended → PacketResult
-time_out_asked ambiguous c ended =
+abbrev pub contender_timed_out : Option Ambiguous → Channel → List Ended → PacketResult
+contender_timed_out ambiguous c ended =
     let alone = record c { current = c.contender; contender = None } in
     record {
       channel = record (timed_out ambiguous alone) { current = c.current; contender = None };
@@ -212,29 +212,29 @@ time_out_asked ambiguous c ended =
 abbrev pub both_lost_by_timeout : Channel → List Ended → PacketResult
 both_lost_by_timeout c ended = record {
   channel = record (both_unidentified c) { last_asserted_rp = unnamed.rp_id };
-  ended = ends_lost c ended;
+  ended = with_unknown_ends c ended;
   transaction = None;
   deferred = false;
 }
 
 -- The result of ERROR 05 with an incomplete contender.
-abbrev pub time_out_two : Option Ambiguous → ℕ → (contender current : OpenTransaction) → Channel → List Ended → PacketResult
-time_out_two ambiguous input contender current c ended =
-    if is_complete_message current then (if is_owner_unknown c then both_lost_by_timeout c ended else time_out_asked ambiguous c ended)
-    else if nat_lt contender.delay 100 then time_out_one ambiguous input (contender_accepted true c) (ends_by_contender true c ended)
-    else if is_open_question input c then both_lost_by_timeout c ended
-    else time_out_one ambiguous input c ended
+abbrev pub one_of_two_timed_out : Option Ambiguous → ℕ → (contender current : OpenTransaction) → Channel → List Ended → PacketResult
+one_of_two_timed_out ambiguous input contender current c ended =
+    if is_complete_message current then (if is_owner_unknown c then both_lost_by_timeout c ended else contender_timed_out ambiguous c ended)
+    else if nat_lt contender.delay 100 then current_timed_out ambiguous input (contender_accepted true c) (ends_by_contender true c ended)
+    else if is_owner_undecided input c then both_lost_by_timeout c ended
+    else current_timed_out ambiguous input c ended
 
 -- The result of ERROR 05.
-abbrev pub time_out_by : Option Ambiguous → ℕ → (contender current : Option OpenTransaction) → Channel → List Ended → PacketResult
-time_out_by ambiguous input (Some contender) (Some current) c ended =
-    if is_complete_message contender then time_out_one ambiguous input c ended else time_out_two ambiguous input contender current c ended
-time_out_by ambiguous input contender current c ended = time_out_one ambiguous input c ended
+abbrev pub timeout_result : Option Ambiguous → ℕ → (contender current : Option OpenTransaction) → Channel → List Ended → PacketResult
+timeout_result ambiguous input (Some contender) (Some current) c ended =
+    if is_complete_message contender then current_timed_out ambiguous input c ended else one_of_two_timed_out ambiguous input contender current c ended
+timeout_result ambiguous input contender current c ended = current_timed_out ambiguous input c ended
 
 -- The result of an ERROR.
 abbrev pub refused : ℕ → ℕ → Option Ambiguous → Channel → List Ended → PacketResult
 refused code input ambiguous c ended =
-    if code == 5 then time_out_by ambiguous input c.contender c.current c ended else refused_one code input c ended
+    if code == 5 then timeout_result ambiguous input c.contender c.current c ended else error_result code input c ended
 
 -- The channel after the response to an INIT, which ends the transaction of an allocated channel (CTAP 2.1, section
 -- 11.2.9.1.3).
@@ -278,7 +278,7 @@ message_answered answer c ended =
     let is_asked = is_for_contender answer c in
     if not is_held && not is_asked then record { channel = c; ended = ended; transaction = None; deferred = false }
     else if is_owner_unknown c || is_held && is_asked
-    then record { channel = record (both_unidentified c) { last_asserted_rp = unnamed.rp_id }; ended = ends_lost c ended; transaction = None; deferred = false }
+    then record { channel = record (both_unidentified c) { last_asserted_rp = unnamed.rp_id }; ended = with_unknown_ends c ended; transaction = None; deferred = false }
     else if is_asked && is_served_uncancelled c.current
     then record { channel = record c { contender = None }; ended = ended; transaction = c.contender; deferred = false }
     else if is_asked then record {

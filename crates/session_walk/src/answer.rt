@@ -24,7 +24,7 @@ pub struct ResponseStart<'a> {
 
 impl ResponseStart<'_> {
     /// Returns whether this can be the response to the message, which must be complete and have the same command.
-    pub fn is_of(&self, message: &Option<OpenTransaction>) -> bool
+    pub fn is_response_to(&self, message: &Option<OpenTransaction>) -> bool
         ensures { result ≡ can_answer self.now message.now }
     {
         matches!(message, Some(message)

@@ -23,7 +23,7 @@ impl AwaitedReply {
     }
 
     /// Returns the kind of a reply, or `None` for other inputs.
-    pub fn in_input(input: &Input) -> Option<Self> {
+    pub fn from_input(input: &Input) -> Option<Self> {
         match input {
             Input::Packet(_) | Input::Tick => None,
             Input::Presence(_) => Some(AwaitedReply::Presence),

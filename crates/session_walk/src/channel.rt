@@ -1,20 +1,20 @@
 //! The state of one channel, derived from the packets alone by the transport's rules (CTAP 2.1, sections 11.2.4 and
 //! 11.2.5).
 ghost use Rattle.std.specs.Prelude.{◌≡◌, true, false, IfSome, None, Some};
-ghost use Rattle.session_walk.specs.Owners.{with_end_of, cancels, channel_cancelled, channel_continued, match_in};
-ghost use Rattle.session_walk.specs.Owners.{addressed, current_ended, continuation_match, with_continuation, is_owner_unknown, with_unidentified, channel_with_message};
+ghost use Rattle.session_walk.specs.Owners.{with_end_of, cancelled_transaction, channel_cancelled, channel_continued, match_in};
+ghost use Rattle.session_walk.specs.Owners.{continued_message, current_ended, continuation_match, with_continuation, is_owner_unknown, with_unidentified, channel_with_message};
 ghost use Rattle.session_walk.specs.Owners.{nonce_of, contender_accepted, ends_by_contender, after_idle, slot_after, transaction_of};
 ghost use Rattle.hid_packet.specs.Commands.{INIT as INIT_COMMAND};
-ghost use Rattle.session_walk.specs.Ends.{is_open_question, ends_lost, both_unidentified};
+ghost use Rattle.session_walk.specs.Ends.{is_owner_undecided, with_unknown_ends, both_unidentified};
 ghost use Rattle.session_walk.specs.Extents.{is_whole};
 ghost use Rattle.std.specs.Prelude.{◌≤◌, length, not};
-ghost use Rattle.session_walk.specs.Walks.{at_of, may_wait};
+ghost use Rattle.session_walk.specs.Walks.{packet_time_of, may_wait};
 
 use crate::awaited::AwaitedReply;
 use crate::entry::Role;
 use crate::rp_id::RpId;
 use crate::transaction::{
-    End, EndedList, MessageProgress, Named, OpenTransaction, Transaction, is_processing,
+    End, EndedList, MessageProgress, RequestNames, OpenTransaction, Transaction, is_processing,
 };
 use arrayvec::ArrayVec;
 use hid_packet::CONT_PACKET_DATA;
@@ -160,7 +160,7 @@ impl Channel {
     }
 
     /// Returns the role of a packet outside any open message: `role`, unless it may belong to an unidentified one.
-    pub fn without(&self, role: Role) -> Role {
+    pub fn role_outside_messages(&self, role: Role) -> Role {
         if self.ambiguous_count > 0 || self.has_ambiguous_keepalive {
             Role::Owned
         } else {
@@ -196,7 +196,7 @@ impl Channel {
     }
 
     /// Not inlined manually, because the caller runs for each packet and would need the list's stack space each time.
-    pub fn forget(&self, ended: &mut EndedList) {
+    pub fn end_untracked(&self, ended: &mut EndedList) {
         for open in self.open().0.as_slice() {
             ended.add(open.exchange, End::Forgotten);
         }
@@ -215,7 +215,7 @@ impl Channel {
         if begun.at.saturating_sub(self.last_packet_at) >= IDLE_TIMEOUT_MS {
             self.ambiguous_count = 0;
         }
-        self.settle(false, ended);
+        self.accept_contender(false, ended);
         self.last_was_init = begun.transaction.message == INIT;
         if self.last_was_init {
             if self.pending_inits.is_full() {
@@ -244,7 +244,7 @@ impl Channel {
     /// of them is cancelled.
     pub fn cancel(&mut self, line: u64) -> (Option<Transaction>, Role)
         ensures state { self.new ≡ channel_cancelled line self.old }
-        ensures transaction { result.0 ≡ cancels self.old }
+        ensures transaction { result.0 ≡ cancelled_transaction self.old }
     {
         self.last_was_stray = true;
         if self.ambiguous_count > 0 {
@@ -266,13 +266,13 @@ impl Channel {
             self.current = Some(current);
             return (Some(current.transaction), Role::Owned);
         }
-        (None, self.without(Role::Cancel))
+        (None, self.role_outside_messages(Role::Cancel))
     }
 
     /// Returns whether the transaction of the device's next packet is unknown after the input on line `input`. If a
     /// second message began on the channel, it is refused before the next input, or else it was accepted.
     pub fn is_unresolved(&self, input: u64) -> bool
-        ensures { result ≡ is_open_question input self.now }
+        ensures { result ≡ is_owner_undecided input self.now }
     {
         match &self.contender {
             Some(contender) => self.is_unclear() || contender.transaction.line != input,
@@ -282,11 +282,11 @@ impl Channel {
 
     /// Ends `current` and `contender` as unknown, because a packet may be for either of them; the other one may still
     /// be pending.
-    pub fn lose(&mut self, ended: &mut EndedList)
+    pub fn end_as_unknown(&mut self, ended: &mut EndedList)
         ensures state { self.new ≡ record (both_unidentified self.old) { last_asserted_rp = self.new.last_asserted_rp } }
-        ensures ended { ended.new.0.items ≡ ends_lost self.old ended.old.0.items }
+        ensures ended { ended.new.0.items ≡ with_unknown_ends self.old ended.old.0.items }
     {
-        self.settle(false, ended);
+        self.accept_contender(false, ended);
         if let Some(lost) = self.end_current(End::Unknown, ended) {
             self.record_ambiguous(lost.line);
         }
@@ -303,25 +303,25 @@ impl Channel {
     }
 
     /// Continues a message, or returns `None` if no open message is incomplete.
-    pub fn go_on(&mut self, number: u8, now: u64) -> Option<ContinuationMatch>
+    pub fn on_continuation(&mut self, number: u8, now: u64) -> Option<ContinuationMatch>
         ensures next { IfSome result (λ continued. continued.is_whole ≡ true → continued.is_next ≡ true) }
-        ensures value { result ≡ match_in number now (addressed number self.old) }
+        ensures value { result ≡ match_in number now (continued_message number self.old) }
         ensures state { self.new ≡ channel_continued number now self.old }
     {
         let is_of_asked = matches!(&self.contender, Some(contender)
             if contender.progress.continuations == number && !contender.progress.is_whole());
         let continuation = if is_of_asked {
-            go_on_with(&mut self.contender, number, now)
+            continue_slot(&mut self.contender, number, now)
         } else {
-            go_on_with(&mut self.current, number, now)
+            continue_slot(&mut self.current, number, now)
         };
         self.last_was_stray = continuation.is_none();
         continuation
     }
 
     /// Stores the RP ID and credentials of an open request.
-    pub fn name(&mut self, transaction: &Transaction, named: Named)
-        ensures at { at_of self.new.current ≡ at_of self.old.current }
+    pub fn name(&mut self, transaction: &Transaction, named: RequestNames)
+        ensures at { packet_time_of self.new.current ≡ packet_time_of self.old.current }
     {
         if let Some(mut current) = self.current
             && current.transaction.line == transaction.line
@@ -385,7 +385,7 @@ impl Channel {
 
     /// Makes `contender` the current message. If `is_shown`, a device packet shows that it was accepted; otherwise it
     /// wasn't refused before the next message began.
-    pub fn settle(&mut self, is_shown: bool, ended: &mut EndedList)
+    pub fn accept_contender(&mut self, is_shown: bool, ended: &mut EndedList)
         ensures state { self.new ≡ contender_accepted is_shown self.old }
         ensures ended { ended.new.0.items ≡ ends_by_contender is_shown self.old ended.old.0.items }
     {
@@ -442,7 +442,7 @@ impl Channel {
 }
 
 /// Continues an incomplete message with the continuation packet of this sequence number.
-fn go_on_with(
+fn continue_slot(
     message: &mut Option<OpenTransaction>,
     number: u8,
     now: u64,
@@ -456,14 +456,14 @@ fn go_on_with(
     if current.progress.is_whole() {
         return None;
     }
-    let continued = current.go_on(number, now);
+    let continued = current.on_continuation(number, now);
     *message = Some(current);
     Some(continued)
 }
 
 impl OpenTransaction {
     /// Continues the device's message with the packet of this sequence number.
-    fn go_on(&mut self, number: u8, now: u64) -> ContinuationMatch
+    fn on_continuation(&mut self, number: u8, now: u64) -> ContinuationMatch
         ensures next { result.is_whole ≡ true → result.is_next ≡ true }
         ensures value { result ≡ continuation_match number now self.old }
         ensures state { self.new ≡ with_continuation number now self.old }

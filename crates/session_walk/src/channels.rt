@@ -13,15 +13,15 @@ use hid_packet::BROADCAST;
 use hid_packet::command::INIT;
 
 /// Maximum number of channels tracked at a time.
-const CHANNELS: usize = 6;
+const MAX_TRACKED_CHANNELS: usize = 6;
 
 /// Maximum number of transactions open at once: on each channel four INITs, two other messages and a response.
-pub const OPEN: usize = 7 * CHANNELS;
+pub const OPEN: usize = 7 * MAX_TRACKED_CHANNELS;
 
 /// The tracked channels, in no order.
 #[derive(Drop, Default)]
 pub struct Channels {
-    pub list: [Channel; CHANNELS],
+    pub list: [Channel; MAX_TRACKED_CHANNELS],
     /// Whether a channel with an open transaction was evicted.
     has_forgotten: bool,
 }
@@ -41,7 +41,7 @@ impl Channels {
         let place = self.oldest();
         if !self.list[place].is_idle() {
             self.has_forgotten = true;
-            self.list[place].forget(ended);
+            self.list[place].end_untracked(ended);
         }
         self.list[place] = Channel {
             number,
@@ -57,7 +57,7 @@ impl Channels {
         ensures value { result ≡ index_on number self.now.list }
     {
         match self.first_on(number) {
-            Some(place) if place < CHANNELS => Some(place),
+            Some(place) if place < MAX_TRACKED_CHANNELS => Some(place),
             _ => None,
         }
     }
@@ -77,7 +77,7 @@ impl Channels {
         ensures { result < 6 }
     {
         let mut oldest = 0;
-        for place in 0..CHANNELS {
+        for place in 0..MAX_TRACKED_CHANNELS {
             let (other, found) = (&self.list[place], &self.list[oldest]);
             let is_idle = other.is_idle();
             if is_idle == found.is_idle() && other.used < found.used
@@ -115,14 +115,14 @@ impl Channels {
             .iter()
             .position(|channel| channel.is_waiting(by_keepalive))
         {
-            Some(place) if place < CHANNELS => (count, place),
+            Some(place) if place < MAX_TRACKED_CHANNELS => (count, place),
             _ => (count, 0),
         }
     }
 
     /// Returns whether an unidentified message may be in process on any channel.
     pub fn is_unclear(&self, now: u64) -> bool {
-        for place in 0..CHANNELS {
+        for place in 0..MAX_TRACKED_CHANNELS {
             if self.list[place].may_be_processing(now) {
                 return true;
             }
@@ -131,7 +131,7 @@ impl Channels {
     }
 
     /// Returns the role of a line outside any tracked transaction: `role`, unless it may belong to an evicted one.
-    pub fn without(&self, role: Role) -> Role
+    pub fn role_outside_messages(&self, role: Role) -> Role
         ensures { result ≡ (if self.now.has_forgotten then Owned else role) }
     {
         if self.has_forgotten {
@@ -142,7 +142,7 @@ impl Channels {
     }
 
     /// Updates all other channels after the initialization packet of a response.
-    pub fn take_answer(
+    pub fn update_after_response(
         &mut self,
         place: usize,
         answer: &ResponseStart<'_>,
@@ -153,7 +153,7 @@ impl Channels {
             && answer.command == INIT
             && transaction.channel == BROADCAST
         {
-            self.give_out(answer.given(), transaction.line, ended);
+            self.allocate_channel(answer.given(), transaction.line, ended);
         } else if answer.is_success()
             && (transaction.is_none() || answer.has_assertion(transaction))
         {
@@ -164,7 +164,7 @@ impl Channels {
     /// Clears the RP ID of the last assertion on all other channels, because a key continues only its latest assertion
     /// (CTAP 2.1, section 6.3); and on this channel if the response belongs to no known transaction.
     fn forget_assertions(&mut self, place: usize, is_unknown: bool) {
-        for other in 0..CHANNELS {
+        for other in 0..MAX_TRACKED_CHANNELS {
             if is_unknown || other != place {
                 self.list[other].last_asserted_rp = RpId::default();
             }
@@ -173,7 +173,7 @@ impl Channels {
 
     /// Records the channel that the response to the INIT on this line allocates. If it was in use, the key has
     /// restarted, and the transactions open on it are dropped.
-    fn give_out(&mut self, number: u32, line: u64, ended: &mut EndedList) {
+    fn allocate_channel(&mut self, number: u32, line: u64, ended: &mut EndedList) {
         if number == BROADCAST {
             return;
         }

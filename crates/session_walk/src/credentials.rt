@@ -7,7 +7,7 @@ use crate::map_iter::{item_at, next_value, value_at};
 use crate::message_buffers::Pool;
 use crate::rp_id::RpId;
 use crate::status::OK;
-use crate::transaction::{Named, Transaction};
+use crate::transaction::{RequestNames, Transaction};
 use ctap_cbor::{Cursor, Item, check};
 use sha2::{Digest, Sha256};
 
@@ -18,20 +18,20 @@ const CREDENTIAL_MANAGEMENT_PREVIEW: u8 = 0x41;
 pub const FLAG_AT: u8 = 0x40;
 
 /// Number of credentials that are tracked, the latest ones: this key's capacity.
-const CREDENTIALS: usize = 64;
+const MAX_CREDENTIALS: usize = 64;
 
 /// Identifies a credential or an account: the first bytes of a hash over the RP ID hash and the credential ID or user
 /// handle.
-pub type Name = [u8; 16];
+pub type HashedId = [u8; 16];
 
 /// A credential that a response created.
 #[derive(Clone, Copy)]
 struct Made {
     /// Last line of the response, or 0 if there is none.
     line: u64,
-    name: Name,
+    name: HashedId,
     /// The account of a discoverable credential.
-    account: Option<Name>,
+    account: Option<HashedId>,
 }
 
 /// Map keys of the credential lists: excludeList of authenticatorMakeCredential, allowList of
@@ -52,7 +52,7 @@ pub struct Excluded {
 /// The latest credentials that a log created and did not replace.
 #[derive(Clone, Copy)]
 pub struct Credentials {
-    made: [Made; CREDENTIALS],
+    made: [Made; MAX_CREDENTIALS],
     /// Number of credentials created, replacements excluded.
     count: usize,
     /// Whether there was a reset, after which no credential from before the log exists.
@@ -68,7 +68,7 @@ impl Credentials {
             account: None,
         };
         Credentials {
-            made: [none; CREDENTIALS],
+            made: [none; MAX_CREDENTIALS],
             count: 0,
             is_reset: false,
         }
@@ -76,7 +76,7 @@ impl Credentials {
 
     /// Handles a complete response: adds the credential that it created, or removes all credentials if it may have
     /// deleted one.
-    pub fn learn(&mut self, answer: &ResponseMessage, line: u64, bytes: &[u8]) {
+    pub fn add_response(&mut self, answer: &ResponseMessage, line: u64, bytes: &[u8]) {
         let (Some(exchange), [OK, item @ ..]) = (&answer.exchange, bytes) else {
             return;
         };
@@ -95,7 +95,7 @@ impl Credentials {
 
     /// Adds the credential that a response created; its CBOR follows the status. A discoverable one replaces that of
     /// the same account (CTAP 2.1, section 6.1.2).
-    fn add(&mut self, line: u64, item: &[u8], account: Option<Name>) {
+    fn add(&mut self, line: u64, item: &[u8], account: Option<HashedId>) {
         let Some(Item::Bytes(data)) = item_at(item, Item::Int(2)) else {
             return;
         };
@@ -109,11 +109,11 @@ impl Credentials {
         };
         let made = Made {
             line,
-            name: name_of(data.split_at(32).0, id),
+            name: hash_id(data.split_at(32).0, id),
             account,
         };
         if let Some(account) = account {
-            for place in 0..CREDENTIALS {
+            for place in 0..MAX_CREDENTIALS {
                 if let Some(own) = self.made[place].account
                     && own == account
                 {
@@ -122,13 +122,13 @@ impl Credentials {
                 }
             }
         }
-        self.made[self.count % CREDENTIALS] = made;
+        self.made[self.count % MAX_CREDENTIALS] = made;
         self.count = self.count.wrapping_add(1);
     }
 
     /// Returns the RP ID and credentials of a complete request, if its CBOR is canonical.
-    pub fn identify(&self, transaction: &Transaction, pool: &Pool) -> Named {
-        let mut named = Named::default();
+    pub fn identify(&self, transaction: &Transaction, pool: &Pool) -> RequestNames {
+        let mut named = RequestNames::default();
         let Some([_, item @ ..]) = pool.bytes(transaction.line) else {
             return named;
         };
@@ -158,7 +158,7 @@ impl Credentials {
             && let Some(user) = value_at(item, Item::Int(3))
             && let Some(Item::Bytes(id)) = item_at(user, Item::Text("id"))
         {
-            named.account = Some(name_of(relying_party.as_slice(), id));
+            named.account = Some(hash_id(relying_party.as_slice(), id));
         }
         named
     }
@@ -196,9 +196,9 @@ impl Credentials {
         let Some(Item::Bytes(id)) = item_at(entry, Item::Text("id")) else {
             return 0;
         };
-        let name = name_of(relying_party, id);
+        let name = hash_id(relying_party, id);
         let mut line = 0;
-        for place in 0..CREDENTIALS {
+        for place in 0..MAX_CREDENTIALS {
             let made = &self.made[place];
             if made.line > line && made.name == name {
                 line = made.line;
@@ -229,7 +229,7 @@ fn may_name_prior(item: &[u8], key: i128, is_any: bool) -> bool {
 }
 
 /// Returns the identifier of a credential ID or user handle at the RP whose ID has this hash.
-fn name_of(relying_party: &[u8], id: &[u8]) -> Name {
+fn hash_id(relying_party: &[u8], id: &[u8]) -> HashedId {
     let mut hasher = Sha256::new();
     hasher.update(relying_party);
     hasher.update(id);

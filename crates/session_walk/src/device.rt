@@ -2,8 +2,8 @@
 
 ghost use Rattle.std.specs.Prelude.{◌≡◌, [], true, false, if◌then◌else◌, Some, None};
 ghost use Rattle.session_walk.specs.Owners.{with_end_of, current_ended};
-ghost use Rattle.session_walk.specs.Ends.{also_ends, answered_message, cause_of, is_late_by, is_of_one, timeout_transaction};
-ghost use Rattle.session_walk.specs.Ends.{awaited_by, transaction_if_processing, is_of_time, is_open_question, after_keepalive, channel_processing, keepalive_transaction, refused_transaction, refused_by, ends_by_refusal};
+ghost use Rattle.session_walk.specs.Ends.{also_ends, answered_message, cause_of, is_late_by, fits_one_message, timeout_transaction};
+ghost use Rattle.session_walk.specs.Ends.{awaited_by, transaction_if_processing, was_due_before_contender, is_owner_undecided, after_keepalive, channel_processing, keepalive_transaction, refused_transaction, refused_by, ends_by_refusal};
 ghost use Rattle.session_walk.specs.Ends.{timed_out, ends_by_timeout, response_continued};
 
 use crate::ambiguous::Ambiguous;
@@ -98,17 +98,17 @@ impl Channel {
         }
         if is_processing(&self.contender) {
             if !is_processing(&self.current) {
-                self.settle(true, ended);
-            } else if !self.is_of_time(input, now) {
+                self.accept_contender(true, ended);
+            } else if !self.was_due_before_contender(input, now) {
                 return None;
             }
         }
-        self.work_on(status, now)
+        self.process_current(status, now)
     }
 
     /// Returns whether a KEEPALIVE at this time became due before the second message was accepted.
-    fn is_of_time(&self, input: u64, now: u64) -> bool
-        ensures { result ≡ is_of_time input now self.now }
+    fn was_due_before_contender(&self, input: u64, now: u64) -> bool
+        ensures { result ≡ was_due_before_contender input now self.now }
     {
         let keepalives = match &self.current {
             Some(current) => current.keepalives,
@@ -120,7 +120,7 @@ impl Channel {
     }
 
     /// Handles a KEEPALIVE for `current`. Returns its transaction if the device is processing it.
-    fn work_on(&mut self, status: u8, now: u64) -> Option<Transaction>
+    fn process_current(&mut self, status: u8, now: u64) -> Option<Transaction>
         ensures state { self.new ≡ channel_processing status now self.old.current self.old }
         ensures transaction { result ≡ transaction_if_processing self.old.current }
     {
@@ -131,7 +131,7 @@ impl Channel {
         if !current.is_processing() {
             return None;
         }
-        current.awaited = awaited_in(status, &current);
+        current.awaited = awaited_reply(status, &current);
         current.keepalives = current.keepalives.saturating_add(1);
         self.current = Some(current);
         Some(current.transaction)
@@ -146,7 +146,7 @@ impl Channel {
         ended: &mut EndedList,
     ) -> (Option<Transaction>, bool) {
         if code != MSG_TIMEOUT {
-            return (self.refuse_one(code, input, ended), false);
+            return (self.end_refused(code, input, ended), false);
         }
         // It may be for `contender`.
         if let Some(contender) = &self.contender
@@ -154,12 +154,12 @@ impl Channel {
             && !contender.progress.is_whole()
         {
             if current.progress.is_whole() {
-                return self.time_out_asked(input, ambiguous, ended);
+                return self.time_out_contender(input, ambiguous, ended);
             }
             if contender.delay < MIN_TIMEOUT_MS {
-                self.settle(true, ended);
+                self.accept_contender(true, ended);
             } else if self.is_unresolved(input) {
-                self.lose(ended);
+                self.end_as_unknown(ended);
                 return (None, false);
             }
         }
@@ -167,7 +167,7 @@ impl Channel {
         if timed_out.is_some() {
             return (timed_out, is_late);
         }
-        (self.refuse_one(code, input, ended), is_late)
+        (self.end_refused(code, input, ended), is_late)
     }
 
     /// Ends `current` by a time-out if it is incomplete. Returns its transaction, and whether the previous packet
@@ -201,14 +201,14 @@ impl Channel {
     }
 
     /// Ends `contender` by a time-out, while `current` is still processed.
-    fn time_out_asked(
+    fn time_out_contender(
         &mut self,
         input: u64,
         ambiguous: &Option<Ambiguous>,
         ended: &mut EndedList,
     ) -> (Option<Transaction>, bool) {
         if self.is_unclear() {
-            self.lose(ended);
+            self.end_as_unknown(ended);
             return (None, false);
         }
         let served = self.current;
@@ -241,12 +241,12 @@ impl Channel {
     }
 
     /// Handles an ERROR other than the time-out of an open message.
-    fn refuse_one(&mut self, code: u8, input: u64, ended: &mut EndedList) -> Option<Transaction>
-        ensures state { self.old.last_was_init ≡ false → self.old.pending_inits.items ≡ [] → is_open_question input self.old ≡ false
+    fn end_refused(&mut self, code: u8, input: u64, ended: &mut EndedList) -> Option<Transaction>
+        ensures state { self.old.last_was_init ≡ false → self.old.pending_inits.items ≡ [] → is_owner_undecided input self.old ≡ false
             → self.new ≡ refused_by code self.old.contender self.old.current self.old }
-        ensures transaction { self.old.last_was_init ≡ false → self.old.pending_inits.items ≡ [] → is_open_question input self.old ≡ false
+        ensures transaction { self.old.last_was_init ≡ false → self.old.pending_inits.items ≡ [] → is_owner_undecided input self.old ≡ false
             → result ≡ refused_transaction code self.old.contender self.old.current self.old }
-        ensures ended { self.old.last_was_init ≡ false → self.old.pending_inits.items ≡ [] → is_open_question input self.old ≡ false
+        ensures ended { self.old.last_was_init ≡ false → self.old.pending_inits.items ≡ [] → is_owner_undecided input self.old ≡ false
             → ended.new.0.items ≡ ends_by_refusal code self.old.contender self.old.current self.old ended.old.0.items }
     {
         let is_unresolved = self.is_unresolved(input);
@@ -256,7 +256,7 @@ impl Channel {
             refused = self.take_init(place);
         }
         if refused.is_none() && (!is_unresolved || self.last_was_init) {
-            refused = self.refused_start(code);
+            refused = self.take_refused(code);
         }
         if let Some(refused) = refused {
             ended.add(refused, End::Refused(code));
@@ -264,16 +264,16 @@ impl Channel {
             return Some(refused.transaction);
         }
         if is_unresolved {
-            self.lose(ended);
+            self.end_as_unknown(ended);
             return None;
         }
         if let Some(current) = &self.current {
-            let is_of_stray = current.keepalives > 0
+            let refuses_stray = current.keepalives > 0
                 && matches!(
                     code,
                     INVALID_CMD | INVALID_SEQ | CHANNEL_BUSY | INVALID_CHANNEL
                 );
-            if self.last_was_stray && is_of_stray {
+            if self.last_was_stray && refuses_stray {
                 return None;
             }
             return self.end_current(End::Refused(code), ended);
@@ -290,7 +290,7 @@ impl Channel {
     }
 
     /// Removes and returns the message that began last if it is an INIT or `contender` and the ERROR can be for it.
-    fn refused_start(&mut self, code: u8) -> Option<OpenTransaction>
+    fn take_refused(&mut self, code: u8) -> Option<OpenTransaction>
         ensures state { self.old.last_was_init ≡ false → self.new ≡ record self.old { contender = None } }
         ensures transaction { self.old.last_was_init ≡ false → result ≡ self.old.contender }
     {
@@ -336,7 +336,7 @@ impl Channel {
     /// authenticatorGetNextAssertion inherits the RP ID of authenticatorGetAssertion.
     fn answer(&mut self, answer: &ResponseStart<'_>, ended: &mut EndedList) -> Option<Transaction> {
         let mut exchange = if answer.command == INIT {
-            self.answer_greeting(answer, ended)
+            self.answer_init(answer, ended)
         } else {
             self.answer_message(answer, ended)
         };
@@ -367,7 +367,7 @@ impl Channel {
 
     /// Handles the response to the INIT with this nonce. On an allocated channel, INIT aborts the preceding transaction
     /// (section 11.2.5.3).
-    fn answer_greeting(
+    fn answer_init(
         &mut self,
         answer: &ResponseStart<'_>,
         ended: &mut EndedList,
@@ -399,11 +399,11 @@ impl Channel {
         ended: &mut EndedList,
     ) -> Option<OpenTransaction>
         ensures transaction { result ≡ answered_message answer.now self.old }
-        ensures plain { self.old.contender ≡ None → is_of_one answer.now self.old ≡ true → self.new ≡ current_ended self.old }
-        ensures ended { self.old.contender ≡ None → is_of_one answer.now self.old ≡ true → ended.new ≡ ended.old }
+        ensures plain { self.old.contender ≡ None → fits_one_message answer.now self.old ≡ true → self.new ≡ current_ended self.old }
+        ensures ended { self.old.contender ≡ None → fits_one_message answer.now self.old ≡ true → ended.new ≡ ended.old }
     {
-        let is_of_held = answer.is_of(&self.current);
-        let mut is_of_asked = answer.is_of(&self.contender);
+        let is_of_held = answer.is_response_to(&self.current);
+        let mut is_of_asked = answer.is_response_to(&self.contender);
         if is_of_held && is_of_asked && matches!(answer.status, Some(KEEPALIVE_CANCEL)) {
             is_of_asked = matches!(&self.current, Some(current) if current.cancelled.is_none());
         }
@@ -411,7 +411,7 @@ impl Channel {
             return None;
         }
         if self.is_unclear() || is_of_asked && is_of_held {
-            self.lose(ended);
+            self.end_as_unknown(ended);
             return None;
         }
         if is_of_asked {
@@ -421,7 +421,7 @@ impl Channel {
             {
                 return self.contender.take();
             }
-            self.settle(true, ended);
+            self.accept_contender(true, ended);
         }
         let current = self.current;
         self.current = self.contender;
@@ -430,7 +430,7 @@ impl Channel {
     }
 
     /// Handles the next continuation packet of the device's last message.
-    pub fn answer_on(&mut self, number: u8) -> Option<Answered>
+    pub fn continue_response(&mut self, number: u8) -> Option<Answered>
         ensures { self.new ≡ record self.old { last_response = response_continued number self.old.last_response } }
     {
         if !self.is_answering() || self.last_response.progress.continuations != number {
@@ -446,7 +446,7 @@ impl Channel {
 }
 
 /// Returns the reply that a message waits for after a KEEPALIVE with this status.
-fn awaited_in(status: u8, current: &OpenTransaction) -> Option<AwaitedReply>
+fn awaited_reply(status: u8, current: &OpenTransaction) -> Option<AwaitedReply>
     ensures { result ≡ awaited_by status current.now }
 {
     let is_made = matches!(current.transaction.command, Some(MAKE_CREDENTIAL));

@@ -36,7 +36,7 @@ impl TransactionTracker {
         match packet.view() {
             View::Start { cmd, len, part, .. } => {
                 self.data_len = part.len().min(usize::from(len));
-                let status = status_in(cmd, len, part);
+                let status = parse_status(cmd, len, part);
                 let answer = ResponseStart {
                     line: number,
                     command: cmd,
@@ -53,7 +53,7 @@ impl TransactionTracker {
                 self.resolve(false);
                 self.data_len = part.len();
                 let channel = &mut self.channels.list[place];
-                if let Some(answered) = channel.answer_on(seq) {
+                if let Some(answered) = channel.continue_response(seq) {
                     self.transaction = answered.transaction;
                     self.message_start = answered.line;
                     self.data_len = answered.data_len;
@@ -80,7 +80,7 @@ impl TransactionTracker {
         ensures last { self.new.input ≡ self.old.input }
         ensures settles { self.new.ambiguous ≡ None }
     {
-        self.decide_before(answer);
+        self.resolve_before_response(answer);
         let behind = (self.input, self.now);
         let channel = &mut self.channels.list[place];
         let started = channel.on_device_init_packet(
@@ -90,11 +90,11 @@ impl TransactionTracker {
             &mut self.ended,
         );
         self.channels
-            .take_answer(place, answer, &started.transaction, &mut self.ended);
+            .update_after_response(place, answer, &started.transaction, &mut self.ended);
         self.pool.release(started.before);
         self.resolve(started.is_late);
         self.transaction = started.transaction;
-        self.role = self.channels.without(started.role);
+        self.role = self.channels.role_outside_messages(started.role);
         self.message_start = answer.line;
         if answer.command == CBOR {
             let length = answer.progress.length;
@@ -132,7 +132,7 @@ impl TransactionTracker {
         // message.
         let is_kept = answer.status.is_some() || answer.progress.continuations > 0;
         if is_kept && let Some(bytes) = self.pool.bytes(answer.line) {
-            self.credentials.learn(&answer, number, bytes);
+            self.credentials.add_response(&answer, number, bytes);
             self.completed = Some(CompletedMessage {
                 line: answer.line,
                 place: Some(place),
@@ -142,7 +142,7 @@ impl TransactionTracker {
 
     /// Resolves the ambiguous packet before a response. If the response is the ERROR of a time-out, handling it
     /// resolves the packet.
-    fn decide_before(&mut self, answer: &ResponseStart<'_>)
+    fn resolve_before_response(&mut self, answer: &ResponseStart<'_>)
         ensures pool { self.new.pool ≡ self.old.pool }
         ensures completed { self.new.completed ≡ self.old.completed }
         ensures time { self.new.now ≡ self.old.now }
@@ -158,7 +158,7 @@ impl TransactionTracker {
 }
 
 /// Returns the status of a response or KEEPALIVE, or the code of an ERROR, from the data of the initialization packet.
-fn status_in(cmd: u8, len: u16, part: &[u8]) -> Option<u8>
+fn parse_status(cmd: u8, len: u16, part: &[u8]) -> Option<u8>
     ensures { result ≡ status_of cmd len part.now }
 {
     match part {

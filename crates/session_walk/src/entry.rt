@@ -51,7 +51,7 @@ pub struct LineEntry<'a> {
 
 impl LineEntry<'_> {
     /// Returns the first line of its transaction.
-    pub fn began(&self) -> Option<u64>
+    pub fn first_line(&self) -> Option<u64>
         ensures { result ≡ option_map (λ transaction. transaction.line) self.now.transaction }
     {
         match &self.transaction {

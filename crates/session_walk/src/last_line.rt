@@ -1,7 +1,7 @@
 //! The last line that a tracker processed, as `show` presents it.
 ghost use Rattle.std.specs.Prelude.{◌≡◌, ◌↔◌, None, Some, IfSome, false, true, option_map};
 ghost use Rattle.session_walk.specs.Messages.{complete_bytes_at};
-ghost use Rattle.session_walk.specs.Completed.{ShowsDecided, ended_bytes, shown_bytes};
+ghost use Rattle.session_walk.specs.Completed.{ShowsResolved, ended_bytes, shown_bytes};
 
 use crate::ambiguous::CompletedMessage;
 use crate::entry::{CborMessage, Entry, LineEntry};
@@ -25,7 +25,7 @@ impl TransactionTracker {
         ensures ambiguous { IfSome self.entry.now.ambiguous (λ ambiguous. ambiguous.line ≡ number
             → ambiguous.is_whole ≡ true
             → shown_bytes result.own.message ≡ Some (complete_bytes_at self.entry.now.pool ambiguous.transaction.line)) }
-        ensures deferred { ShowsDecided self.entry.now.pool self.entry.now.resolved result.deferred }
+        ensures deferred { ShowsResolved self.entry.now.pool self.entry.now.resolved result.deferred }
         ensures ended { result.ended.now ≡ self.entry.now.ended.0.items }
         ensures page { result.page ≡ None }
     {
@@ -62,7 +62,7 @@ impl TransactionTracker {
 
     /// Returns the ambiguous packet that the last line resolves.
     pub fn deferred(&self) -> Option<LineEntry<'_>>
-        ensures { ShowsDecided self.entry.now.pool self.entry.now.resolved result }
+        ensures { ShowsResolved self.entry.now.pool self.entry.now.resolved result }
     {
         match &self.resolved {
             Some(resolved) => Some(LineEntry {

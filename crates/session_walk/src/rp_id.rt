@@ -4,12 +4,12 @@ use crate::map_iter::{item_at, value_at};
 use ctap_cbor::Item;
 
 /// Maximum length in bytes of an RP ID that is kept: that of a domain name.
-const MESSAGE_BUFFER_LEN: usize = 253;
+const MAX_RP_ID_LEN: usize = 253;
 
 /// An RP ID, or none. Longer ones are not kept.
 #[derive(Clone, Copy)]
 pub struct RpId {
-    bytes: [u8; MESSAGE_BUFFER_LEN],
+    bytes: [u8; MAX_RP_ID_LEN],
     len: usize,
 }
 
@@ -17,7 +17,7 @@ impl Default for RpId {
     /// Returns no RP ID.
     fn default() -> Self {
         RpId {
-            bytes: [0; MESSAGE_BUFFER_LEN],
+            bytes: [0; MAX_RP_ID_LEN],
             len: 0,
         }
     }
@@ -35,7 +35,7 @@ impl RpId {
         let mut rp_id = RpId::default();
         if let Some(map) = map
             && let Some(Item::Text(text)) = item_at(map, key)
-            && text.len() <= MESSAGE_BUFFER_LEN
+            && text.len() <= MAX_RP_ID_LEN
         {
             rp_id.bytes[..text.len()].copy_from_slice(text.as_bytes());
             rp_id.len = text.len();

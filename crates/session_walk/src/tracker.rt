@@ -10,8 +10,8 @@ ghost use Rattle.std.specs.Prelude.{List, [], ◌∷◌, ◌+◌, length, true, 
 ghost use Rattle.hid_packet.specs.Commands.{ERROR as ERROR_COMMAND, INIT as INIT_COMMAND};
 ghost use Rattle.session_log.specs.declared.line.{Line.Line as AnyLine, Line.TheVariants.Input as InputLine};
 ghost use Rattle.session_walk.specs.declared.{channel.Channel.Channel as AnyChannel, ambiguous.Ambiguous.Ambiguous as AnyDoubtful};
-ghost use Rattle.session_walk.specs.Owners.{addressed, match_in};
-ghost use Rattle.session_walk.specs.Walks.{Follows, IsAt, answered, status_of, waiting_on, decided_of, ambiguity_of, current_time_at, channel_on, host_message, input_by, later, message_continued, of_continued};
+ghost use Rattle.session_walk.specs.Owners.{continued_message, match_in};
+ghost use Rattle.session_walk.specs.Walks.{IsTrackerAfter, IsAt, answered, status_of, waiting_on, decided_of, ambiguity_of, current_time_at, channel_on, host_message, input_by, time_after_line, message_continued, continued_transaction};
 
 use crate::ambiguous::{Ambiguous, CompletedMessage, Resolved};
 use crate::awaited::AwaitedReply;
@@ -21,7 +21,7 @@ use crate::credentials::Credentials;
 use crate::device::MIN_TIMEOUT_MS;
 use crate::entry::{Role, channel_of};
 use crate::message_buffers::Pool;
-use crate::transaction::{EndedList, MessageProgress, Named, OpenTransaction, Transaction};
+use crate::transaction::{EndedList, MessageProgress, RequestNames, OpenTransaction, Transaction};
 use hid_packet::command::{CANCEL, CBOR, INIT};
 use hid_packet::{CONT_PACKET_DATA, Packet, View};
 use session_log::Line;
@@ -57,7 +57,7 @@ pub struct TransactionTracker {
 impl TransactionTracker {
     /// Returns the state before the first line.
     pub fn new() -> Self
-        ensures { Follows [] result }
+        ensures { IsTrackerAfter [] result }
     {
         TransactionTracker {
             channels: Channels::default(),
@@ -85,10 +85,10 @@ impl TransactionTracker {
         ensures goes_on { EndsNothing self.old
             → LineContinues parsed.now self.new.message_start self.old.pool self.new.pool }
         ensures completed { IfSome self.new.completed (λ message. message.line ≡ self.new.message_start) }
-        ensures moment { self.new.now ≡ later self.old.now parsed.now }
+        ensures moment { self.new.now ≡ time_after_line self.old.now parsed.now }
         ensures input { self.new.input ≡ input_by self.old.input number parsed.now }
-        ensures follows { (before : List AnyLine) → number ≡ length before + 1 → Follows before self.old
-            → Follows (parsed.now ∷ before) self.new }
+        ensures follows { (before : List AnyLine) → number ≡ length before + 1 → IsTrackerAfter before self.old
+            → IsTrackerAfter (parsed.now ∷ before) self.new }
     {
         self.clear();
         match parsed {
@@ -164,7 +164,7 @@ impl TransactionTracker {
         ensures last { self.new.input ≡ self.old.input }
         ensures of_two { 1 < waiting_on self.old.channels.list → self.new.transaction ≡ self.old.transaction }
     {
-        let Some(reply) = AwaitedReply::in_input(input) else {
+        let Some(reply) = AwaitedReply::from_input(input) else {
             return;
         };
         let requests = self.channels.waiting(false);
@@ -174,7 +174,7 @@ impl TransactionTracker {
         }
         let (count, place) = waiting;
         if count == 0 {
-            self.role = self.channels.without(Role::Reply);
+            self.role = self.channels.role_outside_messages(Role::Reply);
         } else if count == 1 && !self.channels.is_unclear(self.now) {
             let (transaction, role) = self.channels.list[place].reply(reply, self.now);
             self.transaction = transaction;
@@ -204,7 +204,7 @@ impl TransactionTracker {
                 if cmd == CANCEL {
                     let (transaction, role) = self.channels.list[place].cancel(number);
                     self.transaction = transaction;
-                    self.role = self.channels.without(role);
+                    self.role = self.channels.role_outside_messages(role);
                     return;
                 }
                 let command = match part {
@@ -221,7 +221,7 @@ impl TransactionTracker {
             }
             View::More { seq, part, .. } => {
                 self.data_len = part.len();
-                self.go_on(place, number, timed, seq, part);
+                self.on_continuation(place, number, timed, seq, part);
             }
         }
     }
@@ -265,7 +265,7 @@ impl TransactionTracker {
     }
 
     /// Handles a host's continuation packet.
-    fn go_on(&mut self, place: usize, number: u64, timed: &Timed, sequence: u8, part: &[u8])
+    fn on_continuation(&mut self, place: usize, number: u64, timed: &Timed, sequence: u8, part: &[u8])
         requires place { place < 6 }
         requires line { self.old.message_start ≡ 0 }
         requires none { self.old.completed ≡ None }
@@ -278,18 +278,18 @@ impl TransactionTracker {
         ensures time { self.new.now ≡ self.old.now }
         ensures last { self.new.input ≡ self.old.input }
         ensures ambiguous { (c : AnyChannel) → IsAt place self.old c → self.new.ambiguous
-            ≡ ambiguity_of number (InputLine timed.now) (match_in sequence self.old.now (addressed sequence c)) self.old.ambiguous }
+            ≡ ambiguity_of number (InputLine timed.now) (match_in sequence self.old.now (continued_message sequence c)) self.old.ambiguous }
         ensures transaction { (c : AnyChannel) → IsAt place self.old c → self.old.transaction ≡ None
-            → self.new.transaction ≡ of_continued (match_in sequence self.old.now (addressed sequence c)) }
+            → self.new.transaction ≡ continued_transaction (match_in sequence self.old.now (continued_message sequence c)) }
         ensures message { (c : AnyChannel) → IsAt place self.old c
-            → self.new.message_start ≡ message_continued (match_in sequence self.old.now (addressed sequence c)) }
+            → self.new.message_start ≡ message_continued (match_in sequence self.old.now (continued_message sequence c)) }
     {
-        let continuation = self.channels.list[place].go_on(sequence, self.now);
-        self.go_on_by(place, number, timed, part, &continuation);
+        let continuation = self.channels.list[place].on_continuation(sequence, self.now);
+        self.continue_matching(place, number, timed, part, &continuation);
     }
 
     /// Handles a host's continuation packet, given the message that it matches.
-    fn go_on_by(
+    fn continue_matching(
         &mut self,
         place: usize,
         number: u64,
@@ -311,12 +311,12 @@ impl TransactionTracker {
         ensures last { self.new.input ≡ self.old.input }
         ensures ambiguous { self.new.ambiguous
             ≡ ambiguity_of number (InputLine timed.now) continuation.now self.old.ambiguous }
-        ensures transaction { self.old.transaction ≡ None → self.new.transaction ≡ of_continued continuation.now }
+        ensures transaction { self.old.transaction ≡ None → self.new.transaction ≡ continued_transaction continuation.now }
         ensures message { self.new.message_start ≡ message_continued continuation.now }
     {
         let Some(continuation) = *continuation else {
-            let role = self.channels.list[place].without(Role::Stray);
-            self.role = self.channels.without(role);
+            let role = self.channels.list[place].role_outside_messages(Role::Stray);
+            self.role = self.channels.role_outside_messages(role);
             return;
         };
         let transaction = continuation.transaction;

@@ -8,7 +8,7 @@ ghost use Rattle.std.specs.Prelude.{◌&&◌, ◌||◌, ◌==◌, not};
 use crate::awaited::AwaitedReply;
 use crate::command::{GET_ASSERTION, MAKE_CREDENTIAL, RESET, SELECTION};
 use crate::command_names::name_in;
-use crate::credentials::{Excluded, Name};
+use crate::credentials::{Excluded, HashedId};
 use crate::rp_id::RpId;
 use crate::standard::{COMMANDS, MESSAGES};
 use arrayvec::ArrayVec;
@@ -53,7 +53,7 @@ pub struct MessageProgress {
 
 impl MessageProgress {
     /// Returns the number of bytes received.
-    pub fn came(&self) -> usize
+    pub fn received_len(&self) -> usize
         ensures { result ≡ bytes_received self.now.length self.now.continuations }
     {
         let most = INIT_PACKET_DATA + CONT_PACKET_DATA * usize::from(self.continuations);
@@ -66,16 +66,16 @@ impl MessageProgress {
         ensures data_len { result + bytes_received self.old.length self.old.continuations
             ≡ bytes_received self.new.length self.new.continuations }
     {
-        let before = self.came();
+        let before = self.received_len();
         self.continuations = self.continuations.saturating_add(1);
-        self.came().saturating_sub(before)
+        self.received_len().saturating_sub(before)
     }
 
     /// Returns whether the message is complete. One of over 7609 bytes never is.
     pub fn is_whole(&self) -> bool
         ensures { result ≡ is_whole self.now.length self.now.continuations }
     {
-        self.length <= MAX_MESSAGE_LEN && self.came() == usize::from(self.length)
+        self.length <= MAX_MESSAGE_LEN && self.received_len() == usize::from(self.length)
     }
 
     /// Returns the bytes received and the message's length, or `None`s if it is complete.
@@ -86,19 +86,19 @@ impl MessageProgress {
         if self.is_whole() {
             (None, None)
         } else {
-            (Some(self.came() as u64), Some(u64::from(self.length)))
+            (Some(self.received_len() as u64), Some(u64::from(self.length)))
         }
     }
 }
 
 /// The RP ID and credentials that a complete request names.
 #[derive(Clone, Copy, Default)]
-pub struct Named {
+pub struct RequestNames {
     pub rp_id: RpId,
     /// The credential created in this log that the request excludes.
     pub excluded: Option<Excluded>,
     /// The account for which the request creates a discoverable credential.
-    pub account: Option<Name>,
+    pub account: Option<HashedId>,
     /// Whether the request needs no user presence: its option `up` is false.
     pub is_silent: bool,
     /// Whether it may name a credential from before the log: one of its list, or any if authenticatorGetAssertion has
@@ -124,7 +124,7 @@ pub struct OpenTransaction {
     pub awaited: Option<AwaitedReply>,
     /// Number of KEEPALIVEs sent.
     pub keepalives: u64,
-    pub named: Named,
+    pub named: RequestNames,
 }
 
 impl OpenTransaction {

@@ -15,7 +15,7 @@ use base64::engine::general_purpose::URL_SAFE_NO_PAD;
 const LETTERS: usize = 12288;
 
 /// Returns the six bits of a base64url character.
-fn six_of(letter: u8) -> Option<u8>
+fn decode_char(letter: u8) -> Option<u8>
     ensures { ForSome result (λ v. v < 64) }
 {
     match letter {
@@ -48,7 +48,7 @@ pub fn decode(text: &[u8], member: &'static str) -> Result<Text, Rejection> {
     let mut bytes = Text::new();
     let mut kept = 0u8;
     for i in 0..text.len() {
-        let Some(six) = six_of(text[i]) else {
+        let Some(six) = decode_char(text[i]) else {
             return Err(refused(member));
         };
         match i % 4 {

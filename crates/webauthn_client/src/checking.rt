@@ -20,7 +20,7 @@ enum Digits {
 
 /// The tokens that are allowed next.
 #[derive(Clone, Copy)]
-enum At {
+enum ExpectedToken {
     Value,
     ItemOrEnd,
     Key,
@@ -37,13 +37,13 @@ enum At {
 /// The state of the validation. Open brackets are bits, 1 for an object, the innermost lowest.
 #[derive(Clone, Copy)]
 struct Checker {
-    at: At,
+    at: ExpectedToken,
     open: u64,
     levels: u8,
 }
 
 impl Checker {
-    fn go(self, at: At) -> Option<Checker> {
+    fn expecting(self, at: ExpectedToken) -> Option<Checker> {
         Some(Checker { at, ..self })
     }
 
@@ -59,9 +59,9 @@ impl Checker {
         let bit = if is_object { 1 } else { 0 };
         Some(Checker {
             at: if is_object {
-                At::KeyOrEnd
+                ExpectedToken::KeyOrEnd
             } else {
-                At::ItemOrEnd
+                ExpectedToken::ItemOrEnd
             },
             open: self.open % 0x8000_0000_0000_0000 * 2 + bit,
             levels: self.levels + 1,
@@ -74,7 +74,7 @@ impl Checker {
             return None;
         }
         Some(Checker {
-            at: At::Next,
+            at: ExpectedToken::Next,
             open: self.open / 2,
             levels: self.levels - 1,
         })
@@ -83,15 +83,15 @@ impl Checker {
     /// Handles the first byte of a value.
     fn value(self, byte: u8) -> Option<Checker> {
         match byte {
-            b'"' => self.go(At::Text(false)),
+            b'"' => self.expecting(ExpectedToken::Text(false)),
             b'{' => self.begin(true),
             b'[' => self.begin(false),
-            b't' => self.go(At::Word(b"rue")),
-            b'f' => self.go(At::Word(b"alse")),
-            b'n' => self.go(At::Word(b"ull")),
-            b'-' => self.go(At::Number(Digits::Minus)),
-            b'0' => self.go(At::Number(Digits::Zero)),
-            b'1'..=b'9' => self.go(At::Number(Digits::Whole)),
+            b't' => self.expecting(ExpectedToken::Word(b"rue")),
+            b'f' => self.expecting(ExpectedToken::Word(b"alse")),
+            b'n' => self.expecting(ExpectedToken::Word(b"ull")),
+            b'-' => self.expecting(ExpectedToken::Number(Digits::Minus)),
+            b'0' => self.expecting(ExpectedToken::Number(Digits::Zero)),
+            b'1'..=b'9' => self.expecting(ExpectedToken::Number(Digits::Whole)),
             _ => None,
         }
     }
@@ -99,15 +99,15 @@ impl Checker {
     /// Handles a byte after a value.
     fn after(self, byte: u8) -> Option<Checker> {
         match byte {
-            b' ' | b'\t' | b'\n' | b'\r' => self.go(At::Next),
+            b' ' | b'\t' | b'\n' | b'\r' => self.expecting(ExpectedToken::Next),
             b',' => {
                 if self.levels == 0 {
                     return None;
                 }
-                self.go(if self.is_in_object() {
-                    At::Key
+                self.expecting(if self.is_in_object() {
+                    ExpectedToken::Key
                 } else {
-                    At::Value
+                    ExpectedToken::Value
                 })
             }
             b'}' => self.close(true),
@@ -119,8 +119,8 @@ impl Checker {
     /// Handles a byte of a string or key.
     fn text(self, is_key: bool, byte: u8) -> Option<Checker> {
         match byte {
-            b'"' => self.go(if is_key { At::Colon } else { At::Next }),
-            b'\\' => self.go(At::Escape(is_key)),
+            b'"' => self.expecting(if is_key { ExpectedToken::Colon } else { ExpectedToken::Next }),
+            b'\\' => self.expecting(ExpectedToken::Escape(is_key)),
             0..=31 => None,
             _ => Some(self),
         }
@@ -129,8 +129,8 @@ impl Checker {
     /// Handles the byte after a backslash.
     fn escape(self, is_key: bool, byte: u8) -> Option<Checker> {
         match byte {
-            b'"' | b'\\' | b'/' | b'b' | b'f' | b'n' | b'r' | b't' => self.go(At::Text(is_key)),
-            b'u' => self.go(At::Hex(is_key, 3)),
+            b'"' | b'\\' | b'/' | b'b' | b'f' | b'n' | b'r' | b't' => self.expecting(ExpectedToken::Text(is_key)),
+            b'u' => self.expecting(ExpectedToken::Hex(is_key, 3)),
             _ => None,
         }
     }
@@ -141,9 +141,9 @@ impl Checker {
             return None;
         }
         if left == 0 {
-            return self.go(At::Text(is_key));
+            return self.expecting(ExpectedToken::Text(is_key));
         }
-        self.go(At::Hex(is_key, left - 1))
+        self.expecting(ExpectedToken::Hex(is_key, left - 1))
     }
 
     /// Handles a letter of `true`, `false` or `null`.
@@ -152,10 +152,10 @@ impl Checker {
         if *first != byte {
             return None;
         }
-        self.go(if rest.is_empty() {
-            At::Next
+        self.expecting(if rest.is_empty() {
+            ExpectedToken::Next
         } else {
-            At::Word(rest)
+            ExpectedToken::Word(rest)
         })
     }
 
@@ -177,19 +177,19 @@ impl Checker {
                 return self.after(byte);
             }
         };
-        self.go(At::Number(next))
+        self.expecting(ExpectedToken::Number(next))
     }
 
     /// Handles a byte.
     fn step(self, byte: u8) -> Option<Checker> {
         let is_space = matches!(byte, b' ' | b'\t' | b'\n' | b'\r');
         match self.at {
-            At::Text(is_key) => self.text(is_key, byte),
-            At::Escape(is_key) => self.escape(is_key, byte),
-            At::Hex(is_key, left) => self.hex(is_key, left, byte),
-            At::Word(rest) => self.word(rest, byte),
-            At::Number(digits) => self.number(digits, byte),
-            At::Next => self.after(byte),
+            ExpectedToken::Text(is_key) => self.text(is_key, byte),
+            ExpectedToken::Escape(is_key) => self.escape(is_key, byte),
+            ExpectedToken::Hex(is_key, left) => self.hex(is_key, left, byte),
+            ExpectedToken::Word(rest) => self.word(rest, byte),
+            ExpectedToken::Number(digits) => self.number(digits, byte),
+            ExpectedToken::Next => self.after(byte),
             _ => {
                 if is_space {
                     return Some(self);
@@ -202,12 +202,12 @@ impl Checker {
     /// Handles the first byte of a key or value, or a colon.
     fn begins(self, byte: u8) -> Option<Checker> {
         match (self.at, byte) {
-            (At::Colon, b':') => self.go(At::Value),
-            (At::Colon, _) => None,
-            (At::Key | At::KeyOrEnd, b'"') => self.go(At::Text(true)),
-            (At::KeyOrEnd, b'}') => self.close(true),
-            (At::Key | At::KeyOrEnd, _) => None,
-            (At::ItemOrEnd, b']') => self.close(false),
+            (ExpectedToken::Colon, b':') => self.expecting(ExpectedToken::Value),
+            (ExpectedToken::Colon, _) => None,
+            (ExpectedToken::Key | ExpectedToken::KeyOrEnd, b'"') => self.expecting(ExpectedToken::Text(true)),
+            (ExpectedToken::KeyOrEnd, b'}') => self.close(true),
+            (ExpectedToken::Key | ExpectedToken::KeyOrEnd, _) => None,
+            (ExpectedToken::ItemOrEnd, b']') => self.close(false),
             _ => self.value(byte),
         }
     }
@@ -216,8 +216,8 @@ impl Checker {
     fn is_done(self) -> bool {
         self.levels == 0
             && match self.at {
-                At::Next => true,
-                At::Number(digits) => ends(digits),
+                ExpectedToken::Next => true,
+                ExpectedToken::Number(digits) => ends(digits),
                 _ => false,
             }
     }
@@ -237,7 +237,7 @@ pub fn is_json(text: &[u8]) -> bool {
         return false;
     }
     let mut checker = Checker {
-        at: At::Value,
+        at: ExpectedToken::Value,
         open: 0,
         levels: 0,
     };

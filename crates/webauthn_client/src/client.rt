@@ -15,7 +15,7 @@ use crate::number::unsigned_long;
 use crate::options::{Abilities, is_conditional, public_key};
 use crate::rejection::{DomError, Rejection, not_allowed, type_error};
 use crate::relying_party::{Origin, parse_origin};
-use crate::response::{Response, authentication_json, registration_json, unreadable};
+use crate::response::{Response, authentication_json, registration_json, invalid_response};
 use crate::{registration, sign_in};
 use ctap_cbor::check;
 
@@ -120,8 +120,8 @@ impl<'a> Client<'a> {
         ensures { IfOk result (λ v. IsTrue v → self.now.abilities.verification ≡ Verified) }
     {
         match self.ceremony {
-            Ceremony::Create => registration::verifies(self.options, self.abilities),
-            Ceremony::Get => sign_in::verifies(self.options, self.abilities),
+            Ceremony::Create => registration::requests_verification(self.options, self.abilities),
+            Ceremony::Get => sign_in::requests_verification(self.options, self.abilities),
         }
     }
 
@@ -139,7 +139,7 @@ impl<'a> Client<'a> {
         ensures { OnOk result ((t : Tree) × IsCanonical t map.now) }
     {
         if check(map).result.is_err() {
-            return Err(unreadable());
+            return Err(invalid_response());
         }
         let data = self.client_data()?;
         let extensions = member(self.options, "extensions");

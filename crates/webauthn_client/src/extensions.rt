@@ -17,12 +17,12 @@ pub fn extension<'a>(extensions: Option<&'a [u8]>, name: &str) -> Option<&'a [u8
 }
 
 /// Returns a member of an extension.
-pub fn inner<'a>(extensions: Option<&'a [u8]>, name: &str, inner: &str) -> Option<&'a [u8]> {
+pub fn inner_member<'a>(extensions: Option<&'a [u8]>, name: &str, inner: &str) -> Option<&'a [u8]> {
     member(member(extensions?, name)?, inner)
 }
 
 /// Returns whether an extension's input is `true`.
-pub fn is_on(extensions: Option<&[u8]>, name: &str) -> bool {
+pub fn is_true(extensions: Option<&[u8]>, name: &str) -> bool {
     boolean(extension(extensions, name).unwrap_or(b"false"))
 }
 
@@ -75,10 +75,10 @@ pub fn check_extension_types(extensions: Option<&[u8]>) -> Result<(), Rejection>
     optional_dictionary(extensions, "extensions")?;
     optional_dictionary(extension(extensions, "largeBlob"), "largeBlob")?;
     optional_dictionary(extension(extensions, "prf"), "prf")?;
-    if let Some(values) = inner(extensions, "prf", "eval") {
+    if let Some(values) = inner_member(extensions, "prf", "eval") {
         check_prf_values(values)?;
     }
-    check_by_credential(inner(extensions, "prf", "evalByCredential"))
+    check_by_credential(inner_member(extensions, "prf", "evalByCredential"))
 }
 
 /// Checks that the `prf` inputs are base64url.
@@ -95,13 +95,13 @@ pub fn check_extension_bytes(extensions: Option<&[u8]>) -> Result<(), Rejection>
     if let Some(blob) = extension(extensions, "credBlob") {
         bytes_of(blob, "extensions.credBlob")?;
     }
-    if let Some(written) = inner(extensions, "largeBlob", "write") {
+    if let Some(written) = inner_member(extensions, "largeBlob", "write") {
         bytes_of(written, "extensions.largeBlob.write")?;
     }
-    if let Some(values) = inner(extensions, "prf", "eval") {
+    if let Some(values) = inner_member(extensions, "prf", "eval") {
         check_prf_bytes(values)?;
     }
-    let record = inner(extensions, "prf", "evalByCredential").unwrap_or(b"");
+    let record = inner_member(extensions, "prf", "evalByCredential").unwrap_or(b"");
     let mut rest = inside(record);
     for _ in 0..record.len() {
         let Some((_, after_key)) = next_value(rest) else {
@@ -138,7 +138,7 @@ fn check_protection(
             "it is inconsistent with userVerification",
         ));
     }
-    if is_on(extensions, "enforceCredentialProtectionPolicy") && !is_optional {
+    if is_true(extensions, "enforceCredentialProtectionPolicy") && !is_optional {
         return Err(not_allowed("credProtect is enforced, but the key does not support it"));
     }
     Ok(())
@@ -166,15 +166,15 @@ pub fn check_creation(
         return Err(unsupported("appid", "it is only valid when requesting an assertion"));
     }
     check_app_id(extension(extensions, "appidExclude"), origin)?;
-    if boolean(inner(extensions, "largeBlob", "read").unwrap_or(b"false"))
-        || is_text_there(inner(extensions, "largeBlob", "write"))
+    if boolean(inner_member(extensions, "largeBlob", "read").unwrap_or(b"false"))
+        || is_nonempty_string(inner_member(extensions, "largeBlob", "write"))
     {
         return Err(unsupported(
             "largeBlob",
             "reading and writing are only valid when requesting an assertion",
         ));
     }
-    if inner(extensions, "prf", "evalByCredential").is_some() {
+    if inner_member(extensions, "prf", "evalByCredential").is_some() {
         return Err(unsupported(
             "prf",
             "evalByCredential cannot be set when creating a credential",
@@ -182,7 +182,7 @@ pub fn check_creation(
     }
     check_protection(extensions, verification)?;
     if is_word(
-        inner(extensions, "largeBlob", "support").unwrap_or(b"null"),
+        inner_member(extensions, "largeBlob", "support").unwrap_or(b"null"),
         "required",
     ) {
         return Err(not_allowed("largeBlob is required, but the key does not support it"));
@@ -191,7 +191,7 @@ pub fn check_creation(
 }
 
 /// Returns whether a value is a string that isn't empty.
-fn is_text_there(value: Option<&[u8]>) -> bool {
+fn is_nonempty_string(value: Option<&[u8]>) -> bool {
     match value {
         Some(value) => !is_word(value, ""),
         None => false,
@@ -199,7 +199,7 @@ fn is_text_there(value: Option<&[u8]>) -> bool {
 }
 
 /// Returns whether a record has members, and whether all their names are base64url.
-fn by_credential(record: &[u8]) -> (bool, bool) {
+fn credential_names(record: &[u8]) -> (bool, bool) {
     let mut rest = inside(record);
     let mut has_any = false;
     for _ in 0..record.len() {
@@ -227,20 +227,20 @@ pub fn check_request(
     if extension(extensions, "credProps").is_some() {
         return Err(unsupported("credProps", "it is only valid when creating a credential"));
     }
-    if inner(extensions, "largeBlob", "support").is_some() {
+    if inner_member(extensions, "largeBlob", "support").is_some() {
         return Err(unsupported(
             "largeBlob",
             "support is only valid when creating a credential",
         ));
     }
-    let has_write = inner(extensions, "largeBlob", "write").is_some();
-    if has_write && boolean(inner(extensions, "largeBlob", "read").unwrap_or(b"false")) {
+    let has_write = inner_member(extensions, "largeBlob", "write").is_some();
+    if has_write && boolean(inner_member(extensions, "largeBlob", "read").unwrap_or(b"false")) {
         return Err(unsupported(
             "largeBlob",
             "only one of read and write is allowed at a time",
         ));
     }
-    let (has_any, are_ids) = by_credential(inner(extensions, "prf", "evalByCredential").unwrap_or(
+    let (has_any, are_ids) = credential_names(inner_member(extensions, "prf", "evalByCredential").unwrap_or(
         b"",
     ));
     if has_any && !has_list {

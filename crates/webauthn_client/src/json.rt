@@ -46,7 +46,7 @@ pub fn kind_of(value: &[u8]) -> Kind {
 }
 
 /// Returns whether a byte is white space, a comma or a colon.
-fn is_between(byte: u8) -> bool {
+fn is_separator(byte: u8) -> bool {
     matches!(byte, b' ' | b'\t' | b'\n' | b'\r' | b',' | b':')
 }
 
@@ -106,7 +106,7 @@ fn scan_byte(scan: Scan, byte: u8) -> Scanned {
         }),
         b'}' | b']' => scan_close(scan),
         _ => {
-            if scan.depth == 0 && is_between(byte) {
+            if scan.depth == 0 && is_separator(byte) {
                 Scanned::EndsBefore
             } else {
                 Scanned::On(scan)
@@ -135,11 +135,11 @@ fn value_len(text: &[u8]) -> usize
 }
 
 /// Returns the number of white space bytes, commas and colons at the beginning of the text.
-fn between_len(text: &[u8]) -> usize
+fn separator_len(text: &[u8]) -> usize
     ensures { result ≤ length text.now }
 {
     for i in 0..text.len() {
-        if !is_between(text[i]) {
+        if !is_separator(text[i]) {
             return i;
         }
     }
@@ -148,7 +148,7 @@ fn between_len(text: &[u8]) -> usize
 
 /// Returns the value at the beginning of the text and the rest of the text, or None at the end of an array or object.
 pub fn next_value<'a>(text: &'a [u8]) -> Option<(&'a [u8], &'a [u8])> {
-    let text = &text[between_len(text)..];
+    let text = &text[separator_len(text)..];
     let len = value_len(text);
     if len == 0 {
         return None;

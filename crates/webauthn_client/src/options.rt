@@ -145,7 +145,7 @@ pub fn is_public_key(item: &[u8]) -> bool {
 }
 
 /// Returns the number of list entries of the type `public-key`.
-pub fn known_count(list: &[u8]) -> u64 {
+pub fn public_key_count(list: &[u8]) -> u64 {
     let mut known = 0u64;
     let mut rest = inside(list);
     for _ in 0..list.len() {
@@ -162,7 +162,7 @@ pub fn known_count(list: &[u8]) -> u64 {
 
 /// Appends a list of credential descriptors in CTAP2's encoding.
 pub fn put_descriptors(message: &mut Message, list: &[u8]) -> Result<(), Rejection> {
-    put_head(message, 4, known_count(list))?;
+    put_head(message, 4, public_key_count(list))?;
     let mut rest = inside(list);
     for _ in 0..list.len() {
         let Some((item, after)) = next_value(rest) else {

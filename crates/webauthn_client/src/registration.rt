@@ -10,7 +10,7 @@ use crate::message::{Message, put, put_bytes, put_head, put_long, put_text};
 use crate::number::{boolean, count, unsigned_long};
 use crate::options::{
     Abilities, bytes_of, check_descriptors, check_ids, check_length, dictionary, is_public_key,
-    is_verified, known_count, optional_dictionary, put_descriptors, required, sequence,
+    is_verified, public_key_count, optional_dictionary, put_descriptors, required, sequence,
 };
 use crate::rejection::{DomError, Rejection, not_allowed, type_error};
 use crate::relying_party::{Origin, rp_id_of};
@@ -118,7 +118,7 @@ fn put_parameters(message: &mut Message, list: &[u8]) -> Result<(), Rejection> {
             b"\x82\xa2\x63alg\x26\x64type\x6apublic-key\xa2\x63alg\x39\x01\x00\x64type\x6apublic-key",
         );
     }
-    put_head(message, 4, known_count(list))?;
+    put_head(message, 4, public_key_count(list))?;
     let mut rest = inside(list);
     for _ in 0..list.len() {
         let Some((item, after)) = next_value(rest) else {
@@ -162,7 +162,7 @@ fn check_values(options: &[u8], origin: &Origin) -> Result<(), Rejection> {
     }
     check_length(member(options, "excludeCredentials"), "excludeCredentials")?;
     let parameters = required(options, "pubKeyCredParams")?;
-    if count(parameters) > 0 && known_count(parameters) == 0 {
+    if count(parameters) > 0 && public_key_count(parameters) == 0 {
         return Err(Rejection {
             error: DomError::NotSupported,
             member: "pubKeyCredParams",
@@ -177,7 +177,7 @@ fn check_values(options: &[u8], origin: &Origin) -> Result<(), Rejection> {
 }
 
 /// Returns whether user verification is requested.
-pub fn verifies(options: &[u8], abilities: Abilities) -> Result<bool, Rejection>
+pub fn requests_verification(options: &[u8], abilities: Abilities) -> Result<bool, Rejection>
     ensures { IfOk result (λ v. IsTrue v → abilities.verification ≡ Verified) }
 {
     is_verified(
@@ -211,10 +211,10 @@ pub fn request_of(
         None => rp_id_of(None, origin, suffix)?,
     };
     check_abilities(options, abilities)?;
-    verifies(options, abilities)?;
+    requests_verification(options, abilities)?;
     let is_discoverable = is_discoverable(options, abilities)?;
     let excluded = member(options, "excludeCredentials").unwrap_or(b"");
-    let has_excluded = known_count(excluded) > 0;
+    let has_excluded = public_key_count(excluded) > 0;
     let members = 4 + u64::from(has_excluded) + u64::from(is_discoverable);
     put(message, b"\x01")?;
     put_head(message, 5, members)?;

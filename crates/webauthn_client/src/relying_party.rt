@@ -15,7 +15,7 @@ pub struct Origin<'a> {
 }
 
 /// Returns the error for an origin or RP ID that isn't allowed.
-fn security(reason: &'static str) -> Rejection
+fn security_error(reason: &'static str) -> Rejection
     ensures { result.error ≡ Security }
 {
     Rejection {
@@ -26,7 +26,7 @@ fn security(reason: &'static str) -> Rejection
 }
 
 /// Returns whether a byte may occur in a host name. None of these needs escaping in JSON.
-fn is_of_host(byte: u8) -> bool {
+fn is_host_char(byte: u8) -> bool {
     matches!(byte, b'a'..=b'z' | b'0'..=b'9' | b'-' | b'.' | b'_')
 }
 
@@ -34,7 +34,7 @@ fn is_of_host(byte: u8) -> bool {
 fn host_of(rest: &[u8]) -> Option<&[u8]> {
     let len = rest
         .iter()
-        .position(|&byte| !is_of_host(byte))
+        .position(|&byte| !is_host_char(byte))
         .unwrap_or(rest.len());
     let (host, port) = rest.split_at_checked(len)?;
     let is_port = match port.split_first() {
@@ -85,7 +85,7 @@ fn is_address(host: &[u8]) -> bool {
 }
 
 /// Returns whether a text is a dot followed by this suffix.
-fn is_behind_stop(tail: &[u8], id: &[u8]) -> bool
+fn is_dot_and_suffix(tail: &[u8], id: &[u8]) -> bool
     ensures { IsTrue result ↔ (tail.now ≡ 46 ∷ id.now) }
 {
     match tail.split_first() {
@@ -102,19 +102,19 @@ pub fn may_use(id: &[u8], host: &[u8], suffix: &[u8]) -> bool
         return id == host;
     }
     let (_, tail) = host.split_at(host.len() - id.len() - 1);
-    is_behind_stop(tail, id)
+    is_dot_and_suffix(tail, id)
 }
 
 /// Returns whether the page is a secure context: https, or localhost.
 fn check_context(origin: &Origin) -> Result<(), Rejection> {
     if is_address(origin.host) {
-        return Err(security(
+        return Err(security_error(
             "This is an invalid domain: the host is an address; serve the page at http://localhost",
         ));
     }
     let is_local = origin.host == b"localhost".as_slice() || origin.host.ends_with(b".localhost");
     if !origin.is_secure_scheme && !is_local {
-        return Err(security(
+        return Err(security_error(
             "the page is in no secure context: browsers have WebAuthn on https:// and http://localhost",
         ));
     }
@@ -141,7 +141,7 @@ pub fn rp_id_of<'a>(
         suffix
     };
     if !may_use(id, origin.host, known) {
-        return Err(security(
+        return Err(security_error(
             "The relying party ID is not a registrable domain suffix of, nor equal to the current domain",
         ));
     }
@@ -161,17 +161,17 @@ pub fn check_site(url: &[u8], origin: &Origin) -> Result<(), Rejection> {
         }
     };
     let Some(rest) = path.strip_prefix(b"https://") else {
-        return Err(security("the extension's URL isn't over https"));
+        return Err(security_error("the extension's URL isn't over https"));
     };
     let len = rest
         .iter()
-        .position(|&byte| !is_of_host(byte))
+        .position(|&byte| !is_host_char(byte))
         .unwrap_or(rest.len());
     let site = rest.get(..len).unwrap_or(b"");
     let is_near = may_use(site, origin.host, last_label(origin.host))
         || may_use(origin.host, site, last_label(site));
     if !is_near || !origin.is_secure_scheme {
-        return Err(security("the extension's URL is of another site"));
+        return Err(security_error("the extension's URL is of another site"));
     }
     Ok(())
 }

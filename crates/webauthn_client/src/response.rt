@@ -7,7 +7,7 @@ ghost use Rattle.webauthn_client.specs.declared.rejection.DomError.TheVariants.{
 
 use crate::base64url::encode;
 use crate::client_data::ClientData;
-use crate::extensions::{extension, inner, is_on};
+use crate::extensions::{extension, inner, is_true};
 use crate::options::Abilities;
 use crate::rejection::{Rejection, not_allowed, too_long};
 use crate::text::is_word;
@@ -26,20 +26,20 @@ const SPKI: &[u8] =
 
 /// A member of a response map: its whole encoding, and its content if it is a string.
 #[derive(Clone, Copy)]
-struct Part<'a> {
+struct ResponseMember<'a> {
     whole: &'a [u8],
     content: &'a [u8],
 }
 
 /// Returns the error for an invalid authenticator response.
-pub fn unreadable() -> Rejection
+pub fn invalid_response() -> Rejection
     ensures { result.error ≡ NotAllowed }
 {
     not_allowed("the key's answer can't be read")
 }
 
 /// Returns a member of a response map by its number.
-fn part_of<'a>(map: &'a [u8], number: i128) -> Option<Part<'a>> {
+fn part_of<'a>(map: &'a [u8], number: i128) -> Option<ResponseMember<'a>> {
     let mut cursor = Cursor::new(map);
     let Ok(Item::Map(count)) = cursor.item(1) else {
         return None;
@@ -61,7 +61,7 @@ fn part_of<'a>(map: &'a [u8], number: i128) -> Option<Part<'a>> {
         }
         if key == number {
             let whole = map.get(start..cursor.place())?;
-            return Some(Part { whole, content });
+            return Some(ResponseMember { whole, content });
         }
     }
     None
@@ -154,8 +154,8 @@ fn push_creation_results(
     is_discoverable: bool,
     has_resident_key: bool,
 ) -> Result<(), Rejection> {
-    let has_props = is_on(extensions, "credProps");
-    let has_support = match inner(extensions, "largeBlob", "support") {
+    let has_props = is_true(extensions, "credProps");
+    let has_support = match inner_member(extensions, "largeBlob", "support") {
         Some(support) => !is_word(support, ""),
         None => false,
     };
@@ -175,7 +175,7 @@ fn push_creation_results(
     push_result(
         out,
         &mut has_any,
-        is_on(extensions, "hmacCreateSecret"),
+        is_true(extensions, "hmacCreateSecret"),
         b"\"hmacCreateSecret\":false",
     )?;
     push_result(
@@ -194,7 +194,7 @@ fn push_creation_results(
 
 /// Appends the extension results of an authentication.
 fn push_request_results(out: &mut Response, extensions: Option<&[u8]>) -> Result<(), Rejection> {
-    let blob: &[u8] = if inner(extensions, "largeBlob", "write").is_some() {
+    let blob: &[u8] = if inner_member(extensions, "largeBlob", "write").is_some() {
         b"\"largeBlob\":{\"written\":false}"
     } else {
         b"\"largeBlob\":{}"
@@ -209,7 +209,7 @@ fn push_request_results(out: &mut Response, extensions: Option<&[u8]>) -> Result
     push_result(
         out,
         &mut has_any,
-        is_on(extensions, "getCredBlob"),
+        is_true(extensions, "getCredBlob"),
         b"\"getCredBlob\":\"\"",
     )?;
     push_result(
@@ -240,15 +240,15 @@ pub fn registration_json(
         part_of(map, 2),
         part_of(map, 3),
     ) else {
-        return Err(unreadable());
+        return Err(invalid_response());
     };
     let auth_data = auth.content;
     let Some([high, low]) = auth_data.get(53..55) else {
-        return Err(unreadable());
+        return Err(invalid_response());
     };
     let end = 55 + usize::from(*high) * 256 + usize::from(*low);
     let (Some(id), Some(cose)) = (auth_data.get(55..end), auth_data.get(end..)) else {
-        return Err(unreadable());
+        return Err(invalid_response());
     };
     let mut attestation = Attestation::new();
     push(&mut attestation, b"\xa3\x63fmt")?;
@@ -283,15 +283,15 @@ pub fn authentication_json(
         part_of(map, 2),
         part_of(map, 3),
     ) else {
-        return Err(unreadable());
+        return Err(invalid_response());
     };
     // {"id": bytes, ..}, canonical: its first key is "id".
     let Some(id) = credential.whole.strip_prefix(b"\xa2\x62id") else {
-        return Err(unreadable());
+        return Err(invalid_response());
     };
     let mut cursor = Cursor::new(id);
     let Ok(Item::Bytes(id)) = cursor.item(2) else {
-        return Err(unreadable());
+        return Err(invalid_response());
     };
     push_front(out, id, client_data)?;
     push(out, b"\",\"authenticatorData\":\"")?;

@@ -9,7 +9,7 @@ use crate::json::{inside, member, next_value};
 use crate::message::{Message, put, put_bytes, put_head, put_text};
 use crate::options::{
     Abilities, bytes_of, check_descriptors, check_ids, check_length, dictionary, is_public_key,
-    is_verified, known_count, put_descriptors, required, sequence,
+    is_verified, public_key_count, put_descriptors, required, sequence,
 };
 use crate::rejection::{Rejection, not_allowed};
 use crate::relying_party::{Origin, rp_id_of};
@@ -48,7 +48,7 @@ fn is_transport(value: &[u8]) -> bool {
 }
 
 /// Returns whether a credential is usable over a transport: its descriptor has this transport, or no known one.
-fn is_reached(item: &[u8], transport: &str) -> bool {
+fn is_usable_over(item: &[u8], transport: &str) -> bool {
     let list = member(item, "transports").unwrap_or(b"");
     let mut rest = inside(list);
     let mut has_named = false;
@@ -68,8 +68,8 @@ fn is_reached(item: &[u8], transport: &str) -> bool {
 }
 
 /// Returns whether the list is empty, or has a credential that is usable over this transport.
-fn is_any_reached(list: &[u8], transport: &str) -> bool {
-    if known_count(list) == 0 {
+fn is_any_usable_over(list: &[u8], transport: &str) -> bool {
+    if public_key_count(list) == 0 {
         return true;
     }
     let mut rest = inside(list);
@@ -77,7 +77,7 @@ fn is_any_reached(list: &[u8], transport: &str) -> bool {
         let Some((item, after)) = next_value(rest) else {
             break;
         };
-        if is_public_key(item) && is_reached(item, transport) {
+        if is_public_key(item) && is_usable_over(item, transport) {
             return true;
         }
         rest = after;
@@ -86,7 +86,7 @@ fn is_any_reached(list: &[u8], transport: &str) -> bool {
 }
 
 /// Returns whether user verification is requested.
-pub fn verifies(options: &[u8], abilities: Abilities) -> Result<bool, Rejection>
+pub fn requests_verification(options: &[u8], abilities: Abilities) -> Result<bool, Rejection>
     ensures { IfOk result (λ v. IsTrue v → abilities.verification ≡ Verified) }
 {
     is_verified(
@@ -112,7 +112,7 @@ pub fn request_of(
 ) -> Result<(), Rejection> {
     let allowed = member(options, "allowCredentials").unwrap_or(b"");
     check_length(Some(allowed), "allowCredentials")?;
-    let has_list = known_count(allowed) > 0;
+    let has_list = public_key_count(allowed) > 0;
     check_request(member(options, "extensions"), has_list, origin)?;
     let given = match member(options, "rpId") {
         Some(id) => Some(text_of(id)?),
@@ -122,8 +122,8 @@ pub fn request_of(
         Some(id) => rp_id_of(Some(id.as_slice()), origin, suffix)?,
         None => rp_id_of(None, origin, suffix)?,
     };
-    verifies(options, abilities)?;
-    if !is_any_reached(allowed, abilities.transport()) {
+    requests_verification(options, abilities)?;
+    if !is_any_usable_over(allowed, abilities.transport()) {
         return Err(not_allowed("allowCredentials names other transports than the key's"));
     }
     put(message, b"\x02")?;

@@ -1,12 +1,12 @@
 use Rattle.std.proofs.Common.{◌∙◌, ap}
 use Rattle.clap.specs.Matches.{found_of}
-use Rattle.hidlog.{specs.CommandLine.texts_of, proofs.CommandLine.logs_are, proofs.CommandLine.no_logs}
+use Rattle.hidlog.{specs.CommandLine.to_texts, proofs.CommandLine.logs_are, proofs.CommandLine.no_logs}
 use Rattle.hidlog.proofs.args.logs_in.Goals as goal
 
 pub returns-in_ok-logs-in-Some : goal.returns-in_ok-logs-in-Some
 returns-in_ok-logs-in-Some c =
-    ap texts_of (c.in_ok-logs-in-Some.ensures.items_if_clones_equal (λ x y same. same))
-    ∙ logs_are (found_of c.args.options.now) (texts_of c.in-Some.paths.now) c.in-Some.ensures
+    ap to_texts (c.in_ok-logs-in-Some.ensures.items_if_clones_equal (λ x y same. same))
+    ∙ logs_are (found_of c.args.options.now) (to_texts c.in-Some.paths.now) c.in-Some.ensures
 
 pub returns-in-None : goal.returns-in-None
-returns-in-None c = ap texts_of c.new.ensures.items ∙ no_logs (found_of c.args.options.now) c.in-None.ensures
+returns-in-None c = ap to_texts c.new.ensures.items ∙ no_logs (found_of c.args.options.now) c.in-None.ensures

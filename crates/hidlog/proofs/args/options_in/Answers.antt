@@ -12,6 +12,6 @@ returns c =
       c.is_set.ensures,
       c.is_set-2.ensures,
       c.is_set-3.ensures,
-      c.form_in.ensures,
-      c.manner_in.ensures,
+      c.parse_show_format.ensures,
+      c.parse_verbosity.ensures,
     )

@@ -1,6 +1,6 @@
 use Rattle.std.proofs.Common.{rules}
 use Rattle.session_log.specs.{Replay.Plays, Replay.Writes, Session.live_history, Session.live_machine}
-use Rattle.hidlog_c.{specs.Lines.HistoryDoes, specs.Lines.LinesDo, proofs.Written.written}
+use Rattle.hidlog_c.{specs.Lines.PlaysLinesOnHistory, specs.Lines.PlaysLines, proofs.Written.written}
 use Rattle.hidlog_c.proofs.lines.play.Goals as goal
 
 pub returns-clause-does : goal.returns-clause-does
@@ -9,7 +9,7 @@ returns-clause-does c =
     let t = c.process_live_lines.new.session in
     let parsed = c.process_live_lines.ensures in
     written live_machine s c.process_live_lines.result c.args.log.now (c.new.result, c.process_live_lines.new.reader)
-    (c.args.writer.now, c.process_live_lines.new.writer) (Plays live_machine s t) (LinesDo s t)
+    (c.args.writer.now, c.process_live_lines.new.writer) (Plays live_machine s t) (PlaysLines s t)
     (λ bytes rest text plays finds. (plays, finds))
     c.new.ensures.left (search rules) parsed.played parsed.reach parsed.end parsed.reads parsed.writes
 
@@ -21,7 +21,7 @@ returns-clause-history c = λ start h stands.
       found.1,
       written (live_history start) h c.process_live_lines.result c.args.log.now (c.new.result, c.process_live_lines.new.reader)
           (c.args.writer.now, c.process_live_lines.new.writer) (Writes (live_history start) h found.0)
-          (HistoryDoes start h found.0)
+          (PlaysLinesOnHistory start h found.0)
           (λ bytes rest text plays finds. (plays, finds)) c.new.ensures.left (search rules) found.2 found.3 parsed.end
           parsed.reads parsed.writes,
     )

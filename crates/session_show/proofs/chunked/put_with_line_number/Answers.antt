@@ -8,7 +8,7 @@ returns g c =
     let taken = g.T.Target.taken in
     let failed = g.T.Target.failed in
     let front : c.as_slice.result.now ≡ decimal c.args.number ++ 32 ∷ [] = search arith in
-    numbered_on taken failed c.args.writer.now c.put_all.new.writer c.put_parts.new.writer c.args.number []
-    c.put_parts.result
+    numbered_on taken failed c.args.writer.now c.put_all.new.writer c.put_chunks.new.writer c.args.number []
+    c.put_chunks.result
     (subst (WritesAll taken failed (c.args.writer.now, c.put_all.new.writer)) front c.in_ok-put_all.ensures)
-    c.put_parts.ensures
+    c.put_chunks.ensures

@@ -1,7 +1,7 @@
 use Rattle.std.proofs.Common.{◌≡◌, ◌-◌, ◌+◌, ◌^◌, ◌≤◌, List, ℕ, ◌++◌, length}
 use Rattle.std.specs.Io.KnownBytes.{Appends, Consumes}
 use Rattle.session_log.proofs.Through.{Through}
-use Rattle.session_show.specs.Shown.{IsShownText, read_only_world, shown_in}
+use Rattle.session_show.specs.Shown.{IsShownText, read_only_world, rule_for_format}
 use Rattle.session_show.proofs.log_writer.write_log.Given as goal
 
 -- whole lines were read and shown, and what was read after them stands in the window
@@ -16,7 +16,7 @@ invariant-lines g l =
           (read ++ l.window)
           × Through read_only_world tt read shown tt l.number
           × ((text : List ℕ) × Appends (g.T.Target.taken l.fn.writer) (g.T.Target.taken l.writer) text
-          × ((t : IsShownText (shown_in l.fn.log_writer.format) shown text) × (l.number ≡ length t.told + 1)));
+          × ((t : IsShownText (rule_for_format l.fn.log_writer.format) shown text) × (l.number ≡ length t.told + 1)));
     }
 
 abbrev pub decreases-lines : goal.decreases-lines

@@ -5,5 +5,5 @@ use Rattle.session_walk.proofs.tracker.TransactionTracker.on_device_init_packet.
 
 pub returns-then-answer-eq-CBOR-clause-bytes : goal.returns-then-answer-eq-CBOR-clause-bytes
 returns-then-answer-eq-CBOR-clause-bytes c = brings_past _ _ _ _ _ _ _ _
-    (subst (λ first. KeepsOnly first c.release.new.self) c.decide_before.ensures.pool c.release.ensures.only)
+    (subst (λ first. KeepsOnly first c.release.new.self) c.resolve_before_response.ensures.pool c.release.ensures.only)
     c.resolve.ensures.pool c.begin.ensures.brings

@@ -7,5 +7,5 @@ returns-in-More-clause-message c = λ c' found.
     let same : channel_on c.channel_of-channel.result c.args.self.now.channels.list ≡ Some c'
     = grind (arith, c.channel_of-channel.ensures, found) in
     let at = c.place-place.ensures.found c' same in
-    let message = c.go_on.ensures.message (record c' { used = c.args.number }) at in
+    let message = c.on_continuation.ensures.message (record c' { used = c.args.number }) at in
     grind (arith, message, c.in-More.ensures.fields, c.in-More.is, c.in-More.seq-is)

@@ -1,7 +1,7 @@
 use Rattle.std.proofs.Common.{ℕ, List, [], ◌∷◌, ◌++◌, Option, Result, Ok, Err, inl, inr, refl, rules}
 use Rattle.hidlog.specs.Program.{IsWrittenTo}
 use Rattle.session_show.specs.Written.{Writes}
-use Rattle.hidlog.proofs.process.say.Goals as goal
+use Rattle.hidlog.proofs.process.write_error_message.Goals as goal
 
 -- what a target took of a write is a text, or the front of one
 given : {F A E : Type 0} (taken : F → Option (List ℕ)) (failed : F → ℕ) (target : F × F) (r : Result A E)

@@ -1,5 +1,5 @@
 use Rattle.std.{proofs.Common.◌≡◌, proofs.Common.ℕ, proofs.Common.List, specs.Io.KnownBytes.Appends}
-use Rattle.session_show.proofs.chunked.put_parts.Given as goal
+use Rattle.session_show.proofs.chunked.put_chunks.Given as goal
 
 -- the parts so far were appended, and no call failed
 abbrev pub invariant-parts : goal.invariant-parts

@@ -1,6 +1,6 @@
 use Rattle.std.proofs.Common.{◌∙◌, sym}
 use Rattle.session_show.proofs.Lines.{broken_line}
-use Rattle.session_show.proofs.log_writer.LogWriter.tell.Goals as goal
+use Rattle.session_show.proofs.log_writer.LogWriter.write_next_line.Goals as goal
 
 pub returns-in-Err-put_with_line_number-clause-shown : goal.returns-in-Err-put_with_line_number-clause-shown
 returns-in-Err-put_with_line_number-clause-shown g c = broken_line c.args.number c.args.line.now _ _ c.in-Some.parsed
