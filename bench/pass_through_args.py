@@ -49,7 +49,7 @@ def find_closing(text: str, start: int) -> int:
         depth += (text[place] == opened) - (text[place] == closed)
         if depth == 0:
             return place
-    raise ValueError(f"no {closed} closes {text[start:start + 40]!r}")
+    raise ValueError(f"missing {closed} after {text[start:start + 40]!r}")
 
 
 def split_arguments(text: str) -> list[str]:

@@ -108,7 +108,7 @@ def complete_in_fish(folder: Path, work_dir: Path) -> list[str]:
         )
         found = re.findall(r"^[^\t\n]+", ran.stdout.decode(), re.MULTILINE)
         if wanted.rpartition(" ")[2] not in found:
-            wrong.append(f"{typed!r} is not completed to {wanted!r}: {found} {ran.stderr.decode()}")
+            wrong.append(f"{typed!r} should be completed to {wanted!r}; actual: {found} {ran.stderr.decode()}")
     return wrong
 
 

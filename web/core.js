@@ -6,11 +6,11 @@
     const RESULT_BYTES = 32;
     // HIDLOG_ERR_BUFFER_TOO_SMALL.
     const BUFFER_TOO_SMALL = 5;
-    // The arguments of commands without a snapshot. hidlog_show explains, for people.
+    // The arguments after the log of commands that take no snapshot; for hidlog_show, `explain` is 1.
     const SHOW_EXPLAIN = 1;
     const EXTRA_ARGUMENTS = { show: [SHOW_EXPLAIN], transactions: [] };
     const PAGE_BYTES = 65536;
-    // Maximum memory.
+    // Maximum memory in bytes.
     const MAX_MEMORY = 2048 * 1024 * 1024;
 
     const { fromBase64 } = globalThis.hidlogBytes;

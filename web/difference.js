@@ -5,7 +5,7 @@
 (() => {
     const { KIND } = globalThis.hidlogLog;
 
-    /** A packet sent for the input at `from`, counted from 1; if `from` is -1, before any input. */
+    /** Returns the packet with this number, from 1, that the key sent for the input at `from`; -1 is before any input. */
     const findPacket = (session, from, packet) => {
         let left = packet;
         const isEnd = (place) => {
@@ -16,7 +16,7 @@
         return found >= 0 && left === 0 ? session.line(found) : undefined;
     };
 
-    /** Number of inputs up to a line index. */
+    /** Returns the number of inputs up to a line index. */
     const countInputs = (session, last) => {
         let count = 0;
         for (let place = 0; place <= last; place += 1) {
@@ -25,8 +25,8 @@
         return count;
     };
 
-    /** The index of an input, counted from 1, or -1. */
-    const inputIndex = (session, count) => {
+    /** Returns the line index of an input, which are counted from 1, or -1. */
+    const findInputIndex = (session, count) => {
         let left = count;
         return session.find((place) => {
             left -= session.isInput(place) ? 1 : 0;
@@ -45,14 +45,14 @@
             : `line ${has.number} is unexpected: the key sends ${packet - 1} packets ${where}`;
     };
 
-    // The explanation of packets until it is known.
+    // Shown until the explanations of the packets are known.
     const UNKNOWN_TEXT = "…";
 
     /** Finds the packet named by `check`, and what the key sends instead. */
     const find = (recorded, replayed, { line, packet }) => {
         const before = countInputs(recorded, line - 1);
         const has = findPacket(recorded, line - 1, packet);
-        const sends = findPacket(replayed, before ? inputIndex(replayed, before) : -1, packet);
+        const sends = findPacket(replayed, before ? findInputIndex(replayed, before) : -1, packet);
         const found = { has, sends, line, packet, marked: has?.number ?? line };
         return { ...found, says: describeDifference(found), explained: [[UNKNOWN_TEXT], [UNKNOWN_TEXT]] };
     };

@@ -3,7 +3,7 @@
 "use strict";
 
 (() => {
-    const { getElement, choose, formatMegabytes, refresh, setView, state, showNotice } = globalThis.hidlogViewer;
+    const { getElement, selectRow, formatMegabytes, refresh, setView, state, showNotice } = globalThis.hidlogViewer;
     // A longer log would block the page for minutes.
     const MAX_BYTES = 1024 * 1024;
     const SIDE_NAMES = { key: "the key", host: "the host" };
@@ -64,7 +64,7 @@
         getElement("channel").value = "";
         getElement("fold").checked = false;
         refresh(() => {
-            choose(state.rows.findIndex((place) => place === number - 1), true);
+            selectRow(state.rows.findIndex((place) => place === number - 1), true);
         });
     });
 

@@ -260,7 +260,7 @@
 
         get answer() {
             const answer = this.table.answer.values[this.place];
-            return answer ? new Answer(this.log, answer - 1) : null;
+            return answer ? new KeyMessage(this.log, answer - 1) : null;
         }
 
         /** Number of lines that belong to it. */
@@ -282,7 +282,7 @@
     }
 
     /** A message of the key: a response, KEEPALIVE or ERROR. */
-    class Answer extends Message {
+    class KeyMessage extends Message {
         constructor(log, place) {
             super(log, log.answers, place);
         }
@@ -344,7 +344,7 @@
             if (!id) {
                 return null;
             }
-            return id > 0 ? new Transaction(this, id - 1) : new Answer(this, -id - 1);
+            return id > 0 ? new Transaction(this, id - 1) : new KeyMessage(this, -id - 1);
         }
 
         /** Where a line ends, without its newline. */
@@ -368,7 +368,7 @@
     }
 
     globalThis.hidlogLog = {
-        Log, Answer, Column, Transaction, digits, readTimestamp, PACKET_DIGITS,
+        Log, KeyMessage, Column, Transaction, digits, readTimestamp, PACKET_DIGITS,
         KIND: { HOST, KEY, TICK, PRESENCE, NEW_KEY, SIGNATURE, COMMENT, NEED, COUNT, EMPTY },
         END: { ANSWERED, REFUSED, TIMED_OUT, REPLACED, DROPPED, FORGOTTEN, UNKNOWN },
         // CTAPHID commands (CTAP 2.1, section 11.2.9).

@@ -11,7 +11,7 @@
     const BROADCAST = "ffffffff";
     // Channels to list.
     const MAX_CHANNELS = 200;
-    // Lines read between looks at the clock.
+    // Number of lines to read before the clock is checked again.
     const BATCH_SIZE = 512;
     const KIND_BY_LETTER = {
         ">": KIND.HOST, "<": KIND.KEY, t: KIND.TICK, p: KIND.PRESENCE, k: KIND.NEW_KEY, s: KIND.SIGNATURE,

@@ -11,7 +11,7 @@
         [DROPPED]: END.DROPPED, [REPLACED]: END.REPLACED, [FORGOTTEN]: END.FORGOTTEN, [UNKNOWN]: END.UNKNOWN,
     };
     const ERROR_TIMEOUT = 5;
-    // Lines filled between looks at the clock.
+    // Number of lines to fill in before the clock is checked again.
     const BATCH_SIZE = 512;
 
     /** Fills the tables of a log, whose lines are read, from the core's output. */

@@ -3,7 +3,7 @@
 
 (() => {
     const {
-        MAX_BYTES_AT_ONCE, EXPLAIN_OPTIONS, MAX_BYTES, ROW_HEIGHT, getElement, choose, decoder, firstLines,
+        MAX_BYTES_AT_ONCE, EXPLAIN_OPTIONS, MAX_BYTES, ROW_HEIGHT, getElement, selectRow, decoder, firstLines,
         hasResponses, formatMegabytes, readSession, readInSlices, refresh, render, finishReading, rowAt, runCommand,
         currentSession, setView, showDetail, state, showNotice, showSummary, runWithProgressBar, prepareView,
         afterExplaining,
@@ -29,7 +29,7 @@
         return { from, to: end < 0 ? state.bytes.length : end, isCut: end < 0 };
     };
 
-    /** Why a line is invalid, if the file tells. */
+    /** Returns a likely cause of an invalid line, such as CR LF or a truncated file, or "". */
     const findReason = (number) => {
         const { bytes } = state;
         const { from, to, isCut } = readLine(number);
@@ -71,7 +71,7 @@
     };
 
     /** Shows a session after reading it. */
-    const showRead = (recorded, outcome) => {
+    const showSession = (recorded, outcome) => {
         state.sessions = { recorded };
         if (outcome.line > 0 && outcome.status === 1) {
             state.sessions.recorded.invalidLine = getInvalidLine(outcome);
@@ -91,7 +91,7 @@
         const isFaulty = outcome.status === 1 && outcome.line > 0;
         const valid = isFaulty ? firstLines(state.bytes, outcome.line - 1) : state.bytes;
         state.texts = { recorded: valid, replayed: outcome.text };
-        showRead(readSession(valid, state.core), outcome);
+        showSession(readSession(valid, state.core), outcome);
     };
 
     /** The error of a long log: the core's, or one found while reading it if the core stopped before. */
@@ -104,7 +104,7 @@
     };
 
     /** Reads a long log, and meanwhile shows its first lines. */
-    const playLong = () => {
+    const playInWorker = () => {
         const { bytes } = state;
         showNotice(`${state.name}: reading ${formatMegabytes(bytes.length)}.`);
         const first = (reader) => {
@@ -115,7 +115,7 @@
         runWithProgressBar(readInSlices(bytes), `Reading ${state.name} …`, (reader) => {
             const error = findError(reader);
             state.texts = { recorded: error.line ? firstLines(bytes, error.line - 1) : bytes };
-            showRead(reader.session(error.line ? error.line - 1 : undefined), error);
+            showSession(reader.session(error.line ? error.line - 1 : undefined), error);
             const { error: unread } = reader.outcome;
             if (unread) {
                 showNotice(`${state.name}: cannot find its transactions: ${unread}`, true);
@@ -129,7 +129,7 @@
         globalThis.hidlogJudge.clear();
         Object.assign(state, { difference: null, reason: "", view: "recorded", sessions: {}, texts: {} });
         if (state.bytes.length > MAX_BYTES_AT_ONCE) {
-            playLong();
+            playInWorker();
         } else {
             playAtOnce();
         }
@@ -185,11 +185,11 @@
         const find = () => state.rows.findIndex((number) => number === marked - 1);
         refresh(() => {
             if (find() >= 0) {
-                choose(find(), true);
+                selectRow(find(), true);
                 return;
             }
             getElement("fold").checked = false;
-            refresh(() => choose(find(), true));
+            refresh(() => selectRow(find(), true));
         });
     };
 
@@ -247,7 +247,7 @@
 
     // ---- controls
 
-    const setDrawn = (isDrawn) => {
+    const setDiagramShown = (isDrawn) => {
         state.isDrawn = isDrawn;
         getElement("table-tab").setAttribute("aria-selected", String(!isDrawn));
         getElement("drawing-tab").setAttribute("aria-selected", String(isDrawn));
@@ -261,7 +261,7 @@
         if (transaction) {
             const { unfolded } = state;
             unfolded[unfolded.has(transaction.place) ? "delete" : "add"](transaction.place);
-            refresh(() => choose(place));
+            refresh(() => selectRow(place));
         }
     };
 
@@ -284,18 +284,18 @@
     };
 
     const KEYS = {
-        ArrowDown: () => choose(state.chosen + 1),
-        ArrowUp: () => choose(state.chosen - 1),
-        PageDown: () => choose(state.chosen + Math.floor(getElement("scroller").clientHeight / ROW_HEIGHT)),
-        PageUp: () => choose(state.chosen - Math.floor(getElement("scroller").clientHeight / ROW_HEIGHT)),
-        Home: () => choose(0),
-        End: () => choose(state.rows.length - 1),
+        ArrowDown: () => selectRow(state.chosen + 1),
+        ArrowUp: () => selectRow(state.chosen - 1),
+        PageDown: () => selectRow(state.chosen + Math.floor(getElement("scroller").clientHeight / ROW_HEIGHT)),
+        PageUp: () => selectRow(state.chosen - Math.floor(getElement("scroller").clientHeight / ROW_HEIGHT)),
+        Home: () => selectRow(0),
+        End: () => selectRow(state.rows.length - 1),
         Enter: () => toggleFold(state.chosen),
         "/": () => getElement("search").focus(),
         c: check,
         j: globalThis.hidlogJudge.onPress,
         v: nextView,
-        t: () => setDrawn(!state.isDrawn),
+        t: () => setDiagramShown(!state.isDrawn),
         d: download,
         s: savePage,
     };
@@ -343,7 +343,7 @@
 
     const openExample = () => {
         openBytes("registration.log", globalThis.hidlogBytes.fromBase64(globalThis.HIDLOG_EXAMPLE));
-        choose(state.rows.findIndex((_, place) => rowAt(place).says.includes("MakeCredential")));
+        selectRow(state.rows.findIndex((_, place) => rowAt(place).says.includes("MakeCredential")));
     };
 
     const addListeners = () => {
@@ -357,12 +357,12 @@
         on("theme", "click", setTheme);
         on("cancel", "click", cancel);
         ["search", "channel", "fold"].forEach((id) => on(id, id === "search" ? "input" : "change", () => refresh()));
-        on("table-tab", "click", () => setDrawn(false));
-        on("drawing-tab", "click", () => setDrawn(true));
+        on("table-tab", "click", () => setDiagramShown(false));
+        on("drawing-tab", "click", () => setDiagramShown(true));
         on("scroller", "scroll", () => requestAnimationFrame(render));
         on("space", "click", (event) => {
             const place = Number(event.target.closest(".row")?.dataset.place ?? -1);
-            choose(place);
+            selectRow(place);
             toggleFold(place);
         });
         document.addEventListener("keydown", onKey);
@@ -398,7 +398,7 @@
             openEmbeddedLog();
         } else if (location.hash.startsWith("#registration")) {
             openExample();
-            setDrawn(location.hash.endsWith("drawing"));
+            setDiagramShown(location.hash.endsWith("drawing"));
         }
         document.documentElement.dataset.ready = "yes";
     };

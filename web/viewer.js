@@ -104,15 +104,15 @@
         }
     }
 
-    /** A row by its number. */
-    const makeRowOf = (number) => {
+    /** Returns the row of a line index, or of a folded transaction if the number is negative. */
+    const makeRowFromNumber = (number) => {
         const transaction = number < 0 ? currentSession().transaction(-1 - number) : null;
         return new Row(transaction ? transaction.line : currentSession().line(number), transaction);
     };
 
-    const rowAt = (place) => (state.rows[place] === undefined ? null : makeRowOf(state.rows[place]));
+    const rowAt = (place) => (state.rows[place] === undefined ? null : makeRowFromNumber(state.rows[place]));
 
-    /** The logs whose explanations a view shows: in the quiet one, ignored inputs have those of the recorded log. */
+    /** Returns the logs whose explanations a view shows: the quiet view also shows those of the ignored inputs. */
     const listLogs = ({ log }) => [log, log.before].filter(Boolean);
 
     const makeCell = (text, className = "") => {
@@ -186,7 +186,7 @@
     };
 
     /** Selects a row, and scrolls to it, or centers it. */
-    const choose = (place, isMiddle = false) => {
+    const selectRow = (place, isMiddle = false) => {
         state.chosen = Math.max(0, Math.min(place, state.rows.length - 1));
         showDetail();
         const scroller = getElement("scroller");
@@ -222,7 +222,7 @@
         const words = getElement("search").value.trim().toLowerCase();
         const channel = getElement("channel").value;
         const isFolded = getElement("fold").checked && currentSession().transactions > 0;
-        const isFound = words || channel ? (number) => makeRowOf(number).has(words, channel) : null;
+        const isFound = words || channel ? (number) => makeRowFromNumber(number).has(words, channel) : null;
         const ready = words ? state.shown.ready(listLogs(currentSession())) : null;
         const steps = makeRows(currentSession(), { isFolded, unfolded: state.unfolded, isFound, ready });
         const part = ({ rows, place }) => {
@@ -306,13 +306,13 @@
             done(reader);
         }, isLong() ? undefined : Infinity);
         if (!isOver) {
-            runBusy(text, job);
+            showProgress(text, job);
         }
     };
 
     const isLong = () => state.bytes.length > MAX_BYTES_AT_ONCE;
 
-    const runBusy = (text, job) => {
+    const showProgress = (text, job) => {
         getElement("progress").hidden = false;
         getElement("progress-text").textContent = text;
         state.job = job;
@@ -330,7 +330,7 @@
             return;
         }
         const { outcome, end } = runInWorker(state.core, command, state.bytes, state.snapshot);
-        runBusy(`${command} of ${formatMegabytes(state.bytes.length)} …`, { end });
+        showProgress(`${command} of ${formatMegabytes(state.bytes.length)} …`, { end });
         getElement("bar").removeAttribute("value");
         outcome.then((result) => {
             finishReading();
@@ -420,7 +420,7 @@
     };
 
     globalThis.hidlogViewer = {
-        MAX_BYTES_AT_ONCE, EXPLAIN_OPTIONS, MAX_BYTES, ROW_HEIGHT, getElement, choose, decoder, firstLines,
+        MAX_BYTES_AT_ONCE, EXPLAIN_OPTIONS, MAX_BYTES, ROW_HEIGHT, getElement, selectRow, decoder, firstLines,
         hasResponses, formatMegabytes, readSession, readInSlices, finishReading, refresh, render, rowAt, runCommand,
         currentSession, setView, showDetail, state, showNotice, showSummary, runWithProgressBar, prepareView,
         afterExplaining,

@@ -62,7 +62,7 @@ NEED = re.compile(
 
 
 class FindingError(Exception):
-    """A broken rule."""
+    """A violated rule."""
 
     def __init__(self, rule, detail):
         super().__init__(f"{rule}: {RULES[rule]}: {detail}")
@@ -70,6 +70,7 @@ class FindingError(Exception):
 
 
 def check(holds, rule, detail):
+    """Raises FindingError unless the condition holds."""
     if not holds:
         raise FindingError(rule, detail)
 
@@ -173,8 +174,8 @@ def check_end(command, ended, fault):
     """Checks the exit status and standard error of a command; returns its output."""
     status, output, said = ended
     wanted = fault[1] if fault else NOTES if command == "check" else b""
-    check(status == (1 if fault else 0), "status", f"{command} ended with {status}, said {said[:200]!r}")
-    check(re.fullmatch(wanted, said), "fault", f"{command} said {said[:200]!r} and not {wanted!r}")
+    check(status == (1 if fault else 0), "status", f"{command} ended with {status}; stderr: {said[:200]!r}")
+    check(re.fullmatch(wanted, said), "fault", f"stderr of {command}: {said[:200]!r}; expected: {wanted!r}")
     return output
 
 
@@ -190,15 +191,23 @@ def check_counts(line, inputs):
 
 def check_replay(lines, output):
     """Checks the output of a replay."""
-    check(output.endswith(b"\n"), "counts", "no line at the end")
+    check(output.endswith(b"\n"), "counts", "the last line has no line feed")
     written = split_lines(output)
     check_counts(written[-1], group_responses(written))
-    check(select_inputs(written) == select_inputs(lines), "lines", "they differ")
+    check(select_inputs(written) == select_inputs(lines), "lines", "the replay has other inputs or comments")
     found = group_responses(written)
     most = max(len(packets) for _, packets in found)
-    check(most <= PACKETS and not found[0][1], "packets", f"{most}, and {len(found[0][1])} before the first input")
+    check(
+        most <= PACKETS and not found[0][1],
+        "packets",
+        f"{most} after an input, {len(found[0][1])} before the first input",
+    )
     well = all(is_line(line) and line == line.lower() for line in written if line[:1] == b"<")
-    check(well and sum(line[:1] == b"=" for line in written) == 1, "packets", "a line is broken")
+    check(
+        well and sum(line[:1] == b"=" for line in written) == 1,
+        "packets",
+        "an invalid packet line, or not exactly one line of counts",
+    )
 
 
 def check_check(output, run):
@@ -206,7 +215,7 @@ def check_check(output, run):
     found = group_responses(split_lines(output))
     counted = len(found) - 1, sum(len(packets) for _, packets in found)
     said = check_end("check", run("check", output), None)
-    check(said == b"same %d inputs %d packets\n" % counted, "check", f"{said!r} for {counted}")
+    check(said == b"same %d inputs %d packets\n" % counted, "check", f"stderr: {said!r}; expected counts: {counted}")
 
 
 def check_difference(output, run):
@@ -225,7 +234,9 @@ def check_difference(output, run):
     told = (status, written) == (1, b"") and said.startswith(wanted) and all(line[:2] == b"  " for line in more)
     # The digit that was changed is the packet's last.
     check(
-        told and b"\n  byte 63 of the packet" in said, "difference", f"{(status, written, said)!r} and not {wanted!r}"
+        told and b"\n  byte 63 of the packet" in said,
+        "difference",
+        f"result: {(status, written, said)!r}; expected: {wanted!r}",
     )
 
 
@@ -233,16 +244,20 @@ def check_quiet(log, output, run):
     """Checks the quiet log, and its packets."""
     quiet = check_end("quiet", run("quiet", log), None)
     wanted, written = select_inputs(split_lines(log)), split_lines(quiet)
-    check(len(written) == len(wanted) and quiet[-1:] in (b"", b"\n"), "quiet lines", "too many or too few")
+    check(
+        len(written) == len(wanted) and quiet[-1:] in (b"", b"\n"),
+        "quiet lines",
+        f"expected {len(wanted)} lines, got {len(written)}",
+    )
     for line, old in zip(written, wanted):
         tick = is_input(old) and line == b"t " + old.split(b" ")[1]
-        check(line == old or tick, "quiet lines", f"{line[:99]!r} for {old[:99]!r}")
+        check(line == old or tick, "quiet lines", f"{line[:99]!r} replaces {old[:99]!r}")
     sent = split_lines(check_end("replay", run("replay", quiet), None))
     for (line, less), (old, packets) in zip(group_responses(sent), group_responses(split_lines(output))):
         same = less == packets if line == old else is_subsequence(less, packets)
-        check(same, "quiet packets", f"{line[:99]!r} sends {len(less)} packets")
+        check(same, "quiet packets", f"{line[:99]!r} has {len(less)} packets; they are not those of the log")
     check(sent[-1] == split_lines(output)[-1], "quiet packets", f"{sent[-1]!r}")
-    check(run("quiet", quiet) == (0, quiet, b""), "quiet again", "it changed")
+    check(run("quiet", quiet) == (0, quiet, b""), "quiet again", "the second quiet log differs from the first")
 
 
 def check_needs(lines):
@@ -253,10 +268,14 @@ def check_needs(lines):
         if need and after is not None:
             after.append(line)
         if not need and line[:1] != b"<":
-            check(after is None or NEED.fullmatch(b"\n".join(after)), "needs", f"{after!r} before {line[:99]!r}")
+            check(
+                after is None or NEED.fullmatch(b"\n".join(after)),
+                "needs",
+                f"invalid comments about needs before {line[:99]!r}: {after!r}",
+            )
             after = [] if is_input(line) else None
-        check(not (line[:1] == b"<" and after), "needs", "a packet after the need")
-        check(not need or after, "needs", f"{line[:99]!r} belongs to no input")
+        check(not (line[:1] == b"<" and after), "needs", "a packet after the comment about the need")
+        check(not need or after, "needs", f"{line[:99]!r} is not after an input")
 
 
 def check_live(log, output, run):
@@ -266,10 +285,12 @@ def check_live(log, output, run):
     told, replayed = (
         [line for line in found if not line.startswith(NEED_PREFIXES)] for found in (lines, split_lines(output))
     )
-    check(told == replayed and live[-1:] == b"\n", "live lines", "they differ")
+    check(
+        told == replayed and live[-1:] == b"\n", "live lines", "without the needs, the output differs from the replay"
+    )
     check_needs(lines)
-    check(run("replay", live) == (0, live, b""), "live again", "its replay differs")
-    check(run("live", live) == (0, live, b""), "live again", "it changed")
+    check(run("replay", live) == (0, live, b""), "live again", "replaying the output of live changes it")
+    check(run("live", live) == (0, live, b""), "live again", "playing the output of live again changes it")
 
 
 def check_show(log, run):
@@ -282,16 +303,22 @@ def check_show(log, run):
         if line[:1] in (b">", b"<", b"t", b"p", b"k", b"s"):
             moment = b"" if line[:1] == b"<" else line.split(b" ")[1] + b" "
             wanted.append((b"%d %s " % (number, line[:1]) + moment).rstrip())
-    check(len(found) == len(wanted), "show", f"{len(found)} lines, not {len(wanted)}")
+    check(len(found) == len(wanted), "show", f"expected {len(wanted)} lines, got {len(found)}")
     for line, front in zip(found, wanted):
-        check((line + b" ").startswith(front + b" "), "show", f"{line[:99]!r} for {front!r}")
+        check((line + b" ").startswith(front + b" "), "show", f"{line[:99]!r} does not start with {front!r}")
     # Each line of the plain output is the beginning of one of the explained output. Its messages are assembled by
     # another rule, one per direction.
     fixed = split_lines(check_end("show", run("show", log, "--plain"), None))
     packets = [line for line in fixed if not re.match(rb"\d+   ", line)]
-    check(len(packets) == len(found), "show", f"the fixed text has {len(packets)} of {len(found)} lines")
+    check(
+        len(packets) == len(found), "show", f"the plain output has {len(packets)} lines, the explained one {len(found)}"
+    )
     for line, more in zip(packets, found):
-        check((more + b"  ").startswith(line + b"  "), "show", f"{line[:99]!r} of {more!r}")
+        check(
+            (more + b"  ").startswith(line + b"  "),
+            "show",
+            f"{more!r} does not start with the plain line {line[:99]!r}",
+        )
 
 
 def check_fault(log, fault, run):
@@ -300,8 +327,12 @@ def check_fault(log, fault, run):
     outputs = {command: check_end(command, run(command, log), fault) for command in ("replay", "quiet", "live", "show")}
     status, output, said = run("check", log)
     differs = re.fullmatch(rb"hidlog: line (\d+): differs at packet [1-9]\d*\n(?:  .*\n)+", said)
-    check(status == 1 and output == b"", "status", f"check ended with {status}")
-    check(re.fullmatch(fault[1], said) or differs and int(differs[1]) < fault[0], "fault", f"check said {said!r}")
+    check(status == 1 and output == b"", "status", f"check ended with {status}; expected 1 and no output")
+    check(
+        re.fullmatch(fault[1], said) or differs and int(differs[1]) < fault[0],
+        "fault",
+        f"unexpected stderr of check: {said!r}",
+    )
     for command, output in outputs.items():
         whole = check_end(command, run(command, before), None)
         cut = whole
@@ -312,11 +343,11 @@ def check_fault(log, fault, run):
             behind = rb"%d   line \d+: \d+ of \d+ bytes (?:of its response )?received" % before.count(b"\n")
             if all(re.fullmatch(behind, line) for line in split_lines(whole[len(output) :])):
                 cut = output
-        check(output == cut, "lines before", f"{command} wrote {len(output)} bytes and not {len(cut)}")
+        check(output == cut, "lines before", f"{command} wrote {len(output)} bytes; expected {len(cut)}")
     for command in (*outputs, "check"):
         told = run(command, log, "--plain")[2]
         first = run(command, log)[2].partition(b"\n")[0] + b"\n"
-        check(told == first, "fault", f"{command} said {told!r} in the fixed form")
+        check(told == first, "fault", f"stderr of {command} --plain: {told!r}; expected: {first!r}")
     return before
 
 
@@ -330,13 +361,17 @@ def check_saved(log, output, fault, run, folder, damaged):
     first, second, third = (os.path.join(folder, name) for name in ("first", "second", "third"))
     if fault:
         run("replay", log, "--save", first)
-        check(not os.path.exists(first), "saved", "it was saved after a fault")
+        check(not os.path.exists(first), "saved", "a snapshot was saved despite the invalid line")
         return
-    check(run("replay", log, "--save", first) == (0, output, b""), "saved", "the log changed")
+    check(run("replay", log, "--save", first) == (0, output, b""), "saved", "replay with --save has another result")
     status, counts, said = run("replay", b"", "--load", first, "--save", second)
-    check((status, said) == (0, b"") and read_file(first) == read_file(second), "saved", f"{status}, {said!r}")
+    check(
+        (status, said) == (0, b"") and read_file(first) == read_file(second),
+        "saved",
+        f"loading and saving again: status {status}, stderr {said!r}, or another snapshot",
+    )
     rows, most = (int(COUNTS.fullmatch(split_lines(text)[-1])[2]) for text in (counts, output))
-    check(rows <= most, "saved", f"{rows} rows of {most}")
+    check(rows <= most, "saved", f"the loaded snapshot has {rows} rows; the session had at most {most}")
     whole, wrong = read_file(first), damaged(read_file(first))
     for path in (first, third):
         with open(path, "wb") as file:
@@ -345,11 +380,15 @@ def check_saved(log, output, fault, run, folder, damaged):
     if status == 2:
         check(written == b"" and re.fullmatch(REFUSED_SNAPSHOT, said), "refused", repr(said))
     else:
-        check((status, said) == (0, b""), "refused", f"{status}, {said!r}")
+        check((status, said) == (0, b""), "refused", f"status {status}, stderr {said!r}")
         check_replay(split_lines(log), written)
     status, written, said = run("replay", log, "--load", first)
     is_refused = (status, written) == (2, b"") and re.fullmatch(DAMAGED_SNAPSHOT, said)
-    check(is_refused or whole == wrong, "refused", f"with the sums of another: {status}, {said!r}")
+    check(
+        is_refused or whole == wrong,
+        "refused",
+        f"a snapshot with another one's checksums: status {status}, stderr {said!r}",
+    )
 
 
 def judge(log, run):

@@ -32,11 +32,11 @@ const random = (bound) => {
 const choose = (listed) => listed[random(listed.length)];
 
 /** Returns each position in a value: its container, and its key. */
-const listPlaces = (value, found = []) => {
+const listPositions = (value, found = []) => {
     for (const name of Object.keys(value)) {
         found.push([value, name]);
         if (value[name] !== null && typeof value[name] === "object" && found.length < 2000) {
-            listPlaces(value[name], found);
+            listPositions(value[name], found);
         }
     }
     return found;
@@ -58,7 +58,7 @@ const MUTATIONS = [
 const mutate = (text) => {
     const state = JSON.parse(text);
     for (let count = choose([1, 1, 2, 4]); count > 0; count -= 1) {
-        const places = listPlaces(state);
+        const places = listPositions(state);
         if (places.length > 0) {
             choose(MUTATIONS)(...choose(places));
         }

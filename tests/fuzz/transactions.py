@@ -161,10 +161,14 @@ class Machine:
     def expect(self, owner: Optional[Transaction], channel: int, command: int, code: Optional[int] = None) -> bytes:
         """Processes the next message of the key."""
         if not self.sent:
-            raise FindingError(f"{command:02x} {code} on {channel:08x} is missing")
+            raise FindingError(
+                f"expected a packet of command {command:02x} (first byte {code}) on channel {channel:08x}, got none"
+            )
         number, packet = self.sent.popleft()
         if packet[:5] != channel.to_bytes(4, "big") + bytes([0x80 | command]) or code not in (None, packet[7]):
-            raise FindingError(f"line {number}: {command:02x} {code} on {channel:08x} was expected")
+            raise FindingError(
+                f"line {number}: expected command {command:02x} (first byte {code}) on channel {channel:08x}"
+            )
         self.owners[number] = owner.line if owner else None
         length = int.from_bytes(packet[5:7], "big")
         self.answers[number] = owner
@@ -389,7 +393,9 @@ def check_objects(objects: list[dict], machine: Machine) -> None:
     for row in objects:
         kind, line = row["kind"], row.get("line")
         if kind in ("packet", "presence", "key", "signature") and row.get("transaction") != machine.owners[line]:
-            raise FindingError(f"line {line} belongs to {machine.owners[line]}, not to {row.get('transaction')}")
+            raise FindingError(
+                f"line {line}: expected transaction {machine.owners[line]}, got {row.get('transaction')}"
+            )
         if kind == "answer":
             owner = machine.answers[line]
             if row.get("transaction") != (owner.line if owner else None):
@@ -409,13 +415,13 @@ def check_objects(objects: list[dict], machine: Machine) -> None:
         detail = {"status": "status", "error": "code", "dropped": "by", "replaced": "by"}.get(row["end"])
         end = (row["end"], row[detail]) if detail else (row["end"],)
         if end != wanted.end:
-            raise FindingError(f"the transaction of line {line} ended by {wanted.end}, not by {end}")
+            raise FindingError(f"the transaction of line {line} should end with {wanted.end}, but ends with {end}")
         if row["keepalives"] != wanted.keepalives:
             raise FindingError(
-                f"the transaction of line {line} had {wanted.keepalives} KEEPALIVEs, not {row['keepalives']}"
+                f"the transaction of line {line} should have {wanted.keepalives} KEEPALIVEs, but has {row['keepalives']}"
             )
         if ("came" in row) == wanted.is_whole:
-            raise FindingError(f"the message of line {line} is {'' if wanted.is_whole else 'not '}whole")
+            raise FindingError(f"the message of line {line} is {'' if wanted.is_whole else 'in'}complete")
     if ended:
         raise FindingError(f"no transaction begins at line {min(ended)}")
 
@@ -423,23 +429,25 @@ def check_objects(objects: list[dict], machine: Machine) -> None:
 def check_names(text: str, machine: Machine) -> None:
     """Checks the names of members, RP IDs, and excluded credentials."""
     if "  not that of " in text:
-        raise FindingError("a wrong message about an RP ID hash")
+        raise FindingError("show reports that an RP ID hash differs, but it does not")
     for found in re.finditer(r"^(\d+)   answer 00 \{.*\n\1     1 (\S+?):", text, re.MULTILINE):
         owner = machine.answers[int(found[1])]
         wanted = FIRST_RESPONSE_MEMBERS.get(owner.request) if owner and owner.request is not None else None
         if found[2] != wanted:
-            raise FindingError(f"line {found[1]}: the first member is {wanted}, not {found[2]}")
+            raise FindingError(f"line {found[1]}: expected the first member {wanted}, got {found[2]}")
     pattern = r"^(\d+)   excludeList\[(\d+)\] is the credential of line (\d+)$"
     named = {int(match[1]): (int(match[2]), int(match[3])) for match in re.finditer(pattern, text, re.MULTILINE)}
     for line in sorted(named.keys() | machine.excluded.keys()):
         if named.get(line) != machine.excluded.get(line):
-            raise FindingError(f"line {line} excludes {machine.excluded.get(line)}, not {named.get(line)}")
+            raise FindingError(
+                f"line {line}: expected the excluded credential {machine.excluded.get(line)}, got {named.get(line)}"
+            )
 
 
 def check_summary(text: str, machine: Machine) -> None:
     for title, count in machine.counts().items():
         if f"\n{title}: {count}\n" not in f"\n{text}":
-            raise FindingError(f"{title}: the model has {count}")
+            raise FindingError(f"the summary does not have {title}: {count}, the model's count")
 
 
 def check_log(task: tuple[str, str, int]) -> tuple[int, Optional[str], int]:

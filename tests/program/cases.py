@@ -71,9 +71,11 @@ class Case:
         (work_dir / "log").write_bytes(log)
         ended = subprocess.run([PROGRAM, *self.words], cwd=work_dir, input=log, capture_output=True, timeout=600)
         written, wanted = ended.stdout, self.select_lines("+|")
-        assert ended.returncode == self.status, f"{self.text}\nended with {ended.returncode}"
-        assert ended.stderr == self.select_lines("?"), f"{self.text}\nsaid {ended.stderr.decode()}"
-        assert written == wanted or self.has_more and wanted in written, f"{self.text}\nwrote {written.decode()}"
+        assert ended.returncode == self.status, f"{self.text}\nexit status {ended.returncode}"
+        assert ended.stderr == self.select_lines("?"), f"{self.text}\nunexpected stderr: {ended.stderr.decode()}"
+        assert (
+            written == wanted or self.has_more and wanted in written
+        ), f"{self.text}\nunexpected stdout: {written.decode()}"
 
 
 def expand_packet(line: str) -> str:
@@ -171,7 +173,9 @@ def test_arguments_are_utf_8(work_dir: Path) -> None:
     for word, faults in ((b"r\xe9play", b"hidlog: an argument is not UTF-8\n"), ("r\u00e9play".encode(), None)):
         ended = subprocess.run([PROGRAM.encode(), word], cwd=work_dir, input=b"", capture_output=True, timeout=600)
         assert ended.returncode == 2, f"{word!r} ended with {ended.returncode}"
-        assert ended.stderr == faults or faults is None and word in ended.stderr, f"{word!r}: {ended.stderr!r}"
+        assert (
+            ended.stderr == faults or faults is None and word in ended.stderr
+        ), f"unexpected stderr for the argument {word!r}: {ended.stderr!r}"
 
 
 TESTS = [
@@ -197,7 +201,7 @@ def main() -> int:
     failed, names = 0, sys.argv[2:]
     tests = [test for test in TESTS if test.__name__ in names or not names]
     if unknown := set(names) - {test.__name__ for test in TESTS}:
-        print(f"there is no test {', '.join(sorted(unknown))}", file=sys.stderr)
+        print(f"unknown test: {', '.join(sorted(unknown))}", file=sys.stderr)
         return 2
     for test in tests:
         with tempfile.TemporaryDirectory() as folder:

@@ -84,8 +84,12 @@ def find_file_error(run: Run, program: str, folder: Path, new: bytes, status: in
     words = [program, "replay", "--explain", "--load", str(path)]
     loaded = subprocess.run(words, input=b"", capture_output=True, timeout=600)
     if loaded.returncode == 0 or copies[0].name not in loaded.stderr.decode(errors="replace"):
-        return f"--load doesn't name the copy {copies[0].name}: {loaded.stderr!r}"
-    return None if status == -signal.SIGKILL or copies[0].name in said else f"the copy isn't named: {said!r}"
+        return f"the error of --load does not name the copy {copies[0].name}: {loaded.stderr!r}"
+    return (
+        None
+        if status == -signal.SIGKILL or copies[0].name in said
+        else f"the error does not name the copy {copies[0].name}: {said!r}"
+    )
 
 
 def is_refused_after(program: str, path: Path) -> Optional[str]:
@@ -93,7 +97,7 @@ def is_refused_after(program: str, path: Path) -> Optional[str]:
     if Path(program).name != "hidlog":
         return None
     loaded = subprocess.run([program, "replay", "--load", str(path)], input=b"", capture_output=True, timeout=600)
-    return None if loaded.returncode == 0 else f"the new snapshot isn't loaded: {loaded.stderr!r}"
+    return None if loaded.returncode == 0 else f"the new snapshot cannot be loaded: {loaded.stderr!r}"
 
 
 def find_message_error(place: Place, log: Path, status: int, said: str) -> Optional[str]:

@@ -86,7 +86,7 @@ def count_unread(pipe: int) -> int:
 
 def check_result(said: Said, status: int, faults: bytes, output: Optional[bytes] = None) -> None:
     """Fails unless the exit status and the message are as expected."""
-    assert said.returncode == status, f"status {said.returncode} and not {status}: {said.stderr!r}"
-    assert said.stderr == faults, f"said {said.stderr!r} and not {faults!r}"
+    assert said.returncode == status, f"expected exit status {status}, got {said.returncode}; stderr: {said.stderr!r}"
+    assert said.stderr == faults, f"expected stderr {faults!r}, got {said.stderr!r}"
     if output is not None:
-        assert said.stdout == output, f"wrote {said.stdout!r} and not {output!r}"
+        assert said.stdout == output, f"expected stdout {output!r}, got {said.stdout!r}"

@@ -159,15 +159,17 @@ def check_load(work_dir: Path, text: bytes, wanted: Optional[Refusal], rows: int
     words = ["replay", "--load", str(work_dir / "old")]
     said = run(words)
     if wanted is None:
-        assert said.returncode == 0 and said.stderr == b"", f"{text.hex()}: {said.stderr!r}"
-        assert said.stdout == COUNTS.replace(b"rows 0", b"rows %d" % rows), f"{text.hex()}: {said.stdout!r}"
+        assert said.returncode == 0 and said.stderr == b"", f"the snapshot {text.hex()} is refused: {said.stderr!r}"
+        assert said.stdout == COUNTS.replace(
+            b"rows 0", b"rows %d" % rows
+        ), f"unexpected counts for the snapshot {text.hex()}: {said.stdout!r}"
         return
     front = f"hidlog: snapshot refused: {wanted[0]}\n".encode()
-    assert said.returncode == 2 and said.stdout == b"", f"{text.hex()} is loaded"
-    assert said.stderr == front, f"{text.hex()}: {said.stderr!r}"
+    assert said.returncode == 2 and said.stdout == b"", f"the invalid snapshot {text.hex()} is loaded"
+    assert said.stderr == front, f"another error for the snapshot {text.hex()}: {said.stderr!r}"
     reasons = wanted[1] if isinstance(wanted[1], tuple) else (wanted[1],)
     fronts = tuple(front + f"  {work_dir / 'old'}: {reason} ".encode() for reason in reasons)
-    assert run_explained(words).stderr.startswith(fronts), f"{text.hex()}: {said.stderr!r}"
+    assert run_explained(words).stderr.startswith(fronts), f"another reason for the snapshot {text.hex()}"
 
 
 def test_snapshots_are_loaded_or_refused(work_dir: Path) -> None:

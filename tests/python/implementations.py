@@ -89,7 +89,7 @@ def run_calls(call: Call, case: Case, fail: Callable[[], Any] = lambda: None) ->
     try:
         ids = [call("create", item, {})["id"] for item in before]
     except (hidlog.WebAuthnError, ServiceError) as error:
-        raise AssertionError(f"{case['name']}: what comes before it is refused: {error}") from error
+        raise AssertionError(f"{case['name']}: an earlier registration of the case failed: {error}") from error
     more = {"mediation": case["mediation"]} if "mediation" in case else {}
     if "then" in case:
         fail()

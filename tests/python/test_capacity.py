@@ -20,7 +20,7 @@ with hidlog.SecurityKey() as key:
         key.credentials.add("example.com", number.to_bytes(2, "big"))
     try:
         key.credentials.add("example.com", b"one more")
-        raise SystemExit("one more was added")
+        raise SystemExit("a key of 256 credentials accepted another one")
     except hidlog.ArgumentError as error:
         assert str(error) == "the key is full: it has 256 credentials", error
     saved = key.snapshot()

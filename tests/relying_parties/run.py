@@ -182,7 +182,7 @@ def check_flags(answers: list[tuple[Json, int]]) -> None:
     for answer, flags in answers:
         found = data(answer["response"]["authenticatorData"])[32]
         if found != flags:
-            raise SystemExit(f"run.py: the flags are 0x{found:02X} instead of 0x{flags:02X}")
+            raise SystemExit(f"run.py: expected the flags 0x{flags:02X}, got 0x{found:02X}")
 
 
 def set_flag_uv(answer: Json) -> Json:

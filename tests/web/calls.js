@@ -74,7 +74,7 @@ const runBoth = async (first, second) => {
     return outcomes.map((outcome) => outcome.reason?.name ?? "done");
 };
 
-/** Calls while the user is awaited. */
+/** Calls made while the key waits for the user. */
 const callWhileWaiting = (environment, later) => async () => {
     await environment.presence(false);
     try {

@@ -80,7 +80,7 @@ const reportDifferences = (kind, found, count, sameTexts) => {
     results.tests.push({ name: `${count} calls compared with Chromium's virtual authenticator, ${kind}`, error });
 };
 
-/** How many errors of the same name have the same message. */
+/** Counts errors with the same name, and how many of them have the same message. */
 const countSameMessages = (native, own) => {
     const both = [...native].filter(([name, outcome]) => outcome.error && outcome.error === own.get(name).error);
     const same = both.filter(([name, outcome]) => outcome.text === own.get(name).text);

@@ -6,7 +6,7 @@ import { readSignCount, createCredential, getAssertion, getAssertionBy, makeOpti
 // A delay in milliseconds that never ends, however slow the machine is.
 const NEVER_MS = 1_000_000;
 
-/** A key pair that is not from the key: PKCS #8 and public key. */
+/** A key pair that the key did not create: PKCS #8 and public key. */
 const makeForeignKey = async () => {
     const { privateKey, publicKey } = await crypto.subtle.generateKey(P256, true, ["sign", "verify"]);
     return { pkcs8: new Uint8Array(await crypto.subtle.exportKey("pkcs8", privateKey)), publicKey };

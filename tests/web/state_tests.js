@@ -69,7 +69,7 @@ const testSharedStorage = async () => {
     localStorage.clear();
 };
 
-/** Changes by another tab while this one's user is asked are seen. */
+/** Changes by another tab while this one waits for its user take effect. */
 const testChangesWhileWaiting = async () => {
     localStorage.clear();
     const key = new SecurityKey({ storage: localStorage });

@@ -169,11 +169,11 @@ const testStaticMethods = async () => {
 
 const FIRST_SIGN_INS = 40;
 const ROUNDS = 25;
-// A cost that grows with the log is many times the first; other processes have no such effect.
+// If the cost grew with the log, the ratio would be far higher; other processes cannot cause this ratio.
 const MAX_RATIO = 5;
 const TRIES = 3;
 
-/** The lower quartile of times, which other processes on the machine affect least. */
+/** Returns the lower quartile of times, which other processes on the machine hardly affect. */
 const lowerQuartile = (times) => times.sort((one, other) => one - other)[times.length / 4];
 
 /** Registers with a new key, and returns a function that signs in. */

@@ -68,9 +68,9 @@ test("each line has the explanation from the whole log", () => {
 /** Sessions with packets 150 ms apart and a comment after each: only later lines show the meaning of earlier ones. */
 const makeSlowLog = (count) => {
     const slow = readFileSync(resolvePath("tests/web/words/slow_packets.log"), "utf8").trimEnd().split("\n");
-    const runLater = (line, by) => line.replace(/^(. )(\d+) /, (_, kind, at) => `${kind}${Number(at) + by} `);
+    const delayLine = (line, by) => line.replace(/^(. )(\d+) /, (_, kind, at) => `${kind}${Number(at) + by} `);
     const sessions = Array.from({ length: count }, (_, at) =>
-        slow.map((line) => `${runLater(line, 1000 * at)}\n# between\n`));
+        slow.map((line) => `${delayLine(line, 1000 * at)}\n# between\n`));
     return sessions.flat().join("");
 };
 
@@ -109,9 +109,9 @@ test("the first lines of a long log are explained as in the whole log, and the o
 test("lines that cannot be explained say so, and others are explained", async () => {
     const bytes = new TextEncoder().encode(makeSlowLog(400));
     const changes = [];
-    const work = () => ({ outcome: Promise.reject(new Error("no memory")), end: () => {} });
-    const changed = (error) => changes.push(error?.message);
-    const shown = new globalThis.hidlogShown.LineTexts(core, { atOnce: 1000, work, changed });
+    const failingWork = () => ({ outcome: Promise.reject(new Error("no memory")), end: () => {} });
+    const recordChange = (error) => changes.push(error?.message);
+    const shown = new globalThis.hidlogShown.LineTexts(core, { atOnce: 1000, work: failingWork, changed: recordChange });
     const session = readSession(bytes);
     await shown.ready([session.log]);
     const other = new globalThis.hidlogShown.LineTexts(core, {
@@ -229,9 +229,9 @@ class PageDriver {
 
     /** Selects each row, and reads its explanation. */
     chooseAll(expected, name) {
-        const { choose, rowAt, state } = this.window.hidlogViewer;
+        const { selectRow, rowAt, state } = this.window.hidlogViewer;
         for (let place = 0; place < state.rows.length; place += 1) {
-            choose(place);
+            selectRow(place);
             const row = rowAt(place);
             this.look(row, expected, `${name}, row ${place} of ${state.rows.length}, line ${row.line.number}`);
         }
@@ -269,7 +269,7 @@ test("each row that is chosen has them, before a search and after it", noJsdom, 
         const hands = new PageDriver(window);
         let looked = 0;
         for (const name of names) {
-            // The page shows a log up to its faulty line.
+            // The page shows a log up to its invalid line.
             const expected = readExplanations(selectValidLines(readBytes(name)));
             hands.paste(readFileSync(resolvePath(name), "latin1"));
             assert.equal(hands.at("view").disabled, false, name);
@@ -297,13 +297,13 @@ test("an excluded credential that is sought and chosen has its registration's li
         const hands = new PageDriver(window);
         hands.paste(readFileSync(resolvePath("tests/web/words/already_registered.log"), "utf8"));
         await hands.seek("already");
-        window.hidlogViewer.choose(0);
+        window.hidlogViewer.selectRow(0);
         const detail = hands.at("detail-text").textContent;
         assert.ok(detail.includes("excludeList[0] is the credential of line 173"), detail);
         hands.paste(readFileSync(resolvePath("tests/web/words/slow_packets.log"), "utf8"));
         await hands.seek("");
         hands.fold(true);
-        window.hidlogViewer.choose(1);
+        window.hidlogViewer.selectRow(1);
         const title = hands.at("detail-title").textContent;
         assert.ok(title.startsWith("Registration: done at example.com  ·  authenticatorMakeCredential → CTAP2_OK"), title);
     } finally {

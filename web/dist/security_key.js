@@ -5799,7 +5799,7 @@ const NOTHING = new Uint8Array(0);
 const NONCE = Uint8Array.of(0, 1, 2, 3, 4, 5, 6, 7);
 
 /**
- * @typedef {object} Turn a request of the page in progress
+ * @typedef {object} PageRequest a request of the page in progress
  * @property {AbortSignal} signal aborts it
  * @property {() => Promise<string>} ask asks the user
  * @property {(id: Uint8Array) => void} made is called with the ID of a new key pair
@@ -5877,7 +5877,7 @@ class Authenticator {
 
     /**
      * Sends a request, and returns the response after the status byte. If it fails or is aborted, it is cancelled.
-     * @param {Uint8Array} bytes @param {Turn} turn
+     * @param {Uint8Array} bytes @param {PageRequest} turn
      */
     async request(bytes, turn) {
         let isOver = false;
@@ -5905,7 +5905,7 @@ class Authenticator {
         }
     }
 
-    /** @param {Uint8Array} bytes @param {Turn} turn */
+    /** @param {Uint8Array} bytes @param {PageRequest} turn */
     async #exchange(bytes, turn) {
         let message = this.#send(bytes);
         if (!message && this.session.need.kind === "presence") {
@@ -5926,7 +5926,7 @@ class Authenticator {
         return message.bytes;
     }
 
-    /** Asks the user, and provides presence. @param {Uint8Array} bytes @param {Turn} turn */
+    /** Asks the user, and provides presence. @param {Uint8Array} bytes @param {PageRequest} turn */
     async #askUser(bytes, turn) {
         const { session } = this;
         const word = await this.#withTicks(turn.ask(), turn.signal);
@@ -5941,7 +5941,7 @@ class Authenticator {
 
     /**
      * Provides a key pair or a signature. After each wait the request may have been aborted, and replaced by another.
-     * @param {Turn} turn
+     * @param {PageRequest} turn
      */
     async #provide({ signal, made, flags }) {
         const { need } = this.session;

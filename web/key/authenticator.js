@@ -14,7 +14,7 @@ const NOTHING = new Uint8Array(0);
 const NONCE = Uint8Array.of(0, 1, 2, 3, 4, 5, 6, 7);
 
 /**
- * @typedef {object} Turn a request of the page in progress
+ * @typedef {object} PageRequest a request of the page in progress
  * @property {AbortSignal} signal aborts it
  * @property {() => Promise<string>} ask asks the user
  * @property {(id: Uint8Array) => void} made is called with the ID of a new key pair
@@ -92,7 +92,7 @@ export class Authenticator {
 
     /**
      * Sends a request, and returns the response after the status byte. If it fails or is aborted, it is cancelled.
-     * @param {Uint8Array} bytes @param {Turn} turn
+     * @param {Uint8Array} bytes @param {PageRequest} turn
      */
     async request(bytes, turn) {
         let isOver = false;
@@ -120,7 +120,7 @@ export class Authenticator {
         }
     }
 
-    /** @param {Uint8Array} bytes @param {Turn} turn */
+    /** @param {Uint8Array} bytes @param {PageRequest} turn */
     async #exchange(bytes, turn) {
         let message = this.#send(bytes);
         if (!message && this.session.need.kind === "presence") {
@@ -141,7 +141,7 @@ export class Authenticator {
         return message.bytes;
     }
 
-    /** Asks the user, and provides presence. @param {Uint8Array} bytes @param {Turn} turn */
+    /** Asks the user, and provides presence. @param {Uint8Array} bytes @param {PageRequest} turn */
     async #askUser(bytes, turn) {
         const { session } = this;
         const word = await this.#withTicks(turn.ask(), turn.signal);
@@ -156,7 +156,7 @@ export class Authenticator {
 
     /**
      * Provides a key pair or a signature. After each wait the request may have been aborted, and replaced by another.
-     * @param {Turn} turn
+     * @param {PageRequest} turn
      */
     async #provide({ signal, made, flags }) {
         const { need } = this.session;

@@ -152,7 +152,8 @@
     /** The number of signatures that this browser couldn't verify. */
     let unsure = 0;
 
-    const answerQuestion = (name, question) => {
+    /** Returns whether a signature is valid; true for one that is not verified yet, which is then queued. */
+    const getVerdict = (name, question) => {
         if (!known.has(name)) {
             asked.set(name, question);
         }
@@ -162,10 +163,10 @@
     $.modules.keys = () => ({
         AVAILABLE: Boolean(globalThis.crypto?.subtle),
         verifies: (cose, signed, signature) =>
-            answerQuestion(`${$.repr(cose)} ${signed.digits} ${signature.digits}`,
+            getVerdict(`${$.repr(cose)} ${signed.digits} ${signature.digits}`,
                 { cose, signed: signed.data, signature: signature.data }),
         verified_by: (certificate, alg, signed, signature) =>
-            answerQuestion(`${certificate.digits} ${alg} ${signed.digits} ${signature.digits}`,
+            getVerdict(`${certificate.digits} ${alg} ${signed.digits} ${signature.digits}`,
                 { certificate: certificate.data, alg, signed: signed.data, signature: signature.data }),
     });
 

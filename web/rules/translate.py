@@ -91,7 +91,7 @@ class Expressions:
         """Writes an expression."""
         write: Optional[Callable[[ast.expr], str]] = getattr(self, f"write_{type(node).__name__}", None)
         if write is None:
-            raise UntranslatableError(f"line {node.lineno}: {type(node).__name__}")
+            raise UntranslatableError(f"line {node.lineno}: unsupported syntax: {type(node).__name__}")
         return write(node)
 
     def write_condition(self, node: ast.expr) -> str:
@@ -124,7 +124,7 @@ class Expressions:
             return json.dumps(value)
         if isinstance(value, int):
             return str(value) if value < 2**53 else f"{value}n"
-        raise UntranslatableError(f"line {node.lineno}: {value!r}")
+        raise UntranslatableError(f"line {node.lineno}: unsupported constant: {value!r}")
 
     def write_Name(self, node: ast.Name) -> str:
         return rename(node.id)
@@ -166,7 +166,7 @@ class Expressions:
             return f"!{self.write_condition(node.operand)}"
         if isinstance(node.op, ast.USub):
             return f"$.sub(0, {self.write_expression(node.operand)})"
-        raise UntranslatableError(f"line {node.lineno}: {ast.dump(node.op)}")
+        raise UntranslatableError(f"line {node.lineno}: unsupported operator: {ast.dump(node.op)}")
 
     def write_BinOp(self, node: ast.BinOp) -> str:
         return f"$.{BINARY_OPERATORS[type(node.op)]}({self.write_expression(node.left)}, {self.write_expression(node.right)})"
@@ -194,7 +194,7 @@ class Expressions:
             )
             before = name
         if not parts[0].count("$.l") and not isinstance(node.left, (ast.Name, ast.Constant, ast.Attribute, ast.Call)):
-            raise UntranslatableError(f"line {node.lineno}: chained comparison")
+            raise UntranslatableError(f"line {node.lineno}: unsupported chained comparison")
         return "(" + " && ".join(parts) + ")"
 
     def write_IfExp(self, node: ast.IfExp) -> str:
@@ -279,7 +279,7 @@ class Expressions:
             name = self.new_name()
             parts = [self.write_assignment(element, f"{name}[{place}]") for place, element in enumerate(target.elts)]
             return f"{name} = $.unpackItems({value}, {len(parts)}); " + "".join(parts)
-        raise UntranslatableError(f"line {target.lineno}: {ast.dump(target)}")
+        raise UntranslatableError(f"line {target.lineno}: unsupported assignment target: {ast.dump(target)}")
 
     def write_parameters(self, arguments: ast.arguments, skip: int = 0) -> str:
         """Writes parameters with their defaults."""
@@ -308,7 +308,7 @@ class Statements(Expressions):
         """Writes a statement."""
         write: Optional[Callable[[ast.stmt], str]] = getattr(self, f"write_{type(node).__name__}", None)
         if write is None:
-            raise UntranslatableError(f"line {node.lineno}: {type(node).__name__}")
+            raise UntranslatableError(f"line {node.lineno}: unsupported syntax: {type(node).__name__}")
         return write(node)
 
     def write_Expr(self, node: ast.Expr) -> str:

@@ -134,7 +134,7 @@ class Browser:
     # Requests to the key.
 
     def _begin(self, ceremony: str, options: object, mediation: object, signal: Signal | None) -> _PendingCall:
-        """Checks a call's options, and writes its request. A signal that is set is reported after errors of type."""
+        """Checks a call's options, and writes its request. A signal that is set is reported after type errors."""
         call = ClientCall(
             ceremony, self._with_core_ids(options), mediation, self.origin, self._key.authenticator_options
         )

@@ -137,7 +137,7 @@ class InProcessKey:
         return self._handle.put(_to_c_credential(credential))
 
     def replace_last(self, credential: Credential) -> bool:
-        """Does the same with the last credential's replacement. Returns False if that one has another ID."""
+        """Replaces the last credential, and power-cycles the key. Returns False if the last one has another ID."""
         last = self._handle.credential(self._handle.call("credential_count") - 1)
         return bytes(last.id) == credential.id and self.put(credential)
 

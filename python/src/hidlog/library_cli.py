@@ -93,7 +93,7 @@ def _read_snapshot(path: str) -> bytes:
             raise
         lines = sums.splitlines(keepends=True)
         if len(lines) not in (1, 2) or not all(map(_CHECKSUM_FILE.fullmatch, lines)):
-            raise OSError(errno.EINVAL, "the file of its sums has none", path)
+            raise OSError(errno.EINVAL, "its checksum file has no checksum", path)
         number = b" %016x\n" % os.stat(path).st_ino
         # The checksums do not apply to a file that replaced theirs.
         if not sums.endswith(number) or sha256(data).hexdigest().encode() + number in lines:

@@ -28,7 +28,8 @@ from .webauthn_client import AuthenticatorOptions
 # Slightly more than KEEPALIVE_MS, because timestamps are whole milliseconds.
 _KEEPALIVE_SECONDS = 0.101
 Clock = Union[str, Callable[[], int]]
-# Private keys kept per credential of the capacity. Above that, a registration drops the keys of removed credentials.
+# Maximum number of private keys, as a multiple of the capacity. A registration above it drops those of removed
+# credentials.
 _MAX_PRIVATE_KEYS = 4
 # Capacity of the keys of the program `hidlog`.
 _PROGRAM_CAPACITY = 64
@@ -76,7 +77,7 @@ class Session:
     ):
         if clock not in ("virtual", "real") and not callable(clock):
             raise ArgumentError(
-                f"clock is {describe(clock)}; it must be 'virtual', 'real', or a function of milliseconds"
+                f"clock is {describe(clock)}; it must be 'virtual', 'real', or a function that returns milliseconds"
             )
         self._owner, self._work = os.getpid(), Work()
         self._changed = threading.Condition()
@@ -351,8 +352,7 @@ class Session:
             self._wait_for_user(is_over=True)
 
     def _pause(self, limit: float) -> bool:
-        """Waits in real time. Returns True if 100 ms have passed since it last did, False if something may have
-        changed."""
+        """Returns True once in 100 ms of real time. Otherwise waits for that time or a change, and returns False."""
         now = time.monotonic()
         if now >= self._work.waited_until:
             self._work.waited_until = now + _KEEPALIVE_SECONDS
@@ -382,7 +382,7 @@ class Session:
             self._wait_for_user(is_over=True)
 
     def _wait_for_user(self, is_over: bool = False) -> None:
-        """Advances the log by 100 ms. With the real clock it waits for them, unless they have passed (is_over)."""
+        """Advances the key's time by 100 ms. With the real clock, waits that long first, unless is_over."""
         if self._clock == "real":
             if not is_over:
                 self._changed.wait(KEEPALIVE_MS / 1000)

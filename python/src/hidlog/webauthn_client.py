@@ -179,14 +179,14 @@ class ClientCall:
             self.response(bytes([status]))
         except WebAuthnError as error:
             return type(error)(describe_status(status) + (f": {cause}" if cause else ""), status)
-        raise HidlogError(f"status {status} makes a credential")
+        raise HidlogError(f"libhidlog returned a credential for the error status {status}")
 
 
 def _make_error(number: int, report: _Report, out: Any) -> HidlogError:
     """Returns the error of a failed call, with the invalid member of the options."""
     kind = _ERRORS.get(number)
     if kind is None:
-        return HidlogError(f"hidlog_client failed with {number}")
+        return HidlogError(f"libhidlog's WebAuthn client failed with error {number}")
     text = ctypes.string_at(out, report.member_len + report.reason_len)
     member, reason = text[: report.member_len].decode(), text[report.member_len :].decode()
     if member == "origin":

@@ -76,7 +76,7 @@ def _infer_transactions(placed: list[tuple[int, bool, bytes]]) -> list[Any]:
 
 
 def _packet_index(part: Any) -> int:
-    """Returns the packet index of a message's first packet, or of an entry."""
+    """Returns the index of the packet at the line of a message or an entry."""
     return int(part.line) // 2 - 1
 
 

@@ -135,7 +135,7 @@ class Authenticator:
             for credential in self.of_origin(origin, True):
                 if read_point(credential) == point:
                     return self._keys[point], hashes | {b64url_decode(credential["rpIdHash"], "rpIdHash")}
-        raise make_invalid_argument("this origin has no such key")
+        raise make_invalid_argument("this origin has no private key for this point")
 
     def take(self, origin: str, reported: Any, gone: Any, has_keys: bool) -> None:
         """Stores the credentials that a page of an origin reports, and removes those reported as gone.
@@ -143,14 +143,16 @@ class Authenticator:
         Known credentials are unchanged, except that the signature counter may rise.
         """
         if not isinstance(reported, list) or len(reported) > _MAX_CREDENTIALS or not isinstance(gone, list):
-            raise make_invalid_argument(f"credentials must be a list of at most {_MAX_CREDENTIALS}, and gone a list")
+            raise make_invalid_argument(
+                f"credentials must be a list of at most {_MAX_CREDENTIALS}, and gone must be a list"
+            )
         listed = {made["credentialId"]: (made, raw) for made, raw in ((read_reported(raw), raw) for raw in reported)}
         if len(listed) != len(reported) or not all(is_valid_rp_id(made["rpId"], origin) for made, _ in listed.values()):
-            raise make_invalid_argument("a credential is not one of this origin")
+            raise make_invalid_argument("a credential belongs to another origin")
         with self.lock:
             own = {credential["credentialId"] for credential in self.of_origin(origin, True)}
             if any(other["credentialId"] in listed and other["credentialId"] not in own for other in self.credentials):
-                raise make_invalid_argument("a credential is not one of this origin")
+                raise make_invalid_argument("a credential belongs to another origin")
             dropped = {name for name in gone if isinstance(name, str) and name in own and name not in listed}
             fresh = [self._adopt(origin, *listed[name], has_keys) for name in listed if name not in own]
             counts = {name: made["signCount"] for name, (made, _) in listed.items()}
@@ -172,7 +174,7 @@ class Authenticator:
         else:
             for_origin, pending = self._pending.get(read_point(raw), ("", None))
             if pending is None or for_origin != origin:
-                raise make_invalid_argument("this origin has no such key")
+                raise make_invalid_argument("this origin has no private key for this point")
             private = pending
         return {**made, "privateKey": b64url_encode(private_keys.to_pkcs8(private))}, private
 

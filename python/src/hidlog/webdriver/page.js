@@ -11,9 +11,9 @@ const hidlogPage = (() => {
     const NO_KEY = "A".repeat(43);
     const POINT_BYTES = 64;
 
-    const toText = (bytes) => btoa(Array.from(bytes, (byte) => String.fromCharCode(byte)).join(""));
-    const toUrl = (bytes) => toText(bytes).replace(/\+/g, "-").replace(/\//g, "_").replace(/=+$/, "");
-    const toBytes = (text) => Uint8Array.from(atob(text), (letter) => letter.charCodeAt(0));
+    const toBase64 = (bytes) => btoa(Array.from(bytes, (byte) => String.fromCharCode(byte)).join(""));
+    const toBase64url = (bytes) => toBase64(bytes).replace(/\+/g, "-").replace(/\//g, "_").replace(/=+$/, "");
+    const fromBase64 = (text) => Uint8Array.from(atob(text), (letter) => letter.charCodeAt(0));
     const toHex = (bytes) => Array.from(bytes, (byte) => byte.toString(16).padStart(2, "0")).join("");
 
     /** The key in this document, and the state last exchanged with the proxy. */
@@ -23,9 +23,9 @@ const hidlogPage = (() => {
     let faultsSet = "{}";
     let known = [];
     // Identifies this document among those of its origin.
-    const id = isPage ? toText(crypto.getRandomValues(new Uint8Array(12))) : "";
+    const id = isPage ? toBase64(crypto.getRandomValues(new Uint8Array(12))) : "";
     const sent = new Map();
-    const idsOf = (credentials) => credentials.map((credential) => credential.credentialId);
+    const listIds = (credentials) => credentials.map((credential) => credential.credentialId);
 
     // The channel to the proxy: calls and their results.
 
@@ -49,11 +49,11 @@ const hidlogPage = (() => {
         return { call, reply };
     };
 
-    /** WebCrypto with extractable private keys in the proxy. */
-    const cryptoOf = ({ call }) => {
+    /** Returns a WebCrypto whose extractable private keys stay in the proxy. */
+    const makeProxyCrypto = ({ call }) => {
         const { subtle } = crypto;
         const ours = new WeakSet();
-        const keyOf = (point) => {
+        const makeKey = (point) => {
             const made = { point };
             ours.add(made);
             return made;
@@ -66,17 +66,17 @@ const hidlogPage = (() => {
                     if (!isExtractable) {
                         return subtle.generateKey(algorithm, isExtractable, uses);
                     }
-                    return { privateKey: keyOf(toBytes((await call("make")).point)) };
+                    return { privateKey: makeKey(fromBase64((await call("make")).point)) };
                 },
-                importKey: async (form, bytes) => keyOf(bytes.slice(-POINT_BYTES)),
+                importKey: async (form, bytes) => makeKey(bytes.slice(-POINT_BYTES)),
                 exportKey: async (form, { point }) =>
-                    ({ d: NO_KEY, x: toUrl(point.subarray(0, 32)), y: toUrl(point.subarray(32)) }),
+                    ({ d: NO_KEY, x: toBase64url(point.subarray(0, 32)), y: toBase64url(point.subarray(32)) }),
                 async sign(algorithm, held, data) {
                     if (!ours.has(held)) {
                         return subtle.sign(algorithm, held, data);
                     }
-                    const { signature } = await call("sign", { point: toText(held.point), data: toText(data) });
-                    return toBytes(signature).buffer;
+                    const { signature } = await call("sign", { point: toBase64(held.point), data: toBase64(data) });
+                    return fromBase64(signature).buffer;
                 },
             },
         };
@@ -84,7 +84,7 @@ const hidlogPage = (() => {
 
     // The key's settings.
 
-    const setUp = ({ authenticatorOptions, presence, serial: at, faults }) => {
+    const applySettings = ({ authenticatorOptions, presence, serial: at, faults }) => {
         key.setAuthenticatorOptions(authenticatorOptions);
         if (serial !== at) {
             serial = at;
@@ -97,24 +97,24 @@ const hidlogPage = (() => {
         }
     };
 
-    /** Replaces the key's credentials, if they differ. */
+    /** Sets the key's credentials, unless it already has them. */
     const restore = async (credentials) => {
         const state = key.state();
         if (stringify(credentials) !== stringify(state.credentials)) {
             await key.restore({ format: FORMAT, timeMs: state.timeMs, credentials });
         }
-        known = idsOf(credentials);
+        known = listIds(credentials);
     };
 
     const update = async (settings) => {
-        setUp(settings);
+        applySettings(settings);
         await restore(settings.credentials);
     };
 
-    /** The changes of the recordings since the last call: of each, the new end of the log. */
-    const news = () => key.recordings().flatMap(({ index, log, snapshot }) => {
+    /** Returns what was appended to each recording since the last call, with its offset in the log. */
+    const listRecordingChanges = () => key.recordings().flatMap(({ index, log, snapshot }) => {
         const before = sent.get(index) ?? "";
-        // The last line has the totals, and changes.
+        // The last line has the totals, which change, so it is sent again.
         const same = before.slice(0, before.lastIndexOf("\n", before.length - 2) + 1);
         const from = log.startsWith(same) ? same.length : 0;
         if (log === before || !/^> /m.test(log)) {
@@ -124,17 +124,17 @@ const hidlogPage = (() => {
         return [{ index, from, text: log.slice(from), snapshot: toHex(snapshot) }];
     });
 
-    /** The key's credentials, the IDs of known ones that are gone, and the news of the recordings. */
+    /** Returns the key's credentials, the IDs of removed ones, and what was appended to the recordings. */
     const report = () => {
         const { credentials } = key.state();
-        const ids = idsOf(credentials);
+        const ids = listIds(credentials);
         const gone = known.filter((id) => !ids.includes(id));
         known = ids;
-        return { credentials, gone, recordings: news(), document: id };
+        return { credentials, gone, recordings: listRecordingChanges(), document: id };
     };
 
-    /** Synchronizes the proxy and the key before and after a page's call. */
-    const surround = (name) => {
+    /** Replaces a method of navigator.credentials by one that synchronizes the proxy and the key before and after. */
+    const wrapMethod = (name) => {
         const { prototype } = CredentialsContainer;
         const served = prototype[name];
         const around = { async [name](...args) {
@@ -151,9 +151,9 @@ const hidlogPage = (() => {
         Object.defineProperty(prototype, name, { ...Object.getOwnPropertyDescriptor(prototype, name), value: around });
     };
 
-    const put = (options) => {
+    const installKey = (options) => {
         key = hidlogKey.install({ allowedOrigins: [origin], origin, ...options });
-        ["create", "get"].forEach(surround);
+        ["create", "get"].forEach(wrapMethod);
         return key;
     };
 
@@ -170,7 +170,7 @@ const hidlogPage = (() => {
             end: () => channel.call("end", report()),
             presence: () => async () => (await channel.call("presence")).word,
         };
-        put({ crypto: cryptoOf(channel) });
+        installKey({ crypto: makeProxyCrypto(channel) });
         key.setAuthenticatorOptions(authenticatorOptions);
         Object.defineProperty(globalThis, "hidlogReply", { value: channel.reply, configurable: true });
         Object.defineProperty(globalThis, "hidlogUpdate", { value: update, configurable: true });
@@ -182,31 +182,31 @@ const hidlogPage = (() => {
     let seal = null;
     let used = 0;
 
-    const sealOf = async (secret) =>
-        crypto.subtle.importKey("raw", toBytes(secret), "AES-GCM", false, ["encrypt", "decrypt"]);
+    const importSecret = async (secret) =>
+        crypto.subtle.importKey("raw", fromBase64(secret), "AES-GCM", false, ["encrypt", "decrypt"]);
 
     const save = async () => {
         const iv = crypto.getRandomValues(new Uint8Array(12));
         const text = new TextEncoder().encode(stringify({ credentials: key.state().credentials, known, used, serial }));
         const sealed = await crypto.subtle.encrypt({ name: "AES-GCM", iv }, seal, text);
-        sessionStorage.setItem(SEALED, `${toText(iv)} ${toText(new Uint8Array(sealed))}`);
+        sessionStorage.setItem(SEALED, `${toBase64(iv)} ${toBase64(new Uint8Array(sealed))}`);
     };
 
-    /** The state saved by an earlier document of this origin, or null. */
-    const saved = async () => {
+    /** Returns the state saved by an earlier document of this origin, or null. */
+    const readSaved = async () => {
         try {
-            const [iv, sealed] = sessionStorage.getItem(SEALED).split(" ").map(toBytes);
+            const [iv, sealed] = sessionStorage.getItem(SEALED).split(" ").map(fromBase64);
             return parse(new TextDecoder().decode(await crypto.subtle.decrypt({ name: "AES-GCM", iv }, seal, sealed)));
         } catch {
             return null;
         }
     };
 
-    /** The proxy's credentials, with this page's changes to those it knew. */
-    const merged = (proxy) => {
+    /** Returns the proxy's credentials, with those that this page added, removed or used since the last call. */
+    const mergeCredentials = (proxy) => {
         const { credentials } = key.state();
         const own = new Map(credentials.map((credential) => [credential.credentialId, credential]));
-        const ids = idsOf(proxy);
+        const ids = listIds(proxy);
         const kept = proxy.filter(({ credentialId: id }) => own.has(id) || !known.includes(id));
         const countOf = ({ credentialId, signCount }) => Math.max(signCount, own.get(credentialId)?.signCount ?? 0);
         const counted = kept.map((credential) => ({ ...credential, signCount: countOf(credential) }));
@@ -214,7 +214,7 @@ const hidlogPage = (() => {
     };
 
     const start = async ({ secret }) => {
-        seal = await sealOf(secret);
+        seal = await importSecret(secret);
         link = {
             begin: async () => {},
             end: () => save().catch(() => {}),
@@ -223,8 +223,8 @@ const hidlogPage = (() => {
                 return words[Math.min(used, words.length) - 1];
             },
         };
-        put({});
-        const before = await saved();
+        installKey({});
+        const before = await readSaved();
         if (before) {
             await restore(before.credentials);
             known = before.known;
@@ -233,16 +233,16 @@ const hidlogPage = (() => {
         return null;
     };
 
-    /** Synchronizes this page with the proxy, and returns what is new for the proxy. */
+    /** Synchronizes this page with the proxy, and returns what changed in the page. */
     const sync = async (settings) => {
         const before = key ? { used, serial } : await start(settings);
         used = Math.max(settings.used, before?.serial === settings.serial ? before.used : 0);
-        setUp(settings);
-        const gone = known.filter((id) => !idsOf(key.state().credentials).includes(id));
-        await restore(merged(settings.credentials));
+        applySettings(settings);
+        const gone = known.filter((id) => !listIds(key.state().credentials).includes(id));
+        await restore(mergeCredentials(settings.credentials));
         sessionStorage.removeItem(SEALED);
         sessionStorage.setItem(PROOF, settings.proof);
-        return { credentials: key.state().credentials, gone, recordings: news(), document: id, used, serial };
+        return { credentials: key.state().credentials, gone, recordings: listRecordingChanges(), document: id, used, serial };
     };
 
     /** Removes the key from this document. Returns an object with the library, which restores this script's functions. */
@@ -253,7 +253,7 @@ const hidlogPage = (() => {
             [SEALED, PROOF].forEach((name) => sessionStorage.removeItem(name));
         }
         ["hidlogReply", "hidlogUpdate", "hidlogPage", "hidlogKey"].forEach((name) => delete globalThis[name]);
-        // The browser would return a function itself as text.
+        // An object, because the browser would return a function as its source text.
         return { library };
     };
 

@@ -73,14 +73,16 @@ class Recorder:
     def take(self, origin: str, document: Any, reported: Any) -> None:
         """Stores the report of a document: for each recording, the log from an offset on."""
         if not isinstance(reported, list) or not isinstance(document, str) or len(document) > _MAX_NAME_LENGTH:
-            raise make_invalid_argument("recordings must be a list, and document a name")
+            raise make_invalid_argument(
+                f"recordings must be a list, and document a str of at most {_MAX_NAME_LENGTH} characters"
+            )
         for recording in reported:
             if not isinstance(recording, dict):
                 raise make_invalid_argument("a recording must be an object")
             number, offset = _read_number(recording, "index"), _read_number(recording, "from")
             text, snapshot = recording.get("text"), recording.get("snapshot")
             if not isinstance(text, str) or not _LOG_TEXT.match(text):
-                raise make_invalid_argument("a recording must be a log")
+                raise make_invalid_argument("the text of a recording must be log lines")
             with self._changes:
                 self._add_text(origin, (origin, document, number), offset, text, snapshot)
                 self._changes.notify_all()
@@ -94,7 +96,7 @@ class Recorder:
         if self._is_full:
             return
         if offset > (len(part.log) if part else 0):
-            raise make_invalid_argument("a recording has a gap")
+            raise make_invalid_argument(f"a recording continues at {offset}, after the end of the stored part")
         if part is None:
             part = self._parts[key] = self._add_recording(origin, snapshot)
         self._size += offset + len(text) - len(part.log)
@@ -107,7 +109,7 @@ class Recorder:
         try:
             data = bytes.fromhex(snapshot)
         except (TypeError, ValueError):
-            raise make_invalid_argument("the snapshot of a recording must be in hexadecimal digits") from None
+            raise make_invalid_argument("the snapshot of a recording must be hexadecimal") from None
         if len(data) > _MAX_SNAPSHOT:
             raise make_invalid_argument(f"the snapshot of a recording has more than {_MAX_SNAPSHOT} bytes")
         parts = self._by_origin.setdefault(origin, [])
