@@ -25,6 +25,7 @@ VERSION_PATTERNS = (
     ("rust/hidlog-sys/Cargo.toml", rf'^version = "({NUMBER})"'),
     ("rust/hidlog/README.md", rf"hidlog-(?:sys-)?({NUMBER})"),
     ("go/README.md", rf"(?:version=v|hidlog-go-)({NUMBER})"),
+    ("portable/program.c", rf'^#define VERSION "({NUMBER})"$'),
     ("tests/program/cases.txt", rf"^\+hidlog ({NUMBER})$"),
 )
 RELEASE_HEADING = (
