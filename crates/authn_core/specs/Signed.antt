@@ -91,11 +91,13 @@ pub record Claim : Type 0 where
   pub presence : Bool
   pub hash : List ℕ
 
+-- The parts of a getAssertion, or None for other requests.
 abbrev pub assertion_asked : Option RequestParameters → Option Claim
 assertion_asked (Some (GetAssertion hash rp_id allow presence)) =
     Some (record { rp = sha256 rp_id; presence = presence; hash = hash })
 assertion_asked asked = None
 
+-- The RP ID hash and the client data hash of a makeCredential, or None for other requests.
 abbrev pub creation_asked : Option RequestParameters → Option (List ℕ × List ℕ)
 creation_asked (Some (MakeCredential hash rp_id user_id user_name discoverable exclude)) = Some (sha256 rp_id, hash)
 creation_asked asked = None

@@ -14,6 +14,7 @@ use Rattle.cred_table.specs.Rows.{has_id, replaces, ValidRows}
 abbrev pub number : ℕ → Tree
 number n = Plain (Int (pos n))
 
+-- A byte string as a CBOR item.
 abbrev pub bytes : List ℕ → Tree
 bytes s = Plain (Bytes s)
 
@@ -37,9 +38,11 @@ row_tree named row =
     (pair (number 7) (number row.counter)
     (name_member named row))))))))
 
+-- A hash, a credential ID or a coordinate: 32 bytes.
 abbrev pub IsHash : List ℕ → Type 0
 IsHash s = (length s ≡ 32) × AreBytes s
 
+-- A user handle: at most 64 bytes.
 abbrev pub IsUserHandle : List ℕ → Type 0
 IsUserHandle s = (length s ≤ 64) × AreBytes s
 
@@ -60,6 +63,7 @@ pub record IsRow (named : Bool) (row : Row) : Type 0 where
 
 -- ---- the whole
 
+-- The version of a snapshot with or without user names.
 abbrev pub version : (named : Bool) → ℕ
 version named = if named then 2 else 1
 
@@ -72,6 +76,7 @@ abbrev pub rows_then : (named : Bool) → List Row → Trees → Trees
 rows_then named [] entries = entries
 rows_then named (row ∷ rows) entries = tree (row_tree named row) (rows_then named rows entries)
 
+-- The map of a snapshot of these rows.
 abbrev pub snapshot : (named : Bool) → List Row → Tree
 snapshot named rows = snapshot_of named (rows_then named rows no_trees)
 

@@ -49,18 +49,21 @@ fn row_bounds(row: &Row)
     let _counter = row.counter;
 }
 
+/// States that these are 32 bytes, for proofs. Has no effect.
 fn hash_bounds(hash: &[u8; 32])
     ensures { IsHash hash.now }
 {
     byte_bounds(hash);
 }
 
+/// States that these are at most 64 bytes, for proofs. Has no effect.
 fn handle_bounds(bytes: &ArrayVec<u8, 64>)
     ensures { IsUserHandle bytes.now.items }
 {
     byte_bounds(bytes.as_slice());
 }
 
+/// States that a name is at most 64 bytes of UTF-8, for proofs. Has no effect.
 fn name_bounds(name: &Name)
     ensures { IsName true name.now }
 {

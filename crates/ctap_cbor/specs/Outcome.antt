@@ -101,6 +101,7 @@ later_in (InArray total done) = later_in_all done
 later_in (AtKey total done) = later_in_map done
 later_in (AtValue total done key) = later_in_map done + later_key done key
 
+-- The lengths of the keys of nested unfinished arrays and maps, without the first of each map.
 abbrev pub later_in_open : List Enclosing → ℕ
 later_in_open [] = 0
 later_in_open (o ∷ os) = later_in o + later_in_open os

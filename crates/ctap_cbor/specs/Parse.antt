@@ -80,6 +80,7 @@ then_inside sub levels bytes (Ok (One s, rest)) = Done (Plain s) rest
 then_inside sub levels bytes (Ok (OpensArray n, rest)) = array_of n (items sub n rest)
 then_inside sub levels bytes (Ok (OpensMap n, rest)) = map_of n (pairs sub levels n None rest)
 
+-- Parses a whole item with at most this many levels of arrays and maps.
 unfoldable pub parse : ℕ → List ℕ → Parse
 parse zero bytes = then_inside (λ b. Done (Plain Null) b) zero bytes (read zero AnItem bytes)
 parse (suc levels) bytes = then_inside (parse levels) levels bytes (read (suc levels) AnItem bytes)

@@ -40,6 +40,7 @@ abbrev pub item_or_error : Option Kind → Part → List ℕ → Result (Part ×
 item_or_error None i rest = Ok (i, rest)
 item_or_error (Some kind) i rest = Err kind
 
+-- Reads the item at the beginning of these bytes.
 unfoldable pub read : ℕ → Expected → List ℕ → Result (Part × List ℕ) Kind
 read levels due [] = Err Truncated
 read levels due (first ∷ rest) = item_or_error (fault levels due (first ∷ rest)) (item_of (major first) first rest)

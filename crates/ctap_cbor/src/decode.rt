@@ -149,6 +149,7 @@ fn scalar_of(alloc: Global, item: Item) -> Result<Value, AllocError>
     }
 }
 
+/// Copies bytes to a new vector.
 fn copied(alloc: Global, bytes: &[u8]) -> Result<Vec<u8>, AllocError>
     ensures { IfOk result (λ v. v.items ≡ bytes.now) }
 {

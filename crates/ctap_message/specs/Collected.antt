@@ -17,6 +17,7 @@ use Rattle.ctap_message.specs.DescriptorWalk.{list_of, left_of}
 
 -- ---- rp
 
+-- Converts the code's fields of rp to those of the definitions: the ID.
 abbrev pub to_rp : Rp → Option (List ℕ)
 to_rp x = option_copied x.id
 
@@ -26,6 +27,7 @@ rp_next k v id = if is_key (Name "id") k then as_text v else id
 
 -- ---- user
 
+-- Converts the code's fields of user to those of the definitions.
 abbrev pub to_user : UserFields → User
 to_user x = record { id = option_copied x.id; name = option_copied x.name }
 
@@ -38,6 +40,7 @@ user_next k v x = record {
 
 -- ---- options
 
+-- Converts the code's options to those of the definitions.
 abbrev pub to_options : OptionFields → Options
 to_options x = record { rk = x.rk; up = x.up; uv = x.uv }
 
@@ -52,6 +55,7 @@ options_next k v x =
 
 -- ---- credential parameters
 
+-- Converts the code's fields of a credential parameter to those of the definitions.
 abbrev pub to_parameter : ParameterFields → Parameter
 to_parameter x = record { alg = x.alg; credential_type = option_copied x.kind }
 
@@ -69,6 +73,7 @@ to_parameters x = record { is_whole = x.is_whole; has_es256 = x.has_es256 }
 
 -- ---- descriptors
 
+-- Converts the code's fields of a descriptor to those of the definitions.
 abbrev pub to_descriptor : DescriptorFields → Descriptor
 to_descriptor x = record { id = option_copied x.id; credential_type = option_copied x.kind }
 

@@ -15,9 +15,11 @@ parameter_key n = Plain (Int (pos n))
 
 -- ---- makeCredential
 
+-- The parameters in a map, and the entries of its excludeList.
 abbrev pub make_in : Option Tree → MakeParameters × Trees
 make_in t = (make_parameters t, entries_of (member (Number 0x05) t))
 
+-- Converts the code's parameters to those of the definitions.
 abbrev pub to_make_parameters : Make → MakeParameters × Trees
 to_make_parameters m = (
   record {
@@ -70,9 +72,11 @@ pub record IsOtherMake (k : Tree) : Type 0 where
 
 -- ---- getAssertion
 
+-- The parameters in a map, and the entries of its allowList.
 abbrev pub assertion_in : Option Tree → AssertionParameters × Trees
 assertion_in t = (assertion_parameters t, entries_of (member (Number 0x03) t))
 
+-- Converts the code's parameters to those of the definitions.
 abbrev pub to_assertion_parameters : Assert → AssertionParameters × Trees
 to_assertion_parameters a = (
   record {

@@ -7,10 +7,12 @@ use Rattle.ctap_message.specs.Descriptors.{is_public_key, is_es256}
 
 -- ---- descriptors
 
+-- The fields of a descriptor that the code stores.
 pub record Descriptor : Type 0 where
   pub id : Option (List ℕ)
   pub credential_type : Option (List ℕ)
 
+-- The fields of a descriptor in an item.
 abbrev pub descriptor_in : Option Tree → Descriptor
 descriptor_in t = record { id = member_as as_bytes (Name "id") t; credential_type = member_as as_text (Name "type") t }
 
@@ -28,6 +30,7 @@ pub record DescriptorList : Type 0 where
   pub is_whole : Bool
   pub entries : Trees
 
+-- The summary of a list of descriptors in an item.
 abbrev pub descriptors_in : Option Tree → DescriptorList
 descriptors_in t = record {
   is_whole = all_entries (λ t. is_complete_descriptor (descriptor_in (Some t))) (entries_of t);
@@ -36,11 +39,13 @@ descriptors_in t = record {
 
 -- ---- options
 
+-- The options that the code stores.
 pub record Options : Type 0 where
   pub rk : Option Bool
   pub up : Option Bool
   pub uv : Option Bool
 
+-- The options in an item.
 abbrev pub options_in : Option Tree → Options
 options_in t = record {
   rk = member_as as_flag (Name "rk") t;
@@ -50,16 +55,20 @@ options_in t = record {
 
 -- ---- credential parameters
 
+-- The fields of a credential parameter that the code stores.
 pub record Parameter : Type 0 where
   pub alg : Option ℤ
   pub credential_type : Option (List ℕ)
 
+-- The fields of a credential parameter in an item.
 abbrev pub parameter_in : Option Tree → Parameter
 parameter_in t = record { alg = member_as as_int (Name "alg") t; credential_type = member_as as_text (Name "type") t }
 
+-- The algorithm and the type are present.
 abbrev pub is_whole_parameter : Parameter → Bool
 is_whole_parameter p = is_some p.alg && is_some p.credential_type
 
+-- The parameter is ES256 for public keys.
 abbrev pub names_es256 : Parameter → Bool
 names_es256 p = is_es256 p.alg && is_public_key p.credential_type
 
@@ -69,6 +78,7 @@ pub record Parameters : Type 0 where
   pub is_whole : Bool
   pub has_es256 : Bool
 
+-- The summary of pubKeyCredParams in an item.
 abbrev pub parameters_in : Option Tree → Parameters
 parameters_in t =
     record {
@@ -78,12 +88,15 @@ parameters_in t =
 
 -- ---- the ID of rp, and the members of user
 
+-- The ID of the relying party in an item.
 abbrev pub rp_in : Option Tree → Option (List ℕ)
 rp_in t = member_as as_text (Name "id") t
 
+-- The fields of user that the code stores.
 pub record User : Type 0 where
   pub id : Option (List ℕ)
   pub name : Option (List ℕ)
 
+-- The fields of user in an item.
 abbrev pub user_in : Option Tree → User
 user_in t = record { id = member_as as_bytes (Name "id") t; name = member_as as_text (Name "name") t }

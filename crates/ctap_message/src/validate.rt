@@ -13,8 +13,10 @@ use crate::get_assertion::Assert;
 use crate::make_credential::Make;
 use crate::request::{AssertRequest, MakeRequest, Request};
 
+/// The command byte of authenticatorMakeCredential.
 const MAKE_CREDENTIAL: u8 = 0x01;
 
+/// The command byte of authenticatorGetAssertion.
 const GET_ASSERTION: u8 = 0x02;
 
 /// Returns the error of an incomplete list entry.

@@ -77,6 +77,7 @@ fn init_verdict(on: u32, channel: u32, part: &[u8], working: Option<u32>) -> Ver
     }
 }
 
+/// Returns the verdict that refuses a packet of this channel.
 fn refuse(cid: u32, why: Refusal) -> Verdict
     ensures { result ≡ Verdict.Refuse cid why }
 {

@@ -14,6 +14,7 @@ use crate::ring::RingBuffer;
 use arrayvec::ArrayVec;
 use std::marker::Model;
 
+/// The entries of an outbox, oldest first.
 type Entries = ArrayVec<Queued, OUTBOX_CAPACITY>;
 
 /// A queue of packets to send, at most [`OUTBOX_CAPACITY`] of them. It stores messages, and creates their packets as

@@ -25,10 +25,11 @@ path_option name = record (new_rule name) { long = Some name; value_names = 1 }
 abbrev pub flag : List ℕ → Rule
 flag name = record (new_rule name) { long = Some name; action = Some SetTrue }
 
--- The path of a log, and the paths of any number of logs.
+-- The path of a log.
 abbrev pub log_path : Rule
 log_path = record (new_rule (codes "log")) { value_names = 1 }
 
+-- The paths of any number of logs.
 abbrev pub log_paths : Rule
 log_paths = record (new_rule (codes "log")) { value_names = 1; action = Some Append }
 
@@ -40,16 +41,18 @@ with_text_options logs = flag (codes "explain") ∷ flag (codes "plain") ∷ log
 abbrev pub command : List ℕ → List Rule → Shape
 command name options = record (new_shape name) { rules = options }
 
--- The arguments that clap accepts after a command's name.
+-- The rule of clap for an argument of this form.
 abbrev pub rule_of_form : ParameterForm → List ℕ → Rule
 rule_of_form PathOption word = path_option word
 rule_of_form Flag word = flag word
 rule_of_form Log word = record (new_rule word) { value_names = 1 }
 rule_of_form Logs word = record (new_rule word) { value_names = 1; action = Some Append }
 
+-- The rule of clap for an argument of the code.
 abbrev pub rule_for : CommandParameter → Rule
 rule_for parameter = rule_of_form parameter.form parameter.word.now
 
+-- The command of clap for a command of the code.
 abbrev pub command_for : CommandEntry → Shape
 command_for entry = command entry.word.now (map rule_for entry.parameters.now)
 
@@ -78,6 +81,7 @@ pub data Task : Type 0 where
   check : (load : Option (List ℕ)) (all json : Bool) (logs : List (List ℕ)) → Task
   show : (form : ShowFormat) (wide : Bool) (log : Option (List ℕ)) → Task
 
+-- The bytes of a path, if any.
 abbrev pub path_of : Option (Bor (List ℕ)) → Option (List ℕ)
 path_of = option_map (λ path. path.now)
 
@@ -163,6 +167,7 @@ task_by name found =
 abbrev pub ask_of : List ℕ × List Row → Option (Task × Verbosity)
 ask_of (name, found) = option_map (λ ask. (ask, verbosity_of found)) (task_by name found)
 
+-- The task and the level of detail, unless clap has an error.
 abbrev pub unless : Kinds → Option (Task × Verbosity) → Option (Task × Verbosity)
 unless [] ask = ask
 unless (kind ∷ kinds) ask = None

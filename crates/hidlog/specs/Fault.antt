@@ -28,6 +28,7 @@ pub data FaultText : Type 0 where
   alone : (code : ℕ) (text : List ℕ) → FaultText
   reasoned : (code : ℕ) (text : List ℕ) → FaultText
 
+-- The text that is reported for an error of the code.
 abbrev pub fault_message_of : ProgramFault → FaultText
 fault_message_of Memory = alone 2 no_memory
 fault_message_of (Log fault) = of_log
@@ -40,6 +41,7 @@ fault_message_of (SnapshotWriteError path unwritten) = reasoned 2 cannot_write
 abbrev pub RunResult : Type 0
 RunResult = Result (Unit {0}) FaultText
 
+-- Converts the result of work on a log.
 abbrev pub result_of : {A : Type 0} → Result A ProgramFault → RunResult
 result_of (Ok x) = Ok tt
 result_of (Err fault) = Err (fault_message_of fault)

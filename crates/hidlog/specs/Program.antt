@@ -60,7 +60,7 @@ writing_failed = codes "hidlog: writing failed" ++ 10 ∷ []
 abbrev pub not_text : List ℕ
 not_text = codes "hidlog: an argument is not UTF-8" ++ 10 ∷ []
 
--- The messages for a snapshot that cannot be read, is refused, or cannot be written.
+-- The message for a snapshot that cannot be read.
 abbrev pub cannot_read : List ℕ
 cannot_read = codes "hidlog: cannot read snapshot" ++ 10 ∷ []
 
@@ -68,12 +68,14 @@ cannot_read = codes "hidlog: cannot read snapshot" ++ 10 ∷ []
 abbrev pub cannot_read_log : List ℕ
 cannot_read_log = codes "hidlog: cannot read log" ++ 10 ∷ []
 
+-- The message for a snapshot that is rejected with this error.
 abbrev pub refused : SnapshotFault → List ℕ
 refused NotSnapshot = codes "hidlog: snapshot refused: 1" ++ 10 ∷ []
 refused TooMany = codes "hidlog: snapshot refused: 2" ++ 10 ∷ []
 refused (RowBroken place) = codes "hidlog: snapshot refused: 3" ++ 10 ∷ []
 refused Memory = no_memory
 
+-- The message for a snapshot that cannot be written.
 abbrev pub cannot_write : List ℕ
 cannot_write = codes "hidlog: cannot write snapshot" ++ 10 ∷ []
 

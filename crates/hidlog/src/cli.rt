@@ -36,12 +36,14 @@ struct CommandParameter {
     help: &'static str,
 }
 
+/// The option `--load F`.
 const LOAD: CommandParameter = CommandParameter {
     form: ParameterForm::PathOption,
     word: "load",
     help: "Load credentials from snapshot file F",
 };
 
+/// The option `--save F`.
 const SAVE: CommandParameter = CommandParameter {
     form: ParameterForm::PathOption,
     word: "save",
@@ -49,48 +51,56 @@ const SAVE: CommandParameter = CommandParameter {
            written to F.hidlog-copy",
 };
 
+/// The option `--all`.
 const ALL: CommandParameter = CommandParameter {
     form: ParameterForm::Flag,
     word: "all",
     help: "Report all differences, not only the first",
 };
 
+/// The option `--summary`.
 const SUMMARY: CommandParameter = CommandParameter {
     form: ParameterForm::Flag,
     word: "summary",
     help: "Print a summary: transactions, credentials, ignored inputs",
 };
 
+/// The option `--json`.
 const JSON: CommandParameter = CommandParameter {
     form: ParameterForm::Flag,
     word: "json",
     help: "Print one JSON object per line",
 };
 
+/// The option `--wide`.
 const WIDE: CommandParameter = CommandParameter {
     form: ParameterForm::Flag,
     word: "wide",
     help: "Do not truncate lines to the terminal's width",
 };
 
+/// The option `--explain`.
 const EXPLAIN: CommandParameter = CommandParameter {
     form: ParameterForm::Flag,
     word: "explain",
     help: "Add names, fields, reasons and notes (default on a terminal)",
 };
 
+/// The option `--plain`.
 const PLAIN: CommandParameter = CommandParameter {
     form: ParameterForm::Flag,
     word: "plain",
     help: "Print the stable, machine-readable format (default when not a terminal)",
 };
 
+/// The argument for a log.
 const LOG: CommandParameter = CommandParameter {
     form: ParameterForm::Log,
     word: "log",
     help: "The log file [default: standard input, also `-`]",
 };
 
+/// The argument for any number of logs.
 const LOGS: CommandParameter = CommandParameter {
     form: ParameterForm::Logs,
     word: "log",

@@ -12,19 +12,23 @@ const SPACES: &[u8] = b"                                                     ";
 /// Maximum depth of nested members that are named.
 const MAX_MEMBER_DEPTH: usize = 3;
 
-/// Formats for the first byte in which two packets differ, with both values.
+/// The format for a byte of the channel in which two packets differ, with both values.
 const IN_CHANNEL: &[u8] =
     b"  byte %d of the packet, in the channel, is %x in the log and %x from the key:\n";
 
+/// The format for a differing command.
 const COMMAND: &[u8] =
     b"  byte %d of the packet, the command, is %x in the log and %x from the key:\n";
 
+/// The format for a differing sequence number.
 const SEQUENCE_NUMBER: &[u8] =
     b"  byte %d of the packet, the sequence number, is %x in the log and %x from the key:\n";
 
+/// The format for a byte of the message length.
 const IN_LENGTH: &[u8] =
     b"  byte %d of the packet, in the length, is %x in the log and %x from the key:\n";
 
+/// The format for any other byte.
 const OTHER_BYTE: &[u8] = b"  byte %d of the packet is %x in the log and %x from the key:\n";
 
 /// Writes the line of one packet, and those lines of its message that differ from the other message's line at the same

@@ -26,6 +26,7 @@ const NOT_READ_AGAIN: Note = Note::Differences(
 /// The note if the log changed before it was read again.
 const LOG_CHANGED: Note = Note::Differences("the log changed while it was being checked");
 
+/// The note if the log has no packet from the key.
 const NO_KEY_PACKETS: Note = Note::Differences(
     "the log has no packets from the key; run `hidlog replay` first, then check its output",
 );

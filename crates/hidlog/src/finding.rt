@@ -21,9 +21,11 @@ const READ_ONLY_COMMANDS: [&str; 6] = [
     "authenticatorSelection",
 ];
 
+/// The hint if no snapshot was loaded.
 const NO_SNAPSHOT: &str =
     "the log's key may have had more credentials: was it recorded with --load?";
 
+/// The hint if a snapshot was loaded.
 const OTHER_SNAPSHOT: &str =
     "the log's key may have had other credentials: is --load the right snapshot?";
 

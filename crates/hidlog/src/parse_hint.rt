@@ -6,6 +6,7 @@ use session_show::{TextBuf, Written};
 /// Maximum length of a log line in bytes.
 const MAX_LINE_LEN: usize = 255;
 
+/// The byte order mark of UTF-8.
 const BYTE_ORDER_MARK: &[u8] = &[0xEF, 0xBB, 0xBF];
 
 /// The first bytes of other kinds of files, and the command that reads them.
@@ -30,10 +31,13 @@ static OTHER_FILES: [(&[u8], &str); 11] = [
     (b"[", JSON),
 ];
 
+/// The hint for a pcap capture.
 const PCAP: &str = "  this is a pcap capture: hidlog import FILE reads it\n";
 
+/// The hint for a JSON file.
 const JSON: &str = "  this is JSON, not a log\n";
 
+/// The hint for a text in UTF-16.
 const UTF_16: &str =
     "  this is UTF-16, as PowerShell writes it: a log is UTF-8 (iconv -f UTF-16 -t UTF-8)\n";
 
@@ -46,8 +50,10 @@ const MAX_TIMESTAMP: &[u8] = b"18446744073709551615";
 /// A hexadecimal digit in a format.
 const DIGIT: u8 = b'.';
 
+/// The format of a packet: 128 digits.
 const PACKET: &[u8] = &[DIGIT; 128];
 
+/// The format of the longest signature: 144 digits.
 const SIGNATURE: &[u8] = &[DIGIT; 144];
 
 /// Three fields of sixty-four digits.

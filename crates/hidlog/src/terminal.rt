@@ -10,9 +10,10 @@ use std::io::IsTerminal;
 /// The width of a terminal that doesn't report one.
 const COLUMNS: usize = 80;
 
-/// The minimum and the maximum width at which lines are truncated.
+/// The minimum width at which lines are truncated.
 const MIN_WIDTH: usize = 20;
 
+/// The maximum width at which lines are truncated.
 const MAX_WIDTH: usize = 1000;
 
 /// The column in which line numbers end.

@@ -14,12 +14,15 @@ use Rattle.hidlog_c.specs.declared.causes.CauseReport.{CauseReport}
 use Rattle.hidlog_c.specs.declared.fault.TheConstants.{ERR_INVALID_ARGUMENT, ERR_NOT_INITIALIZED}
 use Rattle.hidlog_c.specs.Key.{DeviceState}
 
+-- The report of a cause without compared values.
 abbrev pub without_values : ℕ → ℕ → CauseReport
 without_values code status = record { code = code; status = status; first = 0; second = 0 }
 
+-- The report of a cause with two compared values.
 abbrev pub with_values : ℕ → ℕ → ℕ → ℕ → CauseReport
 with_values code status first second = record { code = code; status = status; first = first; second = second }
 
+-- The report of a cause of the transport.
 abbrev pub transport_report : TransportRefusal → CauseReport
 transport_report (transport.NoSuchCommand cmd) = with_values 1 0x01 cmd 0
 transport_report (transport.InitLength len) = with_values 2 0x03 len 0
@@ -32,6 +35,7 @@ transport_report transport.BusyHere = without_values 8 0x06
 transport_report (transport.NoSuchChannel given) = with_values 9 0x0b given 0
 transport_report transport.NoChannelLeft = without_values 10 0x7f
 
+-- The report of the first failed check of a request.
 abbrev pub request_report : RequestFault → CauseReport
 request_report fault.Empty = without_values 20 0x03
 request_report (fault.NoSuchCommand byte) = with_values 21 0x01 byte 0
@@ -49,10 +53,12 @@ request_report fault.UpOption = without_values 32 0x2c
 request_report fault.RkOption = without_values 33 0x2b
 request_report fault.EnterpriseAttestation = without_values 34 0x02
 
+-- A Boolean as a number: 0 or 1.
 abbrev pub bit_of : Bool → ℕ
 bit_of true = 1
 bit_of false = 0
 
+-- The report of a refused command.
 abbrev pub command_report : CommandRefusal → CauseReport
 command_report (command.BadRequest status) = without_values 35 status
 command_report command.Cancelled = without_values 50 0x2d
@@ -71,6 +77,7 @@ command_report (command.PendingElsewhere channel) = with_values 62 0x30 channel 
 command_report (command.NextTooLate since at) = with_values 63 0x30 since at
 command_report (command.ResetTooLate since at) = with_values 64 0x30 since at
 
+-- The report of a cause.
 abbrev pub report_of : Cause → CauseReport
 report_of (Transport why) = transport_report why
 report_of (Request why) = request_report why
@@ -81,6 +88,7 @@ abbrev pub time_cause_of : Option TransportRefusal → Option Cause
 time_cause_of None = None
 time_cause_of (Some overdue) = Some (Transport overdue)
 
+-- The cause of the input's refusal, or that of the time-out before it.
 abbrev pub cause_at : TwoCauses → (is_input : Bool) → Option Cause
 cause_at causes true = causes.input
 cause_at causes false = time_cause_of causes.time
@@ -95,6 +103,7 @@ ReportsOne (Some cause) report out result = (report.1 ≡ report_of cause)
 abbrev pub which_of : ℕ → Option Bool
 which_of which = if nat_eq which 0 then Some false else if nat_eq which 1 then Some true else None
 
+-- The selected cause is reported. A selector other than 0 and 1 is an error.
 abbrev pub ReportsWhich : Option Bool → TwoCauses → CauseReport × CauseReport → List ℕ × List ℕ → ℤ → Type 0
 ReportsWhich None causes report out result = (report.1 ≡ report.0) × (out.1 ≡ out.0) × (result ≡ ERR_INVALID_ARGUMENT)
 ReportsWhich (Some is_input) causes report out result = ReportsOne (cause_at causes is_input) report out result

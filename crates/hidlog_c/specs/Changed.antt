@@ -47,6 +47,7 @@ DescribesNoRow c = (row : Row) → IsUtf8 row.name → Describes c row → ⊥
 abbrev pub with_row : Row → List Row → List Row
 with_row row rows = without row.id rows ++ row ∷ []
 
+-- The credential was added, in a new session.
 abbrev pub IsAdded : DeviceState → Option DeviceState → (at : ℕ) → Credential → Type 0
 IsAdded d after at c = (row : Row) × (rows : List Row) × IsIdle d × Describes c row × HasRows d rows
     × StartsWith d after at (with_row row rows)
@@ -59,6 +60,7 @@ IsNotAdded d c result = IsBusy d result ⊎ (IsIdle d × ((DescribesNoRow c × (
     × (((CAPACITY ≤ length (without row.id rows)) × (result ≡ ERR_FULL))
     ⊎ ((length (without row.id rows) < CAPACITY) × (clashes row (without row.id rows) ≡ true) × (result ≡ ERR_DUPLICATE_USER))))))
 
+-- The effect of adding a credential, and the call's return value.
 abbrev pub Adds : (before after : Option DeviceState) → (at : ℕ) → Credential → ℤ → Type 0
 Adds None after at c result = (after ≡ None) × (result ≡ ERR_NOT_INITIALIZED)
 Adds (Some d) after at c result =
@@ -69,10 +71,12 @@ abbrev pub IsRemoved : DeviceState → Option DeviceState → (at : ℕ) → (id
 IsRemoved d after at id = (rows : List Row) × IsIdle d × HasRows d rows × (is_some (find (has_id id) rows) ≡ true)
     × StartsWith d after at (without id rows)
 
+-- The error of a credential that is not removed: the key is busy, or it has no credential with this ID.
 abbrev pub IsNotRemoved : DeviceState → (id : List ℕ) → ℤ → Type 0
 IsNotRemoved d id result = IsBusy d result
     ⊎ (IsIdle d × (rows : List Row) × HasRows d rows × (find (has_id id) rows ≡ None) × (result ≡ ERR_INVALID_ARGUMENT))
 
+-- The effect of removing a credential, and the call's return value.
 abbrev pub Removes : (before after : Option DeviceState) → (at : ℕ) → (id : List ℕ) → ℤ → Type 0
 Removes None after at id result = (after ≡ None) × (result ≡ ERR_NOT_INITIALIZED)
 Removes (Some d) after at id result =
@@ -89,6 +93,7 @@ Clears (Some d) after at result = (IsIdle d × StartsWith d after at [] × (resu
 abbrev pub SavesLen : DeviceState → (List ℕ × List ℕ) → (len : ℕ) → Type 0
 SavesLen d out len = (rows : List Row) × HasRows d rows × SavesInto CAPACITY rows out.0 out.1 (Some len)
 
+-- The snapshot was written, and its length returned.
 abbrev pub IsSaved : DeviceState → (List ℕ × List ℕ) → ℤ → Type 0
 IsSaved d out result = (len : ℕ) × SavesLen d out len × (result ≡ pos len)
 
@@ -97,6 +102,7 @@ abbrev pub SavesRows : DeviceState → (List ℕ × List ℕ) → ℤ → Type 0
 SavesRows d out result = IsSaved d out result
     ⊎ ((length out.0 < longest CAPACITY) × (out.1 ≡ out.0) × (result ≡ ERR_BUFFER_TOO_SMALL))
 
+-- The effect of saving a snapshot, and the call's return value.
 abbrev pub SavesKey : Option DeviceState → (List ℕ × List ℕ) → ℤ → Type 0
 SavesKey None out result = (out.1 ≡ out.0) × (result ≡ ERR_NOT_INITIALIZED)
 SavesKey (Some d) out result = SavesRows d out result

@@ -31,14 +31,17 @@ abbrev pub device_after_input : DeviceState → List (List ℕ) → Timed → Op
 device_after_input d [] x = Some (device_after d x)
 device_after_input d (packet ∷ more) x = Some d
 
+-- The device after a call with an input.
 abbrev pub after_input : Option DeviceState → Timed → Option DeviceState
 after_input None x = None
 after_input (Some d) x = device_after_input d d.waiting x
 
+-- The number of packets that an input sends, or the error for queued packets.
 abbrev pub answer_of : DeviceState → List (List ℕ) → Timed → ℤ
 answer_of d [] x = pos (length (sent_by d.session x))
 answer_of d (packet ∷ more) x = ERR_PACKETS_QUEUED
 
+-- The return value of a call with an input.
 abbrev pub input_answer : Option DeviceState → Timed → ℤ
 input_answer None x = ERR_NOT_INITIALIZED
 input_answer (Some d) x = answer_of d d.waiting x
@@ -60,22 +63,27 @@ abbrev pub without_first : DeviceState → List (List ℕ) → Option DeviceStat
 without_first d [] = Some d
 without_first d (packet ∷ more) = Some (record d { waiting = more })
 
+-- The device after a call that takes a packet.
 abbrev pub after_next : Option DeviceState → Option DeviceState
 after_next None = None
 after_next (Some d) = without_first d d.waiting
 
+-- The queued packets of a key.
 abbrev pub waiting_of : Option DeviceState → List (List ℕ)
 waiting_of None = []
 waiting_of (Some d) = d.waiting
 
+-- The first queued packet, or the old content without one.
 abbrev pub first_or : List ℕ → List (List ℕ) → List ℕ
 first_or old [] = old
 first_or old (packet ∷ more) = packet
 
+-- The number of packets left after the first, or the error without one.
 abbrev pub left_after : List (List ℕ) → ℤ
 left_after [] = ERR_NO_PACKET
 left_after (packet ∷ more) = pos (length more)
 
+-- The return value of a call that takes a packet.
 abbrev pub next_answer : Option DeviceState → ℤ
 next_answer None = ERR_NOT_INITIALIZED
 next_answer (Some d) = left_after d.waiting

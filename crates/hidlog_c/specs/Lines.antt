@@ -26,6 +26,7 @@ abbrev pub FollowsLines : SessionState → SessionState → (log out : List ℕ)
 FollowsLines s t log out written answer = (start : Start) (h : List Timed) → IsStateAfter s start h
     → (later : List Timed) × IsStateAfter t start later × IsWritten log out written answer (PlaysLinesOnHistory start h later)
 
+-- The lines were played, and `outcome` is the corresponding C result.
 abbrev pub ArePlayed : SessionState → SessionState → (log out : List ℕ) → CResult → Type 0
 ArePlayed s t log out outcome = (answer : Result (Unit {0}) LogFault) × (outcome ≡ outcome_of answer outcome.written)
     × IsWritten log out outcome.written answer (PlaysLines s t) × FollowsLines s t log out outcome.written answer
@@ -42,6 +43,7 @@ PlaysOn d [] after log out outcome result = (t : SessionState) × (after ≡ Som
 PlaysOn d (packet ∷ more) after log out outcome result =
     (after ≡ Some d) × (out.1 ≡ out.0) × (outcome.1 ≡ outcome.0) × (result ≡ ERR_PACKETS_QUEUED)
 
+-- The effect of playing lines on a key, and the call's return value.
 abbrev pub TakesLines : (before after : Option DeviceState) → (log : List ℕ) → (List ℕ × List ℕ) →
     (CResult × CResult)
     → ℤ → Type 0

@@ -6,7 +6,7 @@ use Rattle.session_log.specs.Numbers.{fault_number}
 use Rattle.session_log.specs.declared.fault.LogFault.TheVariants.{BadLine, TooLong, Differs, Read, Write, TooManyLines}
 use Rattle.hidlog_c.specs.declared.outcome.CResult.{CResult}
 
--- The line of an error, and the packet; 0 if it has none.
+-- The line of an error, or 0.
 abbrev pub line_of : LogFault → ℕ
 line_of (BadLine n) = n
 line_of (TooLong n) = n
@@ -16,6 +16,7 @@ line_of Write = 0
 line_of TooManyLines = 0
 line_of (Memory n) = n
 
+-- The number of the packet that differs, or 0.
 abbrev pub packet_of : LogFault → ℕ
 packet_of (Differs line packet) = packet
 packet_of _ = 0

@@ -12,19 +12,23 @@ use Rattle.hidlog_c.specs.Key.{DeviceState}
 abbrev pub with_zeros : ℕ → List ℕ → List ℕ
 with_zeros n bytes = bytes ++ replicate (n - length bytes) 0
 
+-- A need without bytes to sign.
 abbrev pub plain_need : ℕ → CNeed
 plain_need kind = record { kind = kind; to_sign_len = 0; id = replicate 32 0; signed = replicate 196 0 }
 
+-- Converts a need to a C struct.
 abbrev pub need_of : Needed → CNeed
 need_of nothing = plain_need 0
 need_of presence = plain_need 1
 need_of key = plain_need 2
 need_of (sign id signed) = record { kind = 3; to_sign_len = length signed; id = id; signed = with_zeros 196 signed }
 
+-- A Boolean as a number: 0 or 1.
 abbrev pub bit : Bool → ℕ
 bit true = 1
 bit false = 0
 
+-- Converts a row to a C struct.
 abbrev pub credential_of : Row → Credential
 credential_of row = record {
   rp = row.rp;
@@ -39,6 +43,7 @@ credential_of row = record {
   counter = row.counter;
 }
 
+-- Converts meters to a C struct.
 abbrev pub meters_of : Meters → CStats
 meters_of m = record {
   requests = m.requests;
@@ -63,11 +68,13 @@ ReportsRow rows place credential result =
     × (result ≡ pos 0))
     × (length rows ≤ place → (credential.1 ≡ credential.0) × (result ≡ ERR_INVALID_ARGUMENT))
 
+-- The effect of reading a credential, and the call's return value.
 abbrev pub ReportsCredential : Option DeviceState → ℕ → Credential × Credential → ℤ → Type 0
 ReportsCredential None place credential result = (credential.1 ≡ credential.0) × (result ≡ ERR_NOT_INITIALIZED)
 ReportsCredential (Some d) place credential result =
     ReportsRow d.session.machine.core.state.rows place credential result
 
+-- The effect of reading the meters, and the call's return value.
 abbrev pub ReportsMeters : Option DeviceState → CStats × CStats → ℤ → Type 0
 ReportsMeters None meters result = (meters.1 ≡ meters.0) × (result ≡ ERR_NOT_INITIALIZED)
 ReportsMeters (Some d) meters result = (meters.1 ≡ meters_of d.session.meters) × (result ≡ pos 0)
@@ -77,11 +84,14 @@ abbrev pub count_or : (DeviceState → ℕ) → Option DeviceState → ℤ
 count_or count None = ERR_NOT_INITIALIZED
 count_or count (Some d) = pos (count d)
 
+-- The number of credentials of a device.
 abbrev pub credential_count : DeviceState → ℕ
 credential_count d = length d.session.machine.core.state.rows
 
+-- The number of pending assertions of a device.
 abbrev pub pending_assertions : DeviceState → ℕ
 pending_assertions d = pending_count d.session.machine.core.state.pending
 
+-- The number of queued packets of a device.
 abbrev pub waiting_packets : DeviceState → ℕ
 waiting_packets d = length d.waiting

@@ -15,6 +15,7 @@ start_of aaguid moment rows = record { aaguid = aaguid; moment = moment; capacit
 abbrev pub start_with : List Row → Start
 start_with rows = start_of (replicate 16 0) 0 rows
 
+-- The error number of a rejected snapshot.
 abbrev pub refusal : SnapshotFault → ℤ
 refusal NotSnapshot = ERR_NOT_A_SNAPSHOT
 refusal TooMany = ERR_FULL

@@ -16,6 +16,7 @@ abbrev pub signature_input : List ℕ → Option Input
 signature_input bytes =
     if nat_le 1 (length bytes) && nat_le (length bytes) 72 then Some (Signature (Some bytes)) else None
 
+-- The error number of a call with an invalid argument.
 abbrev pub refusal_of : Option DeviceState → ℤ
 refusal_of None = ERR_NOT_INITIALIZED
 refusal_of (Some d) = ERR_INVALID_ARGUMENT

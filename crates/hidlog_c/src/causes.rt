@@ -22,6 +22,7 @@ pub struct CauseReport {
     pub second: u64,
 }
 
+/// Returns the report of a cause with these numbers.
 fn report(code: u32, status: u8, first: u64, second: u64) -> CauseReport
     ensures { result ≡ record { code = code; status = status; first = first; second = second } }
 {
@@ -33,6 +34,7 @@ fn report(code: u32, status: u8, first: u64, second: u64) -> CauseReport
     }
 }
 
+/// Returns the report of a cause of the transport.
 fn transport_report(why: TransportRefusal) -> CauseReport
     ensures { result ≡ transport_report why }
 {
@@ -51,6 +53,7 @@ fn transport_report(why: TransportRefusal) -> CauseReport
     report(code, why.code(), first, second)
 }
 
+/// Returns the report of the first failed check of a request.
 fn request_report(fault: RequestFault) -> CauseReport
     ensures { result ≡ request_report fault }
 {
@@ -80,6 +83,7 @@ fn request_report(fault: RequestFault) -> CauseReport
     report(code, fault.status().0, first, second)
 }
 
+/// Returns the report of a refused command.
 fn command_report(why: Refusal) -> CauseReport
     ensures { result ≡ command_report why }
 {

@@ -38,6 +38,7 @@ pub struct Device {
     causes: Causes,
 }
 
+/// No cause: nothing was refused.
 const NO_CAUSES: Causes = Causes {
     time: None,
     input: None,

@@ -21,11 +21,13 @@ pub record Compared (S : Type 0) : Type 0 where
   pub inputs : ℕ
   pub packets : ℕ
 
+-- The state of a comparison with these fields.
 abbrev pub compared : {S : Type 0} → S → (lines input found : ℕ) → (due : List (List ℕ)) → (inputs packets : ℕ)
     → Compared S
 compared s lines input found due inputs packets =
     record { session = s; lines = lines; input = input; found = found; due = due; inputs = inputs; packets = packets }
 
+-- The state of a comparison before the first line.
 abbrev pub first_comparison : {S : Type 0} → S → Compared S
 first_comparison s = compared s 0 0 0 [] 0 0
 
@@ -38,6 +40,7 @@ abbrev pub missing_of : List (List ℕ) → LogFault → Option LogFault
 missing_of [] fault = None
 missing_of (p ∷ due) fault = Some fault
 
+-- The error for a missing packet, if a packet is still due.
 abbrev pub missing : {S : Type 0} → Compared S → Option LogFault
 missing c = missing_of c.due (difference c)
 
@@ -53,10 +56,12 @@ comparison_fault c (Sent packet) = differs_from c.due packet.0 (difference c)
 comparison_fault c Comment = None
 comparison_fault c Count = None
 
+-- The packets after the first one.
 abbrev pub after_first : List (List ℕ) → List (List ℕ)
 after_first [] = []
 after_first (p ∷ due) = due
 
+-- The state of a comparison after a line.
 abbrev pub comparison_after : {S : Type 0} → InputSemantics S → Compared S → Line → Compared S
 comparison_after course c (Input timed) = record {
   session = course.turned c.session timed;
@@ -91,9 +96,11 @@ check_world course = record {
   counts = λ c. course.counts c.session;
 }
 
+-- Comparing a log with the packets of a session's state.
 abbrev pub check_machine : LineSemantics (Compared SessionState)
 check_machine = check_world session_course
 
+-- Comparing a log with the packets of a history.
 abbrev pub check_history : Start → LineSemantics (Compared (List Timed))
 check_history start = check_world (history_course start)
 

@@ -20,6 +20,7 @@ program_start = record { aaguid = replicate 16 0; moment = 0; capacity = 64; row
 abbrev pub start_with : List Row → Start
 start_with rows = record program_start { rows = rows }
 
+-- The exit status of the program: Ok for 0.
 abbrev pub Status : Type 0
 Status = Result (Unit {0}) ℕ
 

@@ -5,6 +5,7 @@ use Rattle.token_session.specs.declared.input.Timed.{Timed}
 use Rattle.session_log.specs.{declared.line.Line.Line, Parsed.parsed, World.InputSemantics}
 use Rattle.session_log.specs.declared.line.Line.TheVariants.{Input, Sent, Comment, Count}
 
+-- Packets in groups, in order.
 abbrev pub Groups : Type 0
 Groups = List (List (List ℕ))
 
@@ -31,7 +32,7 @@ abbrev pub sent_groups : {S : Type 0} → InputSemantics S → S → List Timed 
 sent_groups course s [] = []
 sent_groups course s (x ∷ xs) = course.sends s x ∷ sent_groups course (course.turned s x) xs
 
--- The line numbers of the inputs, if the first line has number n.
+-- The number of a line, if it is an input.
 abbrev pub line_numbers : ℕ → Option Line → List ℕ
 line_numbers n None = []
 line_numbers n (Some (Input timed)) = n ∷ []
@@ -39,6 +40,7 @@ line_numbers n (Some (Sent packet)) = []
 line_numbers n (Some Comment) = []
 line_numbers n (Some Count) = []
 
+-- The line numbers of all inputs, if the first line has number n.
 abbrev pub input_lines : ℕ → List (List ℕ) → List ℕ
 input_lines n [] = []
 input_lines n (line ∷ more) = line_numbers n (parsed line) ++ input_lines (n + 1) more

@@ -4,6 +4,7 @@ use Rattle.token_session.specs.declared.input.Timed.{Timed}
 use Rattle.session_log.specs.{declared.line.Line.Line, Parsed.parsed}
 use Rattle.session_log.specs.declared.line.Line.TheVariants.{Input, Sent, Comment, Count}
 
+-- The input of a parsed line, if it is one.
 abbrev pub inputs_by : Option Line → List Timed
 inputs_by None = []
 inputs_by (Some Count) = []

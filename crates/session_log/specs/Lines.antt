@@ -2,6 +2,7 @@
 use Rattle.std.specs.Prelude.{ℕ, ◌==◌, Bool, List, [], ◌∷◌, length, if◌then◌else◌}
 use Rattle.std.specs.List.{slice_split}
 
+-- The byte is a line feed.
 abbrev pub is_line_feed : ℕ → Bool
 is_line_feed b = b == 10
 
@@ -9,11 +10,13 @@ is_line_feed b = b == 10
 abbrev pub pieces : List ℕ → List (List ℕ)
 pieces bytes = slice_split is_line_feed bytes
 
+-- The list without its last element.
 abbrev pub all_but_last : {A : Type 0} → List A → List A
 all_but_last [] = []
 all_but_last (x ∷ []) = []
 all_but_last (x ∷ y ∷ more) = x ∷ all_but_last (y ∷ more)
 
+-- The last piece, or no bytes.
 abbrev pub last_of : List (List ℕ) → List ℕ
 last_of [] = []
 last_of (x ∷ []) = x
@@ -27,6 +30,7 @@ whole_lines bytes = all_but_last (pieces bytes)
 abbrev pub last_piece : List ℕ → List ℕ
 last_piece bytes = last_of (pieces bytes)
 
+-- The pieces without the last one if that is empty.
 abbrev pub lines_of_pieces : List (List ℕ) → List (List ℕ)
 lines_of_pieces [] = []
 lines_of_pieces (x ∷ []) = if length x == 0 then [] else x ∷ []

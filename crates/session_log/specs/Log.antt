@@ -10,6 +10,7 @@ abbrev pub text_by : {S : Type 0} → LineSemantics S → S → List ℕ → Opt
 text_by world s line None = []
 text_by world s line (Some l) = world.writes s line l
 
+-- The text for a line.
 abbrev pub line_text : {S : Type 0} → LineSemantics S → S → List ℕ → List ℕ
 line_text world s line = text_by world s line (parsed line)
 
@@ -18,6 +19,7 @@ abbrev pub state_after_parsed : {S : Type 0} → LineSemantics S → S → Optio
 state_after_parsed world s None = s
 state_after_parsed world s (Some l) = world.moves s l
 
+-- The state after a line.
 abbrev pub state_after : {S : Type 0} → LineSemantics S → S → List ℕ → S
 state_after world s line = state_after_parsed world s (parsed line)
 
@@ -39,6 +41,7 @@ pub record Played (S : Type 0) : Type 0 where
   pub fault : Option LogFault
   pub state : S
 
+-- The result with a text written before it.
 abbrev pub with_text_before : {S : Type 0} → List ℕ → Played S → Played S
 with_text_before text p = record { text = text ++ p.text; fault = p.fault; state = p.state }
 
@@ -67,8 +70,10 @@ first_fault None line = line
 first_fault (Some fault) None = Some fault
 first_fault (Some fault) (Some first) = Some first
 
+-- The first error of playing a log, if any.
 abbrev pub fault_of : {S : Type 0} → LineSemantics S → Played S → Option LogFault
 fault_of world p = first_fault (world.lacks p.state) p.fault
 
+-- The output for a whole log.
 abbrev pub log : {S : Type 0} → LineSemantics S → S → List ℕ → List ℕ
 log world s bytes = log_of world (play_all world s bytes)

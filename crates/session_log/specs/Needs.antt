@@ -8,10 +8,11 @@ use Rattle.authn_core.specs.Views.{Needed, nothing, presence, key, sign}
 abbrev pub pieces_of : List ℕ → List (List ℕ)
 pieces_of bytes = first_chunks 96 ((length bytes + 95) / 96) bytes
 
--- The line of a piece of the bytes to sign, and the line of the signing credential.
+-- The line of a piece of the bytes to sign.
 abbrev pub signed_line : List ℕ → List ℕ
 signed_line bytes = codes "# signed " ++ encode_lower bytes
 
+-- The line that names the signing credential.
 abbrev pub signature_line : List ℕ → List ℕ
 signature_line id = codes "# need signature " ++ encode_lower id
 
@@ -23,9 +24,10 @@ need_lines presence = codes "# need presence" ∷ []
 need_lines key = codes "# need key" ∷ []
 need_lines (sign id signed) = map signed_line (pieces_of signed) ++ signature_line id ∷ []
 
--- Whether a comment is the line that names a need, and whether it is any of the lines that report one.
+-- Whether a comment is the line that names a need.
 abbrev pub reports_need : List ℕ → Bool
 reports_need line = starts_with ◌==◌ line (codes "# need ")
 
+-- Whether a comment is any of the lines that report a need.
 abbrev pub is_need_line : List ℕ → Bool
 is_need_line line = reports_need line || starts_with ◌==◌ line (codes "# signed ")

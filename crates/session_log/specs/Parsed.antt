@@ -34,6 +34,7 @@ moment digits =
 abbrev pub bytes_of : ℕ → List ℕ → Option (List ℕ)
 bytes_of n digits = result_ok (decode_sized digits n)
 
+-- The field is this word.
 abbrev pub is_word : List ℕ → List ℕ → Bool
 is_word word field = pointwise ◌==◌ field word
 

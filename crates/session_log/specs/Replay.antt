@@ -43,11 +43,12 @@ pub record IsUnread {S : Type 0} (world : LineSemantics S) (s t : S) (bytes text
   pub short : length (last_piece bytes) < 256
   pub counted : 2 ^ 32 ≤ n → last_piece bytes ≡ []
 
--- The next text, and the state when it is written.
+-- The text that is written next.
 abbrev pub next_text : {S : Type 0} → LineSemantics S → S → List (List ℕ) → List ℕ
 next_text world s [] = last_text world s
 next_text world s (line ∷ more) = line_text world s line
 
+-- The state after the next line, or the present state after the last line.
 abbrev pub next_state : {S : Type 0} → LineSemantics S → S → List (List ℕ) → S
 next_state world s [] = s
 next_state world s (line ∷ more) = state_after world s line
@@ -164,6 +165,7 @@ abbrev pub ReadsUpToEnding : {S : Type 0} → LineSemantics S → S → List ℕ
 ReadsUpToEnding world s bytes all (Refused fault) = ReadsUpToFault world s bytes all fault
 ReadsUpToEnding world s bytes all _ = Unit {0}
 
+-- The source was read as far as `ReadsUpToFault` states, if the ending is an error in the log.
 abbrev pub ReadsTo : {S : Type 0} → LineSemantics S → S → Option (List ℕ) → Option (List ℕ) → Type 0 → Ending → Type 0
 ReadsTo world s left left' all (Refused fault) = (bytes : List ℕ) × Consumes left left' bytes
     × ReadsUpToFault world s bytes all fault

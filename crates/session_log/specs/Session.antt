@@ -20,14 +20,15 @@ history_course start = record {
   counts = λ h. meters_of start (received start h);
 }
 
--- Replaying a log on a session's state (`machine`) or on a history (`history`).
+-- Replaying a log on a session's state.
 abbrev pub machine : LineSemantics SessionState
 machine = replay_world session_course
 
+-- Replaying a log on a history.
 abbrev pub history : Start → LineSemantics (List Timed)
 history start = replay_world (history_course start)
 
--- A history whose packets are defined without an authenticator's state, and replaying a log on it.
+-- A history whose packets are defined without an authenticator's state.
 abbrev pub exchange_histories : Start → InputSemantics (List Timed)
 exchange_histories start = record {
   turned = λ h x. x ∷ h;
@@ -35,28 +36,32 @@ exchange_histories start = record {
   counts = λ h. meters_of start (received start h);
 }
 
+-- Replaying a log on a history whose packets are defined without an authenticator's state.
 abbrev pub exchange_history : Start → LineSemantics (List Timed)
 exchange_history start = replay_world (exchange_histories start)
 
--- Making a log quiet, on a session's state or on a history.
+-- Making a log quiet on a session's state.
 abbrev pub quiet_machine : LineSemantics SessionState
 quiet_machine = quiet_world session_course (λ s x. is_noise_at s.machine x)
 
+-- Making a log quiet on a history.
 abbrev pub quiet_history : Start → LineSemantics (List Timed)
 quiet_history start = quiet_world (history_course start) (λ h x. is_noise_after start (receive start x (received start h))
     (received start h))
 
--- what they need
+-- What the authenticator of a session needs.
 abbrev pub session_needs : SessionState → Needed
 session_needs s = needs s.machine.core.state.work
 
+-- What the authenticator needs after a history.
 abbrev pub history_needs : Start → List Timed → Needed
 history_needs start h = needs (core start (received start h)).state.work
 
--- Replaying a log with the needs, as `live` does, on a session's state or on a history.
+-- Replaying a log with the needs, as `live` does, on a session's state.
 abbrev pub live_machine : LineSemantics SessionState
 live_machine = live_world session_course session_needs
 
+-- Replaying a log with the needs on a history.
 abbrev pub live_history : Start → LineSemantics (List Timed)
 live_history start = live_world (history_course start) (history_needs start)
 

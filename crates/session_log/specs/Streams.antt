@@ -22,10 +22,11 @@ abbrev pub WritesPrefixOnly : Option (List ℕ) → Option (List ℕ) → List �
 WritesPrefixOnly old new text = (front : List ℕ) × (rest : List ℕ) × (text ≡ front ++ rest) × (0 < length rest)
     × Appends old new front
 
--- The target took the whole text; or a call of it failed, and it took only a beginning.
+-- The target took the whole text.
 abbrev pub WritesAll : {F : Type 0} → (F → Option (List ℕ)) → (F → ℕ) → (F × F) → List ℕ → Type 0
 WritesAll taken failed target text = Appends (taken target.0) (taken target.1) text × (failed target.1 ≡ failed target.0)
 
+-- A call of the target failed, after it took only a beginning of the text.
 abbrev pub WriteFails : {F : Type 0} → (F → Option (List ℕ)) → (F → ℕ) → (F × F) → List ℕ → Type 0
 WriteFails taken failed target text = WritesPrefixOnly (taken target.0) (taken target.1) text
     × (failed target.1 ≡ failed target.0 + 1)

@@ -15,6 +15,7 @@ tick_text at = codes "t " ++ decimal at
 abbrev pub IsPacket : List ℕ → Type 0
 IsPacket packet = (length packet ≡ 64) × IsBytes packet
 
+-- Each packet has 64 bytes.
 abbrev pub ArePackets : List (List ℕ) → Type 0
 ArePackets [] = Unit {0}
 ArePackets (packet ∷ more) = IsPacket packet × ArePackets more

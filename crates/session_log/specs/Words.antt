@@ -3,6 +3,7 @@ use Rattle.std.specs.Prelude.{ℕ, List, codes}
 use Rattle.authn_core.specs.declared.replies.Presence.{Presence}
 use Rattle.authn_core.specs.declared.replies.Presence.TheVariants.{Granted, Denied, TimedOut}
 
+-- The word of a user presence reply.
 abbrev pub presence_word : Presence → List ℕ
 presence_word Granted = codes "granted"
 presence_word Denied = codes "denied"

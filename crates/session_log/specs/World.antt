@@ -27,24 +27,28 @@ pub record LineSemantics (S : Type 0) : Type 1 where
 -- Replaying writes each input line and each comment again, after an input line the packets that are sent for it, and at
 -- the end the meters. Only a line that is not a log line is an error.
 
+-- The state after a line: an input changes it.
 abbrev pub moves_input : {S : Type 0} → InputSemantics S → S → Line → S
 moves_input course s (Input timed) = course.turned s timed
 moves_input course s (Sent packet) = s
 moves_input course s Comment = s
 moves_input course s Count = s
 
+-- The packets that an input line sends have 64 bytes.
 abbrev pub sends_packets : {S : Type 0} → InputSemantics S → S → Line → Type 0
 sends_packets course s (Input timed) = ArePackets (course.sends s timed)
 sends_packets course s (Sent packet) = Unit {0}
 sends_packets course s Comment = Unit {0}
 sends_packets course s Count = Unit {0}
 
+-- The text that replaying writes for a line.
 abbrev pub replay_text : {S : Type 0} → InputSemantics S → S → List ℕ → Line → List ℕ
 replay_text course s line (Input timed) = with_line_feed line ++ flat_map sent_text (course.sends s timed)
 replay_text course s line (Sent packet) = []
 replay_text course s line Comment = with_line_feed line
 replay_text course s line Count = []
 
+-- The world of replaying a log.
 abbrev pub replay_world : {S : Type 0} → InputSemantics S → LineSemantics S
 replay_world course = record {
   stops = λ s l. None;
@@ -58,12 +62,14 @@ replay_world course = record {
 
 -- Making a log quiet writes each input line and each comment again, with a tick in place of noise, and nothing else.
 
+-- The text that making a log quiet writes for a line.
 abbrev pub quiet_text : {S : Type 0} → (S → Timed → Bool) → S → List ℕ → Line → List ℕ
 quiet_text noises s line (Input timed) = with_line_feed (if noises s timed then tick_text timed.at else line)
 quiet_text noises s line (Sent packet) = []
 quiet_text noises s line Comment = with_line_feed line
 quiet_text noises s line Count = []
 
+-- The world of making a log quiet.
 abbrev pub quiet_world : {S : Type 0} → InputSemantics S → (S → Timed → Bool) → LineSemantics S
 quiet_world course noises = record {
   stops = λ s l. None;
@@ -78,12 +84,14 @@ quiet_world course noises = record {
 -- Replaying with needs (`live`) also writes, after the packets of an input line, the lines that report what the key
 -- needs at this point. Such lines of an earlier run are dropped.
 
+-- The packets that an input line sends have 64 bytes, and the need after it is well-formed.
 abbrev pub sends_needs : {S : Type 0} → InputSemantics S → (S → Needed) → S → Line → Type 0
 sends_needs course needs s (Input timed) = ArePackets (course.sends s timed) × IsNeed (needs (course.turned s timed))
 sends_needs course needs s (Sent packet) = Unit {0}
 sends_needs course needs s Comment = Unit {0}
 sends_needs course needs s Count = Unit {0}
 
+-- The text that `live` writes for a line.
 abbrev pub live_text : {S : Type 0} → InputSemantics S → (S → Needed) → S → List ℕ → Line → List ℕ
 live_text course needs s line (Input timed) =
     with_line_feed line ++ flat_map sent_text (course.sends s timed)
@@ -92,6 +100,7 @@ live_text course needs s line (Sent packet) = []
 live_text course needs s line Comment = if is_need_line line then [] else with_line_feed line
 live_text course needs s line Count = []
 
+-- The world of `live`.
 abbrev pub live_world : {S : Type 0} → InputSemantics S → (S → Needed) → LineSemantics S
 live_world course needs = record {
   stops = λ s l. None;

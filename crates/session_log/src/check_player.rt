@@ -35,6 +35,7 @@ struct CheckPlayer {
 }
 
 impl CheckPlayer {
+    /// Returns the player before the first line.
     fn new() -> Self
         ensures begun { (s : SessionState) → compared s result.lines result.input result.found
             (due_packets result.awaited result.outbox) result.inputs result.packets ≡ first_comparison s }

@@ -29,6 +29,7 @@ struct LivePlayer {
 }
 
 impl LivePlayer {
+    /// Returns the player before the first line.
     fn new() -> Self
         ensures { result.outbox ≡ [] }
     {

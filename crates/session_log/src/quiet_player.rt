@@ -26,6 +26,7 @@ struct QuietPlayer {
 }
 
 impl QuietPlayer {
+    /// Returns the player before the first line.
     fn new() -> Self
         ensures { result.outbox ≡ [] }
     {

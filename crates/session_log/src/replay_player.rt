@@ -34,6 +34,7 @@ struct ReplayPlayer {
 }
 
 impl ReplayPlayer {
+    /// Returns the player before the first line.
     fn new() -> Self
         ensures { result.outbox ≡ [] }
     {

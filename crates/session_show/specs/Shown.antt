@@ -24,6 +24,7 @@ has_text detail line Count = false
 abbrev pub IsNumbered : ℕ → List ℕ → Type 0
 IsNumbered n text = (more : List ℕ) × (text ≡ decimal n ++ 32 ∷ more)
 
+-- The text for line n, which has these bytes and this parsed form.
 abbrev pub IsTextOfParsed : Detail → ℕ → List ℕ → Option Line → List ℕ → Type 0
 IsTextOfParsed detail n line None text = ⊥
 IsTextOfParsed detail n line (Some l) text = MatchBool (has_text detail line l) (IsNumbered n text) (text ≡ [])
@@ -49,6 +50,7 @@ detail_of (Text detail) = Some detail
 detail_of Page = Some Fixed
 detail_of _ = None
 
+-- The statement about the texts at a level of detail; without one, texts are unspecified.
 abbrev pub rule_for_detail : Option Detail → LineTextRule
 rule_for_detail (Some detail) = IsLineText detail
 rule_for_detail None = Unspecified
@@ -116,6 +118,7 @@ Shows shows left taken ending = ReadsAndWrites left.0 left.1 taken.0 taken.1
 abbrev pub unknown : ℕ → Option (List ℕ)
 unknown failures = None
 
+-- The failures of a target that is represented by their number.
 abbrev pub failures_of : ℕ → ℕ
 failures_of failures = failures
 

@@ -14,6 +14,7 @@ fn sentence(words: &'static [u8], first: Option<u64>, second: Option<u64>) -> Se
     (words, [first, second])
 }
 
+/// Returns the sentence for a cause of the transport.
 fn transport_sentence(why: Transport) -> Sentence {
     match why {
         Transport::NoSuchCommand { cmd } => sentence(
@@ -75,6 +76,7 @@ fn parameter_number(command: u8, parameter: u8) -> Option<u64> {
     Some(u64::from(u16::from_be_bytes([command, parameter])))
 }
 
+/// Returns the sentence for a missing parameter.
 fn missing_sentence(command: u8, parameter: u8) -> Sentence {
     let words: &[u8] = match (command, parameter) {
         (0x01, 0x02 | 0x03) => b"the required parameter %p, or the id in it, is missing",
@@ -83,6 +85,7 @@ fn missing_sentence(command: u8, parameter: u8) -> Sentence {
     sentence(words, parameter_number(command, parameter), None)
 }
 
+/// Returns the sentence for an incomplete list entry.
 fn entry_sentence(command: u8, parameter: u8) -> Sentence {
     let words: &[u8] = match (command, parameter) {
         (0x01, 0x04) => b"an entry of %p lacks its alg or type",
@@ -91,10 +94,12 @@ fn entry_sentence(command: u8, parameter: u8) -> Sentence {
     sentence(words, parameter_number(command, parameter), None)
 }
 
+/// Returns a sentence with a length in it.
 fn length_sentence(words: &'static [u8], len: usize) -> Sentence {
     sentence(words, Some(len as u64), None)
 }
 
+/// Returns the sentence for a failed check of a request.
 fn request_sentence(fault: RequestFault) -> Sentence {
     match fault {
         RequestFault::Empty => sentence(b"the request has no command byte", None, None),
@@ -121,7 +126,10 @@ fn request_sentence(fault: RequestFault) -> Sentence {
         ),
         RequestFault::Missing { command, parameter } => missing_sentence(command, parameter),
         RequestFault::EntryNotWhole { command, parameter } => entry_sentence(command, parameter),
-        RequestFault::HashLength { len } => length_sentence(b"clientDataHash has %d bytes, not 32", len),
+        RequestFault::HashLength { len } => length_sentence(
+            b"clientDataHash has %d bytes, not 32",
+            len,
+        ),
         RequestFault::UserIdLength { len } => {
             length_sentence(b"the user's id has %d bytes, more than 64", len)
         }
@@ -154,6 +162,7 @@ fn request_sentence(fault: RequestFault) -> Sentence {
     }
 }
 
+/// Returns the sentence for a refused command.
 fn command_sentence(why: Command) -> Sentence {
     match why {
         // A session returns the failed check instead (Cause::Request).
@@ -184,7 +193,11 @@ fn command_sentence(why: Command) -> Sentence {
             None,
             None,
         ),
-        Command::CounterSpent => sentence(b"the signature counter has reached its maximum", None, None),
+        Command::CounterSpent => sentence(
+            b"the signature counter has reached its maximum",
+            None,
+            None,
+        ),
         Command::NothingPending => sentence(
             b"no assertion is pending: none was left by an authenticatorGetAssertion before",
             None,

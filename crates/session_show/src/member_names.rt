@@ -14,9 +14,10 @@ pub enum MapKind {
     Key(i128),
 }
 
-/// The key types of elliptic curves (RFC 9053, section 7).
+/// The key type of an octet key pair (RFC 9053, section 7).
 const OKP: i128 = 1;
 
+/// The key type of elliptic curves with x and y coordinates (RFC 9053, section 7).
 const EC2: i128 = 2;
 
 impl MapKind {

@@ -10,12 +10,13 @@ pub static TABLE_HEADER: &str =
     "  line  channel   command                        status                            \
     user ms  KEEPALIVEs  RP id\n";
 
-/// Ends of the columns for status, user milliseconds and KEEPALIVEs, counted from the beginning of the column for the
-/// command.
+/// End of the column for the status, counted from the beginning of the column for the command.
 const STATUS_END: usize = 63;
 
+/// End of the column for the milliseconds until the user's reply.
 const USER_END: usize = 72;
 
+/// End of the column for KEEPALIVEs.
 const KEEPALIVES_END: usize = 84;
 
 /// Writes a transaction: line, channel, command, status, milliseconds until the user's reply, number of KEEPALIVEs, RP

@@ -34,10 +34,10 @@ struct Made {
     account: Option<HashedId>,
 }
 
-/// Map keys of the credential lists: excludeList of authenticatorMakeCredential, allowList of
-/// authenticatorGetAssertion.
+/// Map key of excludeList in authenticatorMakeCredential.
 const EXCLUDE_LIST: i128 = 5;
 
+/// Map key of allowList in authenticatorGetAssertion.
 const ALLOW_LIST: i128 = 3;
 
 /// An excludeList entry for a credential that the log created.

@@ -20,6 +20,7 @@ channel_of work = option_map (λ (w : Work). w.cid) work
 abbrev pub pending_work_of : List Exchange → Option Work
 pending_work_of past = work_of_request (pending_request past)
 
+-- The history with one more event, if any, and its answer.
 abbrev pub with_event : Start → List Exchange → (at : ℕ) → Option Event → List Exchange
 with_event start past at None = past
 with_event start past at (Some e) = exchange start past at e ∷ past

@@ -10,14 +10,17 @@ abbrev pub AreFullPackets : List (List ℕ) → Type 0
 AreFullPackets [] = Unit {0}
 AreFullPackets (p ∷ ps) = (length p ≡ 64) × AreFullPackets ps
 
+-- If the input is a packet, it has 64 bytes.
 abbrev pub IsWhole : Input → Type 0
 IsWhole (Packet p) = length p.0 ≡ 64
 IsWhole other = Unit {0}
 
+-- Each packet among these inputs has 64 bytes.
 abbrev pub AreWhole : List ReceivedInput → Type 0
 AreWhole [] = Unit {0}
 AreWhole (e ∷ es) = IsWhole e.input × AreWhole es
 
+-- Each packet among these inputs has 64 bytes.
 abbrev pub ArriveWhole : List Timed → Type 0
 ArriveWhole [] = Unit {0}
 ArriveWhole (x ∷ xs) = IsWhole x.input × ArriveWhole xs

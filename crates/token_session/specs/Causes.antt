@@ -19,6 +19,7 @@ use Rattle.token_session.specs.{Machine.MachineState, Machine.time_passed, Law.s
 unfoldable pub time_cause : Option Open → ℕ → Option TransportRefusal
 time_cause current at = if is_overdue current at then Some (Overdue (last_of current) at) else None
 
+-- The cause of a verdict that refuses a packet.
 abbrev pub verdict_cause : Verdict → Option Cause
 verdict_cause (Refuse cid why) = Some (Transport why)
 verdict_cause v = None
@@ -34,6 +35,7 @@ command_cause e None = None
 command_cause (Asks cid bytes) (Some (BadRequest status)) = request_cause (fault_in bytes)
 command_cause e (Some why) = Some (Command why)
 
+-- The cause of an event's refusal, if it is refused.
 abbrev pub event_cause : CoreState → ℕ → Option Event → Option Cause
 event_cause core at None = None
 event_cause core at (Some e) = command_cause e (core_refusal core at e)

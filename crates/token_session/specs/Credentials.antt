@@ -3,6 +3,7 @@ use Rattle.std.specs.Prelude.{ℕ, List, [], ◌∷◌, ◌++◌, Option, Some, 
 use Rattle.authn_core.specs.{State.Event, Turn.Start, Marks.TimedEvent}
 use Rattle.token_session.specs.{Inputs.ReceivedInput, Law.event_at}
 
+-- The event at a time, if any.
 abbrev pub step_of : ℕ → Option Event → List TimedEvent
 step_of at None = []
 step_of at (Some e) = record { at = at; event = e } ∷ []

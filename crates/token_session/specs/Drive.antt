@@ -14,19 +14,21 @@ numbered_packet s = (s.input, (s.packet).0)
 abbrev pub packet_of : Sent → List ℕ
 packet_of s = (s.packet).0
 
--- The session after the inputs of a list, and the packets that they send.
+-- The session after the inputs of a list.
 abbrev pub state_after_inputs : SessionState → List Timed → SessionState
 state_after_inputs s [] = s
 state_after_inputs s (x ∷ xs) = state_after_inputs (stepped s x) xs
 
+-- The packets that the inputs send, each with the number of its input.
 abbrev pub packets_of_inputs : ℕ → SessionState → List Timed → List (ℕ × List ℕ)
 packets_of_inputs n s [] = []
 packets_of_inputs n s (x ∷ xs) = with_input_number n (sent_by s x) ++ packets_of_inputs (n + 1) (stepped s x) xs
 
--- The numbers of the errors.
+-- The number of an error of one run.
 abbrev pub drive_number : DriveFault → ℕ
 drive_number (Full done) = 1
 
+-- The number of an error of two runs.
 abbrev pub both_number : BothFault → ℕ
 both_number (BothFull first second) = 1
 
@@ -35,10 +37,12 @@ abbrev pub done_of : {A : Type 0} → ℕ → Result A DriveFault → ℕ
 done_of n (Ok x) = n
 done_of n (Err (Full done)) = done
 
+-- How many of n inputs the first run processed.
 abbrev pub first_done : {A : Type 0} → ℕ → Result A BothFault → ℕ
 first_done n (Ok x) = n
 first_done n (Err (BothFull first second)) = first
 
+-- How many of n inputs the second run processed.
 abbrev pub second_done : {A : Type 0} → ℕ → Result A BothFault → ℕ
 second_done n (Ok x) = n
 second_done n (Err (BothFull first second)) = second

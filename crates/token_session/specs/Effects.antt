@@ -18,6 +18,7 @@ verdict_packets (Greet on cid nonce) bytes = init_response on cid nonce
 verdict_packets (GreetAndDrop on cid nonce) bytes = init_response on cid nonce
 verdict_packets CancelWork bytes = []
 
+-- The event of a verdict on a packet that completed a message with these bytes.
 abbrev pub verdict_event : Verdict → List ℕ → Option Event
 verdict_event Ignored bytes = None
 verdict_event Kept bytes = None
@@ -36,6 +37,7 @@ abbrev pub input_verdict : Assembly → Option ℕ → Input → Verdict
 input_verdict a work (Packet p) = verdict a work (fields p.0)
 input_verdict a work other = Ignored
 
+-- The state of message assembly after an input.
 abbrev pub assembly_after : Assembly → (at : ℕ) → Option ℕ → Input → Assembly
 assembly_after a at work (Packet p) = accepted a at work (fields p.0)
 assembly_after a at work other = a

@@ -45,11 +45,12 @@ abbrev pub sent_from : ℕ → Start → List Timed → List Timed → List (ℕ
 sent_from n start h [] = []
 sent_from n start h (x ∷ xs) = with_input_number n (sent_now start h x) ++ sent_from (n + 1) start (x ∷ h) xs
 
--- The composed machine's state after the inputs of a list, and the packets that it sends for them.
+-- The composed machine's state after the inputs of a list.
 abbrev pub run_state : MachineState → List Timed → MachineState
 run_state s [] = s
 run_state s (x ∷ xs) = run_state (turn s x).state xs
 
+-- The packets that the composed machine sends for the inputs of a list.
 abbrev pub run_sent : ℕ → MachineState → List Timed → List (ℕ × List ℕ)
 run_sent n s [] = []
 run_sent n s (x ∷ xs) = with_input_number n (turn s x).packets ++ run_sent (n + 1) (turn s x).state xs

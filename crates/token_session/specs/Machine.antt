@@ -81,6 +81,7 @@ served s early i =
 unfoldable pub turn : MachineState → Timed → MachineTurn
 turn s x = let at = max s.now x.at in served (time_passed s at).state (time_passed s at).packets x.input
 
+-- The state of the composed machine at a start.
 unfoldable pub start_state : Start → MachineState
 start_state start = record { now = start.moment; given = 0; current = None; core = first_state start; keepalive_at = 0 }
 

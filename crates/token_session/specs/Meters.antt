@@ -20,11 +20,12 @@ unfoldable pub peak_held : Start → List ReceivedInput → ℕ
 peak_held start [] = held start []
 peak_held start (e ∷ past) = max (peak_held start past) (held start (e ∷ past))
 
--- The maximum number of credentials, and of pending assertions, at the start and after each input.
+-- The maximum number of credentials, at the start and after each input.
 unfoldable pub peak_rows : Start → List ReceivedInput → ℕ
 peak_rows start [] = length (core start []).state.rows
 peak_rows start (e ∷ past) = max (peak_rows start past) (length (core start (e ∷ past)).state.rows)
 
+-- The maximum number of pending assertions, at the start and after each input.
 unfoldable pub peak_pending : Start → List ReceivedInput → ℕ
 peak_pending start [] = pending_count (core start []).state.pending
 peak_pending start (e ∷ past) = max (peak_pending start past) (pending_count (core start (e ∷ past)).state.pending)
@@ -65,6 +66,7 @@ pub record SessionState : Type 0 where
   pub machine : MachineState
   pub meters : Meters
 
+-- The meters after a turn of the composed machine.
 abbrev pub metered_by : Meters → MachineTurn → Meters
 metered_by m t =
     metered m (stored_len t.state.current) (length t.state.core.state.rows) (pending_count t.state.core.state.pending)

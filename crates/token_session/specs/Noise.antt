@@ -28,6 +28,7 @@ is_noise_among channels_allocated current core Tick = false
 abbrev pub is_noise_in : MachineState → Input → Bool
 is_noise_in s i = is_noise_among s.given s.current s.core i
 
+-- Whether an input is noise once time has passed to its timestamp.
 unfoldable pub is_noise_at : MachineState → Timed → Bool
 is_noise_at s x = is_noise_in (time_passed s (max s.now x.at)).state x.input
 
@@ -36,12 +37,12 @@ unfoldable pub is_noise_after : Start → ReceivedInput → List ReceivedInput �
 is_noise_after start e past = is_noise_among (channels_allocated past) (option_map to_open (open_at past e.at))
     (core start past) e.input
 
--- Whether the authenticator ignores a reply. The next definition describes noise by its result: a packet that is
--- ignored or refused because of its channel, or a reply that is ignored.
+-- Whether the authenticator ignores a reply.
 abbrev pub is_ignored : Answer → Bool
 is_ignored Ignored = true
 is_ignored answer = false
 
+-- Noise, described by its result: whether an input is ignored, or refused because of its channel.
 abbrev pub is_turned_away_by : Assembly → CoreState → (now : ℕ) → Input → Bool
 is_turned_away_by a core now (Packet p) = is_noise_verdict (verdict a (working_channel core) (fields p.0))
 is_turned_away_by a core now (Presence reply) = is_ignored (core_answer core now (PresenceIs reply))
@@ -49,6 +50,7 @@ is_turned_away_by a core now (Key key) = is_ignored (core_answer core now (KeyIs
 is_turned_away_by a core now (Signature signature) = is_ignored (core_answer core now (SignatureIs signature))
 is_turned_away_by a core now Tick = false
 
+-- A tick at this time.
 abbrev pub tick_at : ℕ → Timed
 tick_at at = record { at = at; input = Tick }
 
@@ -75,6 +77,7 @@ abbrev pub quiet_packets : Start → List ReceivedInput → ReceivedInput → In
 quiet_packets start past e j = if is_replaced e.input j then time_packets start past (last_keepalive start past) e.at
     else sent_at start e past
 
+-- The packets that x sends after h, or only those due by time if the tick y replaces it.
 unfoldable pub quiet_now : Start → List Timed → (x y : Timed) → List (List ℕ)
 quiet_now start h x y = quiet_packets start (received start h) (received_after start h x) y.input
 

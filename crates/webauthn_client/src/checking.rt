@@ -43,10 +43,12 @@ struct Checker {
 }
 
 impl Checker {
+    /// Returns the state with these tokens allowed next.
     fn expecting(self, at: ExpectedToken) -> Option<Checker> {
         Some(Checker { at, ..self })
     }
 
+    /// Returns whether the innermost open bracket is that of an object.
     fn is_in_object(self) -> bool {
         self.levels > 0 && self.open % 2 == 1
     }
@@ -119,7 +121,11 @@ impl Checker {
     /// Handles a byte of a string or key.
     fn text(self, is_key: bool, byte: u8) -> Option<Checker> {
         match byte {
-            b'"' => self.expecting(if is_key { ExpectedToken::Colon } else { ExpectedToken::Next }),
+            b'"' => self.expecting(if is_key {
+                ExpectedToken::Colon
+            } else {
+                ExpectedToken::Next
+            }),
             b'\\' => self.expecting(ExpectedToken::Escape(is_key)),
             0..=31 => None,
             _ => Some(self),
@@ -129,7 +135,9 @@ impl Checker {
     /// Handles the byte after a backslash.
     fn escape(self, is_key: bool, byte: u8) -> Option<Checker> {
         match byte {
-            b'"' | b'\\' | b'/' | b'b' | b'f' | b'n' | b'r' | b't' => self.expecting(ExpectedToken::Text(is_key)),
+            b'"' | b'\\' | b'/' | b'b' | b'f' | b'n' | b'r' | b't' => self.expecting(
+                ExpectedToken::Text(is_key),
+            ),
             b'u' => self.expecting(ExpectedToken::Hex(is_key, 3)),
             _ => None,
         }
@@ -204,7 +212,9 @@ impl Checker {
         match (self.at, byte) {
             (ExpectedToken::Colon, b':') => self.expecting(ExpectedToken::Value),
             (ExpectedToken::Colon, _) => None,
-            (ExpectedToken::Key | ExpectedToken::KeyOrEnd, b'"') => self.expecting(ExpectedToken::Text(true)),
+            (ExpectedToken::Key | ExpectedToken::KeyOrEnd, b'"') => self.expecting(
+                ExpectedToken::Text(true),
+            ),
             (ExpectedToken::KeyOrEnd, b'}') => self.close(true),
             (ExpectedToken::Key | ExpectedToken::KeyOrEnd, _) => None,
             (ExpectedToken::ItemOrEnd, b']') => self.close(false),
