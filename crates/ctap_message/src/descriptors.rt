@@ -9,10 +9,7 @@ ghost use Rattle.ctap_message.specs.Descriptors.{ids_of};
 ghost use Rattle.ctap_message.specs.DescriptorWalk.{DescriptorWalk, list_of, left_of, IsWhole, walked_steps, NextId, Left, YieldsId, IsList};
 
 use crate::descriptor::read_descriptor;
-use ctap_cbor::laws::{
-    byte_bounds, canonical_is_accepted, cursor_reads_one_tree, items_are_decoded,
-    outcomes_are_computed,
-};
+use ctap_cbor::laws::{outcomes_are_computed, items_are_decoded, byte_bounds, canonical_is_accepted, cursor_reads_one_tree};
 use ctap_cbor::{Cursor, Item};
 use std::marker::Model;
 

@@ -130,10 +130,7 @@ pub fn parse_request<'a>(message: &'a [u8]) -> (Result<Request<'a>, RequestFault
 }
 
 /// Checks that a command without parameters has none.
-fn check_no_parameters<'a>(
-    parameters: &[u8],
-    request: Request<'a>,
-) -> Result<Request<'a>, RequestFault>
+fn check_no_parameters<'a>(parameters: &[u8], request: Request<'a>) -> Result<Request<'a>, RequestFault>
     requires fresh { HasFreshList request }
     requires lens { HasTheLengths request }
     ensures request { examined_result result ≡ alone_of parameters.now (request_of request.entry) }

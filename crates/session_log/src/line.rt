@@ -4,7 +4,7 @@ ghost use Rattle.std.specs.Str.Parse.{AllDigits, digits_value};
 ghost use Rattle.session_log.specs.Letters.{space};
 ghost use Rattle.session_log.specs.Parsed.{first_field, input_by, input_line, key_of, parsed_new_key, moment, parsed_presence, parsed, line_of_kind, sent_line, signature_of, parsed_signature, tick_line, timed_line};
 
-use crate::hex_digits::{decode_bytes, decode_digits};
+use crate::hex_digits::{decode_digits, decode_bytes};
 use authn_core::{NewKey, Presence, Signature};
 use hid_packet::Packet;
 use memchr::memchr;

@@ -114,14 +114,7 @@ fn process_first_line<P: Player<C>, T: Target, const C: usize>(
     ensures rest { window.new ≡ drop (end + 1) window.old }
 {
     let text = window.as_slice().split_at(end + 1).0;
-    let played = parse_and_process_line(
-        player,
-        text.split_at(end).0,
-        text,
-        number,
-        writer,
-        session,
-    );
+    let played = parse_and_process_line(player, text.split_at(end).0, text, number, writer, session);
     window.drop_front(end + 1);
     played
 }

@@ -86,10 +86,7 @@ impl MessageProgress {
         if self.is_whole() {
             (None, None)
         } else {
-            (
-                Some(self.received_len() as u64),
-                Some(u64::from(self.length)),
-            )
+            (Some(self.received_len() as u64), Some(u64::from(self.length)))
         }
     }
 }

@@ -35,8 +35,8 @@ ghost use Rattle.token_session.specs.Noise.{HasTicksForNoise, is_noise_among, is
 ghost use Rattle.hid_packet.specs.Limits.{MAX_STORED_LEN, OUTBOX_CAPACITY};
 
 use authn_core::laws::{
-    answers_follow_history as answering_law, rows_follow_history,
-    signed_bytes_are_in_the_response as signing_law, signed_bytes_differ,
+    answers_follow_history as answering_law, rows_follow_history, signed_bytes_differ,
+    signed_bytes_are_in_the_response as signing_law,
 };
 use ctap_message::laws::steps_are_bounded;
 

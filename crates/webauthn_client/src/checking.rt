@@ -121,11 +121,7 @@ impl Checker {
     /// Handles a byte of a string or key.
     fn text(self, is_key: bool, byte: u8) -> Option<Checker> {
         match byte {
-            b'"' => self.expecting(if is_key {
-                ExpectedToken::Colon
-            } else {
-                ExpectedToken::Next
-            }),
+            b'"' => self.expecting(if is_key { ExpectedToken::Colon } else { ExpectedToken::Next }),
             b'\\' => self.expecting(ExpectedToken::Escape(is_key)),
             0..=31 => None,
             _ => Some(self),
@@ -135,9 +131,7 @@ impl Checker {
     /// Handles the byte after a backslash.
     fn escape(self, is_key: bool, byte: u8) -> Option<Checker> {
         match byte {
-            b'"' | b'\\' | b'/' | b'b' | b'f' | b'n' | b'r' | b't' => self.expecting(
-                ExpectedToken::Text(is_key),
-            ),
+            b'"' | b'\\' | b'/' | b'b' | b'f' | b'n' | b'r' | b't' => self.expecting(ExpectedToken::Text(is_key)),
             b'u' => self.expecting(ExpectedToken::Hex(is_key, 3)),
             _ => None,
         }
@@ -212,9 +206,7 @@ impl Checker {
         match (self.at, byte) {
             (ExpectedToken::Colon, b':') => self.expecting(ExpectedToken::Value),
             (ExpectedToken::Colon, _) => None,
-            (ExpectedToken::Key | ExpectedToken::KeyOrEnd, b'"') => self.expecting(
-                ExpectedToken::Text(true),
-            ),
+            (ExpectedToken::Key | ExpectedToken::KeyOrEnd, b'"') => self.expecting(ExpectedToken::Text(true)),
             (ExpectedToken::KeyOrEnd, b'}') => self.close(true),
             (ExpectedToken::Key | ExpectedToken::KeyOrEnd, _) => None,
             (ExpectedToken::ItemOrEnd, b']') => self.close(false),

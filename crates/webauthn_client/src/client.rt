@@ -15,7 +15,7 @@ use crate::number::unsigned_long;
 use crate::options::{Abilities, is_conditional, public_key};
 use crate::rejection::{DomError, Rejection, not_allowed, type_error};
 use crate::relying_party::{Origin, parse_origin};
-use crate::response::{Response, authentication_json, invalid_response, registration_json};
+use crate::response::{Response, authentication_json, registration_json, invalid_response};
 use crate::{registration, sign_in};
 use ctap_cbor::check;
 

@@ -240,11 +240,9 @@ pub fn check_request(
             "only one of read and write is allowed at a time",
         ));
     }
-    let (has_any, are_ids) = credential_names(inner_member(
-        extensions,
-        "prf",
-        "evalByCredential",
-    ).unwrap_or(b""));
+    let (has_any, are_ids) = credential_names(inner_member(extensions, "prf", "evalByCredential").unwrap_or(
+        b"",
+    ));
     if has_any && !has_list {
         return Err(unsupported("prf", "evalByCredential with an empty allow list"));
     }

@@ -10,7 +10,7 @@ use crate::message::{Message, put, put_bytes, put_head, put_long, put_text};
 use crate::number::{boolean, count, unsigned_long};
 use crate::options::{
     Abilities, bytes_of, check_descriptors, check_ids, check_length, dictionary, is_public_key,
-    is_verified, optional_dictionary, public_key_count, put_descriptors, required, sequence,
+    is_verified, public_key_count, optional_dictionary, put_descriptors, required, sequence,
 };
 use crate::rejection::{DomError, Rejection, not_allowed, type_error};
 use crate::relying_party::{Origin, rp_id_of};

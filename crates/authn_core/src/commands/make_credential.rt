@@ -22,11 +22,7 @@ use fido_authdata::{AuthData, CREATED_LEN, to_sign};
 use sha2::{Digest, Sha256};
 
 /// Returns whether one of the IDs is that of a credential of the RP.
-fn has_listed_credential<T: Table<C>, const C: usize>(
-    table: &T,
-    rp: &[u8; 32],
-    ids: Descriptors<'_>,
-) -> bool
+fn has_listed_credential<T: Table<C>, const C: usize>(table: &T, rp: &[u8; 32], ids: Descriptors<'_>) -> bool
     ensures { result ≡ make.has_listed_credential rp.now (T.rows table.now) (ids_of (left_of ids.entry)) }
 {
     let mut ids = ids;
