@@ -36,8 +36,8 @@ pub trait Table<const C: usize> {
     fn find(&self, id: &[u8; 32]) -> Option<&Row>
         ensures { option_map (λ row. row.now) result ≡ find (has_id id.now) (rows self.now) };
 
-    /// Returns the RP's row with a credential ID from a host, which may have any length, or `None`, also if another RP
-    /// has a row with this ID.
+    /// Returns the RP's row with this credential ID, or `None`, also if the row with this ID belongs to another RP. The
+    /// ID comes from a host and may have any length.
     fn named(&self, rp: &[u8; 32], id: &[u8]) -> Option<&Row>
         ensures { option_map (λ row. row.now) result ≡ find (is_named rp.now id.now) (rows self.now) };
 

@@ -105,8 +105,8 @@ impl<'a> Model for Fragments<'a> {
 }
 
 impl<'a> Fragments<'a> {
-    /// Returns the packets of the message `bytes` with the command `cmd` on the channel `cid`. Their number is that of
-    /// [`packets_for`].
+    /// Returns the packets of the message `bytes` with the command `cmd` on the channel `cid`. There are as many as
+    /// [`packets_for`] returns.
     pub fn new(cid: u32, cmd: u8, bytes: &'a [u8]) -> Self
         requires short { length bytes.now ≤ MAX_MESSAGE_LEN }
         requires command { cmd < 128 }

@@ -9,6 +9,6 @@ pub const CONT_PACKET_DATA: usize = 59;
 /// Maximum message length in bytes: 129 packets, since continuation packets are numbered from 0 to 127.
 pub const MAX_MESSAGE_LEN: u16 = 7609;
 
-/// Capacity of an [`Outbox`](crate::Outbox): the maximum number of packets that one input sends, which are one because
-/// of a time-out or KEEPALIVE, and the 129 of the longest message.
+/// Capacity of an [`Outbox`](crate::Outbox): the maximum number of packets that one input sends. One is sent because of
+/// a time-out or KEEPALIVE, and 129 are those of the longest message.
 pub const OUTBOX_CAPACITY: usize = 130;

@@ -22,7 +22,7 @@ pub trait OpenFile {
         ensures bytes { OnOk result (IfSome (bytes self.old) (λ has. at ≤ length has → bytes self.new ≡ Some (overwritten_at has at piece.now))) }
         ensures place { (path : List ℕ) → is_at path self.old → is_at path self.new };
 
-    /// Truncates the file to `len` bytes if longer, and syncs it to disk. Some file systems cannot sync.
+    /// Truncates the file to `size` bytes if longer, and syncs it to disk. Some file systems cannot sync.
     fn cut(&mut self, size: u64) -> io::Result<()>
         ensures bytes { OnOk result (IfSome (bytes self.old) (λ has. size ≤ length has → bytes self.new ≡ Some (take size has))) }
         ensures place { (path : List ℕ) → is_at path self.old → is_at path self.new };

@@ -75,7 +75,7 @@ pub trait Files {
 pub struct HostFiles<D>(pub D, pub Global);
 
 /// Maximum number of bytes of a snapshot that are read. It is much larger than the longest snapshot, so that the
-/// snapshot of a key with more capacity is rejected for this reason.
+/// snapshot of a key with more capacity is rejected because of its number of credentials.
 const MAX_SNAPSHOT_LEN: u64 = 1 << 20;
 
 /// The system's error number for a missing path, ENOENT.

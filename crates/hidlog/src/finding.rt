@@ -81,7 +81,7 @@ fn reply_in(packet: &Option<Packet>) -> Reply {
 
 impl Finding<'_> {
     /// Returns a hint if this key may lack a credential that the log's key had before the log: the log's key excludes a
-    /// credential where this key continues, or continues where this key finds no credential.
+    /// credential and this key doesn't, or this key finds no credential and the log's key does.
     pub fn hint(&self) -> Option<&'static str> {
         let difference = self.difference;
         // Both packets exist, on the same channel.

@@ -27,7 +27,7 @@ pub struct Progress {
 }
 
 impl Progress {
-    /// Shows that `count` bytes were read, or clears the line at the end. The cursor stays at the start of the line, so
+    /// Shows that `len` bytes were read, or clears the line at the end. The cursor stays at the start of the line, so
     /// that the next text overwrites it.
     pub fn pass(&mut self, rt: &HostRuntime, len: Option<u64>) {
         let Some(len) = len else {

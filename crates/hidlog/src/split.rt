@@ -50,7 +50,7 @@ pub fn count_leading(text: &[u8], bytes: &[u8]) -> usize {
     text.len()
 }
 
-/// Returns the text after `count` bytes; all of it if it is shorter.
+/// Returns the text after `len` bytes; all of it if it is shorter.
 pub fn after(text: &[u8], len: usize) -> &[u8] {
     text.get(len..).unwrap_or(text)
 }

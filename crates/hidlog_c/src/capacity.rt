@@ -1,4 +1,5 @@
-//! The capacity of keys. release/build.sh also proves and builds the library with 256 on this one line.
+//! The capacity of keys. release/build.sh also proves and builds the library with capacity 256, by replacing this
+//! number.
 
 /// Maximum number of credentials, and of pending assertions.
 pub const CAPACITY: usize = 64;

@@ -26,7 +26,7 @@ pub fn new_command_session() -> Session<CAPACITY>
     Session::bare([0; 16], 0)
 }
 
-/// Loads the credentials of the snapshot into a session of `fresh`. An empty snapshot has no credentials.
+/// Loads the credentials of the snapshot into a new session. An empty snapshot has no credentials.
 pub fn open(session: &mut Session<CAPACITY>, snapshot: &[u8]) -> Result<(), SnapshotFault>
     requires fresh { session.old ≡ session_of (start_with []) [] }
     ensures begins { OnOk result ((rows : List AnyRow) × Opens snapshot.now rows

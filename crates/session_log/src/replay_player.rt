@@ -108,8 +108,7 @@ pub fn replay<S: Source, T: Target, const C: usize>(
         → (later : List OneInput) × IsStateAfter session.new start later
         × PlaysThrough (history start) h (λ bytes text. Logs (history start) h later bytes text result)
         S.left S.failed S.ended T.taken T.failed result (reader.old, reader.new) (writer.old, writer.new) }
-    // So it is by the definitions on events and responses, without an authenticator's state, if the history's start is
-    // valid.
+    // If the history's start is valid, this is also the result by the definitions without an authenticator's state.
     ensures told { (start : Start) (h : List OneInput) → IsStateAfterValidStart session.old start h
         → (later : List OneInput) × IsStateAfterValidStart session.new start later
         × PlaysThrough (exchange_history start) h (λ bytes text. Logs (exchange_history start) h later bytes text result)

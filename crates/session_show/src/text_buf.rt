@@ -46,7 +46,7 @@ impl TextBuf {
         }
     }
 
-    /// Begins the chunk after `passed` bytes.
+    /// Begins the chunk after `before` bytes.
     pub fn begin(&mut self, before: usize) {
         self.first = before;
         self.before = before;

@@ -52,7 +52,7 @@ pub record IsTrackerAfter (lines : List Line) (walk : TransactionTracker) : Type
 abbrev pub MIN_TIMEOUT_MS : ℕ
 MIN_TIMEOUT_MS = 100
 
--- The ambiguous packet after a continuation packet, if that may have arrived too late.
+-- The ambiguous packet after a continuation packet: this one if it may have arrived too late, or else the one before.
 abbrev pub ambiguity_of : ℕ → Line → Option ContinuationMatch → Option Ambiguous → Option Ambiguous
 ambiguity_of number parsed None before = before
 ambiguity_of number parsed (Some c) before =

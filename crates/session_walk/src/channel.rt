@@ -195,7 +195,7 @@ impl Channel {
         open
     }
 
-    /// Not inlined manually, because the caller runs for each packet and would need the list's stack space each time.
+    /// A separate function, because its caller runs for each packet and would need the list's stack space each time.
     pub fn end_untracked(&self, ended: &mut EndedList) {
         for open in self.open().0.as_slice() {
             ended.add(open.exchange, End::Forgotten);

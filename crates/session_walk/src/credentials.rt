@@ -209,7 +209,7 @@ impl Credentials {
 }
 
 /// Returns whether a request's list at this map key names a credential; entries of another type don't (WebAuthn,
-/// section 5.8.3). `if_empty` is the result for a list without entries.
+/// section 5.8.3). `is_any` is the result for a list without entries.
 fn may_name_prior(item: &[u8], key: i128, is_any: bool) -> bool {
     let Some(list) = value_at(item, Item::Int(key)) else {
         return is_any;
