@@ -15,7 +15,7 @@ use crate::files::Files;
 use crate::host::{Host, Modeled};
 use crate::logs::Logs;
 use crate::notes::CheckEnd;
-use crate::snapshots::{lock_snapshot, load, check_writable, save_rows};
+use crate::snapshots::{check_writable, load, lock_snapshot, save_rows};
 use session_log::{CAPACITY, ReplayMode, Target};
 use token_session::Session;
 

@@ -163,7 +163,11 @@ impl Disk for HostDisk<'_> {
         }
         if !found.is_file() {
             let is_pipe = found.file_type().is_fifo();
-            return Ok(if is_pipe { PathKind::Pipe } else { PathKind::Other });
+            return Ok(if is_pipe {
+                PathKind::Pipe
+            } else {
+                PathKind::Other
+            });
         }
         let message = if is_at(self.0, log.unwrap_or("/dev/stdin"), &found) {
             "it is the input log"

@@ -3,7 +3,7 @@ ghost use Rattle.std.specs.Prelude.{◌≡◌, ◌⊎◌, ◌^◌, ℕ, List, So
 ghost use Rattle.std.specs.IoError.{error_kind};
 ghost use Rattle.hidlog.specs.Streams.{IsWritten};
 
-use crate::disk::{Disk, PathKind, OpenFile};
+use crate::disk::{Disk, OpenFile, PathKind};
 use crate::sums::{SUMS, SumLine, are_sums};
 use std::alloc::Global;
 use std::io::{self, Error, ErrorKind};

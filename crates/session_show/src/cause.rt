@@ -126,7 +126,10 @@ fn request_sentence(fault: RequestFault) -> Sentence {
         ),
         RequestFault::Missing { command, parameter } => missing_sentence(command, parameter),
         RequestFault::EntryNotWhole { command, parameter } => entry_sentence(command, parameter),
-        RequestFault::HashLength { len } => length_sentence(b"clientDataHash has %d bytes, not 32", len),
+        RequestFault::HashLength { len } => length_sentence(
+            b"clientDataHash has %d bytes, not 32",
+            len,
+        ),
         RequestFault::UserIdLength { len } => {
             length_sentence(b"the user's id has %d bytes, more than 64", len)
         }
@@ -190,7 +193,11 @@ fn command_sentence(why: Command) -> Sentence {
             None,
             None,
         ),
-        Command::CounterSpent => sentence(b"the signature counter has reached its maximum", None, None),
+        Command::CounterSpent => sentence(
+            b"the signature counter has reached its maximum",
+            None,
+            None,
+        ),
         Command::NothingPending => sentence(
             b"no assertion is pending: none was left by an authenticatorGetAssertion before",
             None,

@@ -10,7 +10,9 @@ use crate::replayed_log::{PACKET_BOUND, ReplayedLog};
 use crate::signed_bytes::SignedBytesMismatch;
 use crate::text_buf::{TextBuf, front};
 use hid_packet::{BROADCAST, Packet};
-use session_log::{CAPACITY, Failed, Line, LogFault, Source, Target, Window, next_line, parse_line};
+use session_log::{
+    CAPACITY, Failed, Line, LogFault, Source, Target, Window, next_line, parse_line,
+};
 use session_walk::{AwaitedReply, Transaction, TransactionTracker, channel_of};
 use token_session::{Causes, Session};
 

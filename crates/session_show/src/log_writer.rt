@@ -148,7 +148,11 @@ impl LogWriter {
 
     /// Writes the text after the last line, whose number is `number`: with explanations, how much of each incomplete
     /// message was received.
-    fn write_after_last_line<T: Target>(&mut self, number: u64, writer: &mut T) -> Result<(), LogFault>
+    fn write_after_last_line<T: Target>(
+        &mut self,
+        number: u64,
+        writer: &mut T,
+    ) -> Result<(), LogFault>
         requires { T.failed writer.old < 2 ^ 64 - 1 }
         ensures { WritesEnd (rule_for_format self.old.format) T.taken T.failed number (writer.old, writer.new) (ending_of result) }
     {

@@ -34,7 +34,12 @@ pub fn write_members(buf: &mut TextBuf, number: u64, map: MapKind, item: &[u8], 
             (MapKind::Answer(command), Item::Int(key)) => {
                 write_decoded(buf, number, command, key, value, rp_id);
             }
-            (MapKind::Request(0x06), Item::Int(3)) => write_key(buf, KEY_MEMBER_PREFIX, number, value),
+            (MapKind::Request(0x06), Item::Int(3)) => write_key(
+                buf,
+                KEY_MEMBER_PREFIX,
+                number,
+                value,
+            ),
             _ => {}
         }
     }

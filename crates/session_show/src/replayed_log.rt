@@ -204,7 +204,12 @@ impl ReplayedLog {
     }
 
     /// Records a difference at this line, and returns it.
-    fn record_difference(&mut self, line: u64, logged: Option<Packet>, sent: Option<Packet>) -> Difference {
+    fn record_difference(
+        &mut self,
+        line: u64,
+        logged: Option<Packet>,
+        sent: Option<Packet>,
+    ) -> Difference {
         self.has_differed = true;
         let difference = Difference {
             input: self.input,

@@ -14,7 +14,7 @@ use crate::awaited::AwaitedReply;
 use crate::entry::Role;
 use crate::rp_id::RpId;
 use crate::transaction::{
-    End, EndedList, MessageProgress, RequestNames, OpenTransaction, Transaction, is_processing,
+    End, EndedList, MessageProgress, OpenTransaction, RequestNames, Transaction, is_processing,
 };
 use arrayvec::ArrayVec;
 use hid_packet::CONT_PACKET_DATA;

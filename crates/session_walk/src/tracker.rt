@@ -21,7 +21,7 @@ use crate::credentials::Credentials;
 use crate::device::MIN_TIMEOUT_MS;
 use crate::entry::{Role, channel_of};
 use crate::message_buffers::Pool;
-use crate::transaction::{EndedList, MessageProgress, RequestNames, OpenTransaction, Transaction};
+use crate::transaction::{EndedList, MessageProgress, OpenTransaction, RequestNames, Transaction};
 use hid_packet::command::{CANCEL, CBOR, INIT};
 use hid_packet::{CONT_PACKET_DATA, Packet, View};
 use session_log::Line;
@@ -265,7 +265,14 @@ impl TransactionTracker {
     }
 
     /// Handles a host's continuation packet.
-    fn on_continuation(&mut self, place: usize, number: u64, timed: &Timed, sequence: u8, part: &[u8])
+    fn on_continuation(
+        &mut self,
+        place: usize,
+        number: u64,
+        timed: &Timed,
+        sequence: u8,
+        part: &[u8],
+    )
         requires place { place < 6 }
         requires line { self.old.message_start ≡ 0 }
         requires none { self.old.completed ≡ None }

@@ -86,7 +86,10 @@ impl MessageProgress {
         if self.is_whole() {
             (None, None)
         } else {
-            (Some(self.received_len() as u64), Some(u64::from(self.length)))
+            (
+                Some(self.received_len() as u64),
+                Some(u64::from(self.length)),
+            )
         }
     }
 }

@@ -14,8 +14,8 @@ pub skip-returns-clause-only : goal.skip-returns-clause-only
 skip-returns-clause-only t c = only_matches (5 - c.args.level) (part_of c.in_ok-item.item) c.args.self.now
     c.skip_content.new.self c.skip_content.result (c.skip_content.ensures.passes c.args.self.now c.in_ok-item.ensures.takes)
 
-pub inside-returns-in-Array-clause-passes : goal.inside-returns-in-Array-clause-passes
-inside-returns-in-Array-clause-passes t c = rw c.in-Array.is (λ start takes.
+pub skip_content-returns-in-Array-clause-passes : goal.skip_content-returns-in-Array-clause-passes
+skip_content-returns-in-Array-clause-passes t c = rw c.in-Array.is (λ start takes.
     MatchResult-weaker c.skip_items.result c.skip_items.ensures
     (λ _ h. array_whole c.args.level c.in-Array.count start c.args.self.now c.skip_items.new.self takes h)
     (λ f h. array_stops c.args.level c.in-Array.count start c.args.self.now c.skip_items.new.self f.at f.kind takes h))
@@ -34,17 +34,17 @@ pub skip_pairs-loop-done-preserved : goal.skip_pairs-loop-done-preserved
 skip_pairs-loop-done-preserved t c =
     (_, given_more (5 - c.args.level) c.loop-done.done c.loop-done.invariant.0 c.in_ok-skip.ensures.passes.0 (option_copied c.loop-done.previous) c.args.self.now c.loop-done.self c.key.new.self c.skip.new.self (part_of c.in_ok-key.key.item) c.in_ok-key.key.bytes.now c.loop-done.invariant.1 c.in_ok-key.ensures.gives c.in_ok-skip.ensures.passes.1)
 
-pub inside-returns-in-Array-clause-onward : goal.inside-returns-in-Array-clause-onward
-inside-returns-in-Array-clause-onward t c = grind arith
+pub skip_content-returns-in-Array-clause-onward : goal.skip_content-returns-in-Array-clause-onward
+skip_content-returns-in-Array-clause-onward t c = grind arith
 
-pub inside-returns-in-Map-clause-onward : goal.inside-returns-in-Map-clause-onward
-inside-returns-in-Map-clause-onward t c = grind arith
+pub skip_content-returns-in-Map-clause-onward : goal.skip_content-returns-in-Map-clause-onward
+skip_content-returns-in-Map-clause-onward t c = grind arith
 
-pub inside-returns-in-Map-clause-passes : goal.inside-returns-in-Map-clause-passes
-inside-returns-in-Map-clause-passes t c = rw c.in-Map.is (λ start takes.
+pub skip_content-returns-in-Map-clause-passes : goal.skip_content-returns-in-Map-clause-passes
+skip_content-returns-in-Map-clause-passes t c = rw c.in-Map.is (λ start takes.
     MatchResult-weaker c.skip_pairs.result c.skip_pairs.ensures
     (λ _ h. map_whole c.args.level c.in-Map.count start c.args.self.now c.skip_pairs.new.self takes h)
     (λ f h. map_stops c.args.level c.in-Map.count start c.args.self.now c.skip_pairs.new.self f.at f.kind takes h))
 
-pub inside-returns-in_default-clause-passes : goal.inside-returns-in_default-clause-passes
-inside-returns-in_default-clause-passes t c = grind (arith, plain_passes)
+pub skip_content-returns-in_default-clause-passes : goal.skip_content-returns-in_default-clause-passes
+skip_content-returns-in_default-clause-passes t c = grind (arith, plain_passes)
