@@ -16,31 +16,31 @@ from hidlog_conformance.devices import LiveDevice
 START = time.monotonic()
 
 
-def now() -> int:
+def now_ms() -> int:
     """Returns the time in milliseconds."""
     return int((time.monotonic() - START) * 1000)
 
 
-def serve(device: LiveDevice) -> None:
+def provide_needs(device: LiveDevice) -> None:
     """Provides key pairs and signatures as needed, and writes the packets."""
     while device.need != "nothing" and device.need != "presence":
         if device.need == "key":
-            device.key(now(), ["yes"])
+            device.key(now_ms(), ["yes"])
         else:
-            device.signature(now(), ["yes"])
+            device.signature(now_ms(), ["yes"])
     packet = device.read(0)
     while packet is not None:
         print(packet.hex(), flush=True)
         packet = device.read(0)
 
 
-def take(device: LiveDevice, line: bytes) -> None:
+def handle_line(device: LiveDevice, line: bytes) -> None:
     """Processes a line of the input."""
     if line == b"touch":
-        device.presence(now(), "granted")
+        device.presence(now_ms(), "granted")
     else:
-        device.send(now(), bytes.fromhex(line.decode()))
-    serve(device)
+        device.send(now_ms(), bytes.fromhex(line.decode()))
+    provide_needs(device)
 
 
 def main() -> int:
@@ -51,15 +51,15 @@ def main() -> int:
     while True:
         ready, _, _ = select.select([sys.stdin], [], [], 0.05)
         if not ready:
-            device.tick(now())
-            serve(device)
+            device.tick(now_ms())
+            provide_needs(device)
             continue
         piece = os.read(sys.stdin.fileno(), 4096)
         if not piece:
             break
         *lines, rest = (rest + piece).split(b"\n")
         for line in lines:
-            take(device, line)
+            handle_line(device, line)
     device.close()
     return 0
 

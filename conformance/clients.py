@@ -27,7 +27,7 @@ def check_client(name: str, command: str) -> bool:
     )
 
 
-def compiled(room: str) -> str:
+def compile_client(room: str) -> str:
     """Compiles the C client; returns an empty path if gcc or libfido2's header is missing."""
     program = os.path.join(room, "libfido2")
     source = os.path.join(CLIENTS, "libfido2.c")
@@ -41,7 +41,7 @@ def main() -> int:
     """Checks both clients."""
     good = check_client("python_fido2", f"{sys.executable} {os.path.join(CLIENTS, 'python_fido2.py')}")
     with tempfile.TemporaryDirectory() as room:
-        program = compiled(room)
+        program = compile_client(room)
         if program:
             good = check_client("libfido2", program) and good
         else:

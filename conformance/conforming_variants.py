@@ -24,7 +24,7 @@ from hidlog_conformance.reference.device import ReferenceDevice  # noqa: E402
 from hidlog_conformance.run import all_sessions, play_one, parse_options  # noqa: E402
 
 
-def played(name: str) -> Tuple[str, List[Outcome]]:
+def run_variant(name: str) -> Tuple[str, List[Outcome]]:
     """Runs all cases against a variant."""
     variant = VARIANTS[name]
     device = ReferenceDevice(variant.traits)
@@ -43,7 +43,7 @@ def main(arguments: List[str]) -> int:
     chosen = [name for name in VARIANTS if not options.words or any(word in name for word in options.words)]
     good = 0
     with multiprocessing.get_context("fork").Pool(options.jobs) as pool:
-        for name, outcomes in pool.imap(played, chosen):
+        for name, outcomes in pool.imap(run_variant, chosen):
             failed = [outcome for outcome in outcomes if outcome.status == "not ok"]
             good += not failed
             print(

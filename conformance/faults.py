@@ -23,23 +23,23 @@ HERE = os.path.dirname(os.path.abspath(__file__))
 sys.path[:0] = [os.path.join(HERE, "faults"), os.path.join(HERE, "mutants")]
 
 from hidlog_conformance import keys  # noqa: E402
-from answer_faults import ANSWERS  # noqa: E402
-from faulty import Fault, Faulty  # noqa: E402
+from answer_faults import CBOR_FAULTS  # noqa: E402
+from faulty import Fault, FaultyDevice  # noqa: E402
 from run_mutant import MUTANTS, judged as run_mutant  # noqa: E402
 from hidlog_conformance.devices import LiveDevice  # noqa: E402
 from hidlog_conformance.device_info import DeviceInfo  # noqa: E402
 from hidlog_conformance.outcome import Outcome  # noqa: E402
 from hidlog_conformance.player import Player  # noqa: E402
-from cached_device import verifies_once  # noqa: E402
+from cached_device import verify_cached  # noqa: E402
 from hidlog_conformance.run import all_sessions  # noqa: E402
 from hidlog_conformance.session_file import Session  # noqa: E402
-from wire_faults import WIRE  # noqa: E402
+from wire_faults import WIRE_FAULTS  # noqa: E402
 
-FAULTS: Dict[str, Fault] = {fault.name: fault for fault in WIRE + ANSWERS}
+FAULTS: Dict[str, Fault] = {fault.name: fault for fault in WIRE_FAULTS + CBOR_FAULTS}
 SESSIONS: List[Session] = []
 
 
-def served_sessions() -> List[Session]:
+def list_supported_sessions() -> List[Session]:
     """Returns the sessions that hidlog supports, without the choices of this project's profile."""
     device = LiveDevice()
     device_info = DeviceInfo.ask(device, True)
@@ -47,17 +47,17 @@ def served_sessions() -> List[Session]:
     return [session for session in bound if not device_info.lacking(session, device, True, True)]
 
 
-def control() -> int:
+def count_control_failures() -> int:
     """Returns the number of cases that fail with filters that change nothing."""
-    answers = Faulty(Fault("none", "", "", lambda device, message: None))
-    requests = Faulty(Fault("none", "", "", request=lambda device, request: request))
+    answers = FaultyDevice(Fault("none", "", "", lambda device, message: None))
+    requests = FaultyDevice(Fault("none", "", "", request=lambda device, request: request))
     played = [Player(device, session, True).play() for device in (answers, requests) for session in SESSIONS]
     return sum(outcome.status == "not ok" for outcome in played)
 
 
-def detected(fault: Fault) -> Dict[str, List[Outcome]]:
+def run_fault(fault: Fault) -> Dict[str, List[Outcome]]:
     """Runs all cases against a fault; returns the failed ones, by violated rule."""
-    device = Faulty(fault)
+    device = FaultyDevice(fault)
     found: Dict[str, List[Outcome]] = {}
     for session in SESSIONS:
         outcome = Player(device, session, True).play()
@@ -66,10 +66,10 @@ def detected(fault: Fault) -> Dict[str, List[Outcome]]:
     return found
 
 
-def judged(name: str) -> Tuple[bool, str]:
+def judge_fault(name: str) -> Tuple[bool, str]:
     """Runs one fault; returns whether it is detected as expected, and a report."""
     fault = FAULTS[name]
-    found = detected(fault)
+    found = run_fault(fault)
     own = [outcome for outcome in found.get(fault.section, []) if fault.by in ("", outcome.session.name)]
     strange = {rule: cases for rule, cases in found.items() if rule not in (fault.section, *fault.implies)}
     lacking = [rule for rule in fault.implies if rule not in found]
@@ -106,7 +106,7 @@ def main(arguments: List[str]) -> int:
     parser.add_argument("--whole", action="store_true", help="run all cases, even once a mutant is detected")
     parser.add_argument("words", nargs="*", metavar="WORD", help="run those whose names contain a word")
     options = parser.parse_args(arguments)
-    names: Dict[str, Callable[[], Tuple[bool, str]]] = {name: functools.partial(judged, name) for name in FAULTS}
+    names: Dict[str, Callable[[], Tuple[bool, str]]] = {name: functools.partial(judge_fault, name) for name in FAULTS}
     for name in MUTANTS:
         # Some exist both as a filter and as a mutant.
         other = name if name not in names else f"{name}_of_reference"
@@ -115,10 +115,10 @@ def main(arguments: List[str]) -> int:
     if not chosen:
         print(f"faults.py: no fault matches {' '.join(options.words)}", file=sys.stderr)
         return 2
-    keys.verifies = verifies_once
+    keys.verifies = verify_cached
     # Without the choices of the profile: each fault must violate the standard.
-    SESSIONS.extend(served_sessions())
-    failed = control() if not options.words or any(name in FAULTS for name in chosen) else 0
+    SESSIONS.extend(list_supported_sessions())
+    failed = count_control_failures() if not options.words or any(name in FAULTS for name in chosen) else 0
     print(f"the filters alone: {failed} of {len(SESSIONS)} cases fail")
     good = 0
     with multiprocessing.get_context("fork").Pool(options.jobs) as pool:

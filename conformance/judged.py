@@ -21,11 +21,11 @@ HERE = os.path.dirname(os.path.abspath(__file__))
 sys.path[:0] = [os.path.join(HERE, "faults"), os.path.join(HERE, "mutants")]
 sys.path.insert(0, os.path.join(HERE, "variants"))
 
-from answer_faults import ANSWERS  # noqa: E402
-from faulty import Fault, Faulty  # noqa: E402
+from answer_faults import CBOR_FAULTS  # noqa: E402
+from faulty import Fault, FaultyDevice  # noqa: E402
 from variant_list import VARIANTS  # noqa: E402
 from run_mutant import MUTANTS  # noqa: E402
-from wire_faults import WIRE  # noqa: E402
+from wire_faults import WIRE_FAULTS  # noqa: E402
 
 from hidlog_conformance import hid_packets as hid  # noqa: E402
 from hidlog_conformance.devices import Device, LiveDevice  # noqa: E402
@@ -43,7 +43,7 @@ from hidlog_conformance.session_file import Session  # noqa: E402
 from hidlog_conformance.skipped import CaseSkipped  # noqa: E402
 from proved_walk import judge  # noqa: E402
 
-FAULTS: Dict[str, Fault] = {fault.name: fault for fault in WIRE + ANSWERS}
+FAULTS: Dict[str, Fault] = {fault.name: fault for fault in WIRE_FAULTS + CBOR_FAULTS}
 # Milliseconds that a host waits for a response, as the runner does with a real-time device.
 PATIENCE = 3000
 # Those whose INIT response is so wrong that the runner does not start: they are played as if it had.
@@ -197,7 +197,7 @@ def play_directly(device: Device, session: Session) -> Outcome:
 
 def of_filter(name: str) -> Tuple[Device, str, Callable[[Device, Session], Outcome]]:
     """Returns a device with a fault, its section, and a function that plays a session."""
-    return Faulty(FAULTS[name]), FAULTS[name].section, play_directly
+    return FaultyDevice(FAULTS[name]), FAULTS[name].section, play_directly
 
 
 def of_reference(name: str) -> Tuple[Device, str, Callable[[Device, Session], Outcome]]:

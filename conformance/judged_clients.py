@@ -15,7 +15,7 @@ import sys
 import tempfile
 from typing import Dict, List, Tuple
 
-from clients import compiled
+from clients import compile_client
 from hidlog_conformance.client_runner import client_sessions, play_clients
 from hidlog_conformance.judged_log import KEY, MUST, Finding
 from hidlog_conformance.expected_failures import known
@@ -72,7 +72,7 @@ def main() -> int:
     expected = known("judged_clients.known")
     wrong = counted("python_fido2", f"{sys.executable} {os.path.join(CLIENTS, 'python_fido2.py')}", expected)[1]
     with tempfile.TemporaryDirectory() as room:
-        program = compiled(room)
+        program = compile_client(room)
         if program:
             expected.update(known("judged_libfido2.known"))
             wrong += counted("libfido2", program, expected)[1]

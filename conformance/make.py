@@ -14,8 +14,8 @@ import os
 import sys
 from typing import Dict, List, Tuple
 
-from hidlog_conformance.cases.all_cases import session_texts, write_sessions
-from hidlog_conformance.cases.sentence_table import sentence_table
+from hidlog_conformance.cases.all_cases import build_session_texts, write_sessions
+from hidlog_conformance.cases.sentence_table import format_sentence_table
 from hidlog_conformance.client_runner import client_sessions, read_client_session
 
 HERE = os.path.dirname(os.path.abspath(__file__))
@@ -77,9 +77,9 @@ def main(words: List[str]) -> int:
     if words not in ([], ["--check"], ["--sentences"]):
         print(__doc__, file=sys.stderr)
         return 2
-    texts = session_texts()
+    texts = build_session_texts()
     choices = {name for name, text in texts.items() if "\n# profile: " in text}
-    sentences = sentence_table(rules_of(texts), choices)
+    sentences = format_sentence_table(rules_of(texts), choices)
     if words == ["--sentences"]:
         print(table(texts) + "\n" + sentences, end="")
         return 0

@@ -21,7 +21,7 @@ ROOT = Node()
 SIGNATURES: Dict[Tuple[bytes, bytes], bytes] = {}
 
 
-class SameSignatures(KeyMaker):
+class CachedSignatures(KeyMaker):
     """Returns the same signature for the same data, so that inputs repeat."""
 
     def sign(self, credential: bytes, signed: bytes) -> bytes:
@@ -37,7 +37,7 @@ class CachedDevice(LiveDevice):
     def start(self) -> None:
         """Begins a session, without starting the program."""
         self.begin()
-        self.keys = SameSignatures()
+        self.keys = CachedSignatures()
         self.place = ROOT
         self.inputs: List[str] = []
 
@@ -59,13 +59,13 @@ class CachedDevice(LiveDevice):
         return node.answers
 
 
-VERIFIED: Dict[Tuple[bytes, bytes, bytes], bool] = {}
+VERIFIED_SIGNATURES: Dict[Tuple[bytes, bytes, bytes], bool] = {}
 verifies_uncached = keys.verifies
 
 
-def verifies_once(cose: object, signed: bytes, signature: bytes) -> bool:
+def verify_cached(cose: object, signed: bytes, signature: bytes) -> bool:
     """Verifies a signature, with a cache."""
     asked = (repr(cose).encode(), signed, signature)
-    if asked not in VERIFIED:
-        VERIFIED[asked] = verifies_uncached(cose, signed, signature)
-    return VERIFIED[asked]
+    if asked not in VERIFIED_SIGNATURES:
+        VERIFIED_SIGNATURES[asked] = verifies_uncached(cose, signed, signature)
+    return VERIFIED_SIGNATURES[asked]

@@ -42,7 +42,7 @@ class Fault(NamedTuple):
     implies: Tuple[str, ...] = ()
 
 
-class Faulty(CachedDevice):
+class FaultyDevice(CachedDevice):
     """hidlog live with a fault."""
 
     def __init__(self, fault: Fault) -> None:
@@ -158,7 +158,7 @@ class Faulty(CachedDevice):
         return signature
 
 
-def parts_of(request: bytes) -> Dict[Any, Any]:
+def decode_parameters(request: bytes) -> Dict[Any, Any]:
     """Returns the parameters of a request; empty if they are invalid."""
     try:
         item = ctap_cbor.decode(request[1:])
@@ -167,11 +167,11 @@ def parts_of(request: bytes) -> Dict[Any, Any]:
     return dict(item) if isinstance(item, dict) else {}
 
 
-def answered(message: Message) -> Dict[Any, Any]:
+def decode_response(message: Message) -> Dict[Any, Any]:
     """Returns the map of a successful response; empty for others."""
     if message.command != hid.CBOR or message.problem or message.data[:1] != b"\0" or len(message.data) < 2:
         return {}
-    return parts_of(message.data)
+    return decode_parameters(message.data)
 
 
 def is_assertion(item: Dict[Any, Any]) -> bool:
@@ -179,11 +179,11 @@ def is_assertion(item: Dict[Any, Any]) -> bool:
     return isinstance(item.get(3), bytes) and isinstance(item.get(2), bytes)
 
 
-def is_made(item: Dict[Any, Any]) -> bool:
+def is_registration(item: Dict[Any, Any]) -> bool:
     """Returns whether a map is the response of a registration."""
     return item.get(1) == "packed"
 
 
-def with_data(message: Message, data: bytes) -> Sent:
+def replace_data(message: Message, data: bytes) -> Sent:
     """Returns a message with other bytes."""
     return [Message(message.channel, message.command, data)]

@@ -5,64 +5,64 @@ from __future__ import annotations
 from typing import List, Optional
 
 from hidlog_conformance import hid_packets as hid
-from faulty import Fault, Faulty, Hook, Sent, with_data
+from faulty import Fault, FaultyDevice, Hook, Sent, replace_data
 from hidlog_conformance.hid_packets import Message
 
 
-def init_changed(place: int, new: bytes) -> Hook:
+def change_init_response(place: int, new: bytes) -> Hook:
     """Returns a hook that changes bytes of the INIT response."""
 
-    def hook(device: Faulty, message: Message) -> Optional[Sent]:
+    def hook(device: FaultyDevice, message: Message) -> Optional[Sent]:
         if message.command != hid.INIT or message.channel != hid.BROADCAST:
             return None
-        return with_data(message, message.data[:place] + new + message.data[place + len(new) :])
+        return replace_data(message, message.data[:place] + new + message.data[place + len(new) :])
 
     return hook
 
 
-def other_channel(device: Faulty, message: Message) -> Optional[Sent]:
+def change_init_channel(device: FaultyDevice, message: Message) -> Optional[Sent]:
     """Sends another channel in the INIT response on a channel."""
     if message.command == hid.INIT and message.channel != hid.BROADCAST:
-        return with_data(message, message.data[:8] + b"\0\0\0\x63" + message.data[12:])
+        return replace_data(message, message.data[:8] + b"\0\0\0\x63" + message.data[12:])
     return None
 
 
-def dropped(command: int, *first: int) -> Hook:
+def drop_messages(command: int, *first: int) -> Hook:
     """Returns a hook that loses messages of a command, with these first bytes."""
 
-    def hook(device: Faulty, message: Message) -> Optional[Sent]:
-        return [] if message.command == command and (not first or message.data[:1] in map(single, first)) else None
+    def hook(device: FaultyDevice, message: Message) -> Optional[Sent]:
+        return [] if message.command == command and (not first or message.data[:1] in map(to_byte, first)) else None
 
     return hook
 
 
-def renamed(command: int, old: int, new: int) -> Hook:
+def replace_code(command: int, old: int, new: int) -> Hook:
     """Returns a hook that puts another byte instead of a code."""
 
-    def hook(device: Faulty, message: Message) -> Optional[Sent]:
-        return with_data(message, bytes([new])) if message.command == command and message.data == bytes([old]) else None
+    def hook(device: FaultyDevice, message: Message) -> Optional[Sent]:
+        return replace_data(message, bytes([new])) if message.command == command and message.data == bytes([old]) else None
 
     return hook
 
 
-def single(number: int) -> bytes:
+def to_byte(number: int) -> bytes:
     """Returns a byte."""
     return bytes([number])
 
 
-def init_on_new(device: Faulty, message: Message) -> Optional[Sent]:
+def send_init_on_new_channel(device: FaultyDevice, message: Message) -> Optional[Sent]:
     """Sends the INIT response on the new channel."""
     if message.command == hid.INIT and message.channel == hid.BROADCAST:
         return [Message(int.from_bytes(message.data[8:12], "big"), hid.INIT, message.data)]
     return None
 
 
-def keepalive_elsewhere(device: Faulty, message: Message) -> Optional[Sent]:
+def send_keepalive_on_broadcast(device: FaultyDevice, message: Message) -> Optional[Sent]:
     """Sends KEEPALIVEs on the broadcast channel."""
     return [Message(hid.BROADCAST, hid.KEEPALIVE, message.data)] if message.command == hid.KEEPALIVE else None
 
 
-def keepalive_once(device: Faulty, message: Message) -> Optional[Sent]:
+def send_one_keepalive(device: FaultyDevice, message: Message) -> Optional[Sent]:
     """Sends only one KEEPALIVE."""
     if message.command != hid.KEEPALIVE:
         return None
@@ -71,41 +71,41 @@ def keepalive_once(device: Faulty, message: Message) -> Optional[Sent]:
     return [] if seen else None
 
 
-def keepalive_long(device: Faulty, message: Message) -> Optional[Sent]:
+def lengthen_keepalive(device: FaultyDevice, message: Message) -> Optional[Sent]:
     """Sends KEEPALIVEs of two bytes."""
-    return with_data(message, message.data + b"\0") if message.command == hid.KEEPALIVE else None
+    return replace_data(message, message.data + b"\0") if message.command == hid.KEEPALIVE else None
 
 
-def keepalive_after(device: Faulty, message: Message) -> Optional[Sent]:
+def send_keepalive_after_response(device: FaultyDevice, message: Message) -> Optional[Sent]:
     """Sends a KEEPALIVE behind each response."""
     return [message, Message(message.channel, hid.KEEPALIVE, b"\1")] if message.command == hid.CBOR else None
 
 
-def cancel_by_error(device: Faulty, message: Message) -> Optional[Sent]:
+def send_error_for_cancel(device: FaultyDevice, message: Message) -> Optional[Sent]:
     """Answers a cancelled request by an ERROR."""
     if message.command == hid.CBOR and message.data == b"\x2d":
         return [Message(message.channel, hid.ERROR, b"\x7f")]
     return None
 
 
-def cancel_ignored(device: Faulty, at: int, packet: bytes) -> Optional[bytes]:
+def drop_cancel(device: FaultyDevice, at: int, packet: bytes) -> Optional[bytes]:
     """Takes no CANCEL."""
     return None if packet[4] == 0x80 | hid.CANCEL else packet
 
 
-def cancel_answered(device: Faulty, at: int, packet: bytes) -> Optional[bytes]:
+def respond_to_idle_cancel(device: FaultyDevice, at: int, packet: bytes) -> Optional[bytes]:
     """Answers a CANCEL without a pending request."""
     if packet[4] == 0x80 | hid.CANCEL and device.need == "nothing":
         device.emit(int.from_bytes(packet[:4], "big"), hid.ERROR, b"\1")
     return packet
 
 
-def cancel_of_all(device: Faulty, at: int, packet: bytes) -> Optional[bytes]:
+def accept_cancel_on_any_channel(device: FaultyDevice, at: int, packet: bytes) -> Optional[bytes]:
     """Accepts a CANCEL of any channel for that of the request, which is the first one."""
     return b"\0\0\0\1" + packet[4:] if packet[4] == 0x80 | hid.CANCEL else packet
 
 
-def sequence_taken(device: Faulty, at: int, packet: bytes) -> Optional[bytes]:
+def accept_any_sequence(device: FaultyDevice, at: int, packet: bytes) -> Optional[bytes]:
     """Takes continuation packets under any number."""
     channel = "due on " + packet[:4].hex()
     due = device.last.get(channel, 0)
@@ -116,7 +116,7 @@ def sequence_taken(device: Faulty, at: int, packet: bytes) -> Optional[bytes]:
     return packet[:4] + bytes([due]) + packet[5:]
 
 
-def stray_answered(device: Faulty, at: int, packet: bytes) -> Optional[bytes]:
+def respond_to_stray_packet(device: FaultyDevice, at: int, packet: bytes) -> Optional[bytes]:
     """Answers a continuation packet where no message is open."""
     if device.stray and not packet[4] & 0x80:
         device.emit(int.from_bytes(packet[:4], "big"), hid.ERROR, b"\4")
@@ -124,7 +124,7 @@ def stray_answered(device: Faulty, at: int, packet: bytes) -> Optional[bytes]:
     return packet
 
 
-def any_channel(device: Faulty, at: int, packet: bytes) -> Optional[bytes]:
+def accept_packets_of_any_channel(device: FaultyDevice, at: int, packet: bytes) -> Optional[bytes]:
     """Processes a continuation packet of any channel for the open message."""
     channel = int.from_bytes(packet[:4], "big")
     if packet[4] & 0x80:
@@ -134,7 +134,7 @@ def any_channel(device: Faulty, at: int, packet: bytes) -> Optional[bytes]:
     return bytes(device.last.get("front", packet[:4])) + packet[4:]
 
 
-def init_keeps(device: Faulty, at: int, packet: bytes) -> Optional[bytes]:
+def respond_to_init_without_abort(device: FaultyDevice, at: int, packet: bytes) -> Optional[bytes]:
     """Responds to INIT without aborting the channel's transaction."""
     if packet[4:7] == bytes([0x80 | hid.INIT, 0, 8]) and packet[:4] in (b"\0\0\0\1", b"\0\0\0\2"):
         device.emit(int.from_bytes(packet[:4], "big"), hid.INIT, packet[7:15] + packet[:4] + bytes([2, 1, 0, 0, 12]))
@@ -142,43 +142,43 @@ def init_keeps(device: Faulty, at: int, packet: bytes) -> Optional[bytes]:
     return packet
 
 
-def any_channel_served(device: Faulty, at: int, packet: bytes) -> Optional[bytes]:
+def accept_unallocated_channel(device: FaultyDevice, at: int, packet: bytes) -> Optional[bytes]:
     """Serves an unallocated channel as the first one."""
     number = int.from_bytes(packet[:4], "big")
     strange = number > 0x1000 and number != hid.BROADCAST and packet[4] != 0x80 | hid.CANCEL
     return b"\0\0\0\1" + packet[4:] if strange else packet
 
 
-def ping_cut(device: Faulty, message: Message) -> Optional[Sent]:
+def truncate_ping(device: FaultyDevice, message: Message) -> Optional[Sent]:
     """Answers a PING by its first packet's bytes."""
-    return with_data(message, message.data[:57]) if message.command == hid.PING else None
+    return replace_data(message, message.data[:57]) if message.command == hid.PING else None
 
 
-def ping_last_byte(device: Faulty, message: Message) -> Optional[Sent]:
+def change_last_byte(device: FaultyDevice, message: Message) -> Optional[Sent]:
     """Changes the last byte of a message that fills its packets."""
     if message.command == hid.PING and len(message.data) in (57, 116, 175):
-        return with_data(message, message.data[:-1] + b"\0")
+        return replace_data(message, message.data[:-1] + b"\0")
     return None
 
 
-def busy_elsewhere(device: Faulty, message: Message) -> Optional[Sent]:
+def send_busy_to_other_host(device: FaultyDevice, message: Message) -> Optional[Sent]:
     """Sends the busy error to the wrong host."""
     if message.command == hid.ERROR and message.data == b"\6":
         return [Message(3 - message.channel if message.channel < 3 else 1, hid.ERROR, b"\6")]
     return None
 
 
-def from_one(packets: List[bytes]) -> List[bytes]:
+def number_from_one(packets: List[bytes]) -> List[bytes]:
     """Counts continuation packets from 1."""
     return [packet if packet[4] & 0x80 else packet[:4] + bytes([packet[4] + 1]) + packet[5:] for packet in packets]
 
 
-def last_lost(packets: List[bytes]) -> List[bytes]:
+def drop_last_packet(packets: List[bytes]) -> List[bytes]:
     """Loses the last of several packets."""
     return packets[:-1] if len(packets) > 1 else packets
 
 
-def not_zero(packets: List[bytes]) -> List[bytes]:
+def fill_padding(packets: List[bytes]) -> List[bytes]:
     """Leaves old bytes in the padding."""
     # How many bytes of the last packet are behind the message.
     behind = 57 + 59 * (len(packets) - 1) - int.from_bytes(packets[0][5:7], "big")
@@ -189,56 +189,56 @@ INIT, CANCEL, KEEP, SEQUENCE = "11.2.9.1.3", "11.2.9.1.5", "11.2.9.1.7", "11.2.5
 CHANNELS = "11.2.3"
 ERRORS, BUSY, TIME, ABORT, PACKETS, PING = "11.2.9.1.6", "11.2.5.1", "11.2.5.2", "11.2.5.3", "11.2.4", "11.2.9.1.4"
 
-WIRE: List[Fault] = [
-    Fault("wrong_nonce", INIT, "The INIT response has another nonce.", init_changed(0, b"\xee")),
-    Fault("channel_reused", INIT, "Each host gets the same channel.", init_changed(8, b"\0\0\0\1")),
-    Fault("channel_reserved", INIT, "A host gets the broadcast channel.", init_changed(8, b"\xff" * 4)),
-    Fault("init_too_long", INIT, "The INIT response has 18 bytes.", init_changed(17, b"\0")),
-    Fault("init_on_new_channel", INIT, "The INIT response comes on the new channel.", init_on_new),
-    Fault("wrong_version", INIT, "The protocol version is 1.", init_changed(12, b"\1")),
-    Fault("no_capability", INIT, "The capability CBOR isn't named.", init_changed(16, b"\0")),
-    Fault("other_channel_kept", INIT, "INIT on a channel names another.", other_channel, by="init/on_its_own_channel"),
-    Fault("init_keeps_message", ABORT, "INIT does not abort the channel's transaction.", None, init_keeps),
-    Fault("sequence_taken", SEQUENCE, "Continuation packets count under any number.", None, sequence_taken),
-    Fault("stray_answered", SEQUENCE, "A stray continuation packet is answered.", None, stray_answered),
+WIRE_FAULTS: List[Fault] = [
+    Fault("wrong_nonce", INIT, "The INIT response has another nonce.", change_init_response(0, b"\xee")),
+    Fault("channel_reused", INIT, "Each host gets the same channel.", change_init_response(8, b"\0\0\0\1")),
+    Fault("channel_reserved", INIT, "A host gets the broadcast channel.", change_init_response(8, b"\xff" * 4)),
+    Fault("init_too_long", INIT, "The INIT response has 18 bytes.", change_init_response(17, b"\0")),
+    Fault("init_on_new_channel", INIT, "The INIT response comes on the new channel.", send_init_on_new_channel),
+    Fault("wrong_version", INIT, "The protocol version is 1.", change_init_response(12, b"\1")),
+    Fault("no_capability", INIT, "The capability CBOR isn't named.", change_init_response(16, b"\0")),
+    Fault("other_channel_kept", INIT, "INIT on a channel names another.", change_init_channel, by="init/on_its_own_channel"),
+    Fault("init_keeps_message", ABORT, "INIT does not abort the channel's transaction.", None, respond_to_init_without_abort),
+    Fault("sequence_taken", SEQUENCE, "Continuation packets count under any number.", None, accept_any_sequence),
+    Fault("stray_answered", SEQUENCE, "A stray continuation packet is answered.", None, respond_to_stray_packet),
     Fault(
         "any_channels_packet",
         SEQUENCE,
         "Another host's continuation packet is accepted.",
         None,
-        any_channel,
+        accept_packets_of_any_channel,
         implies=(BUSY,),
     ),
-    Fault("sequence_not_named", SEQUENCE, "A wrong number gets no response.", dropped(hid.ERROR, 4)),
-    Fault("busy_silent", BUSY, "A second host gets no busy error.", dropped(hid.ERROR, 6)),
-    Fault("busy_wrong_code", BUSY, "A second host gets another code.", renamed(hid.ERROR, 6, 0x7F)),
-    Fault("busy_elsewhere", BUSY, "The wrong host gets the busy error.", busy_elsewhere),
-    Fault("timeout_silent", TIME, "A message that times out gets no response.", dropped(hid.ERROR, 5)),
-    Fault("timeout_wrong_code", TIME, "A message that times out has another code.", renamed(hid.ERROR, 5, 4)),
-    Fault("no_keepalive", KEEP, "KEEPALIVEs don't come.", dropped(hid.KEEPALIVE)),
-    Fault("keepalive_once", KEEP, "Only one KEEPALIVE comes.", keepalive_once),
-    Fault("keepalive_status", KEEP, "KEEPALIVEs don't say that a touch is requested.", renamed(hid.KEEPALIVE, 2, 1)),
-    Fault("keepalive_elsewhere", KEEP, "KEEPALIVEs go to all channels.", keepalive_elsewhere),
-    Fault("keepalive_long", KEEP, "KEEPALIVEs have two bytes.", keepalive_long),
-    Fault("keepalive_after", KEEP, "A KEEPALIVE comes behind the response.", keepalive_after),
-    Fault("cancel_answered", CANCEL, "CANCEL is answered where nothing waits.", None, cancel_answered),
-    Fault("cancel_ignored", CANCEL, "CANCEL is ignored.", None, cancel_ignored),
-    Fault("cancel_by_error", CANCEL, "A cancelled request gets an ERROR.", cancel_by_error),
-    Fault("cancel_of_all", CANCEL, "CANCEL ends another host's request.", None, cancel_of_all),
-    Fault("cancel_success", CANCEL, "A cancelled request returns 00.", renamed(hid.CBOR, 0x2D, 0)),
-    Fault("ping_cut", PING, "A PING is returned cut.", ping_cut),
-    Fault("ping_last_byte", PING, "A full packet's last byte is lost.", ping_last_byte),
-    Fault("from_one", PACKETS, "Continuation packets count from 1.", cut=from_one),
-    Fault("last_lost", PACKETS, "The last packet of a message is lost.", cut=last_lost),
-    Fault("not_zero", PACKETS, "Padding has old bytes.", cut=not_zero),
-    Fault("unknown_silent", ERRORS, "An unknown command gets no response.", dropped(hid.ERROR, 1)),
+    Fault("sequence_not_named", SEQUENCE, "A wrong number gets no response.", drop_messages(hid.ERROR, 4)),
+    Fault("busy_silent", BUSY, "A second host gets no busy error.", drop_messages(hid.ERROR, 6)),
+    Fault("busy_wrong_code", BUSY, "A second host gets another code.", replace_code(hid.ERROR, 6, 0x7F)),
+    Fault("busy_elsewhere", BUSY, "The wrong host gets the busy error.", send_busy_to_other_host),
+    Fault("timeout_silent", TIME, "A message that times out gets no response.", drop_messages(hid.ERROR, 5)),
+    Fault("timeout_wrong_code", TIME, "A message that times out has another code.", replace_code(hid.ERROR, 5, 4)),
+    Fault("no_keepalive", KEEP, "KEEPALIVEs don't come.", drop_messages(hid.KEEPALIVE)),
+    Fault("keepalive_once", KEEP, "Only one KEEPALIVE comes.", send_one_keepalive),
+    Fault("keepalive_status", KEEP, "KEEPALIVEs don't say that a touch is requested.", replace_code(hid.KEEPALIVE, 2, 1)),
+    Fault("keepalive_elsewhere", KEEP, "KEEPALIVEs go to all channels.", send_keepalive_on_broadcast),
+    Fault("keepalive_long", KEEP, "KEEPALIVEs have two bytes.", lengthen_keepalive),
+    Fault("keepalive_after", KEEP, "A KEEPALIVE comes behind the response.", send_keepalive_after_response),
+    Fault("cancel_answered", CANCEL, "CANCEL is answered where nothing waits.", None, respond_to_idle_cancel),
+    Fault("cancel_ignored", CANCEL, "CANCEL is ignored.", None, drop_cancel),
+    Fault("cancel_by_error", CANCEL, "A cancelled request gets an ERROR.", send_error_for_cancel),
+    Fault("cancel_of_all", CANCEL, "CANCEL ends another host's request.", None, accept_cancel_on_any_channel),
+    Fault("cancel_success", CANCEL, "A cancelled request returns 00.", replace_code(hid.CBOR, 0x2D, 0)),
+    Fault("ping_cut", PING, "A PING is returned cut.", truncate_ping),
+    Fault("ping_last_byte", PING, "A full packet's last byte is lost.", change_last_byte),
+    Fault("from_one", PACKETS, "Continuation packets count from 1.", cut=number_from_one),
+    Fault("last_lost", PACKETS, "The last packet of a message is lost.", cut=drop_last_packet),
+    Fault("not_zero", PACKETS, "Padding has old bytes.", cut=fill_padding),
+    Fault("unknown_silent", ERRORS, "An unknown command gets no response.", drop_messages(hid.ERROR, 1)),
     Fault(
         "length_wrong_code",
         PACKETS,
         "A wrong length has another code.",
-        renamed(hid.ERROR, 3, 4),
+        replace_code(hid.ERROR, 3, 4),
         implies=("11.2.9.1.2",),
     ),
-    Fault("channel_silent", CHANNELS, "An unallocated channel gets no response.", dropped(hid.ERROR, 0x0B)),
-    Fault("channel_served", CHANNELS, "An unallocated channel is accepted.", None, any_channel_served),
+    Fault("channel_silent", CHANNELS, "An unallocated channel gets no response.", drop_messages(hid.ERROR, 0x0B)),
+    Fault("channel_served", CHANNELS, "An unallocated channel is accepted.", None, accept_unallocated_channel),
 ]

@@ -21,22 +21,22 @@ for place in ("conformance", "conformance/faults", "tests/fuzz", "python/src"):
     sys.path.insert(0, os.path.join(TOP, place))
 
 from faults import FAULTS  # noqa: E402
-from faulty import Fault, Faulty  # noqa: E402
+from faulty import Fault, FaultyDevice  # noqa: E402
 from hidlog import shrink  # noqa: E402
 from malformed_requests import hostile_log  # noqa: E402
 from judge import is_line  # noqa: E402
 
 PLAIN = Fault("none", "", "", lambda device, message: None)
-WHOLE = Fault("none", "", "", request=lambda device, request: request)
+PLAIN_LOGS = Fault("none", "", "", request=lambda device, request: request)
 Sent = Tuple[int, bytes]
 
 
-def inputs_of(log: bytes) -> List[bytes]:
+def list_inputs(log: bytes) -> List[bytes]:
     """Returns a log's input lines."""
     return [line for line in log.split(b"\n") if line[:1] in (b">", b"t", b"p", b"k", b"s") and is_line(line)]
 
 
-def sent(device: Faulty, lines: List[bytes]) -> List[Sent]:
+def play_inputs(device: FaultyDevice, lines: List[bytes]) -> List[Sent]:
     """Plays input lines; returns the packets, each with the index of its input."""
     device.start()
     found: List[Sent] = []
@@ -60,25 +60,25 @@ def sent(device: Faulty, lines: List[bytes]) -> List[Sent]:
     return found
 
 
-def head(packets: List[Sent], place: int) -> bytes:
+def read_head(packets: List[Sent], place: int) -> bytes:
     """Returns a packet's command and first byte; empty if there is no packet."""
     return packets[place][1][4:8] if place < len(packets) else b""
 
 
-def difference(fault: Fault, lines: List[bytes]) -> Optional[Tuple[bytes, bytes]]:
+def find_difference(fault: Fault, lines: List[bytes]) -> Optional[Tuple[bytes, bytes]]:
     """Returns the heads of the first packets that differ, with and without the fault, or None."""
     try:
-        right, wrong = sent(Faulty(WHOLE if fault.request else PLAIN), lines), sent(Faulty(fault), lines)
+        right, wrong = play_inputs(FaultyDevice(PLAIN_LOGS if fault.request else PLAIN), lines), play_inputs(FaultyDevice(fault), lines)
     except (OSError, KeyError, IndexError, ValueError, AttributeError, TypeError):
         # A malformed log may raise an exception in a fault, which is written for the conformance tests.
         return None
     for place in range(max(len(right), len(wrong))):
         if right[place : place + 1] != wrong[place : place + 1]:
-            return head(wrong, place), head(right, place)
+            return read_head(wrong, place), read_head(right, place)
     return None
 
 
-class SameDifference(shrink.Command):
+class DifferenceCheck(shrink.Command):
     """Fails on logs for which a fault makes the same difference."""
 
     def __init__(self, fault: Fault) -> None:
@@ -87,16 +87,16 @@ class SameDifference(shrink.Command):
 
     def failure(self, blocks: Any) -> Any:
         """Returns the difference that the fault makes, or None."""
-        return difference(self.fault, inputs_of(shrink.joined(blocks)))
+        return find_difference(self.fault, list_inputs(shrink.joined(blocks)))
 
 
-def found(fault: Fault, count: int) -> Optional[bytes]:
+def minimize_finding(fault: Fault, count: int) -> Optional[bytes]:
     """Returns the shortest log for which a fault makes a difference."""
     for number in range(count):
-        lines = inputs_of(hostile_log("conformance", number))
-        if difference(fault, lines) is None:
+        lines = list_inputs(hostile_log("conformance", number))
+        if find_difference(fault, lines) is None:
             continue
-        command = SameDifference(fault)
+        command = DifferenceCheck(fault)
         blocks = shrink.blocks_of(b"".join(line + b"\n" for line in lines))
         expected: Any = command.failure(blocks)
         shrinking = shrink.Shrinking(command, blocks, expected, tell=lambda text: None)
@@ -118,7 +118,7 @@ def main(arguments: List[str]) -> int:
     for name, fault in FAULTS.items():
         if options.words and not any(word in name for word in options.words):
             continue
-        log = found(fault, options.count)
+        log = minimize_finding(fault, options.count)
         print(f"{name}: {'nothing found' if log is None else str(log.count(bytes([10]))) + ' lines'}", flush=True)
         if log is not None:
             with open(os.path.join(options.folder, name + ".log"), "wb") as file:

@@ -26,7 +26,7 @@ TOP = os.path.join(CORPUS, "..")
 sys.path.insert(0, CORPUS)
 
 from hidlog_conformance import __version__  # noqa: E402
-from hidlog_conformance.cases.all_cases import session_texts  # noqa: E402
+from hidlog_conformance.cases.all_cases import build_session_texts  # noqa: E402
 
 MOMENT = (2026, 11, 26, 0, 0, 0)
 EPOCH = 1795651200
@@ -53,7 +53,7 @@ SCRIPT = "#!/usr/bin/python3\nimport sys\n\nfrom hidlog_conformance.run import i
 
 def files() -> Dict[str, bytes]:
     """Returns the package's files, by path: modules, sessions, which are generated here, and client sessions."""
-    found = {f"hidlog_conformance/sessions/{name}.log": text.encode() for name, text in session_texts().items()}
+    found = {f"hidlog_conformance/sessions/{name}.log": text.encode() for name, text in build_session_texts().items()}
     folders = {
         "hidlog_conformance": ".py",
         "clients": ".session",

@@ -28,7 +28,7 @@ MODULES = (
 )
 
 
-def session_texts() -> Dict[str, str]:
+def build_session_texts() -> Dict[str, str]:
     """Returns the text of each session, by name."""
     cases: List[Case] = []
     for module in MODULES:
@@ -42,7 +42,7 @@ def session_texts() -> Dict[str, str]:
 
 def write_sessions(folder: str) -> None:
     """Writes the session files, read-only, since they are generated."""
-    for name, text in session_texts().items():
+    for name, text in build_session_texts().items():
         path = os.path.join(folder, name + ".log")
         os.makedirs(os.path.dirname(path), exist_ok=True)
         with open(path, "w", encoding="utf-8") as file:

@@ -7,7 +7,7 @@ from typing import TYPE_CHECKING, Any, Dict, List, Optional, Tuple
 
 from hidlog_conformance.cases.corpus import RESET, Case, descriptor
 from hidlog_conformance.cases.flows import user
-from hidlog_conformance.cases.manage import CREDENTIALS, ManageCase, of_rp
+from hidlog_conformance.cases.manage import CREDENTIALS, ManageCase, rp_parameters
 from hidlog_conformance.cases.pin import GET, MAKE, PinCase
 from hidlog_conformance.ctap_cbor import encode
 
@@ -18,15 +18,15 @@ COMMAND, WRITE = b"\x0c", 0x10
 READ, SET, OFFSET, LENGTH = 1, 2, 3, 4
 
 
-def hashed(data: bytes) -> bytes:
+def append_hash(data: bytes) -> bytes:
     """Returns an array followed by its hash."""
     return data + hashlib.sha256(data).digest()[:16]
 
 
-EMPTY = hashed(b"\x80")
+EMPTY_ARRAY = append_hash(b"\x80")
 # An array of one entry: ciphertext, nonce, original size.
-ENTRY = hashed(encode([{1: b"\x5a" * 48, 2: b"\x01" * 12, 3: 32}]))
-OTHER = hashed(encode([{1: b"\xa5" * 40, 2: b"\x02" * 12, 3: 24}]))
+ARRAY_WITH_ENTRY = append_hash(encode([{1: b"\x5a" * 48, 2: b"\x01" * 12, 3: 32}]))
+OTHER_ARRAY = append_hash(encode([{1: b"\xa5" * 40, 2: b"\x02" * 12, 3: 24}]))
 
 
 class Blobs:
@@ -80,32 +80,32 @@ class TokenCase(Blobs, PinCase):
 
     def authentic(self, **more: Any) -> Self:
         """Writes an array with the token."""
-        self.whole(ENTRY, **{"p5": b"=blob", "p6": self.protocol, **more})
+        self.whole(ARRAY_WITH_ENTRY, **{"p5": b"=blob", "p6": self.protocol, **more})
         return self
 
 
-def reads() -> List[Case]:
+def read_cases() -> List[Case]:
     """Reads."""
     cases: List[Case] = []
-    cases.append(BlobCase("begins_empty", "The initial array is empty.").holds(EMPTY))
+    cases.append(BlobCase("begins_empty", "The initial array is empty.").holds(EMPTY_ARRAY))
     case = BlobCase("read_in_pieces", "A read returns the requested number of bytes from the offset.")
-    case.read(10).expect(f"piece {EMPTY[:10].hex()}")
-    cases.append(case.read(5, 10).expect(f"piece {EMPTY[10:15].hex()}").read(9, 15).expect(f"piece {EMPTY[15:].hex()}"))
+    case.read(10).expect(f"piece {EMPTY_ARRAY[:10].hex()}")
+    cases.append(case.read(5, 10).expect(f"piece {EMPTY_ARRAY[10:15].hex()}").read(9, 15).expect(f"piece {EMPTY_ARRAY[15:].hex()}"))
     case = BlobCase("read_at_the_end", "A read at the end returns no bytes.")
     cases.append(case.read(10, 17).expect("piece "))
     case = BlobCase("read_behind_the_end", "An offset past the end is refused.")
     cases.append(case.read(10, 18).expect("status 02").alive())
     case = BlobCase("read_behind_a_written_end", "An offset past the end of a written array is refused.")
-    case.whole(ENTRY).expect("status 00").read(10, len(ENTRY) + 1).expect("status 02")
-    cases.append(case.read(10, len(ENTRY)).expect("piece "))
+    case.whole(ARRAY_WITH_ENTRY).expect("status 00").read(10, len(ARRAY_WITH_ENTRY) + 1).expect("status 02")
+    cases.append(case.read(10, len(ARRAY_WITH_ENTRY)).expect("piece "))
     case = BlobCase("read_far_too_much", "A read of far more bytes than a fragment may have is refused.")
-    cases.append(case.read(2**31 - 1).expect("status 03").holds(EMPTY))
+    cases.append(case.read(2**31 - 1).expect("status 03").holds(EMPTY_ARRAY))
     case = BlobCase("read_too_much", "A read of more bytes than a fragment may have is refused.")
     cases.append(case.read(7609).expect("status 03").alive())
     wrong: Dict[str, Dict[int, Any]] = {
         "without_offset": {READ: 10},
         "with_length": {READ: 10, OFFSET: 0, LENGTH: 17},
-        "and_written": {READ: 10, SET: EMPTY, OFFSET: 0, LENGTH: 17},
+        "and_written": {READ: 10, SET: EMPTY_ARRAY, OFFSET: 0, LENGTH: 17},
     }
     for name, asked in wrong.items():
         case = BlobCase(f"read_{name}", f"A read {name.replace('_', ' ')} is refused.")
@@ -115,99 +115,99 @@ def reads() -> List[Case]:
     return cases
 
 
-def writes() -> List[Case]:
+def write_cases() -> List[Case]:
     """Successful writes."""
     cases: List[Case] = []
     case = BlobCase("written", "A written array can be read.")
-    cases.append(case.whole(ENTRY).expect("status 00").holds(ENTRY))
+    cases.append(case.whole(ARRAY_WITH_ENTRY).expect("status 00").holds(ARRAY_WITH_ENTRY))
     case = BlobCase("written_again", "A second write replaces the array.")
-    cases.append(case.whole(ENTRY).expect("status 00").whole(OTHER).expect("status 00").holds(OTHER))
+    cases.append(case.whole(ARRAY_WITH_ENTRY).expect("status 00").whole(OTHER_ARRAY).expect("status 00").holds(OTHER_ARRAY))
     case = BlobCase("written_in_pieces", "An array written in fragments takes effect with the last one.")
-    case.write(ENTRY[:30], 0, len(ENTRY)).expect("status 00").holds(EMPTY)
-    case.write(ENTRY[30:50], 30).expect("status 00").holds(EMPTY)
-    cases.append(case.write(ENTRY[50:], 50).expect("status 00").holds(ENTRY))
-    long = hashed(encode([{1: b"\x77" * 900, 2: b"\x03" * 12, 3: 884}]))
+    case.write(ARRAY_WITH_ENTRY[:30], 0, len(ARRAY_WITH_ENTRY)).expect("status 00").holds(EMPTY_ARRAY)
+    case.write(ARRAY_WITH_ENTRY[30:50], 30).expect("status 00").holds(EMPTY_ARRAY)
+    cases.append(case.write(ARRAY_WITH_ENTRY[50:], 50).expect("status 00").holds(ARRAY_WITH_ENTRY))
+    long = append_hash(encode([{1: b"\x77" * 900, 2: b"\x03" * 12, 3: 884}]))
     case = BlobCase("written_of_a_thousand", "An array of a thousand bytes fits.")
     case.write(long[:500], 0, len(long)).expect("status 00").write(long[500:], 500).expect("status 00")
     cases.append(case.read(60, len(long) - 60).expect(f"piece {long[-60:].hex()}"))
     case = BlobCase("reset", "A reset empties the array.", "reset", ["touch"])
-    case.whole(ENTRY).expect("status 00").cbor(RESET).presence().expect("status 00")
-    cases.append(case.holds(EMPTY))
+    case.whole(ARRAY_WITH_ENTRY).expect("status 00").cbor(RESET).presence().expect("status 00")
+    cases.append(case.holds(EMPTY_ARRAY))
     case = BlobCase("reset_after_pieces", "A reset empties an array that was written in fragments.", "reset", ["touch"])
-    case.write(OTHER[:30], 0, len(OTHER)).expect("status 00").write(OTHER[30:], 30).expect("status 00")
-    case.cbor(RESET).presence().expect("status 00").holds(EMPTY)
-    cases.append(case.whole(ENTRY).expect("status 00").holds(ENTRY))
+    case.write(OTHER_ARRAY[:30], 0, len(OTHER_ARRAY)).expect("status 00").write(OTHER_ARRAY[30:], 30).expect("status 00")
+    case.cbor(RESET).presence().expect("status 00").holds(EMPTY_ARRAY)
+    cases.append(case.whole(ARRAY_WITH_ENTRY).expect("status 00").holds(ARRAY_WITH_ENTRY))
     case = BlobCase("stays", "The array survives a power cycle.", "blobs", ["power cycle"])
-    cases.append(case.whole(ENTRY).expect("status 00").power_cycle().greet().holds(ENTRY))
+    cases.append(case.whole(ARRAY_WITH_ENTRY).expect("status 00").power_cycle().greet().holds(ARRAY_WITH_ENTRY))
     case = BlobCase("half_is_gone", "An incomplete array is lost at a power cycle.", "blobs", ["power cycle"])
-    case.write(ENTRY[:30], 0, len(ENTRY)).expect("status 00").power_cycle().greet()
-    cases.append(case.write(ENTRY[30:], 30).expect("status 04").holds(EMPTY))
+    case.write(ARRAY_WITH_ENTRY[:30], 0, len(ARRAY_WITH_ENTRY)).expect("status 00").power_cycle().greet()
+    cases.append(case.write(ARRAY_WITH_ENTRY[30:], 30).expect("status 04").holds(EMPTY_ARRAY))
     case = BlobCase(
         "half_is_gone_beside_a_whole",
         "An incomplete array is lost at a power cycle, and the complete one stays.",
         "blobs",
         ["power cycle"],
     )
-    case.whole(OTHER).expect("status 00").write(ENTRY[:50], 0, len(ENTRY)).expect("status 00").power_cycle().greet()
-    cases.append(case.write(ENTRY[50:60], 50).expect("status 04").holds(OTHER))
+    case.whole(OTHER_ARRAY).expect("status 00").write(ARRAY_WITH_ENTRY[:50], 0, len(ARRAY_WITH_ENTRY)).expect("status 00").power_cycle().greet()
+    cases.append(case.write(ARRAY_WITH_ENTRY[50:60], 50).expect("status 04").holds(OTHER_ARRAY))
     return cases
 
 
-def wrong_writes() -> List[Case]:
+def invalid_write_cases() -> List[Case]:
     """Refused writes."""
     cases: List[Case] = []
     case = BlobCase("wrong_hash", "An array with a wrong hash is refused, and the old one stays.")
-    case.whole(OTHER).expect("status 00").whole(ENTRY[:-1] + b"\0").expect("status 3d")
-    cases.append(case.holds(OTHER))
+    case.whole(OTHER_ARRAY).expect("status 00").whole(ARRAY_WITH_ENTRY[:-1] + b"\0").expect("status 3d")
+    cases.append(case.holds(OTHER_ARRAY))
     case = BlobCase("wrong_hash_in_pieces", "An array in fragments with a wrong hash is refused.")
-    case.write(ENTRY[:30], 0, len(ENTRY)).expect("status 00")
-    cases.append(case.write(ENTRY[30:-1] + b"\0", 30).expect("status 3d").holds(EMPTY))
+    case.write(ARRAY_WITH_ENTRY[:30], 0, len(ARRAY_WITH_ENTRY)).expect("status 00")
+    cases.append(case.write(ARRAY_WITH_ENTRY[30:-1] + b"\0", 30).expect("status 3d").holds(EMPTY_ARRAY))
     case = BlobCase("out_of_order", "A fragment out of order is refused.")
-    case.write(ENTRY[:30], 0, len(ENTRY)).expect("status 00")
-    cases.append(case.write(ENTRY[40:], 40).expect("status 04").holds(EMPTY))
+    case.write(ARRAY_WITH_ENTRY[:30], 0, len(ARRAY_WITH_ENTRY)).expect("status 00")
+    cases.append(case.write(ARRAY_WITH_ENTRY[40:], 40).expect("status 04").holds(EMPTY_ARRAY))
     case = BlobCase("later_piece_alone", "A later fragment without a first one is refused.")
-    cases.append(case.write(ENTRY[30:], 30).expect("status 04").holds(EMPTY))
+    cases.append(case.write(ARRAY_WITH_ENTRY[30:], 30).expect("status 04").holds(EMPTY_ARRAY))
     case = BlobCase("too_many_bytes", "More bytes than `length` are refused.")
-    cases.append(case.write(ENTRY, 0, len(ENTRY) - 1).expect("status 02").holds(EMPTY))
+    cases.append(case.write(ARRAY_WITH_ENTRY, 0, len(ARRAY_WITH_ENTRY) - 1).expect("status 02").holds(EMPTY_ARRAY))
     case = BlobCase("too_many_in_pieces", "More bytes than `length` are refused, in fragments too.")
-    case.write(ENTRY[:30], 0, len(ENTRY) - 1).expect("status 00")
-    cases.append(case.write(ENTRY[30:], 30).expect("status 02").holds(EMPTY))
+    case.write(ARRAY_WITH_ENTRY[:30], 0, len(ARRAY_WITH_ENTRY) - 1).expect("status 00")
+    cases.append(case.write(ARRAY_WITH_ENTRY[30:], 30).expect("status 02").holds(EMPTY_ARRAY))
     for length in (0, 16):
         case = BlobCase(f"length_{length}", "A length below 17 is refused.")
-        cases.append(case.write(EMPTY[:length], 0, length).expect("status 02").holds(EMPTY))
+        cases.append(case.write(EMPTY_ARRAY[:length], 0, length).expect("status 02").holds(EMPTY_ARRAY))
     case = BlobCase("without_length", "A first fragment without `length` is refused.")
-    cases.append(case.write(ENTRY).expect("status 02").holds(EMPTY))
+    cases.append(case.write(ARRAY_WITH_ENTRY).expect("status 02").holds(EMPTY_ARRAY))
     case = BlobCase("later_length", "A later fragment with `length` is refused.")
-    case.write(ENTRY[:30], 0, len(ENTRY)).expect("status 00")
-    cases.append(case.write(ENTRY[30:], 30, len(ENTRY)).expect("status 02").holds(EMPTY))
+    case.write(ARRAY_WITH_ENTRY[:30], 0, len(ARRAY_WITH_ENTRY)).expect("status 00")
+    cases.append(case.write(ARRAY_WITH_ENTRY[30:], 30, len(ARRAY_WITH_ENTRY)).expect("status 02").holds(EMPTY_ARRAY))
     case = BlobCase("too_long", "An array that is too long is refused.")
-    cases.append(case.write(ENTRY, 0, 2**31 - 1).expect("status 42").holds(EMPTY))
+    cases.append(case.write(ARRAY_WITH_ENTRY, 0, 2**31 - 1).expect("status 42").holds(EMPTY_ARRAY))
     return cases
 
 
-def tokens(protocol: int) -> List[Case]:
+def token_cases(protocol: int) -> List[Case]:
     """Writes with a PIN set."""
     cases: List[Case] = []
     case = TokenCase("by_token", "With a PIN set, a token can write.", protocol)
-    cases.append(case.writing().authentic().expect("status 00").holds(ENTRY))
+    cases.append(case.writing().authentic().expect("status 00").holds(ARRAY_WITH_ENTRY))
     case = TokenCase("pieces_by_token", "One token can write all fragments.", protocol)
-    case.writing().write(ENTRY[:30], 0, len(ENTRY), p5=b"=blob", p6=protocol).expect("status 00")
-    cases.append(case.write(ENTRY[30:], 30, None, p5=b"=blob", p6=protocol).expect("status 00").holds(ENTRY))
+    case.writing().write(ARRAY_WITH_ENTRY[:30], 0, len(ARRAY_WITH_ENTRY), p5=b"=blob", p6=protocol).expect("status 00")
+    cases.append(case.write(ARRAY_WITH_ENTRY[30:], 30, None, p5=b"=blob", p6=protocol).expect("status 00").holds(ARRAY_WITH_ENTRY))
     case = TokenCase("read_without_token", "Reading needs no token.", protocol)
-    cases.append(case.with_pin().holds(EMPTY))
+    cases.append(case.with_pin().holds(EMPTY_ARRAY))
     case = TokenCase("without_token", "With a PIN set, a write without a token is refused.", protocol)
-    cases.append(case.with_pin().whole(ENTRY).expect("status 36").holds(EMPTY))
+    cases.append(case.with_pin().whole(ARRAY_WITH_ENTRY).expect("status 36").holds(EMPTY_ARRAY))
     case = TokenCase("without_protocol", "A token without pinUvAuthProtocol is refused.", protocol)
-    cases.append(case.writing().whole(ENTRY, p5=b"=blob").expect("status 14").holds(EMPTY))
+    cases.append(case.writing().whole(ARRAY_WITH_ENTRY, p5=b"=blob").expect("status 14").holds(EMPTY_ARRAY))
     wrong = bytes(16 if protocol == 1 else 32)
     case = TokenCase("not_authentic", "A write with a wrong pinUvAuthParam is refused.", protocol)
-    cases.append(case.writing().authentic(p5=wrong).expect("status 33").holds(EMPTY))
+    cases.append(case.writing().authentic(p5=wrong).expect("status 33").holds(EMPTY_ARRAY))
     case = TokenCase("not_permitted", "A write with a token without the permission lbw is refused.", protocol)
-    cases.append(case.writing(MAKE | GET).authentic().expect("status 33").holds(EMPTY))
+    cases.append(case.writing(MAKE | GET).authentic().expect("status 33").holds(EMPTY_ARRAY))
     return cases
 
 
-def blob_keys() -> List[Case]:
+def blob_key_cases() -> List[Case]:
     """The extension largeBlobKey."""
     cases: List[Case] = []
     found: Dict[str, Any] = {"needs": ["touch", "reset"], "uses": ["rk", "extension largeBlobKey"]}
@@ -252,17 +252,17 @@ def blob_keys() -> List[Case]:
     return cases
 
 
-def listed(protocol: int) -> List[Case]:
+def credential_management_cases(protocol: int) -> List[Case]:
     """Large blob keys in credential management."""
     case = ManageCase("blob_key", "Credential management returns the large blob key.", protocol)
     case.comment("uses: extension largeBlobKey")
     case.make(p6={"largeBlobKey": True}, p7={"rk": True}).made(1, "up blob-key one").with_pin()
-    return [case.managing().manage(CREDENTIALS, of_rp()).expect("managed credentials 1 blob-key one")]
+    return [case.managing().manage(CREDENTIALS, rp_parameters()).expect("managed credentials 1 blob-key one")]
 
 
 def cases() -> List[Case]:
     """Returns the cases of this file."""
-    found = reads() + writes() + wrong_writes() + blob_keys()
+    found = read_cases() + write_cases() + invalid_write_cases() + blob_key_cases()
     for protocol in (1, 2):
-        found += tokens(protocol) + listed(protocol)
+        found += token_cases(protocol) + credential_management_cases(protocol)
     return found

@@ -7,7 +7,7 @@ from typing import Any, Dict, List, Tuple
 from hidlog_conformance.cases.corpus import MAKE, Case, make_request
 from hidlog_conformance.ctap_cbor import Raw, encode
 
-OURS = "allowed by the canonical form, but not accepted by this authenticator"
+PROFILE_CHOICE = "allowed by the canonical form, but not accepted by this authenticator"
 # Malformed items, by name.
 MALFORMED = {
     "head_cut": "18",
@@ -59,7 +59,7 @@ NOT_CANONICAL = {
     "utf8_past_the_end": "64f4908080",
     "utf8_alone": "6180",
 }
-OTHER = {
+OTHER_ITEMS = {
     "half_float": "f93c00",
     "float": "fa47c35000",
     "double": "fb3ff199999999999a",
@@ -71,7 +71,7 @@ OTHER = {
     "key_false": "a1f400",
     "key_null": "a1f600",
 }
-TAKEN: Dict[str, Any] = {
+IGNORED_ITEMS: Dict[str, Any] = {
     "least_integer": -(2**64),
     "greatest_integer": 2**64 - 1,
     "long_bytes": bytes(300),
@@ -89,31 +89,31 @@ TAKEN: Dict[str, Any] = {
 }
 
 
-def nested(item: bytes, level: int) -> bytes:
+def nest_item(item: bytes, level: int) -> bytes:
     """Returns a request whose unknown parameter 64 has the item at a level of nesting."""
     value = Raw(b"\x81" * (level - 2) + item)
     return MAKE + encode(make_request(p64=value))
 
 
-def kinds() -> List[Tuple[str, bytes, str, Dict[str, str]]]:
+def list_kinds() -> List[Tuple[str, bytes, str, Dict[str, str]]]:
     """Returns each kind's name, bytes, expectation and level."""
     found: List[Tuple[str, bytes, str, Dict[str, str]]] = []
     found += [(name, bytes.fromhex(text), "refused 12", {}) for name, text in MALFORMED.items()]
     found += [(name, bytes.fromhex(text), "status 12", {"level": "should"}) for name, text in NOT_CANONICAL.items()]
-    found += [(name, bytes.fromhex(text), "status 12", {"profile": OURS}) for name, text in OTHER.items()]
+    found += [(name, bytes.fromhex(text), "status 12", {"profile": PROFILE_CHOICE}) for name, text in OTHER_ITEMS.items()]
     return found
 
 
-def refused() -> List[Case]:
+def refusal_cases() -> List[Case]:
     """Each kind of error, at levels 2, 3 and 4, and instead of the parameters."""
     cases = []
-    for name, item, answer, more in kinds():
+    for name, item, answer, more in list_kinds():
         says = f"An item that is not canonical CBOR ({name.replace('_', ' ')}, {item.hex()}) is refused"
         for level in (2, 3, 4):
             if level == 4 and item[0] >> 5 in (4, 5):
                 continue
             case = Case(f"cbor/{name}_level_{level}", "cbor", f"{says}, at level {level} of the parameters.", **more)
-            cases.append(case.greet().cbor(nested(item, level)).expect(answer).alive())
+            cases.append(case.greet().cbor(nest_item(item, level)).expect(answer).alive())
         profile = {"profile": "the standard does not say which of two errors is reported"}
         more_whole = profile if answer == "status 12" else more
         case = Case(f"cbor/{name}_level_1", "cbor", f"{says}, instead of the parameters.", **more_whole)
@@ -121,7 +121,7 @@ def refused() -> List[Case]:
     return cases
 
 
-def whole() -> List[Case]:
+def message_cases() -> List[Case]:
     """Errors of a message as a whole, and nesting."""
     cases = []
     good = encode(make_request())
@@ -137,7 +137,7 @@ def whole() -> List[Case]:
             f"cbor/nested_{level:03}", "cbor", requirement, profile="an authenticator may accept more than four levels"
         )
         item = b"\x81" * (level - 2) + b"\x80"
-        cases.append(case.greet().cbor(nested(item, 2)).expect("status 12").alive())
+        cases.append(case.greet().cbor(nest_item(item, 2)).expect("status 12").alive())
     swapped = b"\xa2" + encode(2) + encode({"id": "example.com"}) + encode(1) + encode(bytes(32))
     case = Case("cbor/parameters_out_of_order", "cbor", "Parameters out of order are refused.", level="should")
     cases.append(case.greet().cbor(MAKE + swapped).expect("status 12").alive())
@@ -150,10 +150,10 @@ def whole() -> List[Case]:
     return cases
 
 
-def taken() -> List[Case]:
+def ignored_item_cases() -> List[Case]:
     """Canonical but unknown items, which are ignored."""
     cases = []
-    for name, value in TAKEN.items():
+    for name, value in IGNORED_ITEMS.items():
         for number in (64,) if name != "null" else (64, 255):
             requirement = f"An unknown parameter is ignored: {name.replace('_', ' ')} under the key {number}."
             case = Case(f"cbor/taken_{name}_{number}", "cbor", requirement, needs=["touch"])
@@ -174,4 +174,4 @@ def taken() -> List[Case]:
 
 def cases() -> List[Case]:
     """Returns the cases of this file."""
-    return refused() + whole() + taken()
+    return refusal_cases() + message_cases() + ignored_item_cases()

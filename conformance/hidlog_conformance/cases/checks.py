@@ -4,14 +4,14 @@ from __future__ import annotations
 
 from typing import Any, Callable, Dict, List, NamedTuple, Tuple
 
-from hidlog_conformance.cases.corpus import GET, KIND, MAKE, Case, descriptor, get_request, make_request, name_of
+from hidlog_conformance.cases.corpus import GET, KIND, MAKE, Case, descriptor, get_request, make_request, credential_name
 from hidlog_conformance.ctap_cbor import encode
 from hidlog_conformance.quantity import quantity
 
 Asked = Dict[Any, Any]
-TYPES = "the standard defines the statuses, but not their order"
-PIN = "the status of pinUvAuthParam in an authenticator that has no PIN"
-LENGTH = "the standard does not define the status for a wrong length"
+WRONG_TYPE_VALUES = "the standard defines the statuses, but not their order"
+PIN_PARAMETERS = "the status of pinUvAuthParam in an authenticator that has no PIN"
+LENGTH_STATUS = "the standard does not define the status for a wrong length"
 
 
 class Check(NamedTuple):
@@ -24,7 +24,7 @@ class Check(NamedTuple):
     uses: Tuple[str, ...] = ()
 
 
-def put(key: Any, value: Any) -> Callable[[Asked], None]:
+def set_parameter(key: Any, value: Any) -> Callable[[Asked], None]:
     """Returns a change that sets a key, or removes it (None)."""
 
     def spoil(asked: Asked) -> None:
@@ -40,31 +40,31 @@ def put(key: Any, value: Any) -> Callable[[Asked], None]:
 
 # In the order of the algorithm; one of each position, for the pairs.
 MAKE_ORDER = [
-    Check("type", "11", put(6, 1)),
-    Check("missing", "14", put(3, None)),
-    Check("hash_length", "03", put(1, b"\x11" * 31), LENGTH),
-    Check("pin", "02", put(8, b"\0" * 16), PIN, ("no pin",)),
-    Check("algorithm", "26", put(4, [{"alg": -65535, "type": KIND}])),
-    Check("uv", "2c", put(7, {"uv": True}), "", ("no uv",)),
-    Check("enterprise", "02", put(10, 1), "", ("no ep",)),
+    Check("type", "11", set_parameter(6, 1)),
+    Check("missing", "14", set_parameter(3, None)),
+    Check("hash_length", "03", set_parameter(1, b"\x11" * 31), LENGTH_STATUS),
+    Check("pin", "02", set_parameter(8, b"\0" * 16), PIN_PARAMETERS, ("no pin",)),
+    Check("algorithm", "26", set_parameter(4, [{"alg": -65535, "type": KIND}])),
+    Check("uv", "2c", set_parameter(7, {"uv": True}), "", ("no uv",)),
+    Check("enterprise", "02", set_parameter(10, 1), "", ("no ep",)),
 ]
 GET_ORDER = [
-    Check("type", "11", put(4, 1)),
-    Check("missing", "14", put(1, None)),
-    Check("hash_length", "03", put(2, b"\x22" * 31), LENGTH),
-    Check("pin", "02", put(6, b"\0" * 16), PIN, ("no pin",)),
-    Check("uv", "2c", put(5, {"uv": True}), "", ("no uv",)),
-    Check("rk", "2b", put(5, {"rk": True})),
-    Check("credential", "2e", put(3, [descriptor(9)])),
+    Check("type", "11", set_parameter(4, 1)),
+    Check("missing", "14", set_parameter(1, None)),
+    Check("hash_length", "03", set_parameter(2, b"\x22" * 31), LENGTH_STATUS),
+    Check("pin", "02", set_parameter(6, b"\0" * 16), PIN_PARAMETERS, ("no pin",)),
+    Check("uv", "2c", set_parameter(5, {"uv": True}), "", ("no uv",)),
+    Check("rk", "2b", set_parameter(5, {"rk": True})),
+    Check("credential", "2e", set_parameter(3, [descriptor(9)])),
 ]
-WRONG: Dict[str, Any] = {"integer": 1, "text": "x", "bytes": b"x", "array": [], "map": {}, "true": True, "null": None}
+WRONG_VALUES: Dict[str, Any] = {"integer": 1, "text": "x", "bytes": b"x", "array": [], "map": {}, "true": True, "null": None}
 
 
-def wrong_types(known: Dict[int, Tuple[str, str]]) -> List[Tuple[int, str, str, Any]]:
+def list_wrong_types(known: Dict[int, Tuple[str, str]]) -> List[Tuple[int, str, str, Any]]:
     """Returns each parameter with values of wrong types."""
     found = []
     for key, (name, kind) in known.items():
-        for other, value in WRONG.items():
+        for other, value in WRONG_VALUES.items():
             if other != kind:
                 found.append((key, name, other, value))
     return found
@@ -99,8 +99,8 @@ MAKE_INSIDE = [
     ("second_entry", 4, [ENTRY, {"alg": b"x", "type": KIND}], "11"),
     ("descriptor", 5, [1], "11"),
     ("descriptor_id", 5, [{"id": "x", "type": KIND}], "11"),
-    ("descriptor_type", 5, [{"id": name_of(1), "type": 1}], "11"),
-    ("descriptor_transports", 5, [{"id": name_of(1), "type": KIND, "transports": "usb"}], "11"),
+    ("descriptor_type", 5, [{"id": credential_name(1), "type": 1}], "11"),
+    ("descriptor_transports", 5, [{"id": credential_name(1), "type": KIND, "transports": "usb"}], "11"),
     ("option_rk", 7, {"rk": 1}, "11"),
     ("option_up", 7, {"up": "true"}, "11"),
     ("option_uv", 7, {"uv": None}, "11"),
@@ -110,23 +110,23 @@ MAKE_INSIDE = [
     ("without_entry_type", 4, [{"alg": -7}], "14"),
     ("second_without_alg", 4, [ENTRY, {"type": KIND}], "14"),
     ("without_descriptor_id", 5, [{"type": KIND}], "14"),
-    ("without_descriptor_type", 5, [{"id": name_of(1)}], "14"),
+    ("without_descriptor_type", 5, [{"id": credential_name(1)}], "14"),
 ]
 
 
-def with_value(asked: Asked, key: int, value: Any) -> bytes:
+def replace_value(asked: Asked, key: int, value: Any) -> bytes:
     """Returns the encoded parameters with another value."""
     return encode({**asked, key: value})
 
 
-def types(chapter: str, command: bytes, good: Asked, known: Dict[int, Tuple[str, str]]) -> List[Case]:
+def type_cases(chapter: str, command: bytes, good: Asked, known: Dict[int, Tuple[str, str]]) -> List[Case]:
     """Parameters with wrong types, and parameters that are not a map."""
     cases = []
     section = chapter
-    for key, name, other, value in wrong_types(known):
+    for key, name, other, value in list_wrong_types(known):
         requirement = f"{name} with a wrong type ({other}) is refused."
         case = Case(f"{chapter}/type_{key}_{other}", section, requirement)
-        cases.append(case.greet().cbor(command + with_value(good, key, value)).expect("refused 11").alive())
+        cases.append(case.greet().cbor(command + replace_value(good, key, value)).expect("refused 11").alive())
     for name, item in (("integer", 1), ("bytes", b"x"), ("text", "x"), ("array", []), ("true", True), ("null", None)):
         case = Case(f"{chapter}/parameters_{name}", section, f"Parameters that are not a map ({name}) are refused.")
         cases.append(case.greet().cbor(command + encode(item)).expect("refused 11").alive())
@@ -141,7 +141,7 @@ def types(chapter: str, command: bytes, good: Asked, known: Dict[int, Tuple[str,
     return cases
 
 
-def inside() -> List[Case]:
+def member_type_cases() -> List[Case]:
     """Members with a wrong type, or missing."""
     cases = []
     for name, key, value, status in MAKE_INSIDE:
@@ -151,14 +151,14 @@ def inside() -> List[Case]:
             f"make/inside_{name}", "make", requirement, profile="the standard requires an error, but not this status"
         )
         cases.append(
-            case.greet().cbor(MAKE + with_value(make_request(), key, value)).expect(f"status {status}").alive()
+            case.greet().cbor(MAKE + replace_value(make_request(), key, value)).expect(f"status {status}").alive()
         )
     for name, allow, status in (
-        ("type", [{"id": name_of(1), "type": 1}], "11"),
+        ("type", [{"id": credential_name(1), "type": 1}], "11"),
         ("id", [{"id": 1, "type": KIND}], "11"),
         ("entry", ["x"], "11"),
         ("without_id", [{"type": KIND}], "14"),
-        ("without_type", [{"id": name_of(1)}], "14"),
+        ("without_type", [{"id": credential_name(1)}], "14"),
     ):
         requirement = f"An incomplete descriptor in the allow list is refused ({name.replace('_', ' ')})."
         case = Case(
@@ -168,18 +168,18 @@ def inside() -> List[Case]:
     return cases
 
 
-def values() -> List[Case]:
+def invalid_value_cases() -> List[Case]:
     """Invalid values with right types."""
     cases = []
     for length in (0, 31, 33, 64):
         for chapter, key in (("make", "p1"), ("get", "p2")):
             requirement = f"A clientDataHash of {quantity(length, 'byte')} instead of 32 is refused."
-            case = Case(f"{chapter}/hash_of_{length}", chapter, requirement, profile=LENGTH)
+            case = Case(f"{chapter}/hash_of_{length}", chapter, requirement, profile=LENGTH_STATUS)
             case.greet()
             changes: Dict[str, Any] = {key: bytes(length)}
             case = case.make(**changes) if chapter == "make" else case.get(**changes)
             cases.append(case.expect("status 03").alive())
-    case = Case("make/user_id_of_65", "make", "A user.id of more than 64 bytes is refused.", profile=LENGTH)
+    case = Case("make/user_id_of_65", "make", "A user.id of more than 64 bytes is refused.", profile=LENGTH_STATUS)
     cases.append(case.greet().make(p3={"id": bytes(65), "name": "x"}).expect("status 03").alive())
     case = Case("make/user_id_of_64", "make", "A user.id of 64 bytes is accepted.", needs=["touch"])
     cases.append(case.greet().register(1, p3={"id": bytes(64), "name": "x", "displayName": "x"}))
@@ -192,7 +192,7 @@ def values() -> List[Case]:
     return cases
 
 
-def good_values() -> List[Case]:
+def valid_value_cases() -> List[Case]:
     """Valid values, and invalid options and PINs."""
     cases = []
     both = [{"alg": -65535, "type": KIND}, {"alg": -7, "type": "other"}, {"alg": -7, "type": KIND}]
@@ -214,7 +214,7 @@ def good_values() -> List[Case]:
             command,
             "An empty pinUvAuthParam is refused.",
             uses=["no pin"],
-            profile=PIN,
+            profile=PIN_PARAMETERS,
         )
         case.greet()
         cases.append((case.make(p8=b"") if command == "make" else case.get(p6=b"")).expect("status 02").alive())
@@ -223,12 +223,12 @@ def good_values() -> List[Case]:
     return cases
 
 
-def pair(chapter: str, command: bytes, good: Asked, first: Check, second: Check) -> Case:
+def pair_case(chapter: str, command: bytes, good: Asked, first: Check, second: Check) -> Case:
     """Returns a case in which two checks fail: the first is reported."""
     fixed = not first.profile and first.name not in ("type", "missing")
     more: Dict[str, Any] = {"uses": [*first.uses, *second.uses]}
     if not fixed:
-        more["profile"] = first.profile or TYPES
+        more["profile"] = first.profile or WRONG_TYPE_VALUES
     requirement = f"Of two errors, {first.name.replace('_', ' ')} is reported before {second.name.replace('_', ' ')}."
     case = Case(f"{chapter}/first_{first.name}_then_{second.name}", chapter, requirement, **more)
     second.spoil(good)
@@ -236,7 +236,7 @@ def pair(chapter: str, command: bytes, good: Asked, first: Check, second: Check)
     return case.greet().cbor(command + encode(good)).expect(f"status {first.status}").alive()
 
 
-def ordered(chapter: str, command: bytes, good: Callable[[], Asked], checks: List[Check]) -> List[Case]:
+def order_cases(chapter: str, command: bytes, good: Callable[[], Asked], checks: List[Check]) -> List[Case]:
     """Each check alone, and each pair."""
     cases = []
     for place, check in enumerate(checks):
@@ -250,12 +250,12 @@ def ordered(chapter: str, command: bytes, good: Callable[[], Asked], checks: Lis
         case = Case(f"{chapter}/first_cbor_then_{check.name}", chapter, requirement)
         cases.append(case.greet().cbor(command + encode(asked)[:-1]).expect("refused 12").alive())
         for later in checks[place + 1 :]:
-            cases.append(pair(chapter, command, good(), check, later))
+            cases.append(pair_case(chapter, command, good(), check, later))
     return cases
 
 
 def cases() -> List[Case]:
     """Returns the cases of this file."""
-    found = types("make", MAKE, make_request(), MAKE_TYPES) + types("get", GET, get_request(), GET_TYPES)
-    found += ordered("make", MAKE, make_request, MAKE_ORDER) + ordered("get", GET, get_request, GET_ORDER)
-    return found + inside() + values() + good_values()
+    found = type_cases("make", MAKE, make_request(), MAKE_TYPES) + type_cases("get", GET, get_request(), GET_TYPES)
+    found += order_cases("make", MAKE, make_request, MAKE_ORDER) + order_cases("get", GET, get_request, GET_ORDER)
+    return found + member_type_cases() + invalid_value_cases() + valid_value_cases()

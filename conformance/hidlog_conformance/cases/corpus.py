@@ -16,20 +16,20 @@ NONCE = bytes(range(8))
 KIND = "public-key"
 
 
-def name_of(number: int) -> bytes:
+def credential_name(number: int) -> bytes:
     """Returns the ID that sessions use for credential `number`."""
     return bytes([0xA0 + number % 96]) * 31 + bytes([number])
 
 
 def descriptor(number: int, kind: str = KIND) -> Dict[str, Any]:
     """Returns the descriptor of a credential."""
-    return {"id": name_of(number), "type": kind}
+    return {"id": credential_name(number), "type": kind}
 
 
-def like(number: int, kind: str) -> bytes:
+def similar_name(number: int, kind: str) -> bytes:
     """Returns the ID that sessions use for one similar to credential `number`: with a changed bit, longer or
     shorter."""
-    return name_of(number)[:-2] + {"changed": b"\xc0", "longer": b"\xc1", "shorter": b"\xc2"}[kind] + bytes([number])
+    return credential_name(number)[:-2] + {"changed": b"\xc0", "longer": b"\xc1", "shorter": b"\xc2"}[kind] + bytes([number])
 
 
 def make_request(**changes: Any) -> Dict[Any, Any]:
@@ -40,15 +40,15 @@ def make_request(**changes: Any) -> Dict[Any, Any]:
         3: {"id": b"\1", "name": "alice", "displayName": "Alice"},
         4: [{"alg": -7, "type": KIND}],
     }
-    return changed(asked, changes)
+    return change_parameters(asked, changes)
 
 
 def get_request(**changes: Any) -> Dict[Any, Any]:
     """Returns valid parameters of authenticatorGetAssertion."""
-    return changed({1: "example.com", 2: b"\x22" * 32}, changes)
+    return change_parameters({1: "example.com", 2: b"\x22" * 32}, changes)
 
 
-def changed(asked: Dict[Any, Any], changes: Dict[str, Any]) -> Dict[Any, Any]:
+def change_parameters(asked: Dict[Any, Any], changes: Dict[str, Any]) -> Dict[Any, Any]:
     """Returns changed parameters."""
     for key, value in changes.items():
         if value is None:
@@ -104,11 +104,11 @@ class Case:
 
     def begin(self, channel: int, length: int = 100, command: int = hid.PING) -> Self:
         """Adds the first packet of a longer message."""
-        return self.packets(hid.packets_of(channel, command, counted(length))[:1])
+        return self.packets(hid.packets_of(channel, command, count_bytes(length))[:1])
 
     def go_on(self, channel: int, sequence: int = 0, length: int = 100) -> Self:
         """Adds a continuation packet of the message that `begin` began, with any sequence number."""
-        data = counted(length)[57 + 59 * sequence :][:59]
+        data = count_bytes(length)[57 + 59 * sequence :][:59]
         return self.packets([(channel.to_bytes(4, "big") + bytes([sequence]) + data).ljust(64, b"\0")])
 
     def greet(self, count: int = 1) -> Self:
@@ -149,7 +149,7 @@ class Case:
 
     def key(self, number: int) -> Self:
         """Provides a key pair, under the session's credential ID."""
-        self.lines.append(f"k {self.at} {name_of(number).hex()} {'bb' * 32} {'cc' * 32}")
+        self.lines.append(f"k {self.at} {credential_name(number).hex()} {'bb' * 32} {'cc' * 32}")
         return self
 
     def sign(self) -> Self:
@@ -164,8 +164,8 @@ class Case:
 
     def alike(self, number: int, kind: str) -> Dict[str, Any]:
         """Returns the descriptor of an ID similar to that of credential `number`."""
-        name = like(number, kind)
-        self.comment(f"derived: {kind} {name_of(number).hex()} {name.hex()}")
+        name = similar_name(number, kind)
+        self.comment(f"derived: {kind} {credential_name(number).hex()} {name.hex()}")
         return {"id": name, "type": KIND}
 
     def register(self, number: int, rk: bool = False, channel: int = 1, **changes: Any) -> Self:
@@ -190,6 +190,6 @@ class Case:
         return "\n".join(self.lines) + "\n"
 
 
-def counted(length: int) -> bytes:
+def count_bytes(length: int) -> bytes:
     """Returns `length` different bytes."""
     return bytes((7 * number + number // 251 + 1) % 256 for number in range(length))

@@ -8,9 +8,9 @@ from hidlog_conformance import hid_packets as hid
 from hidlog_conformance.cases.corpus import INFO, KIND, NEXT, RESET, SELECTION, Case, descriptor
 
 TOUCH: Dict[str, Any] = {"needs": ["touch"]}
-ANEW: Dict[str, Any] = {"needs": ["touch", "reset"]}
+NEW_TOUCH: Dict[str, Any] = {"needs": ["touch", "reset"]}
 EMPTY: Dict[str, Any] = {"needs": ["touch", "reset"], "uses": ["rk"]}
-RISES = "rp example.com up counter-rises"
+COUNTER_INCREASES = "rp example.com up counter-rises"
 
 
 def user(number: int) -> Any:
@@ -18,7 +18,7 @@ def user(number: int) -> Any:
     return {"id": bytes([number]), "name": f"user{number}", "displayName": f"User {number}"}
 
 
-def infos() -> List[Case]:
+def info_cases() -> List[Case]:
     """authenticatorGetInfo."""
     cases = []
     case = Case(
@@ -47,7 +47,7 @@ def infos() -> List[Case]:
     return cases
 
 
-def registrations() -> List[Case]:
+def registration_cases() -> List[Case]:
     """Registrations, and the user's replies."""
     cases = []
     case = Case(
@@ -73,7 +73,7 @@ def registrations() -> List[Case]:
     return cases
 
 
-def without_keys() -> List[Case]:
+def missing_key_cases() -> List[Case]:
     """Registrations without a key pair, signature or capacity."""
     cases = []
     case = Case("make/no_key", "make", "If no key pair can be made, the response is an error.", needs=["refusal"])
@@ -100,7 +100,7 @@ def without_keys() -> List[Case]:
     return cases
 
 
-def exclude_lists() -> List[Case]:
+def exclude_list_cases() -> List[Case]:
     """Exclude lists."""
     cases = []
     lists: Dict[str, List[Any]] = {
@@ -127,7 +127,7 @@ def exclude_lists() -> List[Case]:
     return cases
 
 
-def exclude_nothing() -> List[Case]:
+def exclude_without_match_cases() -> List[Case]:
     """Exclude lists without a credential of the RP, and what comes before the error."""
     cases = []
     passes: Dict[str, List[Any]] = {"empty": [], "unknown": [descriptor(9)], "other_type": [descriptor(1, "other")]}
@@ -158,7 +158,7 @@ def exclude_nothing() -> List[Case]:
     return cases
 
 
-def allow_lists() -> List[Case]:
+def allow_list_cases() -> List[Case]:
     """Allow lists."""
     cases = []
     found: Dict[str, List[Any]] = {
@@ -170,11 +170,11 @@ def allow_lists() -> List[Case]:
     }
     for name, allow in found.items():
         case = Case(f"lists/allow_{name}", "get", "The credential of this RP in the allow list signs.", **TOUCH)
-        cases.append(case.greet().register(1).get(p3=allow).asserted(RISES + " no-uv no-number"))
+        cases.append(case.greet().register(1).get(p3=allow).asserted(COUNTER_INCREASES + " no-uv no-number"))
     return cases
 
 
-def allow_missing() -> List[Case]:
+def allow_without_match_cases() -> List[Case]:
     """Allow lists without a credential of the RP."""
     cases = []
     missing: Dict[str, List[Any]] = {
@@ -195,7 +195,7 @@ def allow_missing() -> List[Case]:
     return cases
 
 
-def allow_several() -> List[Case]:
+def allow_several_cases() -> List[Case]:
     """Allow lists of several credentials, and empty ones."""
     cases = []
     case = Case(
@@ -205,7 +205,7 @@ def allow_several() -> List[Case]:
         **TOUCH,
     )
     cases.append(
-        case.greet().register(1).register(2).get(p3=[descriptor(2), descriptor(1)]).asserted(RISES + " no-number")
+        case.greet().register(1).register(2).get(p3=[descriptor(2), descriptor(1)]).asserted(COUNTER_INCREASES + " no-number")
     )
     case = Case(
         "lists/allow_two_first",
@@ -217,7 +217,7 @@ def allow_several() -> List[Case]:
     case.greet().register(1).register(2).get(p3=[descriptor(2), descriptor(1)])
     cases.append(case.asserted(f"id {descriptor(2)['id'].hex()}"))
     case = Case("lists/allow_empty", "get", "An empty allow list is treated as absent.", **EMPTY)
-    cases.append(case.greet().register(1, rk=True).get(p3=[]).asserted(RISES))
+    cases.append(case.greet().register(1, rk=True).get(p3=[]).asserted(COUNTER_INCREASES))
     case = Case(
         "lists/allow_unknown_discoverable",
         "get",
@@ -230,20 +230,20 @@ def allow_several() -> List[Case]:
     case.greet().register(1, rk=True, p3=user(1)).register(2, rk=True, p3=user(2)).get(
         p3=[descriptor(1), descriptor(2)]
     )
-    cases.append(case.asserted(RISES).cbor(NEXT).expect("status 30"))
+    cases.append(case.asserted(COUNTER_INCREASES).cbor(NEXT).expect("status 30"))
     return cases
 
 
-def sign_ins() -> List[Case]:
+def sign_in_cases() -> List[Case]:
     """Counters, and user presence."""
     cases = []
     case = Case("get/counter_rises", "get", "The counter rises at each sign-in.", **TOUCH)
     case.greet().register(1)
     for _ in range(4):
-        case.get(p3=[descriptor(1)]).asserted(RISES)
+        case.get(p3=[descriptor(1)]).asserted(COUNTER_INCREASES)
     cases.append(case)
     case = Case("get/counter_rises_by_one", "get", "The counter rises.", **TOUCH, profile="a counter may stay 0")
-    cases.append(case.greet().register(1).get(p3=[descriptor(1)]).asserted(RISES + " strictly"))
+    cases.append(case.greet().register(1).get(p3=[descriptor(1)]).asserted(COUNTER_INCREASES + " strictly"))
     case = Case(
         "get/without_presence",
         "get",
@@ -259,14 +259,14 @@ def sign_ins() -> List[Case]:
     )
     case = Case("get/up_true", "get", "With up true a touch is requested.", **TOUCH)
     cases.append(
-        case.greet().register(1).get(p3=[descriptor(1)], p5={"up": True}).expect("keepalive 02").asserted(RISES)
+        case.greet().register(1).get(p3=[descriptor(1)], p5={"up": True}).expect("keepalive 02").asserted(COUNTER_INCREASES)
     )
     case = Case("get/up_true_uv_false", "get", "The option uv false has no effect.", **TOUCH)
-    cases.append(case.greet().register(1).get(p3=[descriptor(1)], p5={"uv": False}).asserted(RISES + " no-uv"))
+    cases.append(case.greet().register(1).get(p3=[descriptor(1)], p5={"uv": False}).asserted(COUNTER_INCREASES + " no-uv"))
     return cases
 
 
-def found_alone() -> List[Case]:
+def refused_sign_in_cases() -> List[Case]:
     """Refused sign-ins, and sign-ins without a list."""
     cases = []
     for word in ("denied", "timeout"):
@@ -280,37 +280,37 @@ def found_alone() -> List[Case]:
         "A non-discoverable credential is only found by an allow list.",
         **EMPTY,
     )
-    cases.append(case.greet().register(1).get().expect("status 2e").get(p3=[descriptor(1)]).asserted(RISES))
+    cases.append(case.greet().register(1).get().expect("status 2e").get(p3=[descriptor(1)]).asserted(COUNTER_INCREASES))
     case = Case(
         "get/discoverable", "get", "A discoverable credential is found without an allow list, with its user.", **EMPTY
     )
-    cases.append(case.greet().register(1, rk=True).get().asserted(RISES + " user 01 no-number no-name"))
+    cases.append(case.greet().register(1, rk=True).get().asserted(COUNTER_INCREASES + " user 01 no-number no-name"))
     case = Case(
         "get/discoverable_by_list",
         "get",
         "A discoverable credential is found by an allow list, with its user.",
         **EMPTY,
     )
-    cases.append(case.greet().register(1, rk=True).get(p3=[descriptor(1)]).asserted(RISES + " user 01 no-name"))
+    cases.append(case.greet().register(1, rk=True).get(p3=[descriptor(1)]).asserted(COUNTER_INCREASES + " user 01 no-name"))
     return cases
 
 
-def same_users() -> List[Case]:
+def same_user_cases() -> List[Case]:
     """The same user again, and other RPs."""
     cases = []
     case = Case(
         "get/same_user_again", "get", "A discoverable credential replaces that of the same RP and user.", **EMPTY
     )
     case.greet().register(1, rk=True).register(2, rk=True).get().asserted(
-        f"{RISES} no-number id {descriptor(2)['id'].hex()}"
+        f"{COUNTER_INCREASES} no-number id {descriptor(2)['id'].hex()}"
     )
     cases.append(case.get(p3=[descriptor(1)]).expect("status 2e"))
     case = Case("get/same_user_of_another_rp", "get", "The same user ID at another RP is a different user.", **EMPTY)
     case.greet().register(1, rk=True).register(2, rk=True, p2={"id": "example.org", "name": "x"})
-    cases.append(case.get().asserted(f"{RISES} no-number id {descriptor(1)['id'].hex()}"))
+    cases.append(case.get().asserted(f"{COUNTER_INCREASES} no-number id {descriptor(1)['id'].hex()}"))
     case = Case("get/hidden_replaces_nothing", "get", "A non-discoverable credential replaces none.", **EMPTY)
     case.greet().register(1, rk=True).register(2)
-    cases.append(case.get().asserted(f"{RISES} no-number id {descriptor(1)['id'].hex()}"))
+    cases.append(case.get().asserted(f"{COUNTER_INCREASES} no-number id {descriptor(1)['id'].hex()}"))
     for number, rp in enumerate(("a", "example.com:443", "x" * 253, "ü.example"), 1):
         case = Case(f"get/rp_{number}", "get", "RP IDs have any length and characters.", **TOUCH)
         case.greet().register(1, p2={"id": rp, "name": "x"}).get(p1=rp, p3=[descriptor(1)])
@@ -318,38 +318,38 @@ def same_users() -> List[Case]:
     return cases
 
 
-def three(case: Case) -> Case:
+def register_three_users(case: Case) -> Case:
     """Registers three users and signs in without a list; the newest signs."""
     case.greet()
     for number in (1, 2, 3):
         case.register(number, rk=True, p3=user(number))
-    return case.get().asserted(f"{RISES} user 03 number 3 no-name")
+    return case.get().asserted(f"{COUNTER_INCREASES} user 03 number 3 no-name")
 
 
-def nexts() -> List[Case]:
+def next_assertion_cases() -> List[Case]:
     """authenticatorGetNextAssertion."""
     cases = []
-    case = three(Case("next/newest_first", "next", "The other assertions follow, each once, newest first.", **EMPTY))
+    case = register_three_users(Case("next/newest_first", "next", "The other assertions follow, each once, newest first.", **EMPTY))
     for number in (2, 1):
-        case.cbor(NEXT).asserted(f"{RISES} user 0{number} no-number", presence=False)
+        case.cbor(NEXT).asserted(f"{COUNTER_INCREASES} user 0{number} no-number", presence=False)
     cases.append(case.cbor(NEXT).expect("status 30"))
     case = Case("next/nothing_pending", "next", "Without a sign-in before it the status is 30.")
     cases.append(case.greet().cbor(NEXT).expect("status 30").alive())
     case = Case("next/one_credential", "next", "After a sign-in with one credential nothing is pending.", **EMPTY)
-    cases.append(case.greet().register(1, rk=True).get().asserted(RISES).cbor(NEXT).expect("status 30"))
+    cases.append(case.greet().register(1, rk=True).get().asserted(COUNTER_INCREASES).cbor(NEXT).expect("status 30"))
     return cases
 
 
-def next_times() -> List[Case]:
+def pending_time_cases() -> List[Case]:
     """How long assertions are pending."""
     cases = []
-    case = three(
+    case = register_three_users(
         Case(
             "next/after_30_seconds", "next", "More than 30 seconds after the last assertion the status is 30.", **EMPTY
         )
     )
     cases.append(case.wait(30500).cbor(NEXT).expect("status 30").cbor(NEXT).expect("status 30"))
-    case = three(
+    case = register_three_users(
         Case(
             "next/one_then_too_late",
             "next",
@@ -357,31 +357,31 @@ def next_times() -> List[Case]:
             **EMPTY,
         )
     )
-    case.cbor(NEXT).asserted(f"{RISES} user 02", presence=False)
+    case.cbor(NEXT).asserted(f"{COUNTER_INCREASES} user 02", presence=False)
     cases.append(case.wait(30500).cbor(NEXT).expect("status 30"))
-    case = three(Case("next/each_renews", "next", "Each assertion restarts the 30 seconds.", **EMPTY))
-    case.wait(20000).cbor(NEXT).asserted(f"{RISES} user 02", presence=False)
-    cases.append(case.wait(20000).cbor(NEXT).asserted(f"{RISES} user 01", presence=False))
+    case = register_three_users(Case("next/each_renews", "next", "Each assertion restarts the 30 seconds.", **EMPTY))
+    case.wait(20000).cbor(NEXT).asserted(f"{COUNTER_INCREASES} user 02", presence=False)
+    cases.append(case.wait(20000).cbor(NEXT).asserted(f"{COUNTER_INCREASES} user 01", presence=False))
     for wait, late in ((30000, False), (30001, True)):
         case = Case(
             f"next/at_{wait}", "next", "The 30 seconds are exact to the millisecond.", needs=["exact time", "reset"]
         )
         case.comment("profile: other authenticators have no such exact clock")
-        three(case).wait(wait).cbor(NEXT)
-        cases.append(case.expect("status 30") if late else case.asserted(f"{RISES} user 02", presence=False))
+        register_three_users(case).wait(wait).cbor(NEXT)
+        cases.append(case.expect("status 30") if late else case.asserted(f"{COUNTER_INCREASES} user 02", presence=False))
     return cases
 
 
-def next_between() -> List[Case]:
+def interleaved_cases() -> List[Case]:
     """Other messages between assertions."""
     cases = []
-    case = three(Case("next/ping_between", "next", "A PING in between has no effect.", **EMPTY))
-    cases.append(case.alive().cbor(NEXT).asserted(f"{RISES} user 02", presence=False))
-    case = three(Case("next/refused_packet_between", "next", "A refused packet in between has no effect.", **EMPTY))
+    case = register_three_users(Case("next/ping_between", "next", "A PING in between has no effect.", **EMPTY))
+    cases.append(case.alive().cbor(NEXT).asserted(f"{COUNTER_INCREASES} user 02", presence=False))
+    case = register_three_users(Case("next/refused_packet_between", "next", "A refused packet in between has no effect.", **EMPTY))
     cases.append(
-        case.send(9, hid.PING, b"a").expect("error 0b on 9").cbor(NEXT).asserted(f"{RISES} user 02", presence=False)
+        case.send(9, hid.PING, b"a").expect("error 0b on 9").cbor(NEXT).asserted(f"{COUNTER_INCREASES} user 02", presence=False)
     )
-    case = three(
+    case = register_three_users(
         Case(
             "next/another_command_between",
             "next",
@@ -391,7 +391,7 @@ def next_between() -> List[Case]:
         )
     )
     cases.append(case.cbor(INFO).expect("info").cbor(NEXT).expect("status 30"))
-    case = three(
+    case = register_three_users(
         Case(
             "next/another_channel",
             "next",
@@ -409,12 +409,12 @@ def next_between() -> List[Case]:
     return cases
 
 
-def next_anew() -> List[Case]:
+def new_sign_in_cases() -> List[Case]:
     """New sign-ins, and the flags of the first assertion."""
     cases = []
-    case = three(Case("next/new_sign_in", "next", "A new sign-in starts over with the newest credential.", **EMPTY))
-    case.cbor(NEXT).asserted(f"{RISES} user 02", presence=False).get().asserted(f"{RISES} user 03 number 3")
-    cases.append(case.cbor(NEXT).asserted(f"{RISES} user 02", presence=False))
+    case = register_three_users(Case("next/new_sign_in", "next", "A new sign-in starts over with the newest credential.", **EMPTY))
+    case.cbor(NEXT).asserted(f"{COUNTER_INCREASES} user 02", presence=False).get().asserted(f"{COUNTER_INCREASES} user 03 number 3")
+    cases.append(case.cbor(NEXT).asserted(f"{COUNTER_INCREASES} user 02", presence=False))
     case = Case("next/without_presence", "next", "The flags are those of the first assertion: UP is not set.", **EMPTY)
     case.greet().register(1, rk=True, p3=user(1)).register(2, rk=True, p3=user(2))
     case.get(p5={"up": False}).asserted("no-up user 02 number 2", presence=False)
@@ -423,23 +423,23 @@ def next_anew() -> List[Case]:
     case.greet().register(1, rk=True, p3=user(1)).register(
         2, rk=True, p3=user(2), p2={"id": "example.org", "name": "x"}
     )
-    cases.append(case.register(3, rk=True, p3=user(3)).get().asserted(f"{RISES} user 03 number 2"))
+    cases.append(case.register(3, rk=True, p3=user(3)).get().asserted(f"{COUNTER_INCREASES} user 03 number 2"))
     return cases
 
 
-def resets() -> List[Case]:
+def reset_cases() -> List[Case]:
     """authenticatorReset and authenticatorSelection."""
     cases = []
-    case = Case("reset/granted", "reset", "A reset with a touch returns 00.", **ANEW)
+    case = Case("reset/granted", "reset", "A reset with a touch returns 00.", **NEW_TOUCH)
     cases.append(case.greet().cbor(RESET).presence().expect("status 00").alive())
-    case = Case("reset/forgets", "reset", "After a reset no credential is left.", **ANEW, uses=["rk"])
+    case = Case("reset/forgets", "reset", "After a reset no credential is left.", **NEW_TOUCH, uses=["rk"])
     case.greet().register(1).register(2, rk=True).cbor(RESET).presence().expect("status 00")
     cases.append(case.get(p3=[descriptor(1)]).expect("status 2e").get().expect("status 2e"))
-    case = Case("reset/serves_again", "reset", "After a reset credentials can be registered.", **ANEW)
+    case = Case("reset/serves_again", "reset", "After a reset credentials can be registered.", **NEW_TOUCH)
     cases.append(
-        case.greet().cbor(RESET).presence().expect("status 00").register(1).get(p3=[descriptor(1)]).asserted(RISES)
+        case.greet().cbor(RESET).presence().expect("status 00").register(1).get(p3=[descriptor(1)]).asserted(COUNTER_INCREASES)
     )
-    case = Case("reset/asks_for_the_user", "reset", "A reset requests a touch.", **ANEW)
+    case = Case("reset/asks_for_the_user", "reset", "A reset requests a touch.", **NEW_TOUCH)
     cases.append(
         case.greet().cbor(RESET).expect("keepalive 02").tick(100).expect("nothing").presence().expect("status 00")
     )
@@ -448,17 +448,17 @@ def resets() -> List[Case]:
             f"reset/user_{word}", "reset", "Without user presence a reset deletes nothing.", needs=["denial", "reset"]
         )
         case.greet().register(1).cbor(RESET).presence(word).expect(f"status {status}")
-        cases.append(case.get(p3=[descriptor(1)]).asserted(RISES))
-    case = Case("reset/cancelled", "reset", "A cancelled reset deletes nothing.", **ANEW)
+        cases.append(case.get(p3=[descriptor(1)]).asserted(COUNTER_INCREASES))
+    case = Case("reset/cancelled", "reset", "A cancelled reset deletes nothing.", **NEW_TOUCH)
     case.greet().register(1).cbor(RESET).expect("keepalive 02").send(1, hid.CANCEL).expect("status 2d")
-    cases.append(case.get(p3=[descriptor(1)]).asserted(RISES))
+    cases.append(case.get(p3=[descriptor(1)]).asserted(COUNTER_INCREASES))
     return cases
 
 
-def late_resets() -> List[Case]:
+def late_reset_cases() -> List[Case]:
     """Resets too long after power-up."""
     cases = []
-    case = Case("reset/too_late", "reset", "A reset more than 10 seconds after power-up is refused.", **ANEW)
+    case = Case("reset/too_late", "reset", "A reset more than 10 seconds after power-up is refused.", **NEW_TOUCH)
     case.comment("uses: no display")
     cases.append(case.greet().wait(10500).cbor(RESET).expect("status 30").alive())
     for wait, answer in ((10000, "keepalive 02"), (10001, "status 30")):
@@ -470,7 +470,7 @@ def late_resets() -> List[Case]:
     return cases
 
 
-def selections() -> List[Case]:
+def selection_cases() -> List[Case]:
     """authenticatorSelection."""
     cases = []
     for word, status in (("granted", "00"), ("denied", "27"), ("timeout", "2f")):
@@ -492,13 +492,13 @@ def selections() -> List[Case]:
         uses=["selection"],
     )
     case.greet().register(1).cbor(SELECTION).presence().expect("status 00")
-    cases.append(case.get(p3=[descriptor(1)]).asserted(RISES))
+    cases.append(case.get(p3=[descriptor(1)]).asserted(COUNTER_INCREASES))
     return cases
 
 
 def cases() -> List[Case]:
     """Returns the cases of this file."""
     assert KIND == "public-key"
-    found = infos() + registrations() + without_keys() + exclude_lists() + exclude_nothing()
-    found += allow_lists() + allow_missing() + allow_several() + sign_ins() + found_alone() + same_users()
-    return found + nexts() + next_times() + next_between() + next_anew() + resets() + late_resets() + selections()
+    found = info_cases() + registration_cases() + missing_key_cases() + exclude_list_cases() + exclude_without_match_cases()
+    found += allow_list_cases() + allow_without_match_cases() + allow_several_cases() + sign_in_cases() + refused_sign_in_cases() + same_user_cases()
+    return found + next_assertion_cases() + pending_time_cases() + interleaved_cases() + new_sign_in_cases() + reset_cases() + late_reset_cases() + selection_cases()

@@ -13,10 +13,10 @@ from hidlog_conformance.cases.corpus import Case
 from hidlog_conformance.paths import DATA
 
 FOLDER = os.path.join(DATA, "fuzzed")
-OURS = "the standard does not say which of two errors is reported"
+PROFILE_CHOICE = "the standard does not say which of two errors is reported"
 
 
-class Found(NamedTuple):
+class FuzzedCase(NamedTuple):
     """A finding: its rule, the fault it showed, and the expectations by line."""
 
     name: str
@@ -29,15 +29,15 @@ class Found(NamedTuple):
     profile: str = ""
 
 
-FOUND = [
-    Found(
+FUZZED_CASES = [
+    FuzzedCase(
         "allow_list_is_a_map",
         "allow_ignored",
         "get",
         "An allow list that is not an array is refused.",
         {1: "init", 2: "refused 11"},
     ),
-    Found(
+    FuzzedCase(
         "cancel_on_channel_0",
         "cancel_of_all",
         "cancel",
@@ -45,14 +45,14 @@ FOUND = [
         {1: "init", 3: "keepalive 02", 4: "nothing", 7: "made up"},
         needs=["touch"],
     ),
-    Found(
+    FuzzedCase(
         "unfinished_message_on_channel_0",
         "channel_silent",
         "channels",
         "The first packet of a long message on channel 0 is refused, before any INIT.",
         {1: "error 0b on 0"},
     ),
-    Found(
+    FuzzedCase(
         "excluded_after_long_names",
         "exclude_ignored",
         "make",
@@ -61,7 +61,7 @@ FOUND = [
         needs=["touch"],
         uses=["rk"],
     ),
-    Found(
+    FuzzedCase(
         "registration_of_four_packets",
         "from_one",
         "packets",
@@ -69,28 +69,28 @@ FOUND = [
         {1: "init", 8: "made up"},
         needs=["touch"],
     ),
-    Found(
+    FuzzedCase(
         "init_before_any_channel",
         "init_keeps_message",
         "channels",
         "INIT on a channel is refused before any channel was allocated.",
         {1: "error 0b on 2"},
     ),
-    Found(
+    FuzzedCase(
         "same_nonce_twice",
         "keepalive_after",
         "init",
         "Two INITs with the same nonce get different channels.",
         {1: "init", 2: "init", 3: "init"},
     ),
-    Found(
+    FuzzedCase(
         "first_init_too_long",
         "length_wrong_code",
         "packets",
         "An INIT of 29 bytes instead of 8 is refused.",
         {1: "error 03 on ffffffff"},
     ),
-    Found(
+    FuzzedCase(
         "missing_before_algorithm",
         "missing_wrong_status",
         "make",
@@ -98,7 +98,7 @@ FOUND = [
         {1: "init", 3: "status 14"},
         uses=["no algorithm -8"],
     ),
-    Found(
+    FuzzedCase(
         "nothing_pending_after_a_list",
         "next_for_ever",
         "next",
@@ -107,7 +107,7 @@ FOUND = [
         needs=["touch"],
         uses=["rk"],
     ),
-    Found(
+    FuzzedCase(
         "strange_packet_inside",
         "not_stored",
         "channels",
@@ -115,16 +115,16 @@ FOUND = [
         {1: "init", 2: "init", 4: "error 0b on 0", 7: "keepalive 02 on 2"},
         needs=["touch"],
         uses=["rk"],
-        profile=OURS,
+        profile=PROFILE_CHOICE,
     ),
-    Found(
+    FuzzedCase(
         "error_from_the_host",
         "unknown_silent",
         "error",
         "An ERROR from a host is refused: only devices send it.",
         {1: "init", 2: "error 01"},
     ),
-    Found(
+    FuzzedCase(
         "uv_before_the_list",
         "up_ignored",
         "get",
@@ -135,7 +135,7 @@ FOUND = [
 ]
 
 
-def case_of(found: Found) -> Case:
+def build_case(found: FuzzedCase) -> Case:
     """Converts a finding to a case."""
     more: Dict[str, Any] = {"needs": found.needs, "uses": found.uses, "profile": found.profile}
     case = Case(f"fuzzed/{found.name}", found.section, found.requirement, **more)
@@ -156,4 +156,4 @@ def case_of(found: Found) -> Case:
 
 def cases() -> List[Case]:
     """Returns the cases of this file."""
-    return [case_of(found) for found in FOUND]
+    return [build_case(found) for found in FUZZED_CASES]

@@ -19,7 +19,7 @@ MANAGE = 4
 OTHER_RP = {"id": "example.org", "name": "Other"}
 
 
-def of_rp(rp: str = "example.com") -> Dict[int, Any]:
+def rp_parameters(rp: str = "example.com") -> Dict[int, Any]:
     """Returns the parameters that name an RP."""
     return {1: hashlib.sha256(rp.encode()).digest()}
 
@@ -58,7 +58,7 @@ class ManageCase(PinCase):
         return self
 
 
-def counts(protocol: int) -> List[Case]:
+def count_cases(protocol: int) -> List[Case]:
     """The number of credentials."""
     cases: List[Case] = []
     case = ManageCase("count", "The metadata has the number of discoverable credentials.", protocol)
@@ -74,7 +74,7 @@ def counts(protocol: int) -> List[Case]:
     return cases
 
 
-def lists(protocol: int) -> List[Case]:
+def listing_cases(protocol: int) -> List[Case]:
     """Enumerations of RPs and credentials."""
     cases: List[Case] = []
     case = ManageCase("rps", "Each RP with a discoverable credential is listed once.", protocol)
@@ -88,18 +88,18 @@ def lists(protocol: int) -> List[Case]:
     cases.append(case.register(1).with_pin().managing().manage(RPS).expect("status 2e"))
     case = ManageCase("credentials", "Each discoverable credential of an RP is listed once.", protocol)
     case.stored(1, 2, 3).stored(4, p2=OTHER_RP).register(5).with_pin().managing()
-    case.manage(CREDENTIALS, of_rp()).expect("managed credentials 3")
+    case.manage(CREDENTIALS, rp_parameters()).expect("managed credentials 3")
     for _ in range(2):
         case.go_on_listing(NEXT_CREDENTIAL).expect("managed credential")
     cases.append(case.go_on_listing(NEXT_CREDENTIAL).expect("status 30"))
     case = ManageCase("credentials_of_one", "A single credential is listed.", protocol)
-    case.stored(1).with_pin().managing().manage(CREDENTIALS, of_rp()).expect("managed credentials 1")
+    case.stored(1).with_pin().managing().manage(CREDENTIALS, rp_parameters()).expect("managed credentials 1")
     cases.append(case.go_on_listing(NEXT_CREDENTIAL).expect("status 30"))
     case = ManageCase("credentials_of_a_token_s_rp", "A token for an RP can list its credentials.", protocol)
     case.stored(1).with_pin().managing("example.com")
-    cases.append(case.manage(CREDENTIALS, of_rp()).expect("managed credentials 1"))
+    cases.append(case.manage(CREDENTIALS, rp_parameters()).expect("managed credentials 1"))
     case = ManageCase("credentials_of_none", "For an RP without a credential the status is 2e.", protocol)
-    case.stored(1).with_pin().managing().manage(CREDENTIALS, of_rp("example.org"))
+    case.stored(1).with_pin().managing().manage(CREDENTIALS, rp_parameters("example.org"))
     cases.append(case.expect("status 2e"))
     for name, command in (("rp", NEXT_RP), ("credential", NEXT_CREDENTIAL)):
         case = ManageCase(f"next_{name}_alone", "The next item without an enumeration is refused.", protocol)
@@ -107,16 +107,16 @@ def lists(protocol: int) -> List[Case]:
     case = ManageCase("protection", "The credProtect level of a credential is listed.", protocol)
     case.comment("uses: extension credProtect")
     case.make(p6={"credProtect": 2}, p7={"rk": True}).made(1, "up extension credProtect 02").with_pin()
-    cases.append(case.managing().manage(CREDENTIALS, of_rp()).expect("managed credentials 1 protect 2"))
+    cases.append(case.managing().manage(CREDENTIALS, rp_parameters()).expect("managed credentials 1 protect 2"))
     return cases
 
 
-def changes(protocol: int) -> List[Case]:
+def change_cases(protocol: int) -> List[Case]:
     """Deletions, and updates of user information."""
     cases: List[Case] = []
     case = ManageCase("delete", "A deleted credential is gone, and others stay.", protocol)
     case.stored(1, 2).with_pin().managing().manage(DELETE, {2: descriptor(1)}).expect("status 00")
-    case.managing().manage(CREDENTIALS, of_rp()).expect("managed credentials 1")
+    case.managing().manage(CREDENTIALS, rp_parameters()).expect("managed credentials 1")
     case.get(p3=[descriptor(1)]).expect("status 2e")
     cases.append(case.get(p3=[descriptor(2)]).asserted("up counter-rises"))
     case = ManageCase("delete_the_last", "After the last credential is deleted, none is left.", protocol)
@@ -129,25 +129,25 @@ def changes(protocol: int) -> List[Case]:
     for name, more in (("update", new), ("update_to_no_display_name", {"id": b"\1", "name": "renamed"})):
         case = ManageCase(name, "User information can be updated.", protocol)
         case.stored(1).with_pin().managing().manage(UPDATE, {2: descriptor(1), 3: more}).expect("status 00")
-        case.managing().manage(CREDENTIALS, of_rp()).expect("managed credentials 1 name renamed")
+        case.managing().manage(CREDENTIALS, rp_parameters()).expect("managed credentials 1 name renamed")
         cases.append(case.get(p3=[descriptor(1)]).asserted("up counter-rises user 01"))
     case = ManageCase("update_what_isn_t_there", "For an unknown credential the status is 2e.", protocol)
     case.stored(1).with_pin().managing().manage(UPDATE, {2: descriptor(9), 3: new})
     cases.append(case.expect("status 2e"))
     case = ManageCase("update_of_another_user", "An update with another user ID is refused.", protocol)
     case.stored(1).with_pin().managing().manage(UPDATE, {2: descriptor(1), 3: {**new, "id": b"\2"}})
-    case.expect("status 02").managing().manage(CREDENTIALS, of_rp())
+    case.expect("status 02").managing().manage(CREDENTIALS, rp_parameters())
     cases.append(case.expect("managed credentials 1 name user1"))
     return cases
 
 
-def refusals(protocol: int) -> List[Case]:
+def refusal_cases(protocol: int) -> List[Case]:
     """Requests without a token, with a wrong one, or with missing parameters."""
     cases: List[Case] = []
     asked: Dict[str, Any] = {
         "count": (COUNT, None),
         "rps": (RPS, None),
-        "credentials": (CREDENTIALS, of_rp()),
+        "credentials": (CREDENTIALS, rp_parameters()),
         "delete": (DELETE, {2: descriptor(1)}),
         "update": (UPDATE, {2: descriptor(1), 3: user(1)}),
     }
@@ -176,5 +176,5 @@ def cases() -> List[Case]:
     """Returns the cases of this file."""
     found: List[Case] = []
     for protocol in (1, 2):
-        found += counts(protocol) + lists(protocol) + changes(protocol) + refusals(protocol)
+        found += count_cases(protocol) + listing_cases(protocol) + change_cases(protocol) + refusal_cases(protocol)
     return found

@@ -7,8 +7,8 @@ from typing import Any, Callable, Dict, List, Tuple
 from hidlog_conformance import hid_packets as hid
 from hidlog_conformance.cases.corpus import INFO, NONCE, Case
 
-STRANGE = 9
-OURS = "the standard does not say which of two errors is reported"
+UNALLOCATED_CHANNEL = 9
+PROFILE_CHOICE = "the standard does not say which of two errors is reported"
 STATES: Dict[str, Callable[[Case], Case]] = {
     "idle": lambda case: case,
     "own_message": lambda case: case.begin(1),
@@ -82,7 +82,7 @@ ROWS: List[Row] = [
 def add_packet(case: Case, what: str) -> None:
     """Adds the packet with this name to the case."""
     name, _, place = what.rpartition("_")
-    channel = {"strange": STRANGE, "broadcast": hid.BROADCAST}.get(place, 1)
+    channel = {"strange": UNALLOCATED_CHANNEL, "broadcast": hid.BROADCAST}.get(place, 1)
     name = name if channel != 1 else what
     sends: Dict[str, Tuple[int, bytes, int]] = {
         "cancel": (hid.CANCEL, b"", 0),
@@ -104,7 +104,7 @@ def add_packet(case: Case, what: str) -> None:
         case.send(channel, command, data, length)
 
 
-def after(case: Case, state: str, goes_on: str) -> None:
+def expect_afterwards(case: Case, state: str, goes_on: str) -> None:
     """Adds expectations about what continues after the packet."""
     channel = 2 if state.startswith("other") else 1
     if goes_on == "message":
@@ -123,11 +123,11 @@ def cases() -> List[Case]:
     for state, what, answer, goes_on, fixed, section in ROWS:
         says = f"answered with {answer}" if answer else "ignored"
         requirement = f"In the state {state}, {what} is {says}; then {goes_on or 'nothing'} continues."
-        more: Dict[str, Any] = {"needs": ["touch"] if state.endswith("work") else [], "profile": "" if fixed else OURS}
+        more: Dict[str, Any] = {"needs": ["touch"] if state.endswith("work") else [], "profile": "" if fixed else PROFILE_CHOICE}
         case = Case(f"order/{state}_and_{what}", section, requirement.replace("_", " "), **more)
         STATES[state](case.greet(2))
         add_packet(case, what)
         case.expect(answer or "nothing")
-        after(case, state, goes_on)
+        expect_afterwards(case, state, goes_on)
         found.append(case)
     return found

@@ -15,7 +15,7 @@ MAKE, GET = 1, 2
 RIGHT, OTHER, WRONG = b"1234", b"567890", b"9999"
 
 
-def uses(protocol: int) -> Dict[str, Any]:
+def required_features(protocol: int) -> Dict[str, Any]:
     """Returns the requirements of cases with a PIN protocol."""
     return {"needs": ["touch", "reset"], "uses": ["pin token", f"pin protocol {protocol}"]}
 
@@ -24,7 +24,7 @@ class PinCase(Case):
     """A case with PIN commands of one protocol."""
 
     def __init__(self, name: str, section: str, requirement: str, protocol: int) -> None:
-        super().__init__(f"{name}_{protocol}", section, requirement, **uses(protocol))
+        super().__init__(f"{name}_{protocol}", section, requirement, **required_features(protocol))
         self.protocol = protocol
         self.greet()
 
@@ -63,18 +63,18 @@ class PinCase(Case):
         self.ask_token(**more).expect("token")
         return self
 
-    def make_by_token(self, **more: Any) -> Self:
+    def register_with_token(self, **more: Any) -> Self:
         """Registers with the token."""
         self.make(p8=b"=token:1", p9=self.protocol, **more)
         return self
 
-    def get_by_token(self, **more: Any) -> Self:
+    def sign_in_with_token(self, **more: Any) -> Self:
         """Signs in with the token."""
         self.get(p6=b"=token:2", p7=self.protocol, **more)
         return self
 
 
-def setting(protocol: int) -> List[Case]:
+def set_pin_cases(protocol: int) -> List[Case]:
     """Sets and changes PINs."""
     cases: List[Case] = []
     case = PinCase("pin/set", "pin", "A PIN can be set, and getInfo shows it.", protocol)
@@ -102,7 +102,7 @@ def setting(protocol: int) -> List[Case]:
     return cases
 
 
-def guessing(protocol: int) -> List[Case]:
+def wrong_pin_cases(protocol: int) -> List[Case]:
     """Wrong PINs and retries."""
     cases: List[Case] = []
     case = PinCase(
@@ -121,24 +121,24 @@ def guessing(protocol: int) -> List[Case]:
     return cases
 
 
-def tokens(protocol: int) -> List[Case]:
+def token_cases(protocol: int) -> List[Case]:
     """Permissions of tokens."""
     cases: List[Case] = []
     case = PinCase("pin/registers", "make", "With a token flag UV is set.", protocol)
-    cases.append(case.with_pin().token().make_by_token().made(1, "up uv"))
+    cases.append(case.with_pin().token().register_with_token().made(1, "up uv"))
     case = PinCase("pin/signs_in", "get", "With a token flag UV is set.", protocol)
-    case.with_pin().token().make_by_token().made(1, "up uv")
-    cases.append(case.token().get_by_token(p3=[descriptor(1)]).asserted("up uv counter-rises"))
+    case.with_pin().token().register_with_token().made(1, "up uv")
+    cases.append(case.token().sign_in_with_token(p3=[descriptor(1)]).asserted("up uv counter-rises"))
     case = PinCase("pin/old_token", "get", "A token from getPinToken can register and sign in.", protocol)
     case.with_pin().agree().pin(5, p3=b"=agreement", p6=b"=hash:" + RIGHT).expect("token")
-    case.make_by_token().made(1, "up uv").agree().pin(5, p3=b"=agreement", p6=b"=hash:" + RIGHT).expect("token")
-    cases.append(case.get_by_token(p3=[descriptor(1)]).asserted("up uv counter-rises"))
+    case.register_with_token().made(1, "up uv").agree().pin(5, p3=b"=agreement", p6=b"=hash:" + RIGHT).expect("token")
+    cases.append(case.sign_in_with_token(p3=[descriptor(1)]).asserted("up uv counter-rises"))
     case = PinCase(
         "pin/discoverable_needs_it", "make", "With a PIN set, a discoverable credential needs a token.", protocol
     )
     cases.append(case.with_pin().make(p7={"rk": True}).expect("refused 36").alive())
     case = PinCase("pin/sign_in_without", "get", "Without a token flag UV is not set in a sign-in.", protocol)
-    case.with_pin().token().make_by_token().made(1, "up uv").get(p3=[descriptor(1)])
+    case.with_pin().token().register_with_token().made(1, "up uv").get(p3=[descriptor(1)])
     cases.append(case.asserted("up no-uv counter-rises"))
     refused: Dict[str, Dict[str, Any]] = {
         "of_another_rp": {"rp": "example.org"},
@@ -146,20 +146,20 @@ def tokens(protocol: int) -> List[Case]:
     }
     for name, more in refused.items():
         case = PinCase(f"pin/token_{name}", "make", f"A token {name.replace('_', ' ')} cannot register.", protocol)
-        cases.append(case.with_pin().token(**more).make_by_token().expect("status 33"))
+        cases.append(case.with_pin().token(**more).register_with_token().expect("status 33"))
     case = PinCase("pin/token_that_registers", "get", "A token with only the permission mc cannot sign in.", protocol)
-    case.with_pin().token().make_by_token().made(1, "up uv").token(permissions=MAKE)
-    cases.append(case.get_by_token(p3=[descriptor(1)]).expect("status 33"))
+    case.with_pin().token().register_with_token().made(1, "up uv").token(permissions=MAKE)
+    cases.append(case.sign_in_with_token(p3=[descriptor(1)]).expect("status 33"))
     wrong = bytes(16 if protocol == 1 else 32)
     case = PinCase("pin/wrong_param", "make", "A wrong pinUvAuthParam is refused in a registration.", protocol)
     cases.append(case.with_pin().token().make(p8=wrong, p9=protocol).expect("status 33"))
     case = PinCase("pin/wrong_param_of_sign_in", "get", "A sign-in without the extension returns no key.", protocol)
-    case.with_pin().token().make_by_token().made(1, "up uv").get(p3=[descriptor(1)], p6=wrong, p7=protocol)
+    case.with_pin().token().register_with_token().made(1, "up uv").get(p3=[descriptor(1)], p6=wrong, p7=protocol)
     cases.append(case.expect("status 33"))
     return cases
 
 
-def secrets(protocol: int) -> List[Case]:
+def hmac_secret_cases(protocol: int) -> List[Case]:
     """hmac-secret."""
     cases: List[Case] = []
     asked: Dict[int, Any] = {1: b"=agreement", 2: b"=encrypt:" + b"1" * 32, 3: b"=auth:2", 4: protocol}
@@ -190,7 +190,7 @@ def secrets(protocol: int) -> List[Case]:
     return cases
 
 
-def extensions() -> List[Case]:
+def extension_cases() -> List[Case]:
     """credProtect, credBlob, and hmac-secret at a registration."""
     cases: List[Case] = []
     found: Dict[str, Any] = {"needs": ["touch", "reset"], "uses": ["rk", "extension credProtect"]}
@@ -217,7 +217,7 @@ def extensions() -> List[Case]:
 
 def cases() -> List[Case]:
     """Returns the cases of this file."""
-    found = extensions()
+    found = extension_cases()
     for protocol in (1, 2):
-        found += setting(protocol) + guessing(protocol) + tokens(protocol) + secrets(protocol)
+        found += set_pin_cases(protocol) + wrong_pin_cases(protocol) + token_cases(protocol) + hmac_secret_cases(protocol)
     return found

@@ -5,41 +5,41 @@ from __future__ import annotations
 from typing import Any, Dict, List
 
 from hidlog_conformance import hid_packets as hid
-from hidlog_conformance.cases.flows import RISES, three, user
+from hidlog_conformance.cases.flows import COUNTER_INCREASES, register_three_users, user
 from hidlog_conformance.cases.corpus import NEXT, RESET, Case, descriptor
 
-CYCLE: Dict[str, Any] = {"needs": ["touch", "power cycle"]}
+POWER_CYCLE_RULE: Dict[str, Any] = {"needs": ["touch", "power cycle"]}
 FOUND: Dict[str, Any] = {"needs": ["touch", "reset", "power cycle"], "uses": ["rk"]}
 
 
-def kept() -> List[Case]:
+def kept_cases() -> List[Case]:
     """Credentials and their counters."""
     cases = []
-    case = Case("power/credential_stays", "get", "A credential survives a power cycle.", **CYCLE)
-    cases.append(case.greet().register(1).power_cycle().greet().get(p3=[descriptor(1)]).asserted(RISES))
-    case = Case("power/counter_goes_on", "get", "The counter rises across a power cycle.", **CYCLE)
+    case = Case("power/credential_stays", "get", "A credential survives a power cycle.", **POWER_CYCLE_RULE)
+    cases.append(case.greet().register(1).power_cycle().greet().get(p3=[descriptor(1)]).asserted(COUNTER_INCREASES))
+    case = Case("power/counter_goes_on", "get", "The counter rises across a power cycle.", **POWER_CYCLE_RULE)
     case.greet().register(1)
     for _ in range(2):
-        case.get(p3=[descriptor(1)]).asserted(RISES).get(p3=[descriptor(1)]).asserted(RISES).power_cycle().greet()
-    cases.append(case.get(p3=[descriptor(1)]).asserted(RISES))
+        case.get(p3=[descriptor(1)]).asserted(COUNTER_INCREASES).get(p3=[descriptor(1)]).asserted(COUNTER_INCREASES).power_cycle().greet()
+    cases.append(case.get(p3=[descriptor(1)]).asserted(COUNTER_INCREASES))
     case = Case(
-        "power/counters_of_two_go_on", "get", "The counters of two credentials rise across a power cycle.", **CYCLE
+        "power/counters_of_two_go_on", "get", "The counters of two credentials rise across a power cycle.", **POWER_CYCLE_RULE
     )
     case.greet().register(1).register(2)
     for number in (1, 2, 1, 2, 2):
-        case.get(p3=[descriptor(number)]).asserted(RISES)
+        case.get(p3=[descriptor(number)]).asserted(COUNTER_INCREASES)
     case.power_cycle().greet()
     for number in (1, 2):
-        case.get(p3=[descriptor(number)]).asserted(RISES)
+        case.get(p3=[descriptor(number)]).asserted(COUNTER_INCREASES)
     cases.append(case)
     case = Case("power/discoverable_stays", "get", "A discoverable credential survives a power cycle.", **FOUND)
     case.greet().register(1, rk=True, p3=user(1)).power_cycle().greet()
-    cases.append(case.get().asserted(RISES + " user 01 no-number no-name"))
+    cases.append(case.get().asserted(COUNTER_INCREASES + " user 01 no-number no-name"))
     case = Case("power/newest_first", "next", "The order of credentials survives a power cycle.", **FOUND)
     case.greet().register(1, rk=True, p3=user(1)).register(2, rk=True, p3=user(2)).power_cycle().greet()
-    case.get().asserted(f"{RISES} user 02 number 2")
-    cases.append(case.cbor(NEXT).asserted(f"{RISES} user 01 no-number", presence=False))
-    case = Case("power/still_excluded", "make", "A credential excludes after a power cycle.", **CYCLE)
+    case.get().asserted(f"{COUNTER_INCREASES} user 02 number 2")
+    cases.append(case.cbor(NEXT).asserted(f"{COUNTER_INCREASES} user 01 no-number", presence=False))
+    case = Case("power/still_excluded", "make", "A credential excludes after a power cycle.", **POWER_CYCLE_RULE)
     case.greet().register(1).power_cycle().greet().make(p5=[descriptor(1)]).presence()
     cases.append(case.expect("status 19").alive())
     case = Case(
@@ -52,14 +52,14 @@ def kept() -> List[Case]:
     return cases
 
 
-def kept_without() -> List[Case]:
+def not_kept_cases() -> List[Case]:
     """Removed credentials, and those that were never made."""
     cases = []
     case = Case(
         "power/replaced_stays_replaced", "get", "A replaced credential stays gone after a power cycle.", **FOUND
     )
     case.greet().register(1, rk=True).register(2, rk=True).power_cycle().greet().get()
-    cases.append(case.asserted(f"{RISES} no-number id {descriptor(2)['id'].hex()}"))
+    cases.append(case.asserted(f"{COUNTER_INCREASES} no-number id {descriptor(2)['id'].hex()}"))
     case = Case("power/reset_stays", "reset", "A reset's effects survive a power cycle.", **FOUND)
     case.greet().register(1, rk=True).cbor(RESET).presence().expect("status 00").power_cycle().greet()
     cases.append(case.get().expect("status 2e").get(p3=[descriptor(1)]).expect("status 2e"))
@@ -75,12 +75,12 @@ def kept_without() -> List[Case]:
     return cases
 
 
-def forgotten() -> List[Case]:
+def forgotten_cases() -> List[Case]:
     """Pending assertions, channels, messages and requests."""
     cases = []
-    case = three(Case("power/pending_is_gone", "next", "Pending assertions are lost at a power cycle.", **FOUND))
+    case = register_three_users(Case("power/pending_is_gone", "next", "Pending assertions are lost at a power cycle.", **FOUND))
     cases.append(case.power_cycle().greet().cbor(NEXT).expect("status 30").alive())
-    case = three(
+    case = register_three_users(
         Case(
             "power/pending_is_gone_behind_the_first",
             "next",
@@ -88,7 +88,7 @@ def forgotten() -> List[Case]:
             **FOUND,
         )
     )
-    case.cbor(NEXT).asserted(f"{RISES} user 02", presence=False)
+    case.cbor(NEXT).asserted(f"{COUNTER_INCREASES} user 02", presence=False)
     cases.append(case.power_cycle().greet().cbor(NEXT).expect("status 30").alive())
     case = Case("power/channel_is_gone", "channels", "Channels are lost at a power cycle.")
     case.comment("needs: power cycle")
@@ -104,7 +104,7 @@ def forgotten() -> List[Case]:
     case.comment("needs: power cycle")
     cases.append(case.greet().begin(1).power_cycle().greet(2).alive(2).alive(1))
     case = Case(
-        "power/request_is_gone", "keepalive", "After a power cycle no KEEPALIVE of an earlier request comes.", **CYCLE
+        "power/request_is_gone", "keepalive", "After a power cycle no KEEPALIVE of an earlier request comes.", **POWER_CYCLE_RULE
     )
     case.greet().make().expect("keepalive 02").power_cycle().greet().tick(250).expect("silence")
     cases.append(case.presence().expect("silence").alive())
@@ -112,7 +112,7 @@ def forgotten() -> List[Case]:
         "power/cancel_finds_nothing",
         "cancel",
         "After a power cycle a CANCEL of an earlier request is ignored.",
-        **CYCLE,
+        **POWER_CYCLE_RULE,
     )
     case.greet().make().expect("keepalive 02").power_cycle().greet().send(1, hid.CANCEL).expect("silence")
     cases.append(case.alive())
@@ -121,4 +121,4 @@ def forgotten() -> List[Case]:
 
 def cases() -> List[Case]:
     """Returns the cases of this file."""
-    return kept() + kept_without() + forgotten()
+    return kept_cases() + not_kept_cases() + forgotten_cases()

@@ -24,7 +24,7 @@ FIREFOX = "Firefox 153.7.0esr"
 SSH = "OpenSSH 9.2p1 with libfido2 1.12.0"
 
 
-class Recorded(NamedTuple):
+class RecordedSession(NamedTuple):
     """A recording: its rule, and the expected response to each message, in order."""
 
     name: str
@@ -37,8 +37,8 @@ class Recorded(NamedTuple):
     profile: str = ""
 
 
-RECORDED = [
-    Recorded(
+RECORDED_SESSIONS = [
+    RecordedSession(
         "libfido2_token",
         FIDO2 + ": fido2-token -I",
         "commands",
@@ -48,7 +48,7 @@ RECORDED = [
         uses=["no pin"],
         profile="the vendor command 40 may be supported",
     ),
-    Recorded(
+    RecordedSession(
         "libfido2_register",
         FIDO2 + ": fido2-cred -M, fido2-assert -G -t up=true twice",
         "get",
@@ -56,7 +56,7 @@ RECORDED = [
         ["init", "info", "made up", "init", "info", ASSERTED, "init", "info", ASSERTED],
         uses=ES256 + ["up"],
     ),
-    Recorded(
+    RecordedSession(
         "libfido2_discoverable",
         FIDO2 + ": fido2-cred -M -r for two users, fido2-assert -G -r",
         "next",
@@ -67,7 +67,7 @@ RECORDED = [
         needs=FOUND,
         uses=ES256 + ["rk"],
     ),
-    Recorded(
+    RecordedSession(
         "libfido2_refused",
         FIDO2 + ": fido2-cred -M, again by EdDSA, fido2-assert -G at another RP",
         "make",
@@ -75,7 +75,7 @@ RECORDED = [
         ["init", "info", "made up", "init", "info", "status 26", "init", "info", "status 2e"],
         uses=ES256 + ["no algorithm -8"],
     ),
-    Recorded(
+    RecordedSession(
         "openssh_key",
         SSH + ": ssh-keygen -t ecdsa-sk, ssh-keygen -Y sign",
         "get",
@@ -83,7 +83,7 @@ RECORDED = [
         ["init", "info", "made up", "silence", "init", "info", "info", SILENT, ASSERTED, "silence"],
         uses=ES256 + ["up"],
     ),
-    Recorded(
+    RecordedSession(
         "openssh_untouched",
         SSH + ": ssh-keygen -t ecdsa-sk -O no-touch-required, ssh-keygen -Y sign",
         "get",
@@ -91,7 +91,7 @@ RECORDED = [
         ["init", "info", "made up", "silence", "init", "info", "info", SILENT, SILENT, "silence"],
         uses=ES256 + ["up"],
     ),
-    Recorded(
+    RecordedSession(
         "openssh_refused",
         SSH + ": ssh-keygen -t ed25519-sk",
         "make",
@@ -100,7 +100,7 @@ RECORDED = [
         needs=[],
         uses=["no algorithm -8"],
     ),
-    Recorded(
+    RecordedSession(
         "pam_u2f",
         "pam-u2f 1.1.0 with " + FIDO2 + ": fido2-cred -M, pamtester",
         "get",
@@ -108,28 +108,28 @@ RECORDED = [
         ["init", "info", "made up", "init", "info", SILENT, ASSERTED],
         uses=ES256 + ["up"],
     ),
-    Recorded(
+    RecordedSession(
         "python_fido2",
         "python-fido2 0.9.1: registers, registers again with an exclude list, signs in",
         "make",
         "The first supported algorithm is chosen; an excluded credential ends a registration.",
         ["init", "info", "info", "made up", "info", "status 19", "info", ASSERTED],
     ),
-    Recorded(
+    RecordedSession(
         "chromium_excluded",
         CHROMIUM + ": create, get, create with an exclude list",
         "make",
         "An excluded credential ends a registration after the touch.",
         ["init", "info", "made up", "init", "info", ASSERTED, "init", "info", "status 19"],
     ),
-    Recorded(
+    RecordedSession(
         "chromium_unknown",
         CHROMIUM + ": create, get with an id that isn't the authenticator's",
         "get",
         "If the allow list has no credential of this RP, the status is 2e.",
         ["init", "info", "made up", "init", "info", "status 2e"],
     ),
-    Recorded(
+    RecordedSession(
         "chromium_discoverable",
         CHROMIUM + ": create of a discoverable credential, which it doesn't make without a PIN",
         "make",
@@ -137,7 +137,7 @@ RECORDED = [
         ["init", "info", "made up"],
         uses=ES256 + ["no pin"],
     ),
-    Recorded(
+    RecordedSession(
         "firefox_excluded",
         FIREFOX + ": create, get, create with an exclude list",
         "make",
@@ -145,7 +145,7 @@ RECORDED = [
         ["init", "info", "made up", "init", "info", SILENT, ASSERTED, "init", "info", SILENT, "status 19"],
         uses=ES256 + ["up"],
     ),
-    Recorded(
+    RecordedSession(
         "firefox_discoverable",
         FIREFOX + ": create of a discoverable credential, get without a list",
         "get",
@@ -154,7 +154,7 @@ RECORDED = [
         needs=FOUND,
         uses=ES256 + ["rk"],
     ),
-    Recorded(
+    RecordedSession(
         "firefox_unknown",
         FIREFOX + ": create, get with an id that isn't the authenticator's",
         "get",
@@ -166,27 +166,27 @@ RECORDED = [
 ]
 
 
-def lines_of(name: str) -> List[str]:
+def read_lines(name: str) -> List[str]:
     """Returns the lines of a recording."""
     with open(os.path.join(FOLDER, name + ".log"), encoding="utf-8") as file:
         return file.read().splitlines()
 
 
-def expected(text: str, message: hid.Message) -> str:
+def complete_expectation(text: str, message: hid.Message) -> str:
     """Completes an expectation with the message's nonce and channel."""
     if text == "init":
         text += f" nonce {message.data.hex()}"
     return text if message.channel in (1, hid.BROADCAST) else f"{text} on {message.channel}"
 
 
-def case_of(recorded: Recorded) -> Case:
+def build_case(recorded: RecordedSession) -> Case:
     """Converts a recording to a case, with each expectation before the next message."""
     more: Dict[str, Any] = {"needs": recorded.needs, "uses": recorded.uses, "profile": recorded.profile}
     case = Case(f"recorded/{recorded.name}", recorded.section, recorded.requirement, **more)
     case.comment("client: " + recorded.client)
     collector, expects = hid.Collector(of_host=True), list(recorded.expects)
     due = ""
-    for line in lines_of(recorded.name):
+    for line in read_lines(recorded.name):
         if line.startswith("> "):
             packet = bytes.fromhex(line.split(" ")[2])
             if due and packet[4] & 0x80:
@@ -194,7 +194,7 @@ def case_of(recorded: Recorded) -> Case:
                 due = ""
             message = collector.feed(packet)
             if message is not None:
-                due = expected(expects.pop(0), message)
+                due = complete_expectation(expects.pop(0), message)
         case.lines.append(line)
     assert due and not expects, (recorded.name, due, expects)
     return case.expect(due)
@@ -202,4 +202,4 @@ def case_of(recorded: Recorded) -> Case:
 
 def cases() -> List[Case]:
     """Returns the cases of this file."""
-    return [case_of(recorded) for recorded in RECORDED]
+    return [build_case(recorded) for recorded in RECORDED_SESSIONS]

@@ -8,25 +8,25 @@ from typing import Dict, List, Set
 from hidlog_conformance.cases.sentences import SENTENCES
 
 
-def matched(pattern: str, names: Dict[str, str]) -> Set[str]:
+def match_cases(pattern: str, names: Dict[str, str]) -> Set[str]:
     """Returns the cases that match a pattern; at least one must."""
     found = {name for name in names if fnmatchcase(name, pattern)}
     assert found, f"sentences.py: no case matches {pattern}"
     return found
 
 
-def check(rules: Dict[str, str]) -> None:
+def check_sentences(rules: Dict[str, str]) -> None:
     """Fails if a case is not listed under its own rule, or a pattern has no case."""
     named: Dict[str, Set[str]] = {}
     for section, rows in SENTENCES.items():
         for _, patterns in rows:
             for pattern in patterns.split():
-                named.setdefault(section.split(" ")[0], set()).update(matched(pattern, rules))
+                named.setdefault(section.split(" ")[0], set()).update(match_cases(pattern, rules))
     lost = [name for name, rule in rules.items() if name not in named.get(rule.split(" ")[0], set())]
     assert not lost, f"sentences.py does not list under their own rules: {' '.join(sorted(lost))}"
 
 
-def shown(patterns: str) -> str:
+def format_cases(patterns: str) -> str:
     """Formats the cases of a requirement, those for clients last."""
     words = patterns.split()
     device = [f"`{word}`" for word in words if not word.startswith("client:")]
@@ -35,18 +35,18 @@ def shown(patterns: str) -> str:
     return "; ".join(part for part in parts if part) or "none"
 
 
-def sentence_table(rules: Dict[str, str], choices: Set[str]) -> str:
+def format_sentence_table(rules: Dict[str, str], choices: Set[str]) -> str:
     """Returns the table, one row per requirement, and how many have a case. Marks requirements whose cases are all
     choices of this project's profile."""
-    check(rules)
+    check_sentences(rules)
     lines: List[str] = ["| Section | Requirement | Cases |", "|---|---|---|"]
     count = [0, 0]
     for section, rows in SENTENCES.items():
         for place, (says, patterns) in enumerate(rows):
-            names = {name for pattern in patterns.split() for name in matched(pattern, rules)}
+            names = {name for pattern in patterns.split() for name in match_cases(pattern, rules)}
             ours = ", a choice of the profile" if names and names <= choices else ""
             lines.append(
-                f"| {section if place == 0 else ''} | {says} | {shown(patterns)}{ours} |".replace("|  |", "| |")
+                f"| {section if place == 0 else ''} | {says} | {format_cases(patterns)}{ours} |".replace("|  |", "| |")
             )
             count[bool(patterns)] += 1
     return "\n".join(lines) + f"\n\n{count[1]} requirements have a case, {count[0]} have none.\n"

@@ -6,17 +6,17 @@ from typing import Any, Dict, List
 
 from hidlog_conformance import hid_packets as hid
 from hidlog_conformance.cases.corpus import KIND, NEXT, RESET, Case, descriptor
-from hidlog_conformance.cases.flows import ANEW, EMPTY, RISES, TOUCH, three, user
+from hidlog_conformance.cases.flows import NEW_TOUCH, EMPTY, COUNTER_INCREASES, TOUCH, register_three_users, user
 from hidlog_conformance.quantity import quantity
 
 EDDSA: Dict[str, Any] = {"needs": ["touch"], "uses": ["algorithm -8"]}
 BOTH: Dict[str, Any] = {"needs": ["touch"], "uses": ["algorithm -7", "algorithm -8"]}
 LONG: Dict[str, Any] = {"needs": ["touch"], "uses": ["messages of 2048"]}
-NOBODY = {"id": "nobody.example", "name": "x"}
+UNKNOWN_CREDENTIAL = {"id": "nobody.example", "name": "x"}
 VERSION = bytes([0, 3, 0, 0])
 
 
-def alike() -> List[Case]:
+def similar_id_cases() -> List[Case]:
     """IDs similar to those of credentials."""
     cases = []
     for kind in ("changed", "longer", "shorter"):
@@ -29,7 +29,7 @@ def alike() -> List[Case]:
     case = Case("lists/allow_alike_and_one", "get", "Similar IDs do not hide the right one.", **TOUCH)
     case.greet().register(1)
     found = [case.alike(1, kind) for kind in ("changed", "longer", "shorter")]
-    cases.append(case.get(p3=[*found, descriptor(1)]).asserted(RISES))
+    cases.append(case.get(p3=[*found, descriptor(1)]).asserted(COUNTER_INCREASES))
     for count in (1, 3):
         case = Case(
             f"lists/allow_{count}_of_another_type",
@@ -42,31 +42,31 @@ def alike() -> List[Case]:
     return cases
 
 
-def outlasting() -> List[Case]:
+def state_cases() -> List[Case]:
     """State that must not outlast its request."""
     cases = []
-    case = three(Case("next/after_reset", "next", "After a reset nothing is pending.", **EMPTY))
+    case = register_three_users(Case("next/after_reset", "next", "After a reset nothing is pending.", **EMPTY))
     cases.append(case.cbor(RESET).presence().expect("status 00").cbor(NEXT).expect("status 30"))
-    case = three(
+    case = register_three_users(
         Case(
             "next/after_failed_sign_in", "next", "A sign-in without a credential discards pending assertions.", **EMPTY
         )
     )
     cases.append(case.get(p1="nobody.example").expect("status 2e").cbor(NEXT).expect("status 30"))
-    case = three(
+    case = register_three_users(
         Case("next/after_cancelled_sign_in", "next", "A cancelled sign-in discards pending assertions.", **EMPTY)
     )
     case.get().expect("keepalive 02").send(1, hid.CANCEL).expect("status 2d")
     cases.append(case.cbor(NEXT).expect("status 30"))
-    case = three(
+    case = register_three_users(
         Case("next/after_registration", "next", "A registration discards pending assertions.", **EMPTY, level="should")
     )
-    cases.append(case.register(4, p2=NOBODY).cbor(NEXT).expect("status 30"))
+    cases.append(case.register(4, p2=UNKNOWN_CREDENTIAL).cbor(NEXT).expect("status 30"))
     kinds: Dict[str, Dict[str, Any]] = {"make": {}, "make_discoverable": {"p7": {"rk": True}}}
     for name, request in kinds.items():
         uses = ["rk"] if request else []
         case = Case(
-            f"make/touch_before_{name}", "make", "A touch before the request does not count.", **ANEW, uses=uses
+            f"make/touch_before_{name}", "make", "A touch before the request does not count.", **NEW_TOUCH, uses=uses
         )
         case.greet().presence().expect("silence").tick(100).make(**request).expect("keepalive 02").tick(100)
         cases.append(case.expect("nothing").send(1, hid.CANCEL).expect("status 2d"))
@@ -74,23 +74,23 @@ def outlasting() -> List[Case]:
     case.greet().register(1).presence().expect("silence").tick(100).get(p3=[descriptor(1)]).expect("keepalive 02")
     cases.append(case.tick(100).expect("nothing").send(1, hid.CANCEL).expect("status 2d"))
     case = Case("get/touch_counts_once", "get", "The touch of one request does not count for the next.", **TOUCH)
-    case.greet().register(1).get(p3=[descriptor(1)]).asserted(RISES).get(p3=[descriptor(1)]).expect("keepalive 02")
+    case.greet().register(1).get(p3=[descriptor(1)]).asserted(COUNTER_INCREASES).get(p3=[descriptor(1)]).expect("keepalive 02")
     cases.append(case.tick(100).expect("nothing").send(1, hid.CANCEL).expect("status 2d"))
     return cases
 
 
-def counters() -> List[Case]:
+def counter_cases() -> List[Case]:
     """Counters of further assertions, and of several credentials."""
     cases = []
     case = Case("next/counter_rises", "next", "The counters of further assertions rise, too.", **EMPTY)
     case.greet().register(1, rk=True, p3=user(1)).register(2, rk=True, p3=user(2))
     for _ in range(3):
-        case.get().asserted(f"{RISES} user 02 number 2").cbor(NEXT).asserted(f"{RISES} user 01", presence=False)
+        case.get().asserted(f"{COUNTER_INCREASES} user 02 number 2").cbor(NEXT).asserted(f"{COUNTER_INCREASES} user 01", presence=False)
     cases.append(case)
     case = Case("get/counters_of_two", "get", "Each credential's counter rises.", **TOUCH)
     case.greet().register(1).register(2)
     for number in (1, 2, 2, 1):
-        case.get(p3=[descriptor(number)]).asserted(RISES)
+        case.get(p3=[descriptor(number)]).asserted(COUNTER_INCREASES)
     cases.append(case)
     case = Case(
         "get/counter_rises_without_touch", "get", "The counter rises without a touch, too.", **TOUCH, uses=["up"]
@@ -111,7 +111,7 @@ def counters() -> List[Case]:
     return cases + [case, mixed]
 
 
-def whole() -> List[Case]:
+def long_request_cases() -> List[Case]:
     """Unchanged user IDs, long requests, and many credentials."""
     cases = []
     for length in (16, 33, 64):
@@ -123,7 +123,7 @@ def whole() -> List[Case]:
         )
         identity = bytes((7 * number + 3) % 256 for number in range(length))
         case.greet().register(1, rk=True, p3={"id": identity, "name": "x", "displayName": "x"})
-        cases.append(case.get().asserted(f"{RISES} user {identity.hex()}"))
+        cases.append(case.get().asserted(f"{COUNTER_INCREASES} user {identity.hex()}"))
     case = Case("make/user_id_in_no_id", "make", "The credential ID does not contain the user ID.", **TOUCH)
     known = {"id": b"somebody@example.com", "name": "x", "displayName": "x"}
     cases.append(case.greet().register(1, p3=known).register(2, p3={**known, "id": b"somebody-else@example.com"}))
@@ -131,23 +131,23 @@ def whole() -> List[Case]:
     cases.append(case.greet().register(1, p2={"id": "example.com", "name": "x" * 1800}))
     case = Case("get/long_request", "get", "A sign-in of 1800 bytes is accepted if maxMsgSize allows it.", **LONG)
     case.greet().register(1).get(p3=[descriptor(1)], p4={"unknown": "x" * 1600})
-    cases.append(case.asserted(RISES))
+    cases.append(case.asserted(COUNTER_INCREASES))
     for name, rk, more in (("by_list", False, " no-name"), ("discoverable_by_list", True, " no-name")):
         uses = ["rk"] if rk else []
         case = Case(
             f"get/names_{name}",
             "get",
             "User names are not returned without user verification, also with an allow list.",
-            **ANEW,
+            **NEW_TOUCH,
             uses=uses,
         )
-        cases.append(case.greet().register(1, rk=rk).get(p3=[descriptor(1)]).asserted(RISES + more))
+        cases.append(case.greet().register(1, rk=rk).get(p3=[descriptor(1)]).asserted(COUNTER_INCREASES + more))
     case = Case("get/discoverable_replaces_no_hidden", "get", "A non-discoverable credential is not replaced.", **EMPTY)
     case.greet().register(1).register(2, rk=True)
-    cases.append(case.get(p3=[descriptor(1)]).asserted(RISES).get(p3=[descriptor(2)]).asserted(RISES))
+    cases.append(case.get(p3=[descriptor(1)]).asserted(COUNTER_INCREASES).get(p3=[descriptor(2)]).asserted(COUNTER_INCREASES))
     case = Case("get/other_user_replaces_nothing", "get", "A credential of another user is not replaced.", **EMPTY)
     case.greet().register(1, rk=True, p3=user(1)).register(2, rk=True, p3=user(2))
-    cases.append(case.get(p3=[descriptor(1)]).asserted(RISES).get(p3=[descriptor(2)]).asserted(RISES))
+    cases.append(case.get(p3=[descriptor(1)]).asserted(COUNTER_INCREASES).get(p3=[descriptor(2)]).asserted(COUNTER_INCREASES))
     case = Case("make/many_stay", "make", "If the device is full, the status is 28, and no credential is lost.")
     case.comment("needs: reset")
     case.comment("needs: capacity 64")
@@ -156,10 +156,10 @@ def whole() -> List[Case]:
     for number in range(70):
         case.make(p7={"rk": True}, p3=user(number)).presence().key(number).sign().expect("made up or 28")
     cases.append(case.get(p3=[descriptor(0)]).asserted("up counter-rises user 00"))
-    return cases + [all_of_many("", 1), all_of_many("_of_two_rps", 2)]
+    return cases + [fill_and_sign_in("", 1), fill_and_sign_in("_of_two_rps", 2)]
 
 
-def all_of_many(name: str, rps: int) -> Case:
+def fill_and_sign_in(name: str, rps: int) -> Case:
     """Fills the device with credentials of `rps` RPs, and signs in with all of one RP, newest first."""
     case = Case(f"get/newest_of_many{name}", "get", "On a full device all registered credentials sign, newest first.")
     for line in ("needs: reset", "needs: capacity 64", "uses: rk"):
@@ -171,17 +171,17 @@ def all_of_many(name: str, rps: int) -> Case:
     return case.get().asserted("up counter-rises newest")
 
 
-def algorithms() -> List[Case]:
+def algorithm_cases() -> List[Case]:
     """Algorithms in getInfo."""
     cases = []
     eddsa, es256 = {"alg": -8, "type": KIND}, {"alg": -7, "type": KIND}
     case = Case("make/eddsa", "make", "EdDSA works if getInfo has it.", **EDDSA)
-    cases.append(case.greet().register(1, p4=[eddsa]).get(p3=[descriptor(1)]).asserted(RISES))
+    cases.append(case.greet().register(1, p4=[eddsa]).get(p3=[descriptor(1)]).asserted(COUNTER_INCREASES))
     case = Case("make/eddsa_twice", "make", "Each EdDSA credential has a new key pair.", **EDDSA)
-    cases.append(case.greet().register(1, p4=[eddsa]).register(2, p4=[eddsa]).get(p3=[descriptor(2)]).asserted(RISES))
+    cases.append(case.greet().register(1, p4=[eddsa]).register(2, p4=[eddsa]).get(p3=[descriptor(2)]).asserted(COUNTER_INCREASES))
     for name, listed in (("es256", [es256, eddsa]), ("eddsa", [eddsa, es256])):
         case = Case(f"make/first_is_{name}", "make", "The first supported algorithm of the request is chosen.", **BOTH)
-        cases.append(case.greet().register(1, p4=listed).get(p3=[descriptor(1)]).asserted(RISES))
+        cases.append(case.greet().register(1, p4=listed).get(p3=[descriptor(1)]).asserted(COUNTER_INCREASES))
         unknown = {"alg": -65535, "type": KIND}
         case = Case(f"make/first_known_is_{name}", "make", "Unknown algorithms before it are ignored.", **BOTH)
         cases.append(case.greet().register(1, p4=[unknown, *listed]))
@@ -192,7 +192,7 @@ def algorithms() -> List[Case]:
     return cases
 
 
-def capabilities() -> List[Case]:
+def capability_cases() -> List[Case]:
     """Capabilities of INIT's response, and errors."""
     cases = []
     case = Case("commands/msg_version", "msg", "Without the capability NMSG, CTAPHID_MSG is supported.", uses=["msg"])
@@ -227,4 +227,4 @@ def capabilities() -> List[Case]:
 
 def cases() -> List[Case]:
     """Returns the cases of this file."""
-    return alike() + outlasting() + counters() + whole() + algorithms() + capabilities()
+    return similar_id_cases() + state_cases() + counter_cases() + long_request_cases() + algorithm_cases() + capability_cases()

@@ -5,14 +5,14 @@ from __future__ import annotations
 from typing import Any, Dict, List
 
 from hidlog_conformance import hid_packets as hid
-from hidlog_conformance.cases.corpus import INFO, RESET, SELECTION, Case, counted, descriptor
+from hidlog_conformance.cases.corpus import INFO, RESET, SELECTION, Case, count_bytes, descriptor
 
-OURS = "the timeout is 500 ms after the message's last packet, checked at the next input"
+PROFILE_CHOICE = "the timeout is 500 ms after the message's last packet, checked at the next input"
 TOUCH: Dict[str, Any] = {"needs": ["touch"]}
-EXACT: Dict[str, Any] = {"needs": ["exact time"], "profile": OURS}
+EXACT_TIME: Dict[str, Any] = {"needs": ["exact time"], "profile": PROFILE_CHOICE}
 
 
-def timeouts() -> List[Case]:
+def timeout_cases() -> List[Case]:
     """Incomplete messages."""
     cases = []
     case = Case("time/message_is_given_up", "timeout", "An incomplete message times out with an ERROR.")
@@ -27,34 +27,34 @@ def timeouts() -> List[Case]:
     cases.append(case.greet().begin(1).tick(4000).expect("error 05").alive())
     case = Case("time/idle_channel_stays", "timeout", "An idle channel has no timeout.")
     cases.append(case.greet().tick(4000).expect("silence").alive())
-    case = Case("time/just_in_time", "timeout", "A packet 499 ms after the last one is in time.", **EXACT)
+    case = Case("time/just_in_time", "timeout", "A packet 499 ms after the last one is in time.", **EXACT_TIME)
     cases.append(case.greet().begin(1).wait(499).go_on(1).expect("echo"))
-    case = Case("time/just_too_late", "timeout", "A packet 500 ms after the last one is too late.", **EXACT)
+    case = Case("time/just_too_late", "timeout", "A packet 500 ms after the last one is too late.", **EXACT_TIME)
     cases.append(case.greet().begin(1).wait(500).go_on(1).expect("error 05").alive())
-    case = Case("time/each_packet_renews", "timeout", "Each packet of the message restarts the timeout.", **EXACT)
+    case = Case("time/each_packet_renews", "timeout", "Each packet of the message restarts the timeout.", **EXACT_TIME)
     case.greet().begin(1, 200).wait(499).go_on(1, 0, 200).wait(499).go_on(1, 1, 200).wait(499)
     cases.append(case.go_on(1, 2, 200).expect("echo"))
-    case = Case("time/cancel_renews_nothing", "timeout", "CANCEL is not a packet of the message.", **EXACT)
+    case = Case("time/cancel_renews_nothing", "timeout", "CANCEL is not a packet of the message.", **EXACT_TIME)
     case.greet().begin(1).wait(300).send(1, hid.CANCEL).expect("silence").wait(200)
     cases.append(case.go_on(1).expect("error 05").alive())
     case = Case(
-        "time/others_renew_nothing", "timeout", "Packets of other channels do not restart the timeout.", **EXACT
+        "time/others_renew_nothing", "timeout", "Packets of other channels do not restart the timeout.", **EXACT_TIME
     )
     case.greet(2).begin(1).wait(300).send(2, hid.PING, b"a").expect("error 06 on 2").wait(200)
     cases.append(case.go_on(1).expect("error 05").alive())
     for name, wait in (("499", 499), ("500", 500)):
-        case = Case(f"time/other_host_at_{name}", "timeout", "The timeout is handled before the packet.", **EXACT)
+        case = Case(f"time/other_host_at_{name}", "timeout", "The timeout is handled before the packet.", **EXACT_TIME)
         case.greet(2).begin(1).wait(wait).send(2, hid.PING, b"a")
         cases.append(case.expect("error 06 on 2") if wait < 500 else case.expect("error 05", "echo on 2"))
     case = Case(
-        "time/init_after_time", "timeout", "The timeout is handled first: ERROR, then the INIT response.", **EXACT
+        "time/init_after_time", "timeout", "The timeout is handled first: ERROR, then the INIT response.", **EXACT_TIME
     )
     case.greet().begin(1).wait(500).send(1, hid.INIT, b"\x08" * 8)
     cases.append(case.expect("error 05", "init nonce 0808080808080808 on 1"))
     return cases
 
 
-def keepalives() -> List[Case]:
+def keepalive_cases() -> List[Case]:
     """KEEPALIVEs during a request."""
     cases = []
     case = Case(
@@ -85,7 +85,7 @@ def keepalives() -> List[Case]:
     return cases
 
 
-def keepalive_ends() -> List[Case]:
+def keepalive_end_cases() -> List[Case]:
     """Which KEEPALIVEs come, where they go, and when they end."""
     cases = []
     case = Case("keepalive/status_changes", "keepalive", "A KEEPALIVE is sent when the status changes.")
@@ -105,7 +105,7 @@ def keepalive_ends() -> List[Case]:
     return cases
 
 
-def cancels() -> List[Case]:
+def cancel_cases() -> List[Case]:
     """CANCEL of each command that waits for a touch."""
     cases = []
     waiting = (("make", None), ("selection", SELECTION), ("reset", RESET))
@@ -138,7 +138,7 @@ def cancels() -> List[Case]:
     return cases
 
 
-def cancels_ignored() -> List[Case]:
+def ignored_cancel_cases() -> List[Case]:
     """CANCEL without a pending request."""
     cases = []
     for place, channel in (("own", 1), ("strange", 9), ("broadcast", hid.BROADCAST)):
@@ -158,16 +158,16 @@ def cancels_ignored() -> List[Case]:
     return cases
 
 
-def hosts() -> List[Case]:
+def host_cases() -> List[Case]:
     """Sessions of two or more hosts."""
     cases = []
     case = Case("hosts/each_its_channel", "busy", "Two hosts can take turns.")
     case.greet(2)
     for channel in (1, 2, 2, 1):
-        case.send(channel, hid.PING, counted(80)).expect(f"echo on {channel}")
+        case.send(channel, hid.PING, count_bytes(80)).expect(f"echo on {channel}")
     cases.append(case)
     for name, length, command in (("ping", 1, hid.PING), ("long_ping", 100, hid.PING), ("cbor", 1, hid.CBOR)):
-        data = INFO if command == hid.CBOR else counted(length)
+        data = INFO if command == hid.CBOR else count_bytes(length)
         case = Case(f"hosts/{name}_into_a_message", "busy", "During a host's message the device is busy for others.")
         case.greet(2).begin(1).packets(hid.packets_of(2, command, data)[:1]).expect("error 06 on 2")
         cases.append(case.go_on(1).expect("echo"))
@@ -184,7 +184,7 @@ def hosts() -> List[Case]:
     return cases
 
 
-def hosts_afterwards() -> List[Case]:
+def later_host_cases() -> List[Case]:
     """Hosts that send after others."""
     cases = []
     case = Case("hosts/served_after_the_wait", "busy", "After the transaction another host can send.")
@@ -196,7 +196,7 @@ def hosts_afterwards() -> List[Case]:
     case.greet(2).make().expect("keepalive 02").send(1, hid.CANCEL).expect("status 2d")
     cases.append(case.cbor(INFO, 2).expect("info on 2"))
     case = Case("hosts/refused_message_leaves_nothing", "busy", "The packets of a refused message are ignored.")
-    packets = hid.packets_of(2, hid.PING, counted(150))
+    packets = hid.packets_of(2, hid.PING, count_bytes(150))
     case.greet(2).begin(1).packets(packets[:1]).expect("error 06 on 2").packets(packets[1:]).expect("silence")
     cases.append(case.go_on(1).expect("echo"))
     case = Case(
@@ -217,5 +217,5 @@ def hosts_afterwards() -> List[Case]:
 
 def cases() -> List[Case]:
     """Returns the cases of this file."""
-    found = timeouts() + keepalives() + keepalive_ends() + cancels() + cancels_ignored()
-    return found + hosts() + hosts_afterwards()
+    found = timeout_cases() + keepalive_cases() + keepalive_end_cases() + cancel_cases() + ignored_cancel_cases()
+    return found + host_cases() + later_host_cases()

@@ -5,15 +5,15 @@ from __future__ import annotations
 from typing import Any, Dict, List
 
 from hidlog_conformance import hid_packets as hid
-from hidlog_conformance.cases.corpus import INFO, MAKE, NONCE, Case, counted, make_request
+from hidlog_conformance.cases.corpus import INFO, MAKE, NONCE, Case, count_bytes, make_request
 from hidlog_conformance.ctap_cbor import encode
 from hidlog_conformance.quantity import quantity
 
-STRANGE = 9
+UNALLOCATED_CHANNEL = 9
 SIZES = (0, 1, 2, 56, 57, 58, 59, 115, 116, 117, 118, 174, 175, 176, 256, 512, 1023, 1024, 2048, 4096, 7549, 7550, 7551)
 
 
-def pings() -> List[Case]:
+def ping_cases() -> List[Case]:
     """PINGs with lengths around packet boundaries."""
     cases = []
     for size in SIZES + (7608, 7609):
@@ -23,23 +23,23 @@ def pings() -> List[Case]:
         )
         if size > 57:
             case.comment("why: The first packet has 57 bytes of data, the others 59.")
-        cases.append(case.greet().send(1, hid.PING, counted(size)).expect("echo"))
+        cases.append(case.greet().send(1, hid.PING, count_bytes(size)).expect("echo"))
     case = Case("ping/padding_is_ignored", "packets", "Padding is ignored.")
     packet = hid.packets_of(1, hid.PING, b"abc")[0]
     cases.append(case.greet().packets([packet[:10] + b"\xff" * 54]).expect("ping 616263"))
     case = Case("ping/zeros_behind", "packets", "Unused bytes of a packet should be zero.", level="should")
     cases.append(case.greet().packets([packet[:10] + b"\xff" * 54]).expect("ping 616263", "zeros"))
     case = Case("ping/padding_of_a_continuation", "packets", "Padding in a continuation packet is ignored.")
-    first, last = hid.packets_of(1, hid.PING, counted(60))
+    first, last = hid.packets_of(1, hid.PING, count_bytes(60))
     cases.append(case.greet().packets([first, last[:8] + b"\xff" * 56]).expect("echo"))
     case = Case("ping/many_in_a_row", "ping", "Several PINGs in a row get their responses.")
     case.greet()
     for size in (3, 100, 0, 57, 58):
-        case.send(1, hid.PING, counted(size)).expect("echo")
+        case.send(1, hid.PING, count_bytes(size)).expect("echo")
     return cases + [case]
 
 
-def inits() -> List[Case]:
+def init_cases() -> List[Case]:
     """INIT on the broadcast channel and on an allocated one."""
     cases = []
     for name, nonce in (
@@ -72,22 +72,22 @@ def inits() -> List[Case]:
     case = Case("init/drops_waiting_work", "abort", "INIT aborts a pending request on its channel.")
     case.greet().make().expect("keepalive 02").send(1, hid.INIT, b"\x08" * 8).expect("init nonce 0808080808080808 on 1")
     cases.append(case.tick(200).expect("silence").alive())
-    return cases + bad_inits()
+    return cases + invalid_init_cases()
 
 
-def bad_inits() -> List[Case]:
+def invalid_init_cases() -> List[Case]:
     """INIT with a wrong length."""
     cases = []
     for length in (0, 1, 7, 9, 16, 57):
         for place, channel in (("broadcast", hid.BROADCAST), ("own_channel", 1)):
             requirement = f"INIT of {quantity(length, 'byte')} instead of 8 is refused."
             case = Case(f"init/{place}_length_{length:02}", "init", requirement)
-            case.greet().send(channel, hid.INIT, counted(length)).expect(f"error 03 on {channel:08x}")
+            case.greet().send(channel, hid.INIT, count_bytes(length)).expect(f"error 03 on {channel:08x}")
             cases.append(case.alive())
     return cases
 
 
-def channels() -> List[Case]:
+def channel_cases() -> List[Case]:
     """Channels that were not allocated, channel 0 and the broadcast channel."""
     cases = []
     commands = (
@@ -97,7 +97,7 @@ def channels() -> List[Case]:
         ("msg", hid.MSG, b"\0" * 7),
     )
     for name, command, data in commands:
-        for place, channel in (("strange", STRANGE), ("zero", 0), ("broadcast", hid.BROADCAST)):
+        for place, channel in (("strange", UNALLOCATED_CHANNEL), ("zero", 0), ("broadcast", hid.BROADCAST)):
             if name == "init" and place == "broadcast":
                 continue
             requirement = f"{name.upper()} on a channel that was not allocated is refused."
@@ -110,8 +110,8 @@ def channels() -> List[Case]:
             case.greet().send(channel, command, data).expect(f"error 0b on {channel:08x}")
             cases.append(case.alive())
     case = Case("channels/before_any_init", "channels", "Before an INIT no channel is allocated.")
-    cases.append(case.send(STRANGE, hid.PING, b"a").expect(f"error 0b on {STRANGE:08x}"))
-    for place, channel in (("strange", STRANGE), ("own", 1), ("broadcast", hid.BROADCAST), ("zero", 0)):
+    cases.append(case.send(UNALLOCATED_CHANNEL, hid.PING, b"a").expect(f"error 0b on {UNALLOCATED_CHANNEL:08x}"))
+    for place, channel in (("strange", UNALLOCATED_CHANNEL), ("own", 1), ("broadcast", hid.BROADCAST), ("zero", 0)):
         case = Case(
             f"channels/continuation_on_{place}", "sequence", "A continuation packet outside any transaction is ignored."
         )
@@ -119,7 +119,7 @@ def channels() -> List[Case]:
     return cases
 
 
-def commands() -> List[Case]:
+def command_cases() -> List[Case]:
     """Unsupported commands, and invalid lengths."""
     cases = []
     served = {"msg": (hid.MSG, ["no msg"]), "wink": (hid.WINK, ["no wink"])}
@@ -150,7 +150,7 @@ def commands() -> List[Case]:
     return cases
 
 
-def sequences() -> List[Case]:
+def sequence_cases() -> List[Case]:
     """Continuation packets out of order."""
     cases = []
     for name, number in (("skips_one", 1), ("far", 5), ("last", 0x7F)):
@@ -172,7 +172,7 @@ def sequences() -> List[Case]:
     case.greet(2).begin(1).go_on(2).expect("silence").go_on(1).expect("echo")
     cases.append(case)
     case = Case("sequence/after_the_last", "sequence", "A continuation packet after a complete message is ignored.")
-    cases.append(case.greet().send(1, hid.PING, counted(100)).expect("echo").go_on(1, 1).expect("silence").alive())
+    cases.append(case.greet().send(1, hid.PING, count_bytes(100)).expect("echo").go_on(1, 1).expect("silence").alive())
     case = Case("sequence/cbor_message", "sequence", "A CBOR message out of order is refused, and not processed.")
     packets = hid.packets_of(1, hid.CBOR, MAKE + encode(make_request()))
     cases.append(case.greet().packets([packets[0], packets[2]]).expect("error 04").tick(150).expect("silence").alive())
@@ -184,4 +184,4 @@ def sequences() -> List[Case]:
 
 def cases() -> List[Case]:
     """Returns the cases of this file."""
-    return pings() + inits() + channels() + commands() + sequences()
+    return ping_cases() + init_cases() + channel_cases() + command_cases() + sequence_cases()

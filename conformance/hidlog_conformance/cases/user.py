@@ -9,7 +9,7 @@ from hidlog_conformance.cases.flows import user
 from hidlog_conformance.cases.pin import GET, MAKE, PinCase
 
 VERIFIED: Dict[str, Any] = {"needs": ["touch"], "uses": ["uv"]}
-ANEW: Dict[str, Any] = {"needs": ["touch", "reset"], "uses": ["uv", "rk"]}
+NEW_TOUCH: Dict[str, Any] = {"needs": ["touch", "reset"], "uses": ["uv", "rk"]}
 UV = {"uv": True}
 
 
@@ -28,13 +28,13 @@ class UserCase(PinCase):
         self.agree().pin(6, p3=b"=agreement", p9=permissions, p10=rp)
         return self
 
-    def token_by_user(self, permissions: int = MAKE | GET, rp: str = "example.com") -> "UserCase":
+    def get_user_token(self, permissions: int = MAKE | GET, rp: str = "example.com") -> "UserCase":
         """Gets a token by built-in user verification."""
         self.by_user(permissions, rp).presence().expect("token")
         return self
 
 
-def options() -> List[Case]:
+def option_cases() -> List[Case]:
     """Requests with the option uv."""
     cases: List[Case] = []
     case = Case("user/registers", "make", "With the option uv flag UV is set.", **VERIFIED)
@@ -43,7 +43,7 @@ def options() -> List[Case]:
         "user/registers_discoverable",
         "make",
         "With the option uv flag UV is set for a discoverable credential.",
-        **ANEW,
+        **NEW_TOUCH,
     )
     case.greet().make(p7={"rk": True, **UV}).made(1, "up uv")
     cases.append(case.get(p5=UV).asserted("up uv counter-rises user 01"))
@@ -76,11 +76,11 @@ def options() -> List[Case]:
     return cases
 
 
-def several() -> List[Case]:
+def account_cases() -> List[Case]:
     """Several accounts, and credential protection."""
     cases: List[Case] = []
     requirement = "With user verification the names of several accounts are returned."
-    case = Case("user/names_of_several", "get", requirement, **ANEW, level="should")
+    case = Case("user/names_of_several", "get", requirement, **NEW_TOUCH, level="should")
     case.greet()
     for number in (1, 2):
         case.make(p3=user(number), p7={"rk": True, **UV}).made(number, "up uv")
@@ -88,7 +88,7 @@ def several() -> List[Case]:
     cases.append(case.cbor(b"\x08").asserted("up uv counter-rises user 01 name user1", presence=False))
     for level in (2, 3):
         requirement = "With user verification credProtect hides no credential."
-        case = Case(f"user/protected_{level}", "protect", requirement, **ANEW)
+        case = Case(f"user/protected_{level}", "protect", requirement, **NEW_TOUCH)
         case.comment("uses: extension credProtect")
         case.greet().make(p6={"credProtect": level}, p7={"rk": True, **UV})
         case.made(1, f"up uv extension credProtect 0{level}").get().expect("status 2e")
@@ -97,20 +97,20 @@ def several() -> List[Case]:
     return cases
 
 
-def tokens(protocol: int) -> List[Case]:
+def token_cases(protocol: int) -> List[Case]:
     """Tokens by built-in user verification."""
     cases: List[Case] = []
     case = UserCase("token_registers", "pin", "For a token the device verifies the user.", protocol)
-    cases.append(case.token_by_user().make_by_token().made(1, "up uv"))
+    cases.append(case.get_user_token().register_with_token().made(1, "up uv"))
     case = UserCase("token_signs_in", "pin", "For a token for a sign-in the device verifies the user.", protocol)
-    case.token_by_user().make_by_token().made(1, "up uv").token_by_user()
-    cases.append(case.get_by_token(p3=[descriptor(1)]).asserted("up uv counter-rises"))
+    case.get_user_token().register_with_token().made(1, "up uv").get_user_token()
+    cases.append(case.sign_in_with_token(p3=[descriptor(1)]).asserted("up uv counter-rises"))
     case = UserCase("token_waits", "pin", "No token is issued before user verification.", protocol)
     case.by_user().expect("keepalive 02").tick(100).expect("nothing").presence()
     cases.append(case.expect("token"))
     for name, permissions, rp in (("another_rp", MAKE | GET, "example.org"), ("sign_ins", GET, "example.com")):
         case = UserCase(f"token_of_{name}", "make", f"A token of {name.replace('_', ' ')} cannot register.", protocol)
-        cases.append(case.token_by_user(permissions, rp).make_by_token().expect("status 33"))
+        cases.append(case.get_user_token(permissions, rp).register_with_token().expect("status 33"))
     case = UserCase("token_of_nothing", "pin", "A token without permissions is refused.", protocol)
     cases.append(case.by_user(0).expect("status 02"))
     case = UserCase(
@@ -128,4 +128,4 @@ def tokens(protocol: int) -> List[Case]:
 
 def cases() -> List[Case]:
     """Returns the cases of this file."""
-    return options() + several() + tokens(1) + tokens(2)
+    return option_cases() + account_cases() + token_cases(1) + token_cases(2)

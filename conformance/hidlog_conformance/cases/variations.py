@@ -6,13 +6,13 @@ from typing import Any, Dict, List
 
 from hidlog_conformance import hid_packets as hid
 from hidlog_conformance.cases.corpus import KIND, NEXT, RESET, SELECTION, Case, descriptor
-from hidlog_conformance.cases.flows import ANEW, EMPTY, RISES, TOUCH, three, user
+from hidlog_conformance.cases.flows import NEW_TOUCH, EMPTY, COUNTER_INCREASES, TOUCH, register_three_users, user
 from hidlog_conformance.cases.similar_ids import LONG, VERSION
 
 ORG: Dict[str, Any] = {"p2": {"id": "example.org", "name": "x"}}
 
 
-def lists() -> List[Case]:
+def list_cases() -> List[Case]:
     """IDs, types and RPs in lists."""
     cases = []
     for kind in ("changed", "longer", "shorter"):
@@ -42,7 +42,7 @@ def lists() -> List[Case]:
         "lists/allow_three", "get", "If the allow list has three credentials, numberOfCredentials is absent.", **TOUCH
     )
     case.greet().register(1).register(2).register(3)
-    cases.append(case.get(p3=[descriptor(number) for number in (1, 2, 3)]).asserted(RISES + " no-number"))
+    cases.append(case.get(p3=[descriptor(number) for number in (1, 2, 3)]).asserted(COUNTER_INCREASES + " no-number"))
     rps = {
         "capitals": "EXAMPLE.COM",
         "end": "le.com",
@@ -56,37 +56,37 @@ def lists() -> List[Case]:
     return cases
 
 
-def replaced() -> List[Case]:
+def replaced_value_cases() -> List[Case]:
     """Replaced credentials."""
     cases = []
     case = Case("get/two_hidden_stay", "get", "Non-discoverable credentials are not replaced.", **EMPTY)
     case.greet().register(1).register(2).register(3, rk=True)
-    cases.append(case.get(p3=[descriptor(1)]).asserted(RISES).get(p3=[descriptor(2)]).asserted(RISES))
+    cases.append(case.get(p3=[descriptor(1)]).asserted(COUNTER_INCREASES).get(p3=[descriptor(2)]).asserted(COUNTER_INCREASES))
     case = Case("get/two_hidden_replace_nothing", "get", "Non-discoverable credentials replace none.", **EMPTY)
     case.greet().register(1, rk=True).register(2).register(3)
-    cases.append(case.get().asserted(f"{RISES} no-number id {descriptor(1)['id'].hex()}"))
+    cases.append(case.get().asserted(f"{COUNTER_INCREASES} no-number id {descriptor(1)['id'].hex()}"))
     case = Case("get/same_user_of_another_rp_first", "get", "The order of RPs does not matter.", **EMPTY)
     case.greet().register(1, rk=True, **ORG).register(2, rk=True).get(p1="example.org")
     cases.append(case.asserted(f"rp example.org up counter-rises no-number id {descriptor(1)['id'].hex()}"))
-    case = Case("reset/forgets_hidden", "reset", "After a reset a non-discoverable credential is gone.", **ANEW)
+    case = Case("reset/forgets_hidden", "reset", "After a reset a non-discoverable credential is gone.", **NEW_TOUCH)
     case.greet().register(1).cbor(RESET).presence().expect("status 00")
     cases.append(case.get(p3=[descriptor(1)]).expect("status 2e").alive())
     return cases
 
 
-def pending() -> List[Case]:
+def pending_cases() -> List[Case]:
     """Pending assertions."""
     cases = []
     case = Case("next/none_after_two", "next", "After the second of two assertions none is pending.", **EMPTY)
     case.greet().register(1, rk=True, p3=user(1)).register(2, rk=True, p3=user(2))
-    case.get().asserted(f"{RISES} user 02 number 2").cbor(NEXT).asserted(f"{RISES} user 01", presence=False)
+    case.get().asserted(f"{COUNTER_INCREASES} user 02 number 2").cbor(NEXT).asserted(f"{COUNTER_INCREASES} user 01", presence=False)
     cases.append(case.cbor(NEXT).expect("status 30").cbor(NEXT).expect("status 30"))
-    case = three(
+    case = register_three_users(
         Case("next/after_reset_in_between", "next", "After a reset between two assertions none is pending.", **EMPTY)
     )
-    case.cbor(NEXT).asserted(f"{RISES} user 02", presence=False)
+    case.cbor(NEXT).asserted(f"{COUNTER_INCREASES} user 02", presence=False)
     cases.append(case.cbor(RESET).presence().expect("status 00").cbor(NEXT).expect("status 30"))
-    case = three(
+    case = register_three_users(
         Case(
             "next/after_failed_list",
             "next",
@@ -99,9 +99,9 @@ def pending() -> List[Case]:
     case.greet()
     for number in (1, 2, 3, 4):
         case.register(number, rk=True, p3=user(number))
-    case.get().asserted(f"{RISES} user 04 number 4")
+    case.get().asserted(f"{COUNTER_INCREASES} user 04 number 4")
     for number in (3, 2, 1):
-        case.wait(20000).cbor(NEXT).asserted(f"{RISES} user 0{number}", presence=False)
+        case.wait(20000).cbor(NEXT).asserted(f"{COUNTER_INCREASES} user 0{number}", presence=False)
     cases.append(case)
     case = Case(
         "next/one_of_another_rp",
@@ -123,7 +123,7 @@ def pending() -> List[Case]:
     case = Case("next/two_rps_newer", "next", "Newer credentials of other RPs are not counted.", **EMPTY)
     case.greet().register(1, rk=True, p3=user(1)).register(2, rk=True, p3=user(2))
     case.register(3, rk=True, p3=user(3), **ORG).register(4, rk=True, p3=user(4), **ORG)
-    case.get().asserted(f"{RISES} user 02 number 2").cbor(NEXT).asserted(f"{RISES} user 01", presence=False)
+    case.get().asserted(f"{COUNTER_INCREASES} user 02 number 2").cbor(NEXT).asserted(f"{COUNTER_INCREASES} user 01", presence=False)
     cases.append(case.cbor(NEXT).expect("status 30"))
     case = Case(
         "get/one_among_other_rps",
@@ -132,11 +132,11 @@ def pending() -> List[Case]:
         **EMPTY,
     )
     case.greet().register(1, rk=True).register(2, rk=True, **ORG).register(3, rk=True, p3=user(3), **ORG)
-    cases.append(case.get().asserted(f"{RISES} no-number id {descriptor(1)['id'].hex()}"))
+    cases.append(case.get().asserted(f"{COUNTER_INCREASES} no-number id {descriptor(1)['id'].hex()}"))
     return cases
 
 
-def registrations() -> List[Case]:
+def registration_cases() -> List[Case]:
     """Flags, options, extensions and long requests."""
     cases = []
     case = Case("make/discoverable_without_uv", "make", "Without uv a discoverable credential has no flag UV.", **EMPTY)
@@ -176,7 +176,7 @@ def registrations() -> List[Case]:
     return cases
 
 
-def transport() -> List[Case]:
+def transport_cases() -> List[Case]:
     """Capabilities, U2F, timeouts and empty messages."""
     cases = []
     case = Case("commands/msg_with_version", "error", "A complete APDU is refused, too.", uses=["no msg"])
@@ -204,7 +204,7 @@ def transport() -> List[Case]:
     return cases + [case.alive()]
 
 
-def others() -> List[Case]:
+def other_cases() -> List[Case]:
     """Timeouts of messages and of the user, and the order of checks."""
     cases = []
     case = Case(
@@ -231,4 +231,4 @@ def others() -> List[Case]:
 
 def cases() -> List[Case]:
     """Returns the cases of this file."""
-    return lists() + replaced() + pending() + registrations() + transport() + others()
+    return list_cases() + replaced_value_cases() + pending_cases() + registration_cases() + transport_cases() + other_cases()
