@@ -15,14 +15,14 @@ import sys
 import tempfile
 
 from hidlog_conformance.client_runner import client_sessions, play_clients
-from hidlog_conformance.expected_failures import compare
+from hidlog_conformance.expected_failures import compare_failures
 from hidlog_conformance.paths import CLIENTS
 
 
 def check_client(name: str, command: str) -> bool:
     """Runs all sessions with a client; returns whether exactly the listed ones fail."""
     print(f"{name}: ", end="")
-    return compare(
+    return compare_failures(
         f"clients/{name}.failed", [outcome for outcome, _ in play_clients(command, client_sessions(), False)]
     )
 

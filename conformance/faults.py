@@ -25,7 +25,7 @@ sys.path[:0] = [os.path.join(HERE, "faults"), os.path.join(HERE, "mutants")]
 from hidlog_conformance import keys  # noqa: E402
 from answer_faults import CBOR_FAULTS  # noqa: E402
 from faulty import Fault, FaultyDevice  # noqa: E402
-from run_mutant import MUTANTS, judged as run_mutant  # noqa: E402
+from run_mutant import MUTANTS, run_mutant as run_mutant  # noqa: E402
 from hidlog_conformance.devices import LiveDevice  # noqa: E402
 from hidlog_conformance.device_info import DeviceInfo  # noqa: E402
 from hidlog_conformance.outcome import Outcome  # noqa: E402
@@ -115,7 +115,7 @@ def main(arguments: List[str]) -> int:
     if not chosen:
         print(f"faults.py: no fault matches {' '.join(options.words)}", file=sys.stderr)
         return 2
-    keys.verifies = verify_cached
+    keys.is_valid_signature = verify_cached
     # Without the choices of the profile: each fault must violate the standard.
     SESSIONS.extend(list_supported_sessions())
     failed = count_control_failures() if not options.words or any(name in FAULTS for name in chosen) else 0

@@ -30,7 +30,7 @@ from wire_faults import WIRE_FAULTS  # noqa: E402
 from hidlog_conformance import hid_packets as hid  # noqa: E402
 from hidlog_conformance.devices import Device, LiveDevice  # noqa: E402
 from hidlog_conformance.judged_log import HOST, KEY, MUST, Finding  # noqa: E402
-from hidlog_conformance.expected_failures import known  # noqa: E402
+from hidlog_conformance.expected_failures import read_list  # noqa: E402
 from hidlog_conformance.device_info import DeviceInfo  # noqa: E402
 from hidlog_conformance.outcome import Outcome  # noqa: E402
 from hidlog_conformance.player import Player  # noqa: E402
@@ -45,9 +45,9 @@ from proved_walk import judge  # noqa: E402
 
 FAULTS: Dict[str, Fault] = {fault.name: fault for fault in WIRE_FAULTS + CBOR_FAULTS}
 # Milliseconds that a host waits for a response, as the runner does with a real-time device.
-PATIENCE = 3000
+WAIT_MS = 3000
 # Those whose INIT response is so wrong that the runner does not start: they are played as if it had.
-UNASKED = ("packet_short", "length_of_packets", "init_short")
+INVALID_INIT_FAULTS = ("packet_short", "length_of_packets", "init_short")
 # The maximum of recordings per fault.
 MAX_RECORDINGS = 24
 
@@ -116,7 +116,7 @@ class Recorder:
 
     def log(self, first: List[str]) -> bytes:
         """Returns the recording, after `first` of the same device, with the time that the host waited at the end."""
-        lines = [*first, "# power cycle", *self.lines, f"t {self.now + PATIENCE}"]
+        lines = [*first, "# power cycle", *self.lines, f"t {self.now + WAIT_MS}"]
         return "".join(line + "\n" for line in lines).encode()
 
 
@@ -149,7 +149,7 @@ class FullPlayer(Player):
 
     def leave(self) -> None:
         """Waits as long as a host waits for a missing response, and touches at the end."""
-        for _ in range(PATIENCE // 100):
+        for _ in range(WAIT_MS // 100):
             self.at += 100
             self.device.tick(self.at)
             while self.device.read(0.0) is not None:
@@ -170,17 +170,17 @@ class StoppingPlayer(FullPlayer):
         Player.judge(self, expected)
 
 
-GREETING = hid.packets_of(hid.BROADCAST, hid.INIT, bytes(range(8)))[0]
+GREETING = hid.fragment_message(hid.BROADCAST, hid.INIT, bytes(range(8)))[0]
 
 
-def asked_first(device: Device, recorder: Recorder) -> List[str]:
+def record_get_info(device: Device, recorder: Recorder) -> List[str]:
     """Returns a recording of authenticatorGetInfo, which clients send first."""
     device.start()
     try:
         device.send(0, GREETING)
         greeting = device.read(0.0) or bytes(64)
         channel = int.from_bytes(greeting[15:19], "big") or 1
-        device.send(0, hid.packets_of(channel, hid.CBOR, b"\4")[0])
+        device.send(0, hid.fragment_message(channel, hid.CBOR, b"\4")[0])
         while device.read(0.0) is not None:
             pass
     except OSError:
@@ -195,28 +195,28 @@ def play_directly(device: Device, session: Session) -> Outcome:
     return player.play()
 
 
-def of_filter(name: str) -> Tuple[Device, str, Callable[[Device, Session], Outcome]]:
+def make_faulty_device(name: str) -> Tuple[Device, str, Callable[[Device, Session], Outcome]]:
     """Returns a device with a fault, its section, and a function that plays a session."""
     return FaultyDevice(FAULTS[name]), FAULTS[name].section, play_directly
 
 
-def of_reference(name: str) -> Tuple[Device, str, Callable[[Device, Session], Outcome]]:
+def make_mutant(name: str) -> Tuple[Device, str, Callable[[Device, Session], Outcome]]:
     """Returns a mutant, its section, and a function that plays a session."""
     fault = MUTANTS[name]
     device = ReferenceDevice(fault.traits, fault.change)
     options = parse_options(["--device", "reference", "--touch", "--reset"])
     device_info = DeviceInfo.ask(
-        ReferenceDevice(fault.traits, fault.change if fault.name not in UNASKED else None), True
+        ReferenceDevice(fault.traits, fault.change if fault.name not in INVALID_INIT_FAULTS else None), True
     )
     return device, fault.section, lambda own, session: play_one(own, session, options, device_info)
 
 
-def recordings(name: str) -> Iterator[Tuple[str, bytes, bool]]:
+def iter_recordings(name: str) -> Iterator[Tuple[str, bytes, bool]]:
     """Yields recordings of the sessions that detect a fault: the session's name, the log, and whether a packet had
     fewer than 64 bytes."""
-    device, section, play = (of_filter if name in FAULTS else of_reference)(name)
+    device, section, play = (make_faulty_device if name in FAULTS else make_mutant)(name)
     recorder = Recorder(device)
-    first = asked_first(device, recorder)
+    first = record_get_info(device, recorder)
     served = SESSIONS if name in FAULTS else all_sessions()
     found = 0
     for session in sorted(served, key=lambda one: bool(one.section != section)):
@@ -231,13 +231,13 @@ def recordings(name: str) -> Iterator[Tuple[str, bytes, bool]]:
             return
 
 
-def judged(name: str) -> Tuple[str, bool, str]:
+def judge_fault(name: str) -> Tuple[str, bool, str]:
     """Checks recordings of a faulty authenticator until one violates its section."""
     section = (FAULTS.get(name) or MUTANTS[name]).section
     others: Dict[str, int] = {}
     count = 0
     try:
-        for session, log, _ in recordings(name):
+        for session, log, _ in iter_recordings(name):
             count += 1
             findings = [finding for finding in judge(log).findings if finding.side == KEY]
             hits = [finding for finding in findings if section in finding.sections]
@@ -254,7 +254,7 @@ def judged(name: str) -> Tuple[str, bool, str]:
     return name, False, f"{section}: {quantity(count, 'recording')}; violations: {others or 'none'}"
 
 
-def conforming(name: str) -> Tuple[str, bool, str]:
+def judge_conforming(name: str) -> Tuple[str, bool, str]:
     """Checks recordings of all cases with a conforming authenticator."""
     variant = VARIANTS.get(name)
     device: Device = ReferenceDevice(variant.traits) if variant else LiveDevice()
@@ -263,7 +263,7 @@ def conforming(name: str) -> Tuple[str, bool, str]:
     )
     device_info = DeviceInfo.ask(device, True, bool(variant and variant.traits.display))
     recorder = Recorder(device)
-    first = asked_first(device, recorder)
+    first = record_get_info(device, recorder)
     setattr(run, "Player", FullPlayer)
     blamed: List[Tuple[str, Finding]] = []
     count = 0
@@ -287,7 +287,7 @@ def conforming(name: str) -> Tuple[str, bool, str]:
 SESSIONS: List[Session] = []
 
 
-def served_sessions() -> List[Session]:
+def list_supported_sessions() -> List[Session]:
     """Returns the sessions that hidlog supports, without the choices of this project's profile."""
     device = LiveDevice()
     device_info = DeviceInfo.ask(device, True)
@@ -309,11 +309,11 @@ def main(arguments: List[str]) -> int:
     names = ["hidlog", *VARIANTS] if options.conforming else [*FAULTS, *MUTANTS]
     chosen = [name for name in names if not options.words or any(word in name for word in options.words)]
     if not options.conforming:
-        SESSIONS.extend(served_sessions())
-    expected = {} if options.conforming else known("judged.known")
+        SESSIONS.extend(list_supported_sessions())
+    expected = {} if options.conforming else read_list("judged.known")
     good = missed = 0
     with multiprocessing.get_context("fork").Pool(options.jobs) as pool:
-        for name, well, text in pool.imap(conforming if options.conforming else judged, chosen):
+        for name, well, text in pool.imap(judge_conforming if options.conforming else judge_fault, chosen):
             right = well != (name in expected)
             word = "judged" if well else "listed" if name in expected else "MISSED"
             print(f"{word}  {name} {text}", flush=True)

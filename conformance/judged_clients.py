@@ -18,25 +18,25 @@ from typing import Dict, List, Tuple
 from clients import compile_client
 from hidlog_conformance.client_runner import client_sessions, play_clients
 from hidlog_conformance.judged_log import KEY, MUST, Finding
-from hidlog_conformance.expected_failures import known
+from hidlog_conformance.expected_failures import read_list
 from hidlog_conformance.outcome import Outcome
 from hidlog_conformance.paths import CLIENTS
 from proved_walk import judge
 
 # Milliseconds that a client waits for a response.
-PATIENCE = 3000
+WAIT_MS = 3000
 
 
-def findings_of(log: List[str]) -> List[Finding]:
+def find_violations(log: List[str]) -> List[Finding]:
     """Returns the key's violations in a recording, with the time that the client waited."""
     lines = [line for line in log if line[:1] in "<>"]
-    text = "".join(line + "\n" for line in ["# the packets of one client alone", *lines, f"t {PATIENCE}"])
+    text = "".join(line + "\n" for line in ["# the packets of one client alone", *lines, f"t {WAIT_MS}"])
     return [finding for finding in judge(text.encode()).findings if finding.side == KEY]
 
 
-def judged(name: str, outcome: Outcome, log: List[str]) -> Tuple[bool, str]:
+def judge_recording(name: str, outcome: Outcome, log: List[str]) -> Tuple[bool, str]:
     """Returns whether the findings of a recording are as its session says, and a report."""
-    session, found = outcome.session, findings_of(log)
+    session, found = outcome.session, find_violations(log)
     shown = (
         ", ".join(
             f"{finding.section} {finding.level}: {finding.expected}; actual: {finding.actual}"[:90]
@@ -52,11 +52,11 @@ def judged(name: str, outcome: Outcome, log: List[str]) -> Tuple[bool, str]:
     return good, f"{name}: {session.name} ({session.section}): {shown}"
 
 
-def counted(name: str, command: str, expected: Dict[str, str]) -> Tuple[int, int]:
+def count_detected(name: str, command: str, expected: Dict[str, str]) -> Tuple[int, int]:
     """Checks the recordings of a client; returns the number of detected ones, and of differences from the lists."""
     hits = wrong = nonconforming = 0
     for outcome, log in play_clients(command, client_sessions(), False):
-        good, text = judged(name, outcome, log)
+        good, text = judge_recording(name, outcome, log)
         is_unlawful = outcome.session.head["device"] == "nonconforming"
         nonconforming += is_unlawful
         hits += good and is_unlawful
@@ -69,13 +69,13 @@ def counted(name: str, command: str, expected: Dict[str, str]) -> Tuple[int, int
 
 def main() -> int:
     """Checks the recordings of both clients."""
-    expected = known("judged_clients.known")
-    wrong = counted("python_fido2", f"{sys.executable} {os.path.join(CLIENTS, 'python_fido2.py')}", expected)[1]
+    expected = read_list("judged_clients.known")
+    wrong = count_detected("python_fido2", f"{sys.executable} {os.path.join(CLIENTS, 'python_fido2.py')}", expected)[1]
     with tempfile.TemporaryDirectory() as room:
         program = compile_client(room)
         if program:
-            expected.update(known("judged_libfido2.known"))
-            wrong += counted("libfido2", program, expected)[1]
+            expected.update(read_list("judged_libfido2.known"))
+            wrong += count_detected("libfido2", program, expected)[1]
         else:
             print("libfido2: skipped, gcc or libfido2-dev is missing")
     print("passed" if not wrong else f"{wrong} differ from conformance/judged_clients.known")

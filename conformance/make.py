@@ -23,25 +23,25 @@ HERE = os.path.dirname(os.path.abspath(__file__))
 SUMS = os.path.join(HERE, "sessions.sha256")
 
 
-def sums(corpus_texts: Dict[str, str]) -> Dict[str, str]:
+def compute_sums(corpus_texts: Dict[str, str]) -> Dict[str, str]:
     """Returns the SHA-256 of each session, by name."""
     return {name: hashlib.sha256(text.encode()).hexdigest() for name, text in corpus_texts.items()}
 
 
-def recorded_sums() -> Dict[str, str]:
+def read_sums() -> Dict[str, str]:
     """Returns the recorded SHA-256 of each session, by name."""
     with open(SUMS, encoding="utf-8") as file:
         words = [line.split() for line in file]
     return {path[: -len(".log")]: digest for digest, path in words}
 
 
-def record(found: Dict[str, str]) -> None:
+def write_sums(found: Dict[str, str]) -> None:
     """Writes the SHA-256 of each session."""
     with open(SUMS, "w", encoding="utf-8") as file:
         file.writelines(f"{digest}  {name}.log\n" for name, digest in sorted(found.items()))
 
 
-def table(corpus_texts: Dict[str, str]) -> str:
+def format_table(corpus_texts: Dict[str, str]) -> str:
     """Returns the table of the number of cases by section."""
     counts: Dict[str, List[int]] = {}
     for text in corpus_texts.values():
@@ -50,12 +50,14 @@ def table(corpus_texts: Dict[str, str]) -> str:
         row[0] += 1
         row[1] += "\n# profile: " in text
         row[2] += "\n# level: should" in text
-    rows = [f"| {rule} | {row[0]} | {row[1]} | {row[2]} |\n" for rule, row in sorted(counts.items(), key=place)]
+    rows = [
+        f"| {rule} | {row[0]} | {row[1]} | {row[2]} |\n" for rule, row in sorted(counts.items(), key=get_section_key)
+    ]
     head = "| Section of CTAP 2.1 | Cases | Of these a choice of the profile | SHOULD |\n|---|---|---|---|\n"
     return head + "".join(rows)
 
 
-def rules_of(corpus_texts: Dict[str, str]) -> Dict[str, str]:
+def list_rules(corpus_texts: Dict[str, str]) -> Dict[str, str]:
     """Returns the rule of each session, including those of clients, by name."""
     rules = {name: text.partition("\n")[0].partition(", ")[2] for name, text in corpus_texts.items()}
     for path in client_sessions():
@@ -64,7 +66,7 @@ def rules_of(corpus_texts: Dict[str, str]) -> Dict[str, str]:
     return rules
 
 
-def place(row: Tuple[str, List[int]]) -> List[int]:
+def get_section_key(row: Tuple[str, List[int]]) -> List[int]:
     """Returns a section number as a list, to sort by."""
     return [int(part) for part in row[0].split(" ")[0].split(".")]
 
@@ -79,16 +81,16 @@ def main(words: List[str]) -> int:
         return 2
     texts = build_session_texts()
     choices = {name for name, text in texts.items() if "\n# profile: " in text}
-    sentences = format_sentence_table(rules_of(texts), choices)
+    sentences = format_sentence_table(list_rules(texts), choices)
     if words == ["--sentences"]:
-        print(table(texts) + "\n" + sentences, end="")
+        print(format_table(texts) + "\n" + sentences, end="")
         return 0
-    generated, recorded = sums(texts), recorded_sums()
+    generated, recorded = compute_sums(texts), read_sums()
     differing = sorted(name for name in {*generated, *recorded} if generated.get(name) != recorded.get(name))
     if words:
         print("\n".join(f"differs: {name}" for name in differing) or f"the same, {len(generated)} sessions")
         return 1 if differing else 0
-    record(generated)
+    write_sums(generated)
     print(
         "\n".join([*(f"changed: {name}" for name in differing), f"{len(generated)} sessions, {len(differing)} changed"])
     )

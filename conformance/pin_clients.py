@@ -19,7 +19,7 @@ HERE = os.path.dirname(os.path.abspath(__file__))
 KEEPALIVE = 0xBB
 
 
-def bridged(words: List[str], traits: DeviceTraits) -> str:
+def run_bridged(words: List[str], traits: DeviceTraits) -> str:
     """Connects a client's command to the authenticator, touches on request, and returns the client's last line."""
     authenticator = Authenticator(traits)
     pipe, start = subprocess.PIPE, time.monotonic()
@@ -42,7 +42,7 @@ def bridged(words: List[str], traits: DeviceTraits) -> str:
         client.communicate()
 
 
-def compiled(folder: str, name: str) -> str:
+def compile_client(folder: str, name: str) -> str:
     """Compiles a C client; returns an empty path if gcc or libfido2's header is missing."""
     if not shutil.which("gcc") or not os.path.exists("/usr/include/fido.h"):
         return ""
@@ -52,10 +52,14 @@ def compiled(folder: str, name: str) -> str:
     return program
 
 
-def runs_in(folder: str) -> Dict[str, Tuple[List[str], DeviceTraits]]:
+def list_runs(folder: str) -> Dict[str, Tuple[List[str], DeviceTraits]]:
     """Returns the command and the authenticator of each client, by name."""
     found: Dict[str, Tuple[List[str], DeviceTraits]] = {}
-    python, pin, stored = [sys.executable], compiled(folder, "libfido2"), compiled(folder, "libfido2_stored")
+    python, pin, stored = (
+        [sys.executable],
+        compile_client(folder, "libfido2"),
+        compile_client(folder, "libfido2_stored"),
+    )
     for number in (1, 2):
         words = [str(number)]
         commands = {
@@ -80,11 +84,11 @@ def main() -> int:
     """Runs the clients with each protocol."""
     good = failed = 0
     with tempfile.TemporaryDirectory() as folder:
-        for name, (words, traits) in runs_in(folder).items():
+        for name, (words, traits) in list_runs(folder).items():
             if not words[0]:
                 print(f"{name}: skipped, gcc or libfido2-dev is missing")
                 continue
-            result = bridged(words, traits)
+            result = run_bridged(words, traits)
             good, failed = good + (result == "ok"), failed + (result != "ok")
             print(f"{name}: {result}")
     print(f"{good} passed, {failed} failed")

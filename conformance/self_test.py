@@ -39,11 +39,11 @@ TESTS = {
 
 
 # The number of parallel processes; the ways to a device, in real time, are one of them.
-AT_ONCE = 6
+JOBS = 6
 REAL_TIME = "ways/"
 
 
-def by_itself(name: str) -> "subprocess.CompletedProcess[str]":
+def run_in_process(name: str) -> "subprocess.CompletedProcess[str]":
     """Runs the tests whose names contain a word in a separate process."""
     return subprocess.run([sys.executable, __file__, name], capture_output=True, text=True)
 
@@ -51,8 +51,8 @@ def by_itself(name: str) -> "subprocess.CompletedProcess[str]":
 def run_all() -> int:
     """Runs all tests in parallel, and prints their output in order."""
     failed, names = 0, [REAL_TIME, *(test for test in TESTS if not test.startswith(REAL_TIME))]
-    with ThreadPoolExecutor(AT_ONCE) as pool:
-        for ran in pool.map(by_itself, names):
+    with ThreadPoolExecutor(JOBS) as pool:
+        for ran in pool.map(run_in_process, names):
             print("\n".join(line for line in (ran.stdout + ran.stderr).splitlines() if line != "passed"), flush=True)
             failed += ran.returncode != 0
     print(f"{failed} of {len(names)} failed" if failed else "passed")

@@ -8,7 +8,18 @@ from hidlog_conformance import ctap_cbor
 from hidlog_conformance import hid_packets as hid
 from hidlog_conformance.ctap_cbor import encode
 from hidlog_conformance.devices import POWER_LOSS
-from faulty import Fault, FaultyDevice, Hook, RequestHook, Sent, decode_response, is_assertion, is_registration, decode_parameters, replace_data
+from faulty import (
+    Fault,
+    FaultyDevice,
+    Hook,
+    RequestHook,
+    Sent,
+    decode_response,
+    is_assertion,
+    is_registration,
+    decode_parameters,
+    replace_data,
+)
 from hidlog_conformance.hid_packets import Message
 
 MAKE, GET, NEXT, RESET, SELECTION = 0x01, 0x02, 0x08, 0x07, 0x0B
@@ -47,7 +58,7 @@ def change_registration(change: Callable[[FaultyDevice, Dict[Any, Any]], None], 
 
 
 def change_auth_data_byte(place: int, change: Callable[[int], int]) -> Callable[[FaultyDevice, Dict[Any, Any]], None]:
-    """Returns a hook that changes a byte of the authenticator data."""
+    """Returns a change of a byte of the authenticator data."""
 
     def changed(device: FaultyDevice, item: Dict[Any, Any]) -> None:
         auth = bytearray(item[2])
@@ -99,7 +110,7 @@ def decrease_counter(device: FaultyDevice, item: Dict[Any, Any]) -> None:
 
 
 def swap_key_coordinates(device: FaultyDevice, item: Dict[Any, Any]) -> None:
-    """Writes y before x."""
+    """Writes the coordinate y of a COSE key before x."""
     auth = item[2]
     item[2] = auth[:-70] + auth[-35:] + auth[-70:-35]
 
@@ -169,7 +180,7 @@ def replace_command(command: int, other: int) -> RequestHook:
 
 
 def respond_with_status(test: Callable[[bytes], bool], code: int) -> RequestHook:
-    """Returns a hook that answers some requests with a status at once."""
+    """Returns a hook that responds to some requests with a status, without passing them on."""
 
     def hook(device: FaultyDevice, request: bytes) -> Optional[bytes]:
         if not test(request):
@@ -217,7 +228,7 @@ def repeat_last_assertion(device: FaultyDevice, message: Message) -> Optional[Se
 
 
 def keep_pending_assertion(device: FaultyDevice, message: Message) -> Optional[Sent]:
-    """Returns a pending assertion from before a power cycle."""
+    """Returns an assertion from before a power cycle if none is pending."""
     if is_assertion(decode_response(message)) and not device.cycles:
         device.kept = message.data
     if message.command == hid.CBOR and message.data == b"\x30" and device.cycles and device.kept:
@@ -275,10 +286,30 @@ UP, AT, ED = 0x01, 0x40, 0x80
 
 CBOR_FAULTS: List[Fault] = [
     Fault("made_unsorted", M, "The map of a registration isn't sorted.", reorder_map(is_registration)),
-    Fault("made_without_up", M, "Flag UP isn't set in a registration.", change_registration(change_auth_data_byte(32, lambda b: b & ~UP))),
-    Fault("made_without_at", M, "Flag AT isn't set in a registration.", change_registration(change_auth_data_byte(32, lambda b: b & ~AT))),
-    Fault("made_with_ed", M, "Flag ED is set with no extension.", change_registration(change_auth_data_byte(32, lambda b: b | ED))),
-    Fault("made_wrong_rp", M, "The RP's hash is another one.", change_registration(change_auth_data_byte(0, lambda b: b ^ 1))),
+    Fault(
+        "made_without_up",
+        M,
+        "Flag UP isn't set in a registration.",
+        change_registration(change_auth_data_byte(32, lambda b: b & ~UP)),
+    ),
+    Fault(
+        "made_without_at",
+        M,
+        "Flag AT isn't set in a registration.",
+        change_registration(change_auth_data_byte(32, lambda b: b & ~AT)),
+    ),
+    Fault(
+        "made_with_ed",
+        M,
+        "Flag ED is set with no extension.",
+        change_registration(change_auth_data_byte(32, lambda b: b | ED)),
+    ),
+    Fault(
+        "made_wrong_rp",
+        M,
+        "The RP's hash is another one.",
+        change_registration(change_auth_data_byte(0, lambda b: b ^ 1)),
+    ),
     Fault(
         "made_wrong_signature",
         M,
@@ -286,17 +317,41 @@ CBOR_FAULTS: List[Fault] = [
         change_registration(change_auth_data_byte(36, lambda b: 9), False),
     ),
     Fault("key_unsorted", M, "The COSE key's members aren't in order.", change_registration(swap_key_coordinates)),
-    Fault("statement_missing", M, "The attestation statement is missing.", change_registration(remove_member(2), False)),
+    Fault(
+        "statement_missing", M, "The attestation statement is missing.", change_registration(remove_member(2), False)
+    ),
     Fault("status_lost", "11.2.9.1.2", "The status byte is lost.", drop_status),
-    Fault("exclude_ignored", M, "The exclude list is ignored.", request=remove_parameter(MAKE, 5), by="lists/exclude_one"),
-    Fault("exclude_early", M, "An excluded host hears so before the touch.", request=respond_with_status(has_exclude_list, 0x19)),
+    Fault(
+        "exclude_ignored", M, "The exclude list is ignored.", request=remove_parameter(MAKE, 5), by="lists/exclude_one"
+    ),
+    Fault(
+        "exclude_early",
+        M,
+        "An excluded host hears so before the touch.",
+        request=respond_with_status(has_exclude_list, 0x19),
+    ),
     Fault("uv_ignored", M, "The option uv, which can't be served, is ignored.", request=remove_option(MAKE, "uv", 7)),
-    Fault("checks_swapped", M, "Options are checked before algorithms.", request=respond_with_status(has_uv_and_unsupported_algorithm, 0x2C)),
+    Fault(
+        "checks_swapped",
+        M,
+        "Options are checked before algorithms.",
+        request=respond_with_status(has_uv_and_unsupported_algorithm, 0x2C),
+    ),
     Fault("denial_ignored", M, "A denial counts as consent.", reply=accept_denial),
     Fault("missing_wrong_status", M, "A missing parameter has another status.", replace_status(0x14, 0x12, MAKE)),
     Fault("sign_in_unsorted", G, "The map of an assertion isn't sorted.", reorder_map(is_assertion)),
-    Fault("sign_in_without_up", G, "Flag UP isn't set after a touch.", change_assertion(change_auth_data_byte(32, lambda b: b & ~UP))),
-    Fault("up_without_touch", G, "Flag UP is set without a touch.", change_assertion(change_auth_data_byte(32, lambda b: b | UP))),
+    Fault(
+        "sign_in_without_up",
+        G,
+        "Flag UP isn't set after a touch.",
+        change_assertion(change_auth_data_byte(32, lambda b: b & ~UP)),
+    ),
+    Fault(
+        "up_without_touch",
+        G,
+        "Flag UP is set without a touch.",
+        change_assertion(change_auth_data_byte(32, lambda b: b | UP)),
+    ),
     Fault("counter_repeated", G, "The counter stays.", change_assertion(repeat_counter)),
     Fault("counter_falls", G, "The counter falls.", change_assertion(decrease_counter)),
     Fault("counter_lost", G, "The counter starts over when the power was off.", change_assertion(restart_counter)),
@@ -309,9 +364,24 @@ CBOR_FAULTS: List[Fault] = [
         implies=("11.2.3", "11.2.9.1.7", "6.6"),
     ),
     Fault("pending_kept", N, "Assertions are pending after a power cycle.", keep_pending_assertion),
-    Fault("sign_in_wrong_rp", G, "The RP's hash is another one.", change_assertion(change_auth_data_byte(31, lambda b: b ^ 1))),
-    Fault("wrong_signature", G, "The counter isn't signed.", change_assertion(change_auth_data_byte(33, lambda b: 1), False)),
-    Fault("wrong_id", G, "the ID is another one.", change_assertion(set_member(1, {"id": b"x" * 32, "type": "public-key"}), False)),
+    Fault(
+        "sign_in_wrong_rp",
+        G,
+        "The RP's hash is another one.",
+        change_assertion(change_auth_data_byte(31, lambda b: b ^ 1)),
+    ),
+    Fault(
+        "wrong_signature",
+        G,
+        "The counter isn't signed.",
+        change_assertion(change_auth_data_byte(33, lambda b: 1), False),
+    ),
+    Fault(
+        "wrong_id",
+        G,
+        "the ID is another one.",
+        change_assertion(set_member(1, {"id": b"x" * 32, "type": "public-key"}), False),
+    ),
     Fault("user_missing", G, "The user of a discoverable credential is missing.", change_assertion(remove_member(4))),
     Fault("user_named", G, "A user who wasn't verified is named.", change_assertion(add_user_name)),
     Fault("number_missing", G, "The number of credentials is missing.", change_assertion(remove_member(5))),
@@ -326,7 +396,11 @@ CBOR_FAULTS: List[Fault] = [
         implies=(N,),
     ),
     Fault(
-        "up_ignored", G, "The option up is ignored in a sign-in.", request=remove_parameter(GET, 5), by="get/without_presence"
+        "up_ignored",
+        G,
+        "The option up is ignored in a sign-in.",
+        request=remove_parameter(GET, 5),
+        by="get/without_presence",
     ),
     Fault("not_stored", G, "No credential is discoverable.", request=remove_option(MAKE, "rk", 7), implies=(M,)),
     Fault("nothing_found", G, "No credential has another status.", replace_status(0x2E, 0x27, GET)),
@@ -336,14 +410,21 @@ CBOR_FAULTS: List[Fault] = [
     Fault(
         "reset_keeps", "6.6", "A reset forgets nothing.", request=replace_command(RESET, SELECTION), by="reset/forgets"
     ),
-    Fault("reset_at_once", "6.6", "A reset asks nobody.", request=respond_with_status(lambda r: r == bytes([RESET]), 0)),
+    Fault(
+        "reset_at_once", "6.6", "A reset asks nobody.", request=respond_with_status(lambda r: r == bytes([RESET]), 0)
+    ),
     Fault(
         "selection_at_once",
         "6.9",
         "A selection asks nobody.",
         request=respond_with_status(lambda r: r == bytes([SELECTION]), 0),
     ),
-    Fault("selection_timeout", "6.9", "A selection that times out has another status.", replace_status(0x2F, 0x27, SELECTION)),
+    Fault(
+        "selection_timeout",
+        "6.9",
+        "A selection that times out has another status.",
+        replace_status(0x2F, 0x27, SELECTION),
+    ),
     Fault("info_without_versions", "6.4", "The versions are missing.", change_info(remove_member(1))),
     Fault("info_short_aaguid", "6.4", "The AAGUID has 15 bytes.", change_info(set_member(3, bytes(15)))),
     Fault("info_options", "6.4", "An option is a number.", change_info(set_member(4, {"rk": 1}))),

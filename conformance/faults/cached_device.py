@@ -60,7 +60,7 @@ class CachedDevice(LiveDevice):
 
 
 VERIFIED_SIGNATURES: Dict[Tuple[bytes, bytes, bytes], bool] = {}
-verifies_uncached = keys.verifies
+verifies_uncached = keys.is_valid_signature
 
 
 def verify_cached(cose: object, signed: bytes, signature: bytes) -> bool:

@@ -11,9 +11,9 @@ from hidlog_conformance.hid_packets import Message
 from cached_device import CachedDevice
 
 Sent = List[Message]
-Hook = Callable[["Faulty", Message], Optional[Sent]]
-HostHook = Callable[["Faulty", int, bytes], Optional[bytes]]
-RequestHook = Callable[["Faulty", bytes], Optional[bytes]]
+Hook = Callable[["FaultyDevice", Message], Optional[Sent]]
+HostHook = Callable[["FaultyDevice", int, bytes], Optional[bytes]]
+RequestHook = Callable[["FaultyDevice", bytes], Optional[bytes]]
 
 
 class Fault(NamedTuple):
@@ -31,9 +31,9 @@ class Fault(NamedTuple):
     # Changes the packets of a message.
     cut: Optional[Callable[[List[bytes]], List[bytes]]] = None
     # Changes the user's reply.
-    reply: Optional[Callable[["Faulty", str], str]] = None
+    reply: Optional[Callable[["FaultyDevice", str], str]] = None
     # Changes the time of an input.
-    clock: Optional[Callable[["Faulty", int], int]] = None
+    clock: Optional[Callable[["FaultyDevice", int], int]] = None
     # The line to the program instead of a power cycle.
     power: str = POWER_CYCLE
     # The case that must detect it; empty for any case of the section.
@@ -103,7 +103,7 @@ class FaultyDevice(CachedDevice):
 
     def emit(self, channel: int, command: int, data: bytes) -> None:
         """Sends a message unchanged."""
-        packets = hid.packets_of(channel, command, data)
+        packets = hid.fragment_message(channel, command, data)
         self.packets.extend(self.fault.cut(packets) if self.fault.cut else packets)
         self.last["kept"] = len(self.packets)
 
@@ -144,7 +144,7 @@ class FaultyDevice(CachedDevice):
             if changed is None:
                 return
             if changed != message.data:
-                packets = [(at, piece) for piece in hid.packets_of(message.channel, hid.CBOR, changed)]
+                packets = [(at, piece) for piece in hid.fragment_message(message.channel, hid.CBOR, changed)]
         for time, piece in packets:
             super().send(time, piece)
 

@@ -28,7 +28,7 @@ def change_init_channel(device: FaultyDevice, message: Message) -> Optional[Sent
 
 
 def drop_messages(command: int, *first: int) -> Hook:
-    """Returns a hook that loses messages of a command, with these first bytes."""
+    """Returns a hook that drops messages of a command, or only those with one of these first bytes."""
 
     def hook(device: FaultyDevice, message: Message) -> Optional[Sent]:
         return [] if message.command == command and (not first or message.data[:1] in map(to_byte, first)) else None
@@ -37,16 +37,18 @@ def drop_messages(command: int, *first: int) -> Hook:
 
 
 def replace_code(command: int, old: int, new: int) -> Hook:
-    """Returns a hook that puts another byte instead of a code."""
+    """Returns a hook that replaces the only byte of a command's messages."""
 
     def hook(device: FaultyDevice, message: Message) -> Optional[Sent]:
-        return replace_data(message, bytes([new])) if message.command == command and message.data == bytes([old]) else None
+        return (
+            replace_data(message, bytes([new])) if message.command == command and message.data == bytes([old]) else None
+        )
 
     return hook
 
 
 def to_byte(number: int) -> bytes:
-    """Returns a byte."""
+    """Returns the byte of a number."""
     return bytes([number])
 
 
@@ -77,36 +79,36 @@ def lengthen_keepalive(device: FaultyDevice, message: Message) -> Optional[Sent]
 
 
 def send_keepalive_after_response(device: FaultyDevice, message: Message) -> Optional[Sent]:
-    """Sends a KEEPALIVE behind each response."""
+    """Sends a KEEPALIVE after each response."""
     return [message, Message(message.channel, hid.KEEPALIVE, b"\1")] if message.command == hid.CBOR else None
 
 
 def send_error_for_cancel(device: FaultyDevice, message: Message) -> Optional[Sent]:
-    """Answers a cancelled request by an ERROR."""
+    """Responds to a cancelled request with an ERROR."""
     if message.command == hid.CBOR and message.data == b"\x2d":
         return [Message(message.channel, hid.ERROR, b"\x7f")]
     return None
 
 
 def drop_cancel(device: FaultyDevice, at: int, packet: bytes) -> Optional[bytes]:
-    """Takes no CANCEL."""
+    """Ignores CANCEL."""
     return None if packet[4] == 0x80 | hid.CANCEL else packet
 
 
 def respond_to_idle_cancel(device: FaultyDevice, at: int, packet: bytes) -> Optional[bytes]:
-    """Answers a CANCEL without a pending request."""
+    """Sends an ERROR for a CANCEL without a pending request."""
     if packet[4] == 0x80 | hid.CANCEL and device.need == "nothing":
         device.emit(int.from_bytes(packet[:4], "big"), hid.ERROR, b"\1")
     return packet
 
 
 def accept_cancel_on_any_channel(device: FaultyDevice, at: int, packet: bytes) -> Optional[bytes]:
-    """Accepts a CANCEL of any channel for that of the request, which is the first one."""
+    """Treats a CANCEL on any channel as one on channel 1, which has the request."""
     return b"\0\0\0\1" + packet[4:] if packet[4] == 0x80 | hid.CANCEL else packet
 
 
 def accept_any_sequence(device: FaultyDevice, at: int, packet: bytes) -> Optional[bytes]:
-    """Takes continuation packets under any number."""
+    """Accepts continuation packets with any sequence number."""
     channel = "due on " + packet[:4].hex()
     due = device.last.get(channel, 0)
     if packet[4] & 0x80:
@@ -117,7 +119,7 @@ def accept_any_sequence(device: FaultyDevice, at: int, packet: bytes) -> Optiona
 
 
 def respond_to_stray_packet(device: FaultyDevice, at: int, packet: bytes) -> Optional[bytes]:
-    """Answers a continuation packet where no message is open."""
+    """Sends an ERROR for a continuation packet outside any message."""
     if device.stray and not packet[4] & 0x80:
         device.emit(int.from_bytes(packet[:4], "big"), hid.ERROR, b"\4")
         return None
@@ -143,14 +145,14 @@ def respond_to_init_without_abort(device: FaultyDevice, at: int, packet: bytes) 
 
 
 def accept_unallocated_channel(device: FaultyDevice, at: int, packet: bytes) -> Optional[bytes]:
-    """Serves an unallocated channel as the first one."""
+    """Treats an unallocated channel as channel 1."""
     number = int.from_bytes(packet[:4], "big")
     strange = number > 0x1000 and number != hid.BROADCAST and packet[4] != 0x80 | hid.CANCEL
     return b"\0\0\0\1" + packet[4:] if strange else packet
 
 
 def truncate_ping(device: FaultyDevice, message: Message) -> Optional[Sent]:
-    """Answers a PING by its first packet's bytes."""
+    """Returns only the bytes of a PING's first packet."""
     return replace_data(message, message.data[:57]) if message.command == hid.PING else None
 
 
@@ -169,18 +171,18 @@ def send_busy_to_other_host(device: FaultyDevice, message: Message) -> Optional[
 
 
 def number_from_one(packets: List[bytes]) -> List[bytes]:
-    """Counts continuation packets from 1."""
+    """Numbers continuation packets from 1."""
     return [packet if packet[4] & 0x80 else packet[:4] + bytes([packet[4] + 1]) + packet[5:] for packet in packets]
 
 
 def drop_last_packet(packets: List[bytes]) -> List[bytes]:
-    """Loses the last of several packets."""
+    """Drops the last of several packets."""
     return packets[:-1] if len(packets) > 1 else packets
 
 
 def fill_padding(packets: List[bytes]) -> List[bytes]:
     """Leaves old bytes in the padding."""
-    # How many bytes of the last packet are behind the message.
+    # Number of bytes in the last packet after the end of the message.
     behind = 57 + 59 * (len(packets) - 1) - int.from_bytes(packets[0][5:7], "big")
     return packets[:-1] + [packets[-1][: 64 - behind] + b"\xde" * behind]
 
@@ -197,8 +199,20 @@ WIRE_FAULTS: List[Fault] = [
     Fault("init_on_new_channel", INIT, "The INIT response comes on the new channel.", send_init_on_new_channel),
     Fault("wrong_version", INIT, "The protocol version is 1.", change_init_response(12, b"\1")),
     Fault("no_capability", INIT, "The capability CBOR isn't named.", change_init_response(16, b"\0")),
-    Fault("other_channel_kept", INIT, "INIT on a channel names another.", change_init_channel, by="init/on_its_own_channel"),
-    Fault("init_keeps_message", ABORT, "INIT does not abort the channel's transaction.", None, respond_to_init_without_abort),
+    Fault(
+        "other_channel_kept",
+        INIT,
+        "INIT on a channel names another.",
+        change_init_channel,
+        by="init/on_its_own_channel",
+    ),
+    Fault(
+        "init_keeps_message",
+        ABORT,
+        "INIT does not abort the channel's transaction.",
+        None,
+        respond_to_init_without_abort,
+    ),
     Fault("sequence_taken", SEQUENCE, "Continuation packets count under any number.", None, accept_any_sequence),
     Fault("stray_answered", SEQUENCE, "A stray continuation packet is answered.", None, respond_to_stray_packet),
     Fault(
@@ -217,7 +231,9 @@ WIRE_FAULTS: List[Fault] = [
     Fault("timeout_wrong_code", TIME, "A message that times out has another code.", replace_code(hid.ERROR, 5, 4)),
     Fault("no_keepalive", KEEP, "KEEPALIVEs don't come.", drop_messages(hid.KEEPALIVE)),
     Fault("keepalive_once", KEEP, "Only one KEEPALIVE comes.", send_one_keepalive),
-    Fault("keepalive_status", KEEP, "KEEPALIVEs don't say that a touch is requested.", replace_code(hid.KEEPALIVE, 2, 1)),
+    Fault(
+        "keepalive_status", KEEP, "KEEPALIVEs don't say that a touch is requested.", replace_code(hid.KEEPALIVE, 2, 1)
+    ),
     Fault("keepalive_elsewhere", KEEP, "KEEPALIVEs go to all channels.", send_keepalive_on_broadcast),
     Fault("keepalive_long", KEEP, "KEEPALIVEs have two bytes.", lengthen_keepalive),
     Fault("keepalive_after", KEEP, "A KEEPALIVE comes behind the response.", send_keepalive_after_response),

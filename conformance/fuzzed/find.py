@@ -68,7 +68,9 @@ def read_head(packets: List[Sent], place: int) -> bytes:
 def find_difference(fault: Fault, lines: List[bytes]) -> Optional[Tuple[bytes, bytes]]:
     """Returns the heads of the first packets that differ, with and without the fault, or None."""
     try:
-        right, wrong = play_inputs(FaultyDevice(PLAIN_LOGS if fault.request else PLAIN), lines), play_inputs(FaultyDevice(fault), lines)
+        right, wrong = play_inputs(FaultyDevice(PLAIN_LOGS if fault.request else PLAIN), lines), play_inputs(
+            FaultyDevice(fault), lines
+        )
     except (OSError, KeyError, IndexError, ValueError, AttributeError, TypeError):
         # A malformed log may raise an exception in a fault, which is written for the conformance tests.
         return None

@@ -12,11 +12,11 @@ from hidlog_conformance.skipped import CaseSkipped
 
 UP, UV, BE, BS, AT, ED = 0x01, 0x04, 0x08, 0x10, 0x40, 0x80
 # Reserved flags.
-RESERVED = 0x22
+RESERVED_FLAGS = 0x22
 # The attestation statement formats registered for WebAuthn.
 FORMATS = ("packed", "tpm", "android-key", "android-safetynet", "fido-u2f", "apple", "none", "compound")
 # Versions to which the rules of CTAP 2.1 do not apply.
-DRAFTS = ("FIDO_2_0", "FIDO_2_1_PRE")
+EARLIER_VERSIONS = ("FIDO_2_0", "FIDO_2_1_PRE")
 # The maximum of PIN retries, and of built-in user verification retries.
 MAX_RETRIES, MAX_USER_RETRIES = 8, 25
 MAKE, GET, INFO, RESET, NEXT, SELECTION, BLOBS = 0x01, 0x02, 0x04, 0x07, 0x08, 0x0B, 0x0C
@@ -59,22 +59,24 @@ class DeviceFacts:
     min_pin_length: int = 4
 
 
-def is_old(versions: List[Any]) -> bool:
+def is_before_ctap_2_1(versions: List[Any]) -> bool:
     """Returns whether a device supports no version from FIDO_2_1 on; FIDO_2_1_PRE is a draft of it."""
-    return not any(name.startswith("FIDO_2_") and name not in DRAFTS for name in versions if isinstance(name, str))
+    return not any(
+        name.startswith("FIDO_2_") and name not in EARLIER_VERSIONS for name in versions if isinstance(name, str)
+    )
 
 
 def check(condition: bool, expected: str, actual: Any) -> None:
     """Raises `Mismatch` unless the condition is true."""
     if not condition:
-        raise Mismatch(expected, actual if isinstance(actual, str) else ctap_cbor.shown(actual))
+        raise Mismatch(expected, actual if isinstance(actual, str) else ctap_cbor.to_diagnostic(actual))
 
 
 def decode_map(data: bytes) -> Dict[Any, Any]:
     """Returns the map of a successful response."""
     check(data[:1] == b"\0", "status 00 and a map", f"status {data[:1].hex()}" if data else "an empty message")
     try:
-        item = ctap_cbor.decoded(data[1:])
+        item = ctap_cbor.decode_cached(data[1:])
     except ctap_cbor.CborError as fault:
         raise Mismatch("a map in CTAP2 canonical CBOR", f"{fault}: {data[1:].hex()}") from None
     check(isinstance(item, dict), "a map", item)
@@ -82,16 +84,16 @@ def decode_map(data: bytes) -> Dict[Any, Any]:
     return dict(item)
 
 
-def member(item: Dict[Any, Any], key: Any, kind: type, name: str) -> Any:
+def get_member(item: Dict[Any, Any], key: Any, kind: type, name: str) -> Any:
     """Returns a member, which must be present and of this type."""
     check(key in item, f"{name} under the key {key!r}", item)
     check(isinstance(item[key], kind), f"{name} as {kind.__name__}", item[key])
     return item[key]
 
 
-def parameters(request: bytes) -> Dict[Any, Any]:
+def decode_parameters(request: bytes) -> Dict[Any, Any]:
     """Returns the parameters of a request."""
-    found = ctap_cbor.decoded(request[1:])
+    found = ctap_cbor.decode_cached(request[1:])
     return dict(found) if isinstance(found, dict) else {}
 
 
@@ -109,7 +111,7 @@ def check_auth_data(auth: bytes, rp: str, words: List[str]) -> None:
         check(bool(flags & UV), "flag UV set", f"flags {flags:02x}")
     if "no-uv" in words:
         check(not flags & UV, "flag UV not set", f"flags {flags:02x}")
-    check(not flags & RESERVED, "reserved flags (bits 1 and 5) not set", f"flags {flags:02x}")
+    check(not flags & RESERVED_FLAGS, "reserved flags (bits 1 and 5) not set", f"flags {flags:02x}")
     check(not flags & BS or bool(flags & BE), "flag BS only with BE", f"flags {flags:02x}")
 
 
@@ -135,7 +137,7 @@ def check_extensions(data: bytes, flags: int, words: List[str]) -> Dict[Any, Any
     return dict(found)
 
 
-def cose_key(data: bytes) -> Tuple[Dict[int, Any], bytes]:
+def read_cose_key(data: bytes) -> Tuple[Dict[int, Any], bytes]:
     """Returns the COSE key of authenticator data, and the bytes after it."""
     try:
         reader = ctap_cbor.Reader(data)
@@ -155,9 +157,9 @@ def cose_key(data: bytes) -> Tuple[Dict[int, Any], bytes]:
     return dict(key), data[reader.place :]
 
 
-def agreement_key(item: Dict[Any, Any]) -> Dict[Any, Any]:
+def read_agreement_key(item: Dict[Any, Any]) -> Dict[Any, Any]:
     """Checks a device's key agreement key (6.5.6), and returns it."""
-    key = member(item, 1, dict, "the key agreement key")
+    key = get_member(item, 1, dict, "the key agreement key")
     check(key.get(1) == 2 and key.get(3) == -25 and key.get(-1) == 1, "a key of kty 2, alg -25, crv 1", key)
     check(set(key) == {1, 3, -1, -2, -3}, "only the members 1, 3, -1, -2, -3", key)
     right = all(isinstance(key[part], bytes) for part in (-2, -3))
@@ -167,22 +169,26 @@ def agreement_key(item: Dict[Any, Any]) -> Dict[Any, Any]:
 
 def check_attestation(item: Dict[Any, Any], auth: bytes, cose: Dict[int, Any], client_hash: bytes) -> None:
     """Checks packed attestation, self or with a certificate; of other formats only the name."""
-    statement = member(item, 3, dict, "the attestation statement")
+    statement = get_member(item, 3, dict, "the attestation statement")
     check(item[1] in FORMATS, f"a format of {', '.join(FORMATS)}", item[1])
     if item[1] == "none":
         check(statement == {}, "an empty statement of the format none", statement)
     if item[1] == "packed" and "x5c" in statement:
-        chain = member(statement, "x5c", list, "the certificates")
+        chain = get_member(statement, "x5c", list, "the certificates")
         check(bool(chain) and all(isinstance(one, bytes) for one in chain), "at least one certificate", chain)
-        alg = member(statement, "alg", int, "the algorithm")
-        signature = member(statement, "sig", bytes, "the signature")
+        alg = get_member(statement, "alg", int, "the algorithm")
+        signature = get_member(statement, "sig", bytes, "the signature")
         expected = "a signature that verifies under the first certificate of x5c"
-        check(keys.verified_by(chain[0], alg, auth + client_hash, signature), expected, signature)
+        check(keys.is_valid_for_certificate(chain[0], alg, auth + client_hash, signature), expected, signature)
     if item[1] != "packed" or "x5c" in statement:
         return
-    check(member(statement, "alg", int, "the algorithm") == cose[3], f"alg {cose[3]}, the key's", statement)
-    signature = member(statement, "sig", bytes, "the signature")
-    check(keys.verifies(cose, auth + client_hash, signature), "a signature that verifies under the new key", signature)
+    check(get_member(statement, "alg", int, "the algorithm") == cose[3], f"alg {cose[3]}, the key's", statement)
+    signature = get_member(statement, "sig", bytes, "the signature")
+    check(
+        keys.is_valid_signature(cose, auth + client_hash, signature),
+        "a signature that verifies under the new key",
+        signature,
+    )
 
 
 def check_credential_id(credential: bytes, length: int, user: bytes, known: Dict[bytes, Credential]) -> None:
@@ -211,9 +217,9 @@ def check_make_credential_response(
     data: bytes, request: bytes, words: List[str], known: Dict[bytes, Credential], facts: DeviceFacts
 ) -> Credential:
     """Checks a response to authenticatorMakeCredential, and returns the credential."""
-    item, asked = decode_map(data), parameters(request)
-    member(item, 1, str, "the attestation format")
-    auth = member(item, 2, bytes, "the authenticator data")
+    item, asked = decode_map(data), decode_parameters(request)
+    get_member(item, 1, str, "the attestation format")
+    auth = get_member(item, 2, bytes, "the authenticator data")
     rp = asked[2]["id"]
     check_auth_data(auth, rp, words)
     check(bool(auth[32] & AT), "flag AT set", f"flags {auth[32]:02x}")
@@ -222,7 +228,7 @@ def check_make_credential_response(
     length = int.from_bytes(auth[53:55], "big")
     credential = auth[55 : 55 + length]
     check_credential_id(credential, length, asked[3]["id"], known)
-    cose, behind = cose_key(auth[55 + length :])
+    cose, behind = read_cose_key(auth[55 + length :])
     outputs = check_extensions(behind, auth[32], words)
     if isinstance(outputs.get("credProtect"), int) and "credProtect" not in asked.get(6, {}):
         facts.protection = max(facts.protection, outputs["credProtect"])
@@ -247,7 +253,7 @@ def check_signature_nonce_reuse(cose: Dict[int, Any], signed: bytes, signature: 
 def check_user_entity(item: Dict[Any, Any], words: List[str], facts: DeviceFacts) -> None:
     """Checks the user and the number of credentials."""
     if "user" in words:
-        user = member(item, 4, dict, "the user")
+        user = get_member(item, 4, dict, "the user")
         check(user.get("id") == bytes.fromhex(words[words.index("user") + 1]), "the user ID", user)
     if "no-user" in words:
         check(4 not in item, "no user", item)
@@ -276,17 +282,17 @@ def check_assertion_response(
     facts: DeviceFacts,
 ) -> Credential:
     """Checks an assertion; `request` is its authenticatorGetAssertion."""
-    item, asked = decode_map(data), parameters(request)
-    auth = member(item, 2, bytes, "the authenticator data")
-    signature = member(item, 3, bytes, "the signature")
+    item, asked = decode_map(data), decode_parameters(request)
+    auth = get_member(item, 2, bytes, "the authenticator data")
+    signature = get_member(item, 3, bytes, "the signature")
     check_auth_data(auth, asked[1], words)
     check(not auth[32] & AT, "flag AT not set", auth)
     check_extensions(auth[37:], auth[32], words)
     allowed = [entry["id"] for entry in asked.get(3, [])]
     if 1 in item:
-        descriptor = member(item, 1, dict, "the credential")
+        descriptor = get_member(item, 1, dict, "the credential")
         check(descriptor.get("type") == "public-key", 'a credential of type "public-key"', descriptor)
-        identity = member(descriptor, "id", bytes, "the credential ID")
+        identity = get_member(descriptor, "id", bytes, "the credential ID")
     else:
         check(len(allowed) == 1, "the credential, since the allow list has more than one entry", item)
         identity = allowed[0]
@@ -303,7 +309,9 @@ def check_assertion_response(
     signed = auth + asked[2]
     check_signature_nonce_reuse(found[0].cose, signed, signature, facts)
     check(
-        keys.verifies(found[0].cose, signed, signature), "a signature that verifies under the registered key", signature
+        keys.is_valid_signature(found[0].cose, signed, signature),
+        "a signature that verifies under the registered key",
+        signature,
     )
     return found[0]
 
@@ -312,7 +320,7 @@ def check_info_lists(item: Dict[Any, Any]) -> None:
     """Checks the lists of getInfo: extensions, PIN protocols, transports and algorithms."""
     for key, kind, name in ((2, str, "extensions"), (6, int, "PIN protocols"), (9, str, "transports")):
         if key in item:
-            listed = member(item, key, list, name)
+            listed = get_member(item, key, list, name)
             check(bool(listed) or key == 2, f"{name} as a non-empty list", listed)
             check(all(isinstance(one, kind) for one in listed), f"{name} of one type", listed)
             check(len({repr(one) for one in listed}) == len(listed), f"{name}, each once", listed)
@@ -329,10 +337,10 @@ def check_info_lists(item: Dict[Any, Any]) -> None:
 def check_get_info_response(data: bytes) -> Dict[Any, Any]:
     """Checks a response to authenticatorGetInfo."""
     item = decode_map(data)
-    versions = member(item, 1, list, "the versions")
+    versions = get_member(item, 1, list, "the versions")
     check(all(isinstance(name, str) for name in versions), "versions as text strings", versions)
     check(any(name.startswith("FIDO_2") for name in versions), "a version FIDO_2_..", versions)
-    check(len(member(item, 3, bytes, "the AAGUID")) == 16, "an AAGUID of 16 bytes", item[3])
+    check(len(get_member(item, 3, bytes, "the AAGUID")) == 16, "an AAGUID of 16 bytes", item[3])
     options = item.get(4, {})
     check(isinstance(options, dict), "options as a map", options)
     check(all(isinstance(key, str) for key in options), "options with text strings as keys", options)

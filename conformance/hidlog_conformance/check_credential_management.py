@@ -6,7 +6,7 @@ from __future__ import annotations
 import hashlib
 from typing import Any, Dict, List, Optional, Set
 
-from hidlog_conformance.answers import Credential, check, member
+from hidlog_conformance.answers import Credential, check, get_member
 from hidlog_conformance.quantity import quantity
 
 COUNT, LEFT, RP, RP_HASH, RPS, USER, ID, KEY, CREDENTIALS, PROTECTION, BLOB_KEY = range(1, 12)
@@ -32,17 +32,17 @@ class Listing:
 
     def check_count(self, item: Dict[Any, Any], count: int) -> None:
         """Checks the number of stored credentials, and that the remaining capacity is present."""
-        total = member(item, COUNT, int, "the number of credentials")
+        total = get_member(item, COUNT, int, "the number of credentials")
         more = "" if self.is_complete else "at least "
         check(total == count or (total > count and not self.is_complete), more + quantity(count, "credential"), item)
-        check(member(item, LEFT, int, "the remaining capacity") >= 0, "a remaining capacity", item)
+        check(get_member(item, LEFT, int, "the remaining capacity") >= 0, "a remaining capacity", item)
 
     def check_rp(self, item: Dict[Any, Any], known: List[Credential], total: Optional[int]) -> None:
         """Checks an enumerated RP; the first comes with the total."""
         if total is not None:
             self.rps.clear()
-        digest = member(item, RP_HASH, bytes, "the RP ID hash")
-        rp_id = member(member(item, RP, dict, "the RP"), "id", str, "the RP ID")
+        digest = get_member(item, RP_HASH, bytes, "the RP ID hash")
+        rp_id = get_member(get_member(item, RP, dict, "the RP"), "id", str, "the RP ID")
         # A device may truncate an RP ID to 32 bytes.
         check(hash_of(rp_id) == digest or len(rp_id.encode()) >= 32, "the RP ID hash", item)
         found = [one.rp for one in known if one.discoverable and hash_of(one.rp) == digest]
@@ -57,9 +57,9 @@ class Listing:
         """Checks an enumerated credential; the first comes with the total."""
         if total is not None:
             self.ids.clear()
-        descriptor = member(item, ID, dict, "the credential")
+        descriptor = get_member(item, ID, dict, "the credential")
         check(descriptor.get("type") == "public-key", 'a credential of type "public-key"', descriptor)
-        identity = member(descriptor, "id", bytes, "the credential ID")
+        identity = get_member(descriptor, "id", bytes, "the credential ID")
         check(identity not in self.ids, "a credential that was not listed before", item)
         self.ids.add(identity)
         self.check_known([one for one in known if one.id == identity], item, rp)
@@ -69,8 +69,8 @@ class Listing:
 
     def check_known(self, found: List[Credential], item: Dict[Any, Any], rp: bytes) -> None:
         """Checks an enumerated credential against its registration."""
-        user = member(item, USER, dict, "the user")
-        key = member(item, KEY, dict, "the public key")
+        user = get_member(item, USER, dict, "the user")
+        key = get_member(item, KEY, dict, "the public key")
         if not found and not self.is_complete:
             return
         right = bool(found) and found[0].discoverable and hash_of(found[0].rp) == rp
@@ -106,13 +106,13 @@ class Listing:
         if "blob-key" not in words:
             return
         name = words[words.index("blob-key") + 1]
-        found = member(item, key, bytes, "the large blob key")
+        found = get_member(item, key, bytes, "the large blob key")
         check(len(found) == 32, "a large blob key of 32 bytes", found)
         check(self.blob_keys.setdefault(name, found) == found, f"the large blob key {name} again", found)
         other = self.blob_names.setdefault(found, name)
         check(other == name, f"another large blob key than {other}", found)
 
 
-def check_piece(item: Dict[Any, Any], expected: bytes) -> None:
+def check_fragment(item: Dict[Any, Any], expected: bytes) -> None:
     """Checks a fragment of the large-blob array."""
-    check(member(item, 1, bytes, "a fragment of the array") == expected, f"the fragment {expected.hex()}", item)
+    check(get_member(item, 1, bytes, "a fragment of the array") == expected, f"the fragment {expected.hex()}", item)

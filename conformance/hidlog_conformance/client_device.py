@@ -31,14 +31,14 @@ class Reply:
     before: List[Tuple[int, bytes]] = field(default_factory=list)
 
 
-def pin_side() -> PinSide:
+def make_pin_side() -> PinSide:
     """Returns the PIN side, which needs the package cryptography."""
     from hidlog_conformance.client_sides import PinSide
 
     return PinSide()
 
 
-def u2f_side() -> U2fSide:
+def make_u2f_side() -> U2fSide:
     """Returns the U2F side, which needs the package cryptography."""
     from hidlog_conformance.client_sides import U2fSide
 
@@ -62,7 +62,7 @@ class ClientDevice:
         # Packets to send once the client cancels.
         self.held: List[bytes] = []
         has_pin = any(words[0] == "pin" for words in rules.get("info", []))
-        self.pin = pin_side() if has_pin else None
+        self.pin = make_pin_side() if has_pin else None
         self.u2f: Optional[U2fSide] = None
 
     def words(self, kind: str, name: str) -> List[str]:
@@ -81,11 +81,11 @@ class ClientDevice:
         kind, reply = self.conforming(message)
         self.seen[kind] = self.seen.get(kind, 0) + 1
         rules = self.rules.get(kind, [])
-        for stage in (MAPS, BYTES, PACKETS):
-            if stage is BYTES and reply.item is not None:
+        for stage in (MAP_RULES, BYTE_RULES, PACKET_RULES):
+            if stage is BYTE_RULES and reply.item is not None:
                 reply.data = b"\0" + ctap_cbor.encode(reply.item)
-            if stage is PACKETS:
-                reply.packets = hid.packets_of(reply.channel, reply.command, reply.data)
+            if stage is PACKET_RULES:
+                reply.packets = hid.fragment_message(reply.channel, reply.command, reply.data)
             for words in rules:
                 if words[0] in stage:
                     stage[words[0]](self, kind, reply, words[1:])
@@ -103,7 +103,7 @@ class ClientDevice:
             reply.data = message.data
             return "ping", reply
         if message.command == hid.MSG:
-            self.u2f = self.u2f or u2f_side()
+            self.u2f = self.u2f or make_u2f_side()
             kind, reply.data = self.u2f.serve(message.data)
             return kind, reply
         kind = KINDS.get(message.data[0] if message.data else 0, "")
@@ -186,7 +186,7 @@ def set_member(device: ClientDevice, kind: str, reply: Reply, words: List[str]) 
         reply.item.pop(int(words[0]), None)
 
 
-def bad_signature(device: ClientDevice, kind: str, reply: Reply, words: List[str]) -> None:
+def sign_other_data(device: ClientDevice, kind: str, reply: Reply, words: List[str]) -> None:
     """bad-signature: signs other data."""
     assert reply.item is not None
     signature = device.keys.sign(device.credential, b"something else")
@@ -196,20 +196,20 @@ def bad_signature(device: ClientDevice, kind: str, reply: Reply, words: List[str
         reply.item[3] = signature
 
 
-def cut_auth(device: ClientDevice, kind: str, reply: Reply, words: List[str]) -> None:
+def truncate_auth_data(device: ClientDevice, kind: str, reply: Reply, words: List[str]) -> None:
     """cut-auth N: removes the last N bytes of the authenticator data."""
     assert reply.item is not None
     reply.item[2] = reply.item[2][: -int(words[0])]
 
 
-def fill(device: ClientDevice, kind: str, reply: Reply, words: List[str]) -> None:
+def fill_message(device: ClientDevice, kind: str, reply: Reply, words: List[str]) -> None:
     """fill N: adds an unknown member so that the message has N bytes."""
     assert reply.item is not None
     room = int(words[0]) - 1 - len(ctap_cbor.encode(reply.item)) - 5
     reply.item[0x60] = bytes(room)
 
 
-def data_is(device: ClientDevice, kind: str, reply: Reply, words: List[str]) -> None:
+def set_data(device: ClientDevice, kind: str, reply: Reply, words: List[str]) -> None:
     """data HEX: sends these bytes as the response."""
     reply.data = bytes.fromhex("".join(words))
 
@@ -219,7 +219,7 @@ def append(device: ClientDevice, kind: str, reply: Reply, words: List[str]) -> N
     reply.data += bytes.fromhex(words[0])
 
 
-def cut(device: ClientDevice, kind: str, reply: Reply, words: List[str]) -> None:
+def truncate_data(device: ClientDevice, kind: str, reply: Reply, words: List[str]) -> None:
     """cut N: removes the last N bytes."""
     reply.data = reply.data[: -int(words[0])]
 
@@ -230,18 +230,18 @@ def swap_bytes(device: ClientDevice, kind: str, reply: Reply, words: List[str]) 
     reply.data = reply.data.replace(bytes.fromhex(words[0]), bytes.fromhex(words[1]), 1)
 
 
-def error(device: ClientDevice, kind: str, reply: Reply, words: List[str]) -> None:
+def respond_with_error(device: ClientDevice, kind: str, reply: Reply, words: List[str]) -> None:
     """error CODE N: responds to the first N requests with ERROR."""
     if device.seen[kind] <= int(words[1]):
         reply.command, reply.data = hid.ERROR, bytes.fromhex(words[0])
 
 
-def command(device: ClientDevice, kind: str, reply: Reply, words: List[str]) -> None:
+def set_command(device: ClientDevice, kind: str, reply: Reply, words: List[str]) -> None:
     """command HEX: responds with another command."""
     reply.command = int(words[0], 16)
 
 
-def on_channel(device: ClientDevice, kind: str, reply: Reply, words: List[str]) -> None:
+def set_channel(device: ClientDevice, kind: str, reply: Reply, words: List[str]) -> None:
     """on HEX: responds on another channel."""
     reply.channel = int(words[0], 16)
 
@@ -252,63 +252,83 @@ def byte(device: ClientDevice, kind: str, reply: Reply, words: List[str]) -> Non
     reply.data = reply.data[:place] + bytes.fromhex(words[1]) + reply.data[place + 1 :]
 
 
-def first(device: ClientDevice, kind: str, reply: Reply, words: List[str]) -> None:
+def set_first_response(device: ClientDevice, kind: str, reply: Reply, words: List[str]) -> None:
     """first HEX: responds to the first request with these bytes."""
     if device.seen[kind] == 1:
         reply.data = bytes.fromhex(words[0])
 
 
-def until_cancel(device: ClientDevice, kind: str, reply: Reply, words: List[str]) -> None:
+def wait_for_cancel(device: ClientDevice, kind: str, reply: Reply, words: List[str]) -> None:
     """until-cancel N [HEX]: sends three KEEPALIVEs; after CANCEL, N more and these bytes (or the response)."""
-    touch = hid.packets_of(reply.channel, hid.KEEPALIVE, b"\2")
-    ended = hid.packets_of(reply.channel, reply.command, bytes.fromhex(words[1])) if len(words) > 1 else reply.packets
+    touch = hid.fragment_message(reply.channel, hid.KEEPALIVE, b"\2")
+    ended = (
+        hid.fragment_message(reply.channel, reply.command, bytes.fromhex(words[1])) if len(words) > 1 else reply.packets
+    )
     device.held, reply.packets = touch * int(words[0]) + ended, touch * 3
 
 
-def keepalive(device: ClientDevice, kind: str, reply: Reply, words: List[str]) -> None:
+def add_keepalives(device: ClientDevice, kind: str, reply: Reply, words: List[str]) -> None:
     """keepalive STATUS N MS: sends N KEEPALIVEs, MS milliseconds apart."""
-    packet = hid.packets_of(reply.channel, hid.KEEPALIVE, bytes.fromhex(words[0]))[0]
+    packet = hid.fragment_message(reply.channel, hid.KEEPALIVE, bytes.fromhex(words[0]))[0]
     reply.before += [(int(words[2]), packet)] * int(words[1])
 
 
-def stranger(device: ClientDevice, kind: str, reply: Reply, words: List[str]) -> None:
+def add_other_host_message(device: ClientDevice, kind: str, reply: Reply, words: List[str]) -> None:
     """stranger before|between COMMAND HEX: a message for another host before the response, or after its first
     packet."""
     channel = hid.BROADCAST if words[1] == "06" else STRANGER
-    packets = hid.packets_of(channel, int(words[1], 16), bytes.fromhex(words[2]))
+    packets = hid.fragment_message(channel, int(words[1], 16), bytes.fromhex(words[2]))
     if words[0] == "before":
         reply.before += [(0, packet) for packet in packets]
     else:
         reply.packets[1:1] = packets
 
 
-def length(device: ClientDevice, kind: str, reply: Reply, words: List[str]) -> None:
+def set_length(device: ClientDevice, kind: str, reply: Reply, words: List[str]) -> None:
     """length N: sends another length in the header."""
     first = reply.packets[0]
     reply.packets[0] = first[:5] + int(words[0]).to_bytes(2, "big") + first[7:]
 
 
-def sequence(device: ClientDevice, kind: str, reply: Reply, words: List[str]) -> None:
+def set_sequence(device: ClientDevice, kind: str, reply: Reply, words: List[str]) -> None:
     """sequence PACKET N: changes the sequence number of a packet."""
     place = int(words[0])
     reply.packets[place] = reply.packets[place][:4] + bytes([int(words[1])]) + reply.packets[place][5:]
 
 
-def order(device: ClientDevice, kind: str, reply: Reply, words: List[str]) -> None:
+def reorder_packets(device: ClientDevice, kind: str, reply: Reply, words: List[str]) -> None:
     """order N ..: sends only the packets with these indexes, in this order."""
     reply.packets = [reply.packets[int(word)] for word in words]
 
 
-def padding(device: ClientDevice, kind: str, reply: Reply, words: List[str]) -> None:
+def set_padding(device: ClientDevice, kind: str, reply: Reply, words: List[str]) -> None:
     """padding HEX: pads the last packet with a byte instead of zeros."""
     used = len(reply.data) + 7 if len(reply.packets) == 1 else (len(reply.data) - 57 - 1) % 59 + 1 + 5
     reply.packets[-1] = reply.packets[-1][:used].ljust(64, bytes.fromhex(words[0]))
 
 
-MAPS = {"member": set_member, "bad-signature": bad_signature, "cut-auth": cut_auth, "fill": fill}
-BYTES = {"data": data_is, "append": append, "cut": cut, "replace": swap_bytes, "error": error, "command": command}
-BYTES.update({"on": on_channel, "byte": byte, "first": first})
-PACKETS = {"keepalive": keepalive, "stranger": stranger, "length": length, "sequence": sequence, "order": order}
-PACKETS.update({"padding": padding, "until-cancel": until_cancel})
+MAP_RULES = {
+    "member": set_member,
+    "bad-signature": sign_other_data,
+    "cut-auth": truncate_auth_data,
+    "fill": fill_message,
+}
+BYTE_RULES = {
+    "data": set_data,
+    "append": append,
+    "cut": truncate_data,
+    "replace": swap_bytes,
+    "error": respond_with_error,
+    "command": set_command,
+}
+BYTE_RULES.update({"on": set_channel, "byte": byte, "first": set_first_response})
+PACKET_RULES = {
+    "keepalive": add_keepalives,
+    "stranger": add_other_host_message,
+    "length": set_length,
+    "sequence": set_sequence,
+    "order": reorder_packets,
+}
+PACKET_RULES.update({"padding": set_padding, "until-cancel": wait_for_cancel})
 # Rules that ClientDevice applies itself.
-BUILT = ("channel", "tail", "flags", "rp", "id-length", "accounts", "pin", "counter")
+BUILT_IN_RULES = ("channel", "tail", "flags", "rp", "id-length", "accounts", "pin", "counter")

@@ -10,8 +10,8 @@ import subprocess
 import time
 from typing import List, Optional, Tuple
 
-from hidlog_conformance.client_device import BUILT, BYTES, MAPS, PACKETS, ClientDevice, Rules
-from hidlog_conformance.devices import MAX_LINE, InputNotReadError, ended, started, write_to
+from hidlog_conformance.client_device import BUILT_IN_RULES, BYTE_RULES, MAP_RULES, PACKET_RULES, ClientDevice, Rules
+from hidlog_conformance.devices import MAX_LINE, InputNotReadError, end_command, start_command, write_to_command
 from hidlog_conformance.interrupts import wait_for_end
 from hidlog_conformance.paths import CLIENTS
 from hidlog_conformance.outcome import Outcome
@@ -26,14 +26,14 @@ HEADS = ("rule", "requirement", "why", "device", "task", "client", "result", "le
 # Seconds after which a silent client counts as waiting: at the start, and later.
 STARTING, PATIENCE = 30.0, 3.0
 # The last words of clients, and the runner's own verdicts, which no session expects.
-WORDS = ("ok", "refused", "skipped")
-MADE = {"ok": "takes", "refused": "refuses"}
+RESULT_WORDS = ("ok", "refused", "skipped")
+RUNNER_VERDICTS = {"ok": "takes", "refused": "refuses"}
 
 
-def rule_of(line: str, path: str) -> Tuple[str, List[str]]:
+def parse_rule(line: str, path: str) -> Tuple[str, List[str]]:
     """Parses a rule: at KIND NAME WORDS."""
     at, kind, *words = line.split(" ")
-    if at != "at" or not words or words[0] not in {*BUILT, *MAPS, *BYTES, *PACKETS}:
+    if at != "at" or not words or words[0] not in {*BUILT_IN_RULES, *MAP_RULES, *BYTE_RULES, *PACKET_RULES}:
         raise SessionSyntaxError(f"{path}: not a rule: {line}")
     return kind, words
 
@@ -49,7 +49,7 @@ def read_client_session(path: str) -> Tuple[Session, Rules]:
             if line.startswith("# ") and word in HEADS:
                 session.head[word] = rest
             elif line and not line.startswith("#"):
-                kind, words = rule_of(line, path)
+                kind, words = parse_rule(line, path)
                 rules.setdefault(kind, []).append(words)
     lacking = [word for word in ("rule", "requirement", "device", "task", "client") if word not in session.head]
     if lacking or session.head["device"] not in ("conforming", "nonconforming"):
@@ -62,7 +62,7 @@ class Conversation:
 
     def __init__(self, command: str, task: str, rules: Rules, slow: bool, seconds: float = CASE_SECONDS) -> None:
         words = shlex.split(command) + task.split(" ")
-        self.process = started(words, stderr=subprocess.DEVNULL)
+        self.process = start_command(words, stderr=subprocess.DEVNULL)
         self.deadline = time.monotonic() + seconds
         self.device = ClientDevice(rules)
         self.slow = slow
@@ -118,14 +118,14 @@ class Conversation:
             if self.slow:
                 time.sleep(wait / 1000)
             self.log.append("< " + piece.hex())
-            write_to(self.process, piece.hex().encode() + b"\n", self.deadline)
+            write_to_command(self.process, piece.hex().encode() + b"\n", self.deadline)
 
     def run(self) -> str:
         """Plays until the client prints a result."""
         try:
             for _ in range(MAX_PACKETS):
                 line = self.line()
-                if line.split(" ")[0] in (*WORDS, "waits", "hangs:", "ended:", "killed:", "garbage:"):
+                if line.split(" ")[0] in (*RESULT_WORDS, "waits", "hangs:", "ended:", "killed:", "garbage:"):
                     return line
                 if time.monotonic() > self.deadline:
                     return "hangs: it never stops sending"
@@ -141,7 +141,7 @@ class Conversation:
                     return "hangs: it sends packets and reads none"
             return f"hangs: more than {MAX_PACKETS} packets"
         finally:
-            ended(self.process, 0.0)
+            end_command(self.process, 0.0)
 
     def respond(self, packet: bytes) -> None:
         """Responds to a packet; ignores a client that exited."""
@@ -159,7 +159,7 @@ def play_client(command: str, path: str, slow: bool, should: bool = True, second
     if verdict.startswith("killed: "):
         wait_for_end(talk.process.returncode)
     word, allowed = verdict.split(" ")[0], session.head["client"].split(" ")
-    made = MADE.get(word, word.rstrip(":"))
+    made = RUNNER_VERDICTS.get(word, word.rstrip(":"))
     result = session.head.get("result", "")
     log = talk.log + ["# " + verdict]
     if word == "skipped":
@@ -191,7 +191,7 @@ def play_clients(
     return results.close()
 
 
-def keep_logs(folder: str, played: List[Played]) -> None:
+def write_failed_logs(folder: str, played: List[Played]) -> None:
     """Writes the log of each session that failed."""
     for outcome, log in played:
         if outcome.status == "not ok":

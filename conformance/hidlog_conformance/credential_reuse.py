@@ -17,10 +17,10 @@ REGISTRATION, PLAIN = (">", "p", "k", "s"), ["made up"]
 # A case with more registrations needs an authenticator without other credentials.
 MAX_REGISTRATIONS = 6
 # Commands that see all credentials, so that those of other cases would interfere.
-OF_ALL = ("credMgmt", "largeBlobs", "no protection")
+GLOBAL_COMMANDS = ("credMgmt", "largeBlobs", "no protection")
 
 
-def request_of(step: Step) -> bytes:
+def get_cbor_request(step: Step) -> bytes:
     """Returns the CBOR request that a step sends, or empty."""
     collector = hid.Collector(of_host=True)
     messages = [collector.feed(packet) for _, packet in step.packets]
@@ -28,7 +28,7 @@ def request_of(step: Step) -> bytes:
     return last.data if last is not None and not last.problem and last.command == hid.CBOR else b""
 
 
-def parameters(request: bytes) -> Dict[Any, Any]:
+def decode_parameters(request: bytes) -> Dict[Any, Any]:
     """Returns a request's parameters; empty if they are invalid."""
     try:
         found = ctap_cbor.decode(request[1:])
@@ -37,9 +37,9 @@ def parameters(request: bytes) -> Dict[Any, Any]:
     return dict(found) if isinstance(found, dict) else {}
 
 
-def with_rp(request: bytes, front: str) -> bytes:
+def prefix_rp_id(request: bytes, front: str) -> bytes:
     """Returns a request with a prefix added to its RP ID."""
-    asked = parameters(request)
+    asked = decode_parameters(request)
     if request[:1] == bytes([MAKE]) and isinstance(asked.get(2), dict) and isinstance(asked[2].get("id"), str):
         asked[2] = {**asked[2], "id": front + asked[2]["id"]}
     elif request[:1] == bytes([GET]) and isinstance(asked.get(1), str):
@@ -63,10 +63,10 @@ class CredentialReuse:
 
     def front(self, session: Session) -> str:
         """Returns the prefix of RP IDs for a case that runs beside other cases' credentials, or empty."""
-        requests = [request_of(step) for step in session.steps]
+        requests = [get_cbor_request(step) for step in session.steps]
         makes = sum(request[:1] == bytes([MAKE]) for request in requests)
         alone = "reset" not in session.needs or "capacity 64" in session.needs or makes > MAX_REGISTRATIONS or not makes
-        alone = alone or bool(set(OF_ALL) & set(session.uses)) or self.has_pin
+        alone = alone or bool(set(GLOBAL_COMMANDS) & set(session.uses)) or self.has_pin
         if alone or any(request[:1] == bytes([RESET]) or self.sets_pin(request) for request in requests):
             return ""
         self.count += 1
@@ -74,17 +74,17 @@ class CredentialReuse:
 
     def empties(self, session: Session) -> bool:
         """Returns whether a case is only about large blobs, so that an empty array can replace a reset."""
-        commands = {request_of(step)[:1] for step in session.steps}
+        commands = {get_cbor_request(step)[:1] for step in session.steps}
         is_whole = {"largeBlobs", "no protection"} <= set(session.uses) and not self.has_pin
         return is_whole and commands <= {b"", bytes([BLOBS])}
 
     def sets_pin(self, request: bytes) -> bool:
         """Returns whether a request sets or changes a PIN."""
-        return request[:1] == bytes([PIN]) and parameters(request).get(2) in (SET_PIN, CHANGE_PIN)
+        return request[:1] == bytes([PIN]) and decode_parameters(request).get(2) in (SET_PIN, CHANGE_PIN)
 
     def played(self, session: Session) -> None:
         """Records what a case may have left on the device."""
-        requests = [request_of(step) for step in session.steps]
+        requests = [get_cbor_request(step) for step in session.steps]
         self.has_pin = self.has_pin or any(map(self.sets_pin, requests))
         if any(request[:1] == bytes([RESET]) for request in requests):
             self.made = {}
@@ -96,11 +96,11 @@ class CredentialReuse:
         if tuple(step.kind for step in steps) != REGISTRATION or any(step.expects for step in steps[:-1]):
             return b""
         is_about = session.section == "6.1.2" and not session.name.startswith("lists/")
-        rest = [request_of(step)[:1] for step in session.steps[number + 1 :]]
+        rest = [get_cbor_request(step)[:1] for step in session.steps[number + 1 :]]
         is_last = not {bytes([MAKE]), bytes([GET])} & set(rest)
         if steps[-1].expects != PLAIN or "reset" in session.needs or is_about or is_last:
             return b""
-        request = request_of(steps[0])
+        request = get_cbor_request(steps[0])
         return request if request[:1] == bytes([MAKE]) else b""
 
     def credential(self, request: bytes, place: int) -> Optional[Credential]:

@@ -21,7 +21,7 @@ class Raw:
         self.data = data
 
 
-def head(major: int, argument: int) -> bytes:
+def encode_head(major: int, argument: int) -> bytes:
     """Returns the shortest head."""
     if argument < 24:
         return bytes([major << 5 | argument])
@@ -36,15 +36,15 @@ def encode(item: Any) -> bytes:
     if item is None or isinstance(item, bool):
         return {None: b"\xf6", False: b"\xf4", True: b"\xf5"}[item]
     if isinstance(item, int):
-        return head(0, item) if item >= 0 else head(1, -1 - item)
+        return encode_head(0, item) if item >= 0 else encode_head(1, -1 - item)
     if isinstance(item, bytes):
-        return head(2, len(item)) + item
+        return encode_head(2, len(item)) + item
     if isinstance(item, str):
-        return head(3, len(item.encode())) + item.encode()
+        return encode_head(3, len(item.encode())) + item.encode()
     if isinstance(item, list):
-        return head(4, len(item)) + b"".join(encode(part) for part in item)
+        return encode_head(4, len(item)) + b"".join(encode(part) for part in item)
     pairs = sorted((encode(key), encode(value)) for key, value in item.items())
-    return head(5, len(item)) + b"".join(key + value for key, value in pairs)
+    return encode_head(5, len(item)) + b"".join(key + value for key, value in pairs)
 
 
 class Reader:
@@ -137,18 +137,18 @@ def decode(data: bytes) -> Any:
 
 
 @lru_cache(maxsize=16)
-def decoded(data: bytes) -> Any:
+def decode_cached(data: bytes) -> Any:
     """Decodes with a cache; do not modify the result."""
     return decode(data)
 
 
-def shown(item: Any) -> str:
+def to_diagnostic(item: Any) -> str:
     """Returns an item in diagnostic notation."""
     if isinstance(item, bytes):
         return f"h'{item.hex()}'"
     if isinstance(item, list):
-        return "[" + ", ".join(shown(part) for part in item) + "]"
+        return "[" + ", ".join(to_diagnostic(part) for part in item) + "]"
     if isinstance(item, dict):
-        parts: List[str] = [f"{shown(key)}: {shown(value)}" for key, value in item.items()]
+        parts: List[str] = [f"{to_diagnostic(key)}: {to_diagnostic(value)}" for key, value in item.items()]
         return "{" + ", ".join(parts) + "}"
     return repr(item) if not isinstance(item, str) else f'"{item}"'

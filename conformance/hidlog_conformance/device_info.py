@@ -24,7 +24,7 @@ def ask(
 ) -> Optional[hid.Message]:
     """Sends a message and returns the response; ignores KEEPALIVEs and packets on other channels. With `until_asked`,
     also returns a KEEPALIVE that asks for user presence."""
-    for packet in hid.packets_of(channel, command, data):
+    for packet in hid.fragment_message(channel, command, data):
         device.send(0, packet)
     return read_message(device, channel, data if command == hid.INIT else b"", seconds, until_asked)
 
@@ -48,7 +48,7 @@ def read_message(
         end = time.monotonic() + seconds
 
 
-def greet(device: Device, seconds: float = ANSWER) -> bytes:
+def send_init(device: Device, seconds: float = ANSWER) -> bytes:
     """Sends INIT on the broadcast channel; returns the response's data."""
     device.start()
     answer = ask(device, hid.BROADCAST, hid.INIT, NONCE, seconds)
@@ -63,7 +63,7 @@ def greet(device: Device, seconds: float = ANSWER) -> bytes:
 def reset(device: Device) -> Optional[hid.Message]:
     """Sends authenticatorReset, asks for a touch, and returns the response. Waits longer for INIT, since the device may
     be starting."""
-    channel = int.from_bytes(greet(device, LAST)[8:12], "big")
+    channel = int.from_bytes(send_init(device, LAST)[8:12], "big")
     answer = ask(device, channel, hid.CBOR, bytes([answers.RESET]), until_asked=True)
     if answer is not None and answer.command == hid.KEEPALIVE:
         device.presence(0, "granted")
@@ -93,7 +93,7 @@ def empty_blobs(device: Device) -> bool:
     """Writes an empty large-blob array; returns whether the device accepted it."""
     array = b"\x80" + hashlib.sha256(b"\x80").digest()[:16]
     try:
-        channel = int.from_bytes(greet(device)[8:12], "big")
+        channel = int.from_bytes(send_init(device)[8:12], "big")
         request = ctap_cbor.encode({2: array, 3: 0, 4: len(array)})
         answer = ask(device, channel, hid.CBOR, bytes([answers.BLOBS]) + request)
         return answer is not None and answer.data == b"\0"
@@ -101,7 +101,7 @@ def empty_blobs(device: Device) -> bool:
         device.close()
 
 
-def requests_of(session: Session) -> List[bytes]:
+def list_requests(session: Session) -> List[bytes]:
     """Returns the registrations and sign-ins that a session sends."""
     collector = hid.Collector(of_host=True)
     messages = [collector.feed(packet) for step in session.steps for _, packet in step.packets]
@@ -109,7 +109,7 @@ def requests_of(session: Session) -> List[bytes]:
     return [one.data for one in whole if one.command == hid.CBOR and one.data[:1] in (b"\1", b"\2")]
 
 
-def parameters(request: bytes) -> Dict[Any, Any]:
+def decode_parameters(request: bytes) -> Dict[Any, Any]:
     """Returns a request's parameters; empty if they are not a map."""
     try:
         found = ctap_cbor.decode(request[1:])
@@ -135,7 +135,7 @@ class DeviceInfo:
         """Sends INIT, authenticatorGetInfo, and authenticatorSelection."""
         device_info = DeviceInfo(display=display)
         try:
-            device_info.greeting = greet(device, STARTING)
+            device_info.greeting = send_init(device, STARTING)
             device_info.capabilities = device_info.greeting[16]
             channel = int.from_bytes(device_info.greeting[8:12], "big")
             device_info.read_info(ask(device, channel, hid.CBOR, bytes([answers.INFO])))
@@ -187,7 +187,7 @@ class DeviceInfo:
     @property
     def old(self) -> bool:
         """Returns whether the device supports FIDO_2_0 and no later version, so that CTAP 2.0 applies."""
-        return bool(self.versions) and answers.is_old(self.versions)
+        return bool(self.versions) and answers.is_before_ctap_2_1(self.versions)
 
     @property
     def min_pin_length(self) -> int:
@@ -253,8 +253,8 @@ class DeviceInfo:
 
     def unsuited(self, session: Session) -> str:
         """Returns what in a session this device may refuse by the standard, or an empty string."""
-        for request in requests_of(session):
-            asked = parameters(request)
+        for request in list_requests(session):
+            asked = decode_parameters(request)
             reason = self.too_long(asked.get(5 if request[0] == 1 else 3)) or self.wants_user(
                 request[0], asked, session
             )
@@ -292,7 +292,7 @@ class DeviceInfo:
         """Returns why a case is skipped, or an empty string."""
         for use in session.uses:
             if not self.has(use):
-                return f"the device does not support: {use} ({self.unread or 'getInfo: ' + ctap_cbor.shown(self.info)})"
+                return f"the device does not support: {use} ({self.unread or 'getInfo: ' + ctap_cbor.to_diagnostic(self.info)})"
         reason = self.unsuited(session)
         if reason:
             return reason

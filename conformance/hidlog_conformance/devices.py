@@ -36,7 +36,7 @@ READING = 10.0
 RUNNING: Set["subprocess.Popen[Any]"] = set()
 
 
-def started(words: List[str], **more: Any) -> "subprocess.Popen[Any]":
+def start_command(words: List[str], **more: Any) -> "subprocess.Popen[Any]":
     """Starts a command with pipes, in a session of its own: Ctrl-C reaches the runner alone."""
     pipe = subprocess.PIPE
     process = subprocess.Popen(words, stdin=pipe, stdout=pipe, start_new_session=True, **more)
@@ -58,7 +58,7 @@ def kill_running() -> None:
         kill(process)
 
 
-def ended(process: "subprocess.Popen[Any]", seconds: float = 2.0) -> None:
+def end_command(process: "subprocess.Popen[Any]", seconds: float = 2.0) -> None:
     """Ends a command and its children: closes its input, then kills its process group."""
     try:
         if process.stdin is not None:
@@ -76,7 +76,7 @@ def ended(process: "subprocess.Popen[Any]", seconds: float = 2.0) -> None:
         process.stdout.close()
 
 
-def write_to(process: "subprocess.Popen[bytes]", data: bytes, deadline: float) -> None:
+def write_to_command(process: "subprocess.Popen[bytes]", data: bytes, deadline: float) -> None:
     """Writes to a command's input until the deadline."""
     assert process.stdin is not None
     place = process.stdin.fileno()
@@ -181,7 +181,7 @@ class LiveDevice(Device):
             self.room = self.room or tempfile.TemporaryDirectory()
             state = os.path.join(self.room.name, "state")
             words += ["--save", state] + (["--load", state] if load else [])
-        self.process = started(words, text=True, bufsize=-1)
+        self.process = start_command(words, text=True, bufsize=-1)
 
     def power_cycle(self, at: int) -> None:
         """Restarts the program with its credentials; its clock starts at 0."""
@@ -400,13 +400,13 @@ class PipeDevice(RealTimeDevice):
     def start(self) -> None:
         """Starts the command."""
         super().start()
-        self.process = started(self.command)
+        self.process = start_command(self.command)
         self.rest = b""
 
     def close(self) -> None:
         """Closes the command's input and waits until it exits."""
         if self.process is not None:
-            ended(self.process)
+            end_command(self.process)
             self.status = self.process.returncode
             self.process = None
 
@@ -425,7 +425,7 @@ class PipeDevice(RealTimeDevice):
         """Writes a line to the command."""
         assert self.process is not None and self.process.stdin is not None
         try:
-            write_to(self.process, line + b"\n", time.monotonic() + READING)
+            write_to_command(self.process, line + b"\n", time.monotonic() + READING)
         except BrokenPipeError:
             raise OSError("the command exited") from None
 

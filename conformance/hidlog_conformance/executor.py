@@ -10,11 +10,11 @@ from functools import partial
 from typing import Any, Callable, Iterable, Iterator, List, Sequence
 
 SCHEME = "dask://"
-BLOCK = 16
+BATCH_SIZE = 16
 SECONDS = 10
 
 
-def address_of(executor: str) -> str:
+def parse_address(executor: str) -> str:
     """Returns HOST:PORT of the option's value."""
     address = executor[len(SCHEME) :]
     if not executor.startswith(SCHEME) or ":" not in address:
@@ -22,9 +22,9 @@ def address_of(executor: str) -> str:
     return address
 
 
-def client_of(executor: str, folders: Sequence[str]) -> Any:
+def connect(executor: str, folders: Sequence[str]) -> Any:
     """Returns a client of the scheduler whose workers also import modules from `folders`."""
-    address = address_of(executor)
+    address = parse_address(executor)
     try:
         from distributed import Client
     except ImportError:
@@ -46,7 +46,7 @@ def play_block(play: Callable[[Any], Any], block: List[Any]) -> List[Any]:
 def results(executor: str, folders: Sequence[str], play: Callable[[Any], Any], tasks: Iterable[Any]) -> Iterator[Any]:
     """Yields the result of each task, in order."""
     listed = list(tasks)
-    with client_of(executor, folders) as client:
-        blocks = [listed[at : at + BLOCK] for at in range(0, len(listed), BLOCK)]
+    with connect(executor, folders) as client:
+        blocks = [listed[at : at + BATCH_SIZE] for at in range(0, len(listed), BATCH_SIZE)]
         for future in client.map(partial(play_block, play), blocks, pure=False):
             yield from future.result()

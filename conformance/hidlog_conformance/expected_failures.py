@@ -10,7 +10,7 @@ from hidlog_conformance.paths import DATA
 from hidlog_conformance.outcome import FAILED, Outcome
 
 
-def failing(path: str) -> Dict[str, str]:
+def parse_list(path: str) -> Dict[str, str]:
     """Parses a list of expected failures (names, below a line `# REASON`); returns the reason by name."""
     found: Dict[str, str] = {}
     reason = ""
@@ -25,16 +25,16 @@ def failing(path: str) -> Dict[str, str]:
     return found
 
 
-def known(path: str) -> Dict[str, str]:
+def read_list(path: str) -> Dict[str, str]:
     """Returns the expected failures of a list in conformance/, with their reasons."""
-    return failing(os.path.join(DATA, path))
+    return parse_list(os.path.join(DATA, path))
 
 
-def compare(path: str, outcomes: List[Outcome]) -> bool:
+def compare_failures(path: str, outcomes: List[Outcome]) -> bool:
     """Prints the totals, and returns whether exactly the listed cases failed."""
     failed = {outcome.session.name for outcome in outcomes if outcome.status in FAILED}
-    expected = set(known(path))
+    expected = set(read_list(path))
     for name in sorted(failed ^ expected):
         print(f"{name} {'fails' if name in failed else 'passes'}, unlike in conformance/{path}")
-    print(f"{report.totals(outcomes)}; {len(expected)} expected failures in conformance/{path}")
+    print(f"{report.format_totals(outcomes)}; {len(expected)} expected failures in conformance/{path}")
     return failed == expected

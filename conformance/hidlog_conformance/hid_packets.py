@@ -14,7 +14,7 @@ NAMES.update({KEEPALIVE: "KEEPALIVE", ERROR: "ERROR"})
 LONGEST = 7609
 
 
-def packets_of(channel: int, command: int, data: bytes, length: Optional[int] = None) -> List[bytes]:
+def fragment_message(channel: int, command: int, data: bytes, length: Optional[int] = None) -> List[bytes]:
     """Returns the packets of a message; `length` replaces the length in its header."""
     front = channel.to_bytes(4, "big")
     named = len(data) if length is None else length

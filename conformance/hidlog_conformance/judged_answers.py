@@ -11,13 +11,13 @@ from hidlog_conformance.judged_log import KEY, MUST, SHOULD, Recording, seen
 from hidlog_conformance.judged_parts import (
     OTHERWISE,
     ExtensionMismatch,
-    Kept,
-    KeptCredentials,
+    KnownCredential,
+    KnownCredentials,
     Pending,
     Pins,
     UncertainMismatch,
     check_extension_outputs,
-    made_id,
+    read_credential_id,
 )
 from hidlog_conformance.judged_statuses import NOT_ALLOWED, StatusJudge
 from hidlog_conformance.judged_stored import (
@@ -30,17 +30,17 @@ from hidlog_conformance.judged_stored import (
     StoredJudge,
     named_credential_id,
 )
-from hidlog_conformance.requests import PIN, fault_of, parameters_of
+from hidlog_conformance.requests import PIN, find_fault, decode_parameters
 from hidlog_conformance.transactions import Entry, Transaction
 
 # Milliseconds within which no credential is deleted outside the log (on the key, or through NFC).
-DELETED_WITHIN = 1000
+MIN_DELETION_MS = 1000
 EXPECTED = {MAKE: "made", GET: "asserted", NEXT: "asserted", INFO: "info"}
 
 
 def describe_error(fault: Exception) -> str:
     """Describes a response with an unexpected structure."""
-    return f"no member {ctap_cbor.shown(fault.args[0])}" if isinstance(fault, KeyError) else "another structure"
+    return f"no member {ctap_cbor.to_diagnostic(fault.args[0])}" if isinstance(fault, KeyError) else "another structure"
 
 
 class AnswerJudge:
@@ -51,7 +51,7 @@ class AnswerJudge:
         # CTAP 2.0 applies until getInfo names 2.1.
         self.facts = DeviceFacts(old=True)
         self.info: Dict[Any, Any] = {}
-        self.kept = KeptCredentials()
+        self.kept = KnownCredentials()
         self.forgotten: Set[bytes] = set()
         self.replaced: Set[bytes] = set()
         # Credentials from before the log, with their last counters.
@@ -95,13 +95,13 @@ class AnswerJudge:
         if transaction.command != hid.CBOR or not transaction.data or self.recording.is_cut(transaction):
             return
         request = transaction.data
-        asked = parameters_of(request) or {}
+        asked = decode_parameters(request) or {}
         if request[0] == RESET:
-            self.kept, self.strangers = KeptCredentials(), {}
+            self.kept, self.strangers = KnownCredentials(), {}
             self.passed(transaction)
         elif request[0] in (MAKE, PIN, MANAGE, PREVIEW, BLOBS):
             self.passed(transaction)
-            if request[0] == MAKE and fault_of(request) is None:
+            if request[0] == MAKE and find_fault(request) is None:
                 self.forget_account(asked[2]["id"], asked[3]["id"])
             elif request[0] in (MANAGE, PREVIEW) and asked.get(1) in (DELETE, UPDATE):
                 self.kept.remove(named_credential_id(asked))
@@ -119,15 +119,15 @@ class AnswerJudge:
         if request[1:2] == b"\1" and data[-2:] == b"\x90\x00":
             self.is_complete = False
 
-    def is_fresh(self, kept: Kept, transaction: Transaction) -> bool:
+    def is_fresh(self, kept: KnownCredential, transaction: Transaction) -> bool:
         """Returns whether the key showed the credential so recently that it cannot have been deleted since."""
-        return not self.recording.has_no_timestamps and transaction.last - kept.shown < DELETED_WITHIN
+        return not self.recording.has_no_timestamps and transaction.last - kept.shown < MIN_DELETION_MS
 
     def user_needed(self, entry: Entry, transaction: Transaction) -> None:
         """Checks that no touch is requested for a request that must fail first or needs no user presence."""
         if not transaction.data:
             return
-        fault = fault_of(transaction.data)
+        fault = find_fault(transaction.data)
         section = rules.COMMANDS.get(transaction.data[0], rules.COMMANDS_OTHER)
         actual = "a touch is requested"
         if fault is not None and not fault.should:
@@ -135,7 +135,7 @@ class AnswerJudge:
             expected = f"an error, since {fault.expected} is required"
             self.recording.find(entry.line, KEY, fault.section or section, expected, actual, level)
             return
-        asked = parameters_of(transaction.data) or {}
+        asked = decode_parameters(transaction.data) or {}
         options = asked.get(7 if transaction.data[0] == MAKE else 5, {})
         wrong = (
             self.statuses.wrong_option(transaction.data[0], asked, options)
@@ -171,7 +171,7 @@ class AnswerJudge:
         except ExtensionMismatch as differs:
             self.recording.find(entry.line, KEY, differs.section, differs.expected, differs.actual)
         except Mismatch as differs:
-            fault = fault_of(request)
+            fault = find_fault(request)
             is_should = isinstance(differs, UncertainMismatch) or (fault is not None and fault.section == "8")
             level = SHOULD if is_should else MUST
             self.recording.judged(self.seen(transaction, expected, message), entry.line, differs, level)
@@ -193,7 +193,7 @@ class AnswerJudge:
 
     def take_preview(self, request: bytes, data: bytes) -> None:
         """Processes a response to authenticatorCredentialManagementPreview: deletions and changes."""
-        asked = parameters_of(request)
+        asked = decode_parameters(request)
         if asked is None or data[0] != 0 or asked.get(1) not in (DELETE, UPDATE):
             return
         if asked[1] == DELETE:
@@ -202,7 +202,7 @@ class AnswerJudge:
 
     def seen(self, transaction: Transaction, expected: str, message: hid.Message) -> rules.Seen:
         """Returns the arguments of `rules.broken`; the section is the command's if the request has no error."""
-        fault = fault_of(transaction.data)
+        fault = find_fault(transaction.data)
         own = fault.section if fault is not None and fault.section else ""
         if self.passed_over:
             own, self.passed_over = "8", ""
@@ -215,23 +215,25 @@ class AnswerJudge:
         self.facts.aaguid = item[3]
         self.facts.algorithms = [one["alg"] for one in item.get(10, [])]
         self.pins.check_info(item)
-        self.facts.old = answers.is_old(item[1])
+        self.facts.old = answers.is_before_ctap_2_1(item[1])
 
     def check_made(self, transaction: Transaction, data: bytes) -> None:
         """Checks a registration, and keeps its credential."""
         request = transaction.data
         words = ["up"] + (["no-uv"] if self.has_no_verification(request) else [])
-        if answers.parameters(request).get(8):
+        if answers.decode_parameters(request).get(8):
             words.append("uv")
-        made = answers.check_make_credential_response(data, request, words, self.kept.near(made_id(data)), self.facts)
+        made = answers.check_make_credential_response(
+            data, request, words, self.kept.near(read_credential_id(data)), self.facts
+        )
         check(ctap_cbor.encode(made.cose) not in self.kept.by_key, "a new key pair", made.cose)
-        asked = answers.parameters(request)
+        asked = answers.decode_parameters(request)
         check_extension_outputs(MAKE, data, asked, self.info, {})
         self.replace(made, asked)
         if self.recording.has_lost:
             self.is_complete = False
         extensions = {name: value for name, value in asked.get(6, {}).items()}
-        kept = Kept(made, bool(asked.get(7, {}).get("rk")), extensions)
+        kept = KnownCredential(made, bool(asked.get(7, {}).get("rk")), extensions)
         kept.shown = transaction.last
         self.kept.add(kept)
         self.stored.check_key(data, self.served(extensions), made.id, 5, True)
@@ -251,7 +253,7 @@ class AnswerJudge:
 
     def has_no_verification(self, request: bytes) -> bool:
         """Returns whether the key cannot have verified the user: it has no built-in method, and no PIN was used."""
-        asked = answers.parameters(request)
+        asked = answers.decode_parameters(request)
         return bool(self.info) and not self.info.get(4, {}).get("uv") and not {8, 6} & set(asked)
 
     def check_asserted(self, transaction: Transaction, data: bytes) -> None:
@@ -260,7 +262,7 @@ class AnswerJudge:
         request = self.pending.request if follows and self.pending else transaction.data
         if not request or request[0] != GET:
             return
-        asked = answers.parameters(request)
+        asked = answers.decode_parameters(request)
         item = answers.decode_map(data)
         words = self.words_of(asked, item, follows)
         identity = self.identity(asked, item)
@@ -336,11 +338,11 @@ class AnswerJudge:
 
     def check_account(self, transaction: Transaction, item: Dict[Any, Any], follows: bool, identity: bytes) -> None:
         """Checks the user and the number of accounts, if the log shows them."""
-        asked = parameters_of(transaction.data) or {}
+        asked = decode_parameters(transaction.data) or {}
         if item.get(5) == 1:
             # CTAP 2.0 requires it with several accounts, and does not define it with one.
             kind = UncertainMismatch if self.facts.old else Mismatch
-            raise kind("no numberOfCredentials of 1", ctap_cbor.shown(item))
+            raise kind("no numberOfCredentials of 1", ctap_cbor.to_diagnostic(item))
         if follows or asked.get(3):
             return
         mine, kept = self.statuses.candidates(asked), self.kept.get(identity)
@@ -374,16 +376,16 @@ class AnswerJudge:
         if command == RESET and status == 0:
             self.forgotten.update(list(self.kept.by_id))
             # CTAP 2.0 does not say that a reset deletes U2F credentials.
-            self.kept, self.is_complete = KeptCredentials(), not self.facts.old and not self.recording.has_lost
+            self.kept, self.is_complete = KnownCredentials(), not self.facts.old and not self.recording.has_lost
             self.pins, self.pending = Pins(is_set=False), Pending(b"", 0, entry.at)
             self.stored.reset()
         elif command == GET and status == 0:
-            item = parameters_of(data) or {}
+            item = decode_parameters(data) or {}
             number, auth = item.get(5), item.get(2)
             self.no_display = self.no_display or (isinstance(number, int) and number > 1)
             left = number - 1 if isinstance(number, int) else 0
             flags = auth[32] if isinstance(auth, bytes) and len(auth) > 32 else 0
-            signed = [self.identity(parameters_of(transaction.data) or {}, item)]
+            signed = [self.identity(decode_parameters(transaction.data) or {}, item)]
             self.pending = Pending(transaction.data, left, entry.at, transaction.channel, True, signed, flags)
         elif command == NEXT and status == 0 and self.pending is not None:
             self.pending.left, self.pending.at = self.pending.left - 1, entry.at

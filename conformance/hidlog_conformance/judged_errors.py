@@ -121,7 +121,7 @@ class ErrorJudge:
         if transaction.command in (hid.PING, hid.INIT, hid.CBOR) and not (self.key.is_first and code == BUSY):
             expected = {hid.PING: "echo", hid.INIT: "init", hid.CBOR: "status"}[transaction.command]
             actual = hid.Message(transaction.channel, hid.ERROR, bytes([code]))
-            section = rules.broken(seen(transaction, expected, actual))
+            section = rules.find_violated_section(seen(transaction, expected, actual))
             self.key.find(entry.line, section, "a response", f"ERROR {code:02x}")
 
     def check_capability(self, transaction: Transaction, code: Optional[int]) -> None:

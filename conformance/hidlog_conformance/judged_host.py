@@ -8,7 +8,7 @@ from hidlog_conformance import hid_packets as hid
 from hidlog_conformance import rules
 from hidlog_conformance.judged_log import HOST, MUST, SHOULD, Recording, section_of
 from hidlog_conformance.quantity import quantity
-from hidlog_conformance.requests import fault_of
+from hidlog_conformance.requests import find_fault
 from hidlog_conformance.transactions import Entry, Transaction
 
 INVALID_CHANNEL = 0x0B
@@ -147,7 +147,7 @@ class HostJudge:
         if any(transaction.padding):
             self.find(entry.line, rules.PACKETS, "zeros as padding", "other bytes", SHOULD)
         if transaction.command == hid.CBOR and transaction.data:
-            fault = fault_of(transaction.data)
+            fault = find_fault(transaction.data)
             if fault is not None:
                 section = fault.section or section_of(transaction)
                 self.find(transaction.line, section, fault.expected, fault.actual, SHOULD if fault.should else MUST)

@@ -11,15 +11,15 @@ from hidlog_conformance.init_response import CBOR, is_valid_keepalive, check_ini
 from hidlog_conformance.judged_answers import AnswerJudge
 from hidlog_conformance.judged_errors import SERVED, ErrorJudge
 from hidlog_conformance.judged_parts import check_u2f
-from hidlog_conformance.judged_log import KEY, MUST, SHOULD, SILENCE, Recording, message_of, seen
-from hidlog_conformance.judged_statuses import JITTER
+from hidlog_conformance.judged_log import KEY, MUST, SHOULD, SILENCE_MS, Recording, message_of, seen
+from hidlog_conformance.judged_statuses import JITTER_MS
 from hidlog_conformance.quantity import quantity
 from hidlog_conformance.transactions import CANCELLED, NO_TIME_OUT, Entry, Transaction
 
 # Milliseconds after which an incomplete message should have timed out.
-PATIENCE = 3000
+MESSAGE_TIMEOUT_MS = 3000
 # The least milliseconds between unplugging a key and its next packet: the debounce interval (USB 2.0, 7.1.7.3).
-AWAY = 100
+MIN_UNPLUGGED_MS = 100
 # The maximum of unfinished transactions, and of unfinished messages of the key, that are tracked; the oldest is
 # dropped. A device has one at a time.
 MAX_OPEN = 64
@@ -195,7 +195,7 @@ class KeyJudge:
         """Checks that a cancelled request ends."""
         if transaction.cancelled is None or self.recording.was_unread(entry.line):
             return
-        if entry.at - transaction.cancelled_at >= SILENCE and transaction.cancelled < entry.line:
+        if entry.at - transaction.cancelled_at >= SILENCE_MS and transaction.cancelled < entry.line:
             self.find(entry.line, rules.CANCEL, "status 2d, since CANCEL came", "KEEPALIVEs go on")
 
     def is_late_start(self, entry: Entry) -> bool:
@@ -226,7 +226,7 @@ class KeyJudge:
     def check_gap(self, entry: Entry, transaction: Transaction) -> None:
         """Checks that a message whose packets came too slowly timed out."""
         gaps = [after - before for before, after in zip(transaction.times, transaction.times[1:])]
-        if gaps and max(gaps) >= PATIENCE:
+        if gaps and max(gaps) >= MESSAGE_TIMEOUT_MS:
             self.find(entry.line, rules.TIMEOUT, "error 05, since the message timed out", "a response", SHOULD)
 
     def is_waiting(self, item: Transaction, other: Transaction, entry: Entry) -> bool:
@@ -310,7 +310,7 @@ class KeyJudge:
                     self.answers.take_u2f(transaction.data, message.data)
             elif message.command == hid.LOCK and len(transaction.data) == 1:
                 seconds = transaction.data[0]
-                self.locked = (transaction.channel if seconds else 0, entry.at + 1000 * seconds + JITTER)
+                self.locked = (transaction.channel if seconds else 0, entry.at + 1000 * seconds + JITTER_MS)
         except Mismatch as differs:
             expected = {hid.INIT: "init", hid.MSG: "message"}.get(message.command, "echo")
             self.recording.judged(seen(transaction, expected, message), entry.line, differs)
@@ -332,7 +332,7 @@ class KeyJudge:
     def check_restart(self, entry: Entry, channel: int) -> None:
         """Assumes that the key was plugged in again before it allocated a channel, if it was silent for long enough;
         certain if the channel was allocated before."""
-        away = self.recording.has_no_timestamps or self.sent_at is None or entry.at - self.sent_at >= AWAY
+        away = self.recording.has_no_timestamps or self.sent_at is None or entry.at - self.sent_at >= MIN_UNPLUGGED_MS
         if away and channel in self.allocated:
             self.forget()
             self.answers.restart(entry.at, True)
@@ -387,14 +387,14 @@ class KeyJudge:
             if is_due and self.is_silent(owner, now, line):
                 self.missed.add(owner.line)
                 self.missing(owner)
-            elif not is_due and owner.by is None and now - owner.last >= PATIENCE:
+            elif not is_due and owner.by is None and now - owner.last >= MESSAGE_TIMEOUT_MS:
                 self.missed.add(owner.line)
                 self.find(owner.lines[-1], rules.TIMEOUT, "error 05, since the message timed out", "nothing", SHOULD)
 
     def check_parts(self, now: int, line: int) -> None:
         """Finds messages of the key that are incomplete at a time."""
         for channel, entry in list(self.parts.items()):
-            if now - entry.at >= SILENCE and not self.recording.was_unread(line):
+            if now - entry.at >= SILENCE_MS and not self.recording.was_unread(line):
                 part = self.guest.open.get(channel)
                 left = part.length - len(part.data) if part is not None else 0
                 expected = f"the other {quantity(left, 'byte')} of the message"
@@ -404,12 +404,12 @@ class KeyJudge:
 
     def is_silent(self, owner: Transaction, now: int, line: int) -> bool:
         """Returns whether a complete message got no response for a while."""
-        if now - owner.last < SILENCE or owner.end == "replaced" or owner.is_unknown:
+        if now - owner.last < SILENCE_MS or owner.end == "replaced" or owner.is_unknown:
             return False
         if (owner.by is not None and owner.by < line) or self.recording.was_unread(line):
             return False
         last = self.last_keepalive.get(owner.line, owner.last)
-        return now - last >= SILENCE
+        return now - last >= SILENCE_MS
 
     def missing(self, owner: Transaction) -> None:
         """Adds a finding about a missing response."""
@@ -455,7 +455,7 @@ class KeyJudge:
         """Checks that the key responded to packets with a wrong sequence number, at its next packet or the log's
         end."""
         for wrong in self.wrong:
-            owner, late = wrong.transaction, self.recording.walk.now - wrong.at >= SILENCE
+            owner, late = wrong.transaction, self.recording.walk.now - wrong.at >= SILENCE_MS
             if owner is None or (entry is None and not late):
                 continue
             if owner.code != 0x04 and owner.end not in ("refused", "timed out") and not owner.is_unknown:

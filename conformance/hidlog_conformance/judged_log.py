@@ -25,7 +25,7 @@ TITLES = {title.split(" ")[0]: "CTAP 2.1, " + title for title in SECTIONS.values
 KEY, HOST = "key", "host"
 MUST, SHOULD = "must", "should"
 # Milliseconds of silence after which a response, or the rest of one, is missing; ten KEEPALIVEs would have come.
-SILENCE = 1000
+SILENCE_MS = 1000
 POWER_CYCLE = b"# power cycle"
 # Recorders' notes about missing packets; logs of version 1.0 have "it was passed over".
 LOST = (b"the recorder lost ", b"it was passed over", b"skipped a", b": skipped", b"is left out: ")
@@ -156,7 +156,15 @@ class Recording:
     def judged(self, seen: rules.Seen, line: int, differs: Mismatch, level: str = MUST) -> None:
         """Adds a finding for a `Mismatch`, under the rule that the runner would name."""
         encoding = "canonical CBOR" in differs.expected or differs.expected == "a map"
-        self.find(line, KEY, rules.broken(seen), differs.expected, differs.actual, level, "8" if encoding else "")
+        self.find(
+            line,
+            KEY,
+            rules.find_violated_section(seen),
+            differs.expected,
+            differs.actual,
+            level,
+            "8" if encoding else "",
+        )
 
     def was_unread(self, line: int) -> bool:
         """Returns whether packets at a line may be late, because no program read from the key before."""
@@ -216,7 +224,7 @@ def judge(log: bytes, walk: Callable[[bytes], bytes]) -> Recording:
     recording = Recording()
     host, key = HostJudge(recording), KeyJudge(recording)
     number = 0
-    for part in powered(log):
+    for part in split_at_power_cycles(log):
         owners, lines = Owners(walk(walked(part)), number), Lines(part)
         block = lines.block()
         while block:
@@ -239,7 +247,7 @@ def check_entries(recording: Recording, host: "HostJudge", key: "KeyJudge") -> N
         key.take(entry)
 
 
-def powered(log: bytes) -> List[bytes]:
+def split_at_power_cycles(log: bytes) -> List[bytes]:
     """Splits a log at its power cycles; each part but the first begins with the comment."""
     if POWER_CYCLE not in log:
         return [log]
@@ -251,6 +259,6 @@ def powered(log: bytes) -> List[bytes]:
     return [b"\n".join(part) for part in parts]
 
 
-def counts(findings: List[Finding]) -> Dict[str, int]:
+def count_violations(findings: List[Finding]) -> Dict[str, int]:
     """Returns the number of MUST and SHOULD violations."""
     return {level: sum(finding.level == level for finding in findings) for level in (MUST, SHOULD)}

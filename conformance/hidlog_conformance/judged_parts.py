@@ -8,7 +8,7 @@ from typing import Any, Dict, List, Optional
 from hidlog_conformance import answers, ctap_cbor
 from hidlog_conformance.answers import ED, MAKE, MAX_RETRIES, Credential, Mismatch, check
 from hidlog_conformance.quantity import quantity
-from hidlog_conformance.requests import parameters_of
+from hidlog_conformance.requests import decode_parameters
 
 PROTECT, BLOB, SECRET = "credProtect", "credBlob", "hmac-secret"
 GET_RETRIES, GET_AGREEMENT, SET_PIN, CHANGE_PIN, GET_TOKEN, TOKENS = 1, 2, 3, 4, 5, (5, 6, 9)
@@ -35,7 +35,7 @@ class Pending:
 
 
 @dataclass
-class Kept:
+class KnownCredential:
     """What the log shows about a credential."""
 
     credential: Credential
@@ -47,24 +47,24 @@ class Kept:
     shown: int = 0
 
 
-class KeptCredentials:
+class KnownCredentials:
     """The credentials in a log, with indexes by ID, RP and public key."""
 
     def __init__(self) -> None:
-        self.by_id: Dict[bytes, Kept] = {}
+        self.by_id: Dict[bytes, KnownCredential] = {}
         # By RP and ID: discoverable credentials, and those with extensions.
-        self.discoverable: Dict[str, Dict[bytes, Kept]] = {}
-        self.extended: Dict[str, Dict[bytes, Kept]] = {}
+        self.discoverable: Dict[str, Dict[bytes, KnownCredential]] = {}
+        self.extended: Dict[str, Dict[bytes, KnownCredential]] = {}
         # By the ID without its last eight bytes, as a number; and by public key.
-        self.by_front: Dict[int, Dict[bytes, Kept]] = {}
-        self.by_key: Dict[bytes, Kept] = {}
+        self.by_front: Dict[int, Dict[bytes, KnownCredential]] = {}
+        self.by_key: Dict[bytes, KnownCredential] = {}
 
-    def add(self, kept: Kept) -> None:
+    def add(self, kept: KnownCredential) -> None:
         """Adds a credential."""
         credential = kept.credential
         self.by_id[credential.id] = kept
         self.by_key[ctap_cbor.encode(credential.cose)] = kept
-        self.by_front.setdefault(front_of(credential.id), {})[credential.id] = kept
+        self.by_front.setdefault(id_prefix(credential.id), {})[credential.id] = kept
         if kept.discoverable:
             self.discoverable.setdefault(credential.rp, {})[credential.id] = kept
         if kept.extensions:
@@ -76,17 +76,17 @@ class KeptCredentials:
         if kept is None:
             return
         self.by_key.pop(ctap_cbor.encode(kept.credential.cose), None)
-        self.by_front[front_of(identity)].pop(identity, None)
+        self.by_front[id_prefix(identity)].pop(identity, None)
         self.discoverable.get(kept.credential.rp, {}).pop(identity, None)
         self.extended.get(kept.credential.rp, {}).pop(identity, None)
 
-    def get(self, identity: Any) -> Optional[Kept]:
+    def get(self, identity: Any) -> Optional[KnownCredential]:
         """Returns the credential with an ID, or None."""
         return self.by_id.get(identity)
 
     def near(self, identity: bytes) -> Dict[bytes, Credential]:
         """Returns the credentials whose ID equals this one or is numerically close, by ID."""
-        front = front_of(identity)
+        front = id_prefix(identity)
         found = [*self.by_front.get(front - 1, {}).values(), *self.by_front.get(front, {}).values()]
         found += self.by_front.get(front + 1, {}).values()
         return {one.credential.id: one.credential for one in found}
@@ -96,14 +96,14 @@ class KeptCredentials:
         return [one.credential for of_rp in self.discoverable.values() for one in of_rp.values()]
 
 
-def front_of(identity: bytes) -> int:
+def id_prefix(identity: bytes) -> int:
     """Returns an ID without its last eight bytes as a number."""
     return int.from_bytes(identity[: max(0, len(identity) - 8)], "big")
 
 
-def made_id(data: bytes) -> bytes:
+def read_credential_id(data: bytes) -> bytes:
     """Returns the credential ID in a registration's response; empty if it is invalid."""
-    auth = (parameters_of(data) or {}).get(2)
+    auth = (decode_parameters(data) or {}).get(2)
     if not isinstance(auth, bytes) or len(auth) <= 55:
         return b""
     return auth[55 : 55 + int.from_bytes(auth[53:55], "big")]
@@ -121,18 +121,18 @@ class UncertainMismatch(Mismatch):
     """A difference that something outside the log may explain: a SHOULD violation."""
 
 
-def retries(count: Optional[int]) -> str:
+def describe_retries(count: Optional[int]) -> str:
     """Describes a number of retries; unknown counts as none."""
     return quantity(count or 0, "retry", "retries")
 
 
-def outputs_of(auth: bytes) -> Dict[Any, Any]:
+def decode_outputs(auth: bytes) -> Dict[Any, Any]:
     """Returns the extension outputs in authenticator data; empty if they are invalid."""
     if len(auth) < 37 or not auth[32] & ED:
         return {}
     rest = auth[37:]
     if auth[32] & answers.AT:
-        _, rest = answers.cose_key(auth[55 + int.from_bytes(auth[53:55], "big") :])
+        _, rest = answers.read_cose_key(auth[55 + int.from_bytes(auth[53:55], "big") :])
     try:
         found = ctap_cbor.decode(rest)
     except ctap_cbor.CborError:
@@ -146,7 +146,7 @@ def check_extension_outputs(
     """Checks the outputs of the extensions in getInfo; `made` has the extension inputs of the registration."""
     requested = asked.get(6 if command == MAKE else 4, {})
     named = [name for name in info.get(2, []) if name in requested]
-    outputs = outputs_of(answers.decode_map(data)[2])
+    outputs = decode_outputs(answers.decode_map(data)[2])
     for name in named:
         value = requested[name]
         if name == PROTECT and command == MAKE:
@@ -182,7 +182,7 @@ def check_blob(command: int, value: Any, outputs: Dict[Any, Any], info: Dict[Any
 def check_extension(section: str, condition: bool, expected: str, actual: Any) -> None:
     """Raises `ExtensionMismatch` unless the condition is true."""
     if not condition:
-        raise ExtensionMismatch(section, expected, ctap_cbor.shown(actual))
+        raise ExtensionMismatch(section, expected, ctap_cbor.to_diagnostic(actual))
 
 
 @dataclass
@@ -203,7 +203,7 @@ class Pins:
 
     def judge(self, request: bytes, data: bytes) -> None:
         """Checks a response to authenticatorClientPIN."""
-        asked = parameters_of(request)
+        asked = decode_parameters(request)
         if asked is None or not isinstance(asked.get(2), int):
             return
         kind, status = asked[2], data[0]
@@ -222,13 +222,13 @@ class Pins:
     def take(self, kind: int, asked: Dict[Any, Any], data: bytes) -> None:
         """Checks a response with status 00."""
         if kind == GET_RETRIES:
-            left = answers.member(answers.decode_map(data), 3, int, "the retries")
+            left = answers.get_member(answers.decode_map(data), 3, int, "the retries")
             check(0 <= left <= MAX_RETRIES, f"0 to {MAX_RETRIES} retries", str(left))
-            check(self.retries is None or left == self.retries, retries(self.retries), retries(left))
+            check(self.retries is None or left == self.retries, describe_retries(self.retries), describe_retries(left))
             self.retries = left
         elif kind == GET_USER_RETRIES:
-            left = answers.member(answers.decode_map(data), 5, int, "the retries")
-            check(self.user_retries in (None, left), retries(self.user_retries), retries(left))
+            left = answers.get_member(answers.decode_map(data), 5, int, "the retries")
+            check(self.user_retries in (None, left), describe_retries(self.user_retries), describe_retries(left))
             self.user_retries = left
         elif kind == GET_AGREEMENT:
             self.take_agreement(asked, data)
@@ -240,7 +240,7 @@ class Pins:
         elif kind in TOKENS:
             check(kind == GET_TOKEN or asked.get(9) != 0, "status 02, since no permission is requested", "status 00")
             self.user_retries = None if kind == USER_TOKEN else self.user_retries
-            token = answers.member(answers.decode_map(data), 2, bytes, "the token")
+            token = answers.get_member(answers.decode_map(data), 2, bytes, "the token")
             lengths = (16, 32) if asked.get(1) == 1 else (48,)
             check(len(token) in lengths, f"an encrypted token of {' or '.join(map(str, lengths))} bytes", token)
             self.retries, self.wrong = None, 0
@@ -249,7 +249,7 @@ class Pins:
     def take_agreement(self, asked: Dict[Any, Any], data: bytes) -> None:
         """Checks a key agreement key: its format, and that it is new after a wrong PIN."""
         found = answers.decode_map(data)
-        answers.agreement_key(found)
+        answers.read_agreement_key(found)
         check(not self.is_stale or found.get(1) != self.agreement, "a new key after a wrong PIN", found)
         self.agreement, self.is_stale = found.get(1), False
 

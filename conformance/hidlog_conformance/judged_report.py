@@ -9,7 +9,7 @@ from xml.sax.saxutils import escape, quoteattr
 from hidlog_conformance.judged_log import KEY, MUST, SHOULD, Finding, Recording
 from hidlog_conformance.keys import AVAILABLE
 from hidlog_conformance.quantity import quantity
-from hidlog_conformance.sanitize import clean
+from hidlog_conformance.sanitize import escape_text
 
 # The version of the JSON members, and the names that format 1 had for members of a finding. This version writes both.
 FORMAT = 2
@@ -17,20 +17,20 @@ OLD_NAMES = {"relatedSections": "also", "expected": "due", "actual": "came"}
 SIDES = {KEY: "the key", "host": "the host"}
 
 
-def packets_of(recording: Recording) -> int:
+def count_packets(recording: Recording) -> int:
     """Returns the number of packets."""
     return recording.walk.packets
 
 
-def total(recording: Recording) -> str:
+def format_total(recording: Recording) -> str:
     """Returns the last line: the number of packets, transactions and violations."""
     counts = {level: sum(finding.level == level for finding in recording.findings) for level in (MUST, SHOULD)}
-    packets = packets_of(recording)
+    packets = count_packets(recording)
     violations = f"{quantity(counts[MUST], 'MUST violation')}, {quantity(counts[SHOULD], 'SHOULD violation')}"
     return f"{quantity(packets, 'packet')}, {quantity(recording.walk.count, 'transaction')}: {violations}"
 
 
-def notes_of(recording: Recording) -> List[str]:
+def list_notes(recording: Recording) -> List[str]:
     """Returns notes on what was not checked, and on what the recorder may have caused."""
     notes = []
     if recording.has_lost:
@@ -54,30 +54,30 @@ def notes_of(recording: Recording) -> List[str]:
     return notes
 
 
-def lines_of(finding: Finding) -> List[str]:
+def format_finding(finding: Finding) -> List[str]:
     """Returns the lines of a finding."""
     return [
         f"line {finding.line}: {SIDES[finding.side]} violates {finding.level.upper()}: {finding.rule}",
-        f"  expected: {clean(finding.expected)}",
-        f"  actual:   {clean(finding.actual)}",
+        f"  expected: {escape_text(finding.expected)}",
+        f"  actual:   {escape_text(finding.actual)}",
     ]
 
 
-def text_of_recording(recording: Recording) -> str:
+def format_recording(recording: Recording) -> str:
     """Returns the text about a recording: notes, findings, totals."""
-    lines = [f"note: {note}" for note in notes_of(recording)]
-    lines += [line for finding in recording.findings for line in lines_of(finding)]
-    return "".join(f"{line}\n" for line in [*lines, total(recording)])
+    lines = [f"note: {note}" for note in list_notes(recording)]
+    lines += [line for finding in recording.findings for line in format_finding(finding)]
+    return "".join(f"{line}\n" for line in [*lines, format_total(recording)])
 
 
-def as_text(judged: List[Tuple[str, Recording]]) -> str:
+def to_text(judged: List[Tuple[str, Recording]]) -> str:
     """Returns text; the name of each recording above it, if there are several."""
     if len(judged) == 1:
-        return text_of_recording(judged[0][1])
-    return "\n".join(f"{clean(name)}\n{text_of_recording(recording)}" for name, recording in judged)
+        return format_recording(judged[0][1])
+    return "\n".join(f"{escape_text(name)}\n{format_recording(recording)}" for name, recording in judged)
 
 
-def object_of(finding: Finding) -> Dict[str, object]:
+def to_finding_object(finding: Finding) -> Dict[str, object]:
     """Returns a finding as an object."""
     return {
         "line": finding.line,
@@ -91,37 +91,39 @@ def object_of(finding: Finding) -> Dict[str, object]:
     }
 
 
-def with_old_names(members: Dict[str, object]) -> Dict[str, object]:
+def add_old_names(members: Dict[str, object]) -> Dict[str, object]:
     """Returns a finding's members, with those that had another name in format 1 under that name, too."""
     return {**members, **{old: members[name] for name, old in OLD_NAMES.items()}}
 
 
-def recording_object(name: str, recording: Recording) -> Dict[str, object]:
+def to_recording_object(name: str, recording: Recording) -> Dict[str, object]:
     """Returns the findings of a recording as an object."""
     return {
         "format": FORMAT,
         "log": name,
-        "packets": packets_of(recording),
+        "packets": count_packets(recording),
         "transactions": recording.walk.count,
-        "findings": [with_old_names(object_of(finding)) for finding in recording.findings],
-        "notes": notes_of(recording),
+        "findings": [add_old_names(to_finding_object(finding)) for finding in recording.findings],
+        "notes": list_notes(recording),
     }
 
 
-def as_json(judged: List[Tuple[str, Recording]]) -> str:
+def to_json(judged: List[Tuple[str, Recording]]) -> str:
     """Returns one object, or an array of several."""
-    objects = [recording_object(name, recording) for name, recording in judged]
+    objects = [to_recording_object(name, recording) for name, recording in judged]
     return json.dumps(objects[0] if len(objects) == 1 else objects, indent=1) + "\n"
 
 
-def suite_of(name: str, recording: Recording) -> List[str]:
+def to_suite(name: str, recording: Recording) -> List[str]:
     """Returns a JUnit XML suite: a test case for each finding, or one that passes."""
     cases = []
     for finding in recording.findings:
-        text = escape("\n".join(lines_of(finding)))
+        text = escape("\n".join(format_finding(finding)))
         title = quoteattr(f"line {finding.line}: {finding.side}: {finding.rule}")
         kind = "failure" if finding.level == MUST else "system-out"
-        opened = f"<failure message={quoteattr(clean(finding.expected))}>" if finding.level == MUST else "<system-out>"
+        opened = (
+            f"<failure message={quoteattr(escape_text(finding.expected))}>" if finding.level == MUST else "<system-out>"
+        )
         cases.append(f"  <testcase classname={quoteattr(name)} name={title}>{opened}{text}</{kind}></testcase>")
     if not cases:
         cases.append(f'  <testcase classname={quoteattr(name)} name="no violations"/>')
@@ -130,12 +132,12 @@ def suite_of(name: str, recording: Recording) -> List[str]:
     return [head, *cases, "</testsuite>"]
 
 
-def as_junit(judged: List[Tuple[str, Recording]]) -> str:
+def to_junit(judged: List[Tuple[str, Recording]]) -> str:
     """Returns JUnit XML: a suite for each recording."""
-    suites = [line for name, recording in judged for line in suite_of(name, recording)]
+    suites = [line for name, recording in judged for line in to_suite(name, recording)]
     if len(judged) > 1:
         suites = ["<testsuites>", *suites, "</testsuites>"]
     return "\n".join(['<?xml version="1.0" encoding="UTF-8"?>', *suites, ""])
 
 
-WRITERS: Dict[str, Callable[[List[Tuple[str, Recording]]], str]] = {"text": as_text, "json": as_json, "junit": as_junit}
+WRITERS: Dict[str, Callable[[List[Tuple[str, Recording]]], str]] = {"text": to_text, "json": to_json, "junit": to_junit}

@@ -7,9 +7,9 @@ from typing import TYPE_CHECKING, Any, Dict, List
 from hidlog_conformance import rules
 from hidlog_conformance.answers import GET, INFO, MAKE, NEXT, RESET, SELECTION, UP, Mismatch, check
 from hidlog_conformance.judged_log import KEY, SHOULD
-from hidlog_conformance.judged_parts import OTHERWISE, USER_TOKEN, ExtensionMismatch, Kept, UncertainMismatch
+from hidlog_conformance.judged_parts import OTHERWISE, USER_TOKEN, ExtensionMismatch, KnownCredential, UncertainMismatch
 from hidlog_conformance.quantity import quantity
-from hidlog_conformance.requests import FORM, MISSING, PIN, UNKNOWN, Fault, fault_of, parameters_of, unknown_parts
+from hidlog_conformance.requests import FORM, MISSING, PIN, UNKNOWN, Fault, find_fault, decode_parameters, unknown_parts
 from hidlog_conformance.transactions import NO_TIME_OUT, Entry, Transaction
 
 if TYPE_CHECKING:
@@ -18,13 +18,13 @@ if TYPE_CHECKING:
 # Milliseconds after power-up in which a reset is accepted (6.6), and for which assertions are pending (6.3).
 RESET_WITHIN, PENDING = 10000, 30000
 # Milliseconds by which the recorder's time may differ from the key's.
-JITTER = 100
-LIMIT = 0x15
+JITTER_MS = 100
+LIMIT_MS = 0x15
 DENIED, TIMED_OUT, CANCELLED, OTHER = 0x27, 0x2F, 0x2D, 0x7F
 EXCLUDED, NO_CREDENTIALS, NOT_ALLOWED, UNSUPPORTED = 0x19, 0x2E, 0x30, 0x26
 # Statuses for malformed requests (8.2), and those that any request may have.
-OF_FORM = (0x01, 0x02, 0x03, 0x11, 0x12, 0x14, 0x15, 0x2B, 0x2C, 0x39)
-ANY = (DENIED, CANCELLED, 0x3A, OTHER, 0x06, 0x05, *range(0xE0, 0x100))
+MALFORMED_STATUSES = (0x01, 0x02, 0x03, 0x11, 0x12, 0x14, 0x15, 0x2B, 0x2C, 0x39)
+ANY_REQUEST_STATUSES = (DENIED, CANCELLED, 0x3A, OTHER, 0x06, 0x05, *range(0xE0, 0x100))
 # Other statuses of commands without parameters.
 FIT = {
     INFO: (0,),
@@ -44,13 +44,13 @@ class StatusJudge:
         """Checks that the status fits what the log shows."""
         command, status = transaction.data[0], data[0]
         check(status == 0 or len(data) == 1, "only a status", f"{quantity(len(data), 'byte')} with status {status:02x}")
-        fault = fault_of(transaction.data)
+        fault = find_fault(transaction.data)
         if fault is not None:
             if not fault.should:
                 self.check_refusal(command, fault, status)
             return
         self.check_user_presence(entry, transaction, data)
-        if command in FIT and status not in (*FIT[command], *ANY):
+        if command in FIT and status not in (*FIT[command], *ANY_REQUEST_STATUSES):
             expected = "|".join(f"{one:02x}" for one in FIT[command])
             raise Mismatch(f"status {expected}", f"status {status:02x}")
         if command in (MAKE, GET):
@@ -65,7 +65,7 @@ class StatusJudge:
             elapsed = transaction.last - (
                 self.answers.powered if self.answers.powered is not None else self.answers.recording.start or 0
             )
-            if status == 0 and elapsed > RESET_WITHIN + JITTER and not self.answers.recording.has_no_timestamps:
+            if status == 0 and elapsed > RESET_WITHIN + JITTER_MS and not self.answers.recording.has_no_timestamps:
                 actual = f"status 00 after {elapsed} ms"
                 check(not self.answers.no_display, "status 30, more than 10 s after power-up", actual)
                 raise UncertainMismatch(
@@ -75,12 +75,12 @@ class StatusJudge:
     def check_user_presence(self, entry: Entry, transaction: Transaction, data: bytes) -> None:
         """Checks that a touch was requested before a response that needs it, as KEEPALIVEs show."""
         command, status = transaction.data[0], data[0]
-        asked = parameters_of(transaction.data) or {}
+        asked = decode_parameters(transaction.data) or {}
         needs = command in (RESET, SELECTION) and status == 0
         needs = needs or (command == MAKE and status in (0, EXCLUDED))
         needs = needs or (command == PIN and asked.get(2) == USER_TOKEN and status == 0)
         if command == GET and status == 0:
-            auth = (parameters_of(data) or {}).get(2)
+            auth = (decode_parameters(data) or {}).get(2)
             needs = isinstance(auth, bytes) and len(auth) > 32 and bool(auth[32] & UP)
         # The touch may have come with the token.
         has_token = (8 if command == MAKE else 6) in asked
@@ -106,9 +106,9 @@ class StatusJudge:
         """Checks that an invalid request fails, with the right status."""
         # A key need not support every command.
         unknown = () if command in (MAKE, GET, INFO) else (0x01,)
-        if fault.kind == MISSING and status not in (0, 0x14, *unknown, *ANY):
+        if fault.kind == MISSING and status not in (0, 0x14, *unknown, *ANY_REQUEST_STATUSES):
             raise Mismatch(f"status 14, since {fault.expected} is missing", f"status {status:02x}")
-        if fault.kind == UNKNOWN and status not in (0x01, *ANY):
+        if fault.kind == UNKNOWN and status not in (0x01, *ANY_REQUEST_STATUSES):
             raise Mismatch("status 01", f"status {status:02x}")
         check(
             status != 0 or fault.kind not in (FORM, MISSING),
@@ -118,7 +118,7 @@ class StatusJudge:
 
     def check_form(self, transaction: Transaction, status: int) -> None:
         """Checks that a valid request does not fail as a malformed one."""
-        asked = parameters_of(transaction.data) or {}
+        asked = decode_parameters(transaction.data) or {}
         options = asked.get(7 if transaction.data[0] == MAKE else 5, {})
         wrong = self.wrong_option(transaction.data[0], asked, options)
         if wrong:
@@ -127,7 +127,7 @@ class StatusJudge:
             return
         if self.answers.stored.is_refused(asked, status, transaction.data[0] == MAKE, self.answers.info):
             return
-        if status == LIMIT and self.has_long_list(asked.get(5 if transaction.data[0] == MAKE else 3, [])):
+        if status == LIMIT_MS and self.has_long_list(asked.get(5 if transaction.data[0] == MAKE else 3, [])):
             return
         strange = unknown_parts(transaction.data[0], asked)
         # PINs, enterprise attestation and unsupported options have errors of their own.
@@ -135,7 +135,7 @@ class StatusJudge:
         rk_is_open = options.get("rk") and not self.answers.info.get(4, {}).get("rk")
         if own & set(asked) or rk_is_open or options.get("uv"):
             return
-        if transaction.length > self.answers.info.get(5, 1024) or status not in OF_FORM:
+        if transaction.length > self.answers.info.get(5, 1024) or status not in MALFORMED_STATUSES:
             return
         self.answers.passed_over = "" if not strange or strange[0].startswith("the option") else strange[0]
         expected = f"a key that ignores {strange[0]}" if strange else "no such error, since the request is valid"
@@ -157,7 +157,7 @@ class StatusJudge:
             return "uv"
         return ""
 
-    def listed(self, asked: Dict[Any, Any], key: int, rp: str) -> List[Kept]:
+    def listed(self, asked: Dict[Any, Any], key: int, rp: str) -> List[KnownCredential]:
         """Returns the log's credentials of this RP in a list."""
         found = [self.answers.kept.get(entry["id"]) for entry in asked.get(key, []) if entry["type"] == "public-key"]
         return [
@@ -166,7 +166,7 @@ class StatusJudge:
 
     def check_make_status(self, transaction: Transaction, status: int) -> None:
         """Checks the status of a registration."""
-        asked = parameters_of(transaction.data) or {}
+        asked = decode_parameters(transaction.data) or {}
         excluded = self.listed(asked, 5, asked[2]["id"])
         if status == 0 and excluded:
             expected = "status 19, since the list has a credential of this key"
@@ -182,7 +182,7 @@ class StatusJudge:
         served = self.answers.facts.algorithms
         self.check_capabilities(asked, status)
         if served and not set(served) & set(listed):
-            allowed = (UNSUPPORTED, *ANY, *((EXCLUDED,) if asked.get(5) else ()))
+            allowed = (UNSUPPORTED, *ANY_REQUEST_STATUSES, *((EXCLUDED,) if asked.get(5) else ()))
             check(status in allowed or 8 in asked, "status 26, since no algorithm is supported", f"status {status:02x}")
         elif served:
             check(status != UNSUPPORTED, "no status 26, since an algorithm is supported", "status 26")
@@ -220,9 +220,9 @@ class StatusJudge:
     def check_get_status(self, transaction: Transaction, data: bytes) -> None:
         """Checks the status of a sign-in."""
         status = data[0]
-        asked = parameters_of(transaction.data) or {}
+        asked = decode_parameters(transaction.data) or {}
         mine = self.candidates(asked)
-        used = self.answers.identity(asked, parameters_of(data) or {}) if status == 0 else b""
+        used = self.answers.identity(asked, decode_parameters(data) or {}) if status == 0 else b""
         if used in self.answers.forgotten:
             raise ExtensionMismatch("6.6", "no credential from before the reset", used.hex())
         if mine and self.answers.facts.protection < 2 and status == NO_CREDENTIALS:
@@ -234,7 +234,7 @@ class StatusJudge:
         if (
             not mine
             and self.answers.is_complete
-            and status not in (0, NO_CREDENTIALS, *ANY, TIMED_OUT)
+            and status not in (0, NO_CREDENTIALS, *ANY_REQUEST_STATUSES, TIMED_OUT)
             and status < 0x31
         ):
             raise Mismatch("status 2e, since the key has no credential for it", f"status {status:02x}")
@@ -243,7 +243,7 @@ class StatusJudge:
         """Returns whether the RP has a credential that credProtect hides."""
         return bool(self.answers.kept.extended.get(asked[1]))
 
-    def candidates(self, asked: Dict[Any, Any]) -> List[Kept]:
+    def candidates(self, asked: Dict[Any, Any]) -> List[KnownCredential]:
         """Returns the credentials of the log that a sign-in may use."""
         if asked.get(3):
             return self.listed(asked, 3, asked[1])
@@ -259,13 +259,13 @@ class StatusJudge:
         if status == 0:
             check(waiting.left > 0, "status 30, since no assertion is pending", "status 00")
             check(
-                transaction.last - waiting.at <= PENDING + JITTER,
+                transaction.last - waiting.at <= PENDING + JITTER_MS,
                 "status 30, after 30 s",
                 f"status 00 after {transaction.last - waiting.at} ms",
             )
-        elif status not in (NOT_ALLOWED, *ANY):
+        elif status not in (NOT_ALLOWED, *ANY_REQUEST_STATUSES):
             raise Mismatch("status 30", f"status {status:02x}")
         elif status == NOT_ALLOWED and waiting.left > 0:
             sure = waiting.is_sure and waiting.channel == transaction.channel
-            late = transaction.last - waiting.at >= PENDING - JITTER
+            late = transaction.last - waiting.at >= PENDING - JITTER_MS
             check(late or not sure, "the pending assertion", "status 30")

@@ -7,10 +7,17 @@ from typing import Any, Dict, List, Optional, Set
 
 from hidlog_conformance import answers
 from hidlog_conformance.answers import Credential, Mismatch, check
-from hidlog_conformance.judged_parts import ExtensionMismatch, KeptCredentials, Pins
-from hidlog_conformance.check_credential_management import CREDENTIALS, PROTECTION, RPS, Listing, hash_of, check_piece
+from hidlog_conformance.judged_parts import ExtensionMismatch, KnownCredentials, Pins
+from hidlog_conformance.check_credential_management import (
+    CREDENTIALS,
+    PROTECTION,
+    RPS,
+    Listing,
+    hash_of,
+    check_fragment,
+)
 from hidlog_conformance.quantity import quantity
-from hidlog_conformance.requests import parameters_of
+from hidlog_conformance.requests import decode_parameters
 
 MANAGE, BLOBS = 0x0A, 0x0C
 # authenticatorCredentialManagementPreview, of keys before CTAP 2.1.
@@ -22,7 +29,7 @@ MAY_MANAGE, MAY_WRITE, SHORTEST = 4, 16, 17
 BLOB_KEY = "largeBlobKey"
 
 
-def array_of(data: bytes) -> bytes:
+def append_hash(data: bytes) -> bytes:
     """Returns an array followed by its hash."""
     return data + hashlib.sha256(data).digest()[:16]
 
@@ -35,7 +42,7 @@ def named_credential_id(asked: Dict[Any, Any]) -> bytes:
     return identity if isinstance(identity, bytes) else b""
 
 
-EMPTY = array_of(b"\x80")
+EMPTY_ARRAY = append_hash(b"\x80")
 
 
 class StoredJudge:
@@ -60,11 +67,11 @@ class StoredJudge:
     def reset(self) -> None:
         """Processes a reset."""
         self.listing = Listing()
-        self.array, self.coming, self.expected, self.is_reset = EMPTY, b"", 0, True
+        self.array, self.coming, self.expected, self.is_reset = EMPTY_ARRAY, b"", 0, True
 
-    def judge(self, request: bytes, data: bytes, kept: KeptCredentials, pins: Pins, info: Dict[Any, Any]) -> None:
+    def judge(self, request: bytes, data: bytes, kept: KnownCredentials, pins: Pins, info: Dict[Any, Any]) -> None:
         """Checks a response; `kept` has the log's credentials."""
-        asked = parameters_of(request)
+        asked = decode_parameters(request)
         if asked is None:
             return
         if data[0] != 0:
@@ -77,7 +84,7 @@ class StoredJudge:
         else:
             self.check_written(asked, pins, info)
 
-    def check_managed(self, asked: Dict[Any, Any], data: bytes, kept: KeptCredentials, pins: Pins) -> None:
+    def check_managed(self, asked: Dict[Any, Any], data: bytes, kept: KnownCredentials, pins: Pins) -> None:
         """Checks a successful response to credential management."""
         command, parameters = asked.get(1), asked.get(2, {})
         if command not in (NEXT_RP, NEXT):
@@ -106,7 +113,7 @@ class StoredJudge:
         permitted = pins.permissions is None or bool(pins.permissions & permission)
         check(permitted, "status 33, since the token does not permit this", "status 00")
 
-    def check_rp(self, command: Any, parameters: Dict[Any, Any], kept: KeptCredentials, pins: Pins) -> None:
+    def check_rp(self, command: Any, parameters: Dict[Any, Any], kept: KnownCredentials, pins: Pins) -> None:
         """Checks that a token with an RP ID is only used for that RP."""
         if pins.rp is None or pins.permissions is None:
             return
@@ -116,7 +123,7 @@ class StoredJudge:
         check(right, f"status 33, since the token is for {pins.rp}", "status 00")
 
     def check_listed(
-        self, command: int, parameters: Dict[Any, Any], data: bytes, stored: List[Credential], kept: KeptCredentials
+        self, command: int, parameters: Dict[Any, Any], data: bytes, stored: List[Credential], kept: KnownCredentials
     ) -> None:
         """Checks an enumerated credential."""
         self.check_next(command == NEXT, CREDENTIALS)
@@ -136,7 +143,7 @@ class StoredJudge:
         if one.extensions.get(BLOB_KEY) is True:
             self.listing.check_blob_key(item, 11, ["blob-key", one.credential.id.hex()])
 
-    def check_change(self, command: int, parameters: Dict[Any, Any], kept: KeptCredentials) -> None:
+    def check_change(self, command: int, parameters: Dict[Any, Any], kept: KnownCredentials) -> None:
         """Checks a deletion, or an update of user information."""
         identity = parameters.get(2, {}).get("id")
         one = kept.get(identity)
@@ -160,9 +167,11 @@ class StoredJudge:
         longest = max(info.get(5, 1024), 1024) - 64
         check(asked[READ] <= longest, f"status 03, since a fragment has at most {longest} bytes", "status 00")
         item = answers.decode_map(data)
-        offset, piece = asked[OFFSET], answers.member(item, 1, bytes, "a fragment of the array")
+        offset, piece = asked[OFFSET], answers.get_member(item, 1, bytes, "a fragment of the array")
         if self.array is None and offset == 0 and len(piece) < asked[READ]:
-            check(array_of(piece[:-16]) == piece and len(piece) >= SHORTEST, "an array that ends with its hash", piece)
+            check(
+                append_hash(piece[:-16]) == piece and len(piece) >= SHORTEST, "an array that ends with its hash", piece
+            )
             self.array = piece
         check(len(piece) <= asked[READ], f"at most {quantity(asked[READ], 'byte')}", piece)
         if self.array is not None:
@@ -170,7 +179,7 @@ class StoredJudge:
             expected = self.array[offset : offset + asked[READ]]
             if self.is_reset and piece != expected:
                 raise ExtensionMismatch("6.6", f"the fragment {expected.hex()}, after the reset", piece.hex())
-            check_piece(item, expected)
+            check_fragment(item, expected)
 
     def check_written(self, asked: Dict[Any, Any], pins: Pins, info: Dict[Any, Any]) -> None:
         """Checks a write to the array, and records it."""
@@ -191,7 +200,7 @@ class StoredJudge:
         check(length <= self.expected, f"status 02, since the array has {quantity(self.expected, 'byte')}", "status 00")
         if length == self.expected:
             self.coming, self.expected = b"", 0
-            check(array_of(whole[:-16]) == whole, "status 3d, since the hash is wrong", "status 00")
+            check(append_hash(whole[:-16]) == whole, "status 3d, since the hash is wrong", "status 00")
             self.array, self.is_reset = whole, False
 
     def is_refused(self, asked: Dict[Any, Any], status: int, makes: bool, info: Dict[Any, Any]) -> bool:

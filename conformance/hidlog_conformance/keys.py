@@ -16,7 +16,7 @@ try:
 except ImportError:
     AVAILABLE = False
 
-ORDER = 0xFFFFFFFF00000000FFFFFFFFFFFFFFFFBCE6FAADA7179E84F3B9CAC2FC632550
+GROUP_ORDER = 0xFFFFFFFF00000000FFFFFFFFFFFFFFFFBCE6FAADA7179E84F3B9CAC2FC632550
 
 
 class KeyMaker:
@@ -33,7 +33,7 @@ class KeyMaker:
         secret = hashlib.sha256(b"key %d" % self.count).digest()
         if not AVAILABLE:
             return credential, secret, secret
-        private = ec.derive_private_key(int.from_bytes(secret, "big") % ORDER + 1, ec.SECP256R1())
+        private = ec.derive_private_key(int.from_bytes(secret, "big") % GROUP_ORDER + 1, ec.SECP256R1())
         self.private[credential] = private
         public = private.public_key().public_numbers()
         return credential, public.x.to_bytes(32, "big"), public.y.to_bytes(32, "big")
@@ -53,7 +53,7 @@ def point(x: bytes, y: bytes) -> Any:
     return ec.EllipticCurvePublicNumbers(*numbers, ec.SECP256R1()).public_key()
 
 
-def public_of(cose: Any) -> Any:
+def to_public_key(cose: Any) -> Any:
     """Returns the public key of a COSE key: ES256, EdDSA or RS256; None for another algorithm."""
     if cose.get(3) == -7:
         return point(cose[-2], cose[-3])
@@ -64,7 +64,7 @@ def public_of(cose: Any) -> Any:
     return None
 
 
-def verified(public: Any, signed: bytes, signature: bytes) -> None:
+def verify_or_raise(public: Any, signed: bytes, signature: bytes) -> None:
     """Verifies a signature by the key's algorithm; raises InvalidSignature."""
     if isinstance(public, ec.EllipticCurvePublicKey):
         public.verify(signature, signed, ec.ECDSA(hashes.SHA256()))
@@ -74,18 +74,18 @@ def verified(public: Any, signed: bytes, signature: bytes) -> None:
         public.verify(signature, signed)
 
 
-def verifies(cose: Any, signed: bytes, signature: bytes) -> bool:
+def is_valid_signature(cose: Any, signed: bytes, signature: bytes) -> bool:
     """Returns whether a signature verifies under a COSE key; true without the package cryptography."""
     if not AVAILABLE:
         return True
     try:
-        verified(public_of(cose), signed, signature)
+        verify_or_raise(to_public_key(cose), signed, signature)
     except (KeyError, TypeError, ValueError, InvalidSignature):
         return False
     return True
 
 
-def verified_by(certificate: bytes, alg: int, signed: bytes, signature: bytes) -> bool:
+def is_valid_for_certificate(certificate: bytes, alg: int, signed: bytes, signature: bytes) -> bool:
     """Returns whether a signature verifies under a certificate's key, which must be for algorithm `alg`."""
     if not AVAILABLE:
         return True
@@ -94,7 +94,7 @@ def verified_by(certificate: bytes, alg: int, signed: bytes, signature: bytes) -
         public = x509.load_der_x509_certificate(certificate).public_key()
         if alg in kinds and not isinstance(public, kinds[alg]):
             return False
-        verified(public, signed, signature)
+        verify_or_raise(public, signed, signature)
     except (TypeError, ValueError, InvalidSignature):
         return False
     return True

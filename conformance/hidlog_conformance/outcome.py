@@ -31,7 +31,7 @@ class Outcome:
     recordings: List[str] = field(default_factory=list)
 
 
-def derived(kind: str, identity: bytes) -> bytes:
+def derive_id(kind: str, identity: bytes) -> bytes:
     """Returns an ID that differs slightly from `identity`: its last byte is changed, missing or followed by a zero."""
     if kind == "changed":
         return identity[:-1] + bytes([identity[-1] ^ 1])

@@ -13,7 +13,7 @@ import os
 from typing import Any, Dict
 
 from hidlog_conformance import ctap_cbor
-from hidlog_conformance.answers import agreement_key, check, member
+from hidlog_conformance.answers import read_agreement_key, check, get_member
 from hidlog_conformance.quantity import quantity
 
 try:
@@ -27,7 +27,7 @@ except ImportError:
 MIN_PIN_LENGTH, PADDED_PIN = 4, 64
 
 
-def suited_pin(pin: bytes, minimum: int) -> bytes:
+def adapt_pin(pin: bytes, minimum: int) -> bytes:
     """Returns a session's PIN for a device with this minimum length: of the minimum, or as much below it as before."""
     length = len(pin.decode())
     if not length or length >= minimum:
@@ -35,7 +35,7 @@ def suited_pin(pin: bytes, minimum: int) -> bytes:
     return pin + b"0" * (minimum - max(length, MIN_PIN_LENGTH))
 
 
-def extracted(secret: bytes, info: bytes) -> bytes:
+def derive_hkdf(secret: bytes, info: bytes) -> bytes:
     """Returns 32 bytes of HKDF-SHA-256 with a salt of zeros (RFC 5869)."""
     first = hmac.new(bytes(32), secret, hashlib.sha256).digest()
     return hmac.new(first, info + b"\1", hashlib.sha256).digest()
@@ -55,7 +55,7 @@ class Platform:
 
     def agree(self, item: Dict[Any, Any], asked: Dict[Any, Any]) -> None:
         """Derives the shared secret from the device's key agreement key."""
-        key = agreement_key(item)
+        key = read_agreement_key(item)
         self.protocol = asked[1]
         self.private = ec.generate_private_key(ec.SECP256R1())
         x, y = int.from_bytes(key[-2], "big"), int.from_bytes(key[-3], "big")
@@ -64,7 +64,7 @@ class Platform:
         if self.protocol == 1:
             self.for_auth = self.for_encryption = hashlib.sha256(z).digest()
         else:
-            self.for_auth, self.for_encryption = extracted(z, b"CTAP2 HMAC key"), extracted(z, b"CTAP2 AES key")
+            self.for_auth, self.for_encryption = derive_hkdf(z, b"CTAP2 HMAC key"), derive_hkdf(z, b"CTAP2 AES key")
 
     def own_key(self) -> Dict[int, Any]:
         """Returns the platform's public key."""
@@ -91,7 +91,7 @@ class Platform:
 
     def take_token(self, item: Dict[Any, Any]) -> None:
         """Processes a token."""
-        self.token = self.decrypt(member(item, 2, bytes, "the token"))
+        self.token = self.decrypt(get_member(item, 2, bytes, "the token"))
         lengths = (16, 32) if self.protocol == 1 else (32,)
         check(
             len(self.token) in lengths,
@@ -138,14 +138,14 @@ class Platform:
         if isinstance(value, bytes) and value.startswith(b"=encrypt:"):
             return self.encrypt(self.suited_data(value[9:]))
         if isinstance(value, bytes) and value.startswith(b"=hash:"):
-            return self.encrypt(hashlib.sha256(suited_pin(value[6:], self.min_pin_length)).digest()[:16])
+            return self.encrypt(hashlib.sha256(adapt_pin(value[6:], self.min_pin_length)).digest()[:16])
         return value
 
     def suited_data(self, data: bytes) -> bytes:
         """Returns data to encrypt: a padded PIN for this device's minimum length, anything else unchanged."""
         if len(data) != PADDED_PIN or data[-1]:
             return data
-        return suited_pin(data.rstrip(b"\0"), self.min_pin_length).ljust(PADDED_PIN, b"\0")
+        return adapt_pin(data.rstrip(b"\0"), self.min_pin_length).ljust(PADDED_PIN, b"\0")
 
     def authentic(self, value: bytes, item: Dict[Any, Any]) -> bytes:
         """Returns the pinUvAuthParam of a placeholder, or another byte string unchanged."""

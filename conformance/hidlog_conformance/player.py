@@ -13,7 +13,7 @@ from hidlog_conformance.quantity import quantity
 from hidlog_conformance.skipped import CaseSkipped
 from hidlog_conformance.init_response import check_init_response
 from hidlog_conformance.response_reader import ANSWER, MIN_CHANNELS, MAX_PACKETS, GOES_ON, IN_TIME, ResponseReader, REST
-from hidlog_conformance.check_credential_management import check_piece
+from hidlog_conformance.check_credential_management import check_fragment
 from hidlog_conformance.outcome import Outcome
 from hidlog_conformance.session_file import Step
 from hidlog_conformance.credential_reuse import REGISTRATION
@@ -83,7 +83,7 @@ class Player(ResponseReader):
         partial = self.actual is None and bool(self.guest.open)
         request = self.requests.get(self.actual.channel, self.request) if self.actual else self.request
         seen = rules.Seen(own, self.expected, self.actual, partial, request, self.cancelled)
-        broken = own if expected in (GOES_ON, IN_TIME) else rules.broken(seen)
+        broken = own if expected in (GOES_ON, IN_TIME) else rules.find_violated_section(seen)
         line = step.line if step else 0
         return Outcome(self.session, "not ok", "", expected, actual, line, broken, expected == IN_TIME)
 
@@ -92,7 +92,7 @@ class Player(ResponseReader):
         found = self.actual is not None and self.actual.command == hid.CBOR and self.actual.data == b"\x2e"
         if not found or self.request[:1] != b"\2" or self.facts.protection < 2:
             return False
-        return self.facts.protection >= (3 if answers.parameters(self.request).get(3) else 2)
+        return self.facts.protection >= (3 if answers.decode_parameters(self.request).get(3) else 2)
 
     def leave(self) -> None:
         """Cancels pending requests of a device that keeps running."""
@@ -100,7 +100,7 @@ class Player(ResponseReader):
             return
         try:
             for channel in self.allocated:
-                self.device.send(0, hid.packets_of(channel, hid.CANCEL, b"")[0])
+                self.device.send(0, hid.fragment_message(channel, hid.CANCEL, b"")[0])
             for _ in range(MAX_PACKETS):
                 if self.device.read(REST) is None:
                     break
@@ -266,7 +266,7 @@ class Player(ResponseReader):
         if "id" in words:
             identity = self.known[bytes.fromhex(words[words.index("id") + 1])].id
         if "newest" in words:
-            rp = answers.parameters(self.asked[channel, answers.GET])[1]
+            rp = answers.decode_parameters(self.asked[channel, answers.GET])[1]
             made = [one for one in self.known.values() if one.discoverable and one.rp == rp]
             identity, words = made[-1].id, [*words, "number", str(len(made))]
         answers.check_assertion_response(
@@ -281,7 +281,7 @@ class Player(ResponseReader):
     def check_agreement(self, words: List[str], channel: int, expected: str) -> None:
         """`agreement`: the device's key agreement key. Derives the shared secret."""
         data = self.whole(hid.CBOR, channel, expected)
-        self.platform.agree(answers.decode_map(data), answers.parameters(self.request))
+        self.platform.agree(answers.decode_map(data), answers.decode_parameters(self.request))
 
     def check_token(self, words: List[str], channel: int, expected: str) -> None:
         """`token`: a pinUvAuthToken."""
@@ -289,7 +289,7 @@ class Player(ResponseReader):
 
     def check_retries(self, words: List[str], channel: int, expected: str) -> None:
         """`retries 7`: the PIN retries left, of 8; shifted for a device with fewer."""
-        left = answers.member(answers.decode_map(self.whole(hid.CBOR, channel, expected)), 3, int, "the retries")
+        left = answers.get_member(answers.decode_map(self.whole(hid.CBOR, channel, expected)), 3, int, "the retries")
         self.most_retries = self.most_retries or left
         check(
             left == self.most_retries - MAX_RETRIES + int(words[0]) and left <= MAX_RETRIES,
@@ -299,7 +299,7 @@ class Player(ResponseReader):
 
     def check_user_retries(self, words: List[str], channel: int, expected: str) -> None:
         """`user_retries`: the user verification retries left; with `less`, one less than before."""
-        left = answers.member(answers.decode_map(self.whole(hid.CBOR, channel, expected)), 5, int, "the retries")
+        left = answers.get_member(answers.decode_map(self.whole(hid.CBOR, channel, expected)), 5, int, "the retries")
         check(1 <= left <= MAX_USER_RETRIES, f"1 to {MAX_USER_RETRIES} retries", quantity(left, "retry", "retries"))
         check(
             not words or left == self.user_retries - 1,
@@ -318,14 +318,14 @@ class Player(ResponseReader):
         elif words[0] in ("rps", "rp"):
             self.listing.check_rp(item, known, total)
         else:
-            asked = answers.parameters(self.request)
+            asked = answers.decode_parameters(self.request)
             self.listed_rp = asked[2][1] if words[0] == "credentials" else self.listed_rp
             self.listing.check_credential(item, known, self.listed_rp, total)
             self.listing.check_words(item, words)
 
     def check_piece(self, words: List[str], channel: int, expected: str) -> None:
         """`piece HEX`: a fragment of the large-blob array."""
-        check_piece(answers.decode_map(self.whole(hid.CBOR, channel, expected)), bytes.fromhex("".join(words)))
+        check_fragment(answers.decode_map(self.whole(hid.CBOR, channel, expected)), bytes.fromhex("".join(words)))
 
     def check_option(self, words: List[str], channel: int, expected: str) -> None:
         """`option clientPin true`: an option of authenticatorGetInfo."""

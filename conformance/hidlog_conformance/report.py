@@ -11,7 +11,7 @@ from hidlog_conformance import __version__, ctap_cbor, report_page
 from hidlog_conformance.device_info import DeviceInfo
 from hidlog_conformance.outcome import FAILED, UNSTABLE, Outcome
 from hidlog_conformance.quantity import quantity
-from hidlog_conformance.sanitize import clean
+from hidlog_conformance.sanitize import escape_text
 from hidlog_conformance.sections import SECTIONS
 
 TITLES = {title.split(" ")[0]: "CTAP 2.1, " + title for title in SECTIONS.values()}
@@ -23,7 +23,7 @@ DISCLAIMER = (
 )
 
 
-def header_of_device(name: str, device_info: DeviceInfo) -> Header:
+def make_device_header(name: str, device_info: DeviceInfo) -> Header:
     """Returns the header of a report on a device."""
     info, greeting = device_info.info, device_info.greeting
     device = ".".join(map(str, greeting[13:16]))
@@ -31,20 +31,26 @@ def header_of_device(name: str, device_info: DeviceInfo) -> Header:
     return {
         "corpus": f"hidlog-conformance {__version__}",
         "date": time.strftime("%Y-%m-%d"),
-        "device": clean(name),
+        "device": escape_text(name),
         "AAGUID": aaguid.hex() if isinstance(aaguid, bytes) else "none",
-        "versions": clean(" ".join(map(str, device_info.versions))) or "none",
+        "versions": escape_text(" ".join(map(str, device_info.versions))) or "none",
         "INIT": f"protocol {greeting[12]}, device {device}, capabilities {greeting[16]:02x}" if greeting else "none",
-        "getInfo": clean(ctap_cbor.shown(info)) if not device_info.unread else clean(device_info.unread),
+        "getInfo": escape_text(ctap_cbor.to_diagnostic(info))
+        if not device_info.unread
+        else escape_text(device_info.unread),
     }
 
 
-def header_of_client(name: str) -> Header:
+def make_client_header(name: str) -> Header:
     """Returns the header of a report on a client."""
-    return {"corpus": f"hidlog-conformance {__version__}", "date": time.strftime("%Y-%m-%d"), "client": clean(name)}
+    return {
+        "corpus": f"hidlog-conformance {__version__}",
+        "date": time.strftime("%Y-%m-%d"),
+        "client": escape_text(name),
+    }
 
 
-def totals(outcomes: List[Outcome]) -> str:
+def format_totals(outcomes: List[Outcome]) -> str:
     """Returns the report's last line."""
     counts: Dict[str, int] = {"ok": 0, "not ok": 0, "warn": 0, "skip": 0, UNSTABLE: 0}
     for outcome in outcomes:
@@ -55,13 +61,13 @@ def totals(outcomes: List[Outcome]) -> str:
     return f"{counts['ok']} passed, {failed}, {counts['warn']} warned, {counts['skip']} skipped"
 
 
-def title(outcome: Outcome) -> str:
+def get_title(outcome: Outcome) -> str:
     """Returns the rule that a case found violated, or the rule it is about."""
     broken = outcome.broken
     return TITLES[broken] if broken and broken != outcome.session.section else outcome.session.head["rule"]
 
 
-def details(outcome: Outcome) -> List[str]:
+def format_details(outcome: Outcome) -> List[str]:
     """Returns the lines about a case that failed or warned."""
     head = outcome.session.head
     if outcome.broken in ("", outcome.session.section):
@@ -76,17 +82,19 @@ def details(outcome: Outcome) -> List[str]:
         lines.append(f"unstable: {outcome.reason}")
         for name, recording in zip(("failed", "passed"), outcome.recordings):
             lines += [f"recording, {name}:", *(f"  {line}" for line in recording.splitlines())]
-    return [clean(line) for line in lines]
+    return [escape_text(line) for line in lines]
 
 
 def progress(outcome: Outcome) -> None:
     """Writes a failure or a warning to standard error when its case ends; the report has it again."""
     if outcome.status in (*FAILED, "warn"):
-        text = f"{report_page.WORDS[outcome.status]} {outcome.session.name}"
-        print(clean(f"{text}: expected {outcome.expected}; actual: {outcome.actual}"), file=sys.stderr, flush=True)
+        text = f"{report_page.STATUS_WORDS[outcome.status]} {outcome.session.name}"
+        print(
+            escape_text(f"{text}: expected {outcome.expected}; actual: {outcome.actual}"), file=sys.stderr, flush=True
+        )
 
 
-def rules(outcomes: List[Outcome]) -> List[str]:
+def count_violated_rules(outcomes: List[Outcome]) -> List[str]:
     """Returns the violated rules, each with its number of failed cases."""
     counts: Dict[str, int] = {}
     for outcome in outcomes:
@@ -99,38 +107,38 @@ def text(outcomes: List[Outcome], header: Header) -> None:
     """Writes skipped, warned and failed cases, and the totals."""
     for outcome in outcomes:
         if outcome.status == "skip":
-            print(f"skipped  {outcome.session.name}: {clean(outcome.reason)}")
+            print(f"skipped  {outcome.session.name}: {escape_text(outcome.reason)}")
     for status, word in (("warn", "warned "), (UNSTABLE, UNSTABLE), ("not ok", "failed ")):
         for outcome in outcomes:
             if outcome.status == status:
                 print(f"{word}  {outcome.session.name}")
-                print("\n".join(f"         {line}" for line in details(outcome)))
-    for line in rules(outcomes):
+                print("\n".join(f"         {line}" for line in format_details(outcome)))
+    for line in count_violated_rules(outcomes):
         print(line)
     for name, value in header.items():
         print(f"{name}: {value}")
     print(f"note: {DISCLAIMER}")
-    print(totals(outcomes))
+    print(format_totals(outcomes))
 
 
-def tap(outcomes: List[Outcome], header: Header) -> None:
+def to_tap(outcomes: List[Outcome], header: Header) -> None:
     """Writes TAP, version 13; a warning is a TODO test."""
     print(f"TAP version 13\n1..{len(outcomes)}")
     for name, value in header.items():
         print(f"# {name}: {value}")
     for number, outcome in enumerate(outcomes, 1):
-        skip = f" # SKIP {clean(outcome.reason)}" if outcome.status == "skip" else ""
+        skip = f" # SKIP {escape_text(outcome.reason)}" if outcome.status == "skip" else ""
         todo = " # TODO violates a SHOULD" if outcome.status == "warn" else ""
         status = "ok" if outcome.status in ("ok", "skip") else "not ok"
         print(f"{status} {number} - {outcome.session.name}{skip}{todo}")
         if outcome.status in (*FAILED, "warn"):
-            print("\n".join(f"# {line}" for line in details(outcome)))
+            print("\n".join(f"# {line}" for line in format_details(outcome)))
         else:
             print(f"# rule: {outcome.session.head['rule']}\n# requirement: {outcome.session.head['requirement']}")
-    print(f"# {totals(outcomes)}")
+    print(f"# {format_totals(outcomes)}")
 
 
-def junit(outcomes: List[Outcome], header: Header) -> None:
+def to_junit(outcomes: List[Outcome], header: Header) -> None:
     """Writes JUnit XML; a warning is in the case's output."""
     failed = sum(outcome.status in FAILED for outcome in outcomes)
     skipped = sum(outcome.status == "skip" for outcome in outcomes)
@@ -143,42 +151,42 @@ def junit(outcomes: List[Outcome], header: Header) -> None:
         head = outcome.session.head
         properties("    ", [(word, head[word]) for word in ("rule", "requirement")])
         if outcome.status == "skip":
-            print(f"    <skipped message={quoteattr(clean(outcome.reason))}/>")
+            print(f"    <skipped message={quoteattr(escape_text(outcome.reason))}/>")
         if outcome.status in (*FAILED, "warn"):
-            lines = escape("\n".join(details(outcome)))
+            lines = escape("\n".join(format_details(outcome)))
         if outcome.status in FAILED:
-            print(f"    <failure message={quoteattr(clean(outcome.expected))}>{lines}</failure>")
+            print(f"    <failure message={quoteattr(escape_text(outcome.expected))}>{lines}</failure>")
         if outcome.status == "warn":
             print(f"    <system-out>warned\n{lines}</system-out>")
         print("  </testcase>")
-    print(f"</testsuite>\n<!-- {totals(outcomes)} -->")
+    print(f"</testsuite>\n<!-- {format_totals(outcomes)} -->")
 
 
 def properties(margin: str, pairs: List["tuple[str, str]"]) -> None:
     """Writes JUnit's properties."""
     print(f"{margin}<properties>")
     for name, value in pairs:
-        print(f"{margin}  <property name={quoteattr(name)} value={quoteattr(clean(value))}/>")
+        print(f"{margin}  <property name={quoteattr(name)} value={quoteattr(escape_text(value))}/>")
     print(f"{margin}</properties>")
 
 
-def rows(outcomes: List[Outcome]) -> List[report_page.Row]:
+def to_rows(outcomes: List[Outcome]) -> List[report_page.Row]:
     """Returns the outcomes as rows of the JSON and HTML reports."""
     found = []
     for outcome in outcomes:
-        text = clean(outcome.reason) if outcome.status == "skip" else ""
-        text = "; ".join(details(outcome)[2:4]) if outcome.status in (*FAILED, "warn") else text
+        text = escape_text(outcome.reason) if outcome.status == "skip" else ""
+        text = "; ".join(format_details(outcome)[2:4]) if outcome.status in (*FAILED, "warn") else text
         recordings = outcome.recordings if outcome.status == UNSTABLE else []
-        found.append(report_page.Row(outcome.session.name, title(outcome), outcome.status, text, recordings))
+        found.append(report_page.Row(outcome.session.name, get_title(outcome), outcome.status, text, recordings))
     return found
 
 
 WRITERS: Dict[str, Callable[[List[Outcome], Header], None]] = {
     "text": text,
-    "tap": tap,
-    "junit": junit,
-    "json": lambda outcomes, header: report_page.json_report(rows(outcomes), header, DISCLAIMER),
-    "html": lambda outcomes, header: report_page.html_report(rows(outcomes), header, DISCLAIMER),
+    "tap": to_tap,
+    "junit": to_junit,
+    "json": lambda outcomes, header: report_page.json_report(to_rows(outcomes), header, DISCLAIMER),
+    "html": lambda outcomes, header: report_page.html_report(to_rows(outcomes), header, DISCLAIMER),
 }
 
 

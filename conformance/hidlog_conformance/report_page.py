@@ -10,7 +10,7 @@ from hidlog_conformance.outcome import UNSTABLE
 
 # The version of the JSON report's members; 1 had `said` for `details`. This version writes both.
 FORMAT = 2
-WORDS = {"ok": "passed", "not ok": "failed", UNSTABLE: "unstable", "warn": "warned", "skip": "skipped"}
+STATUS_WORDS = {"ok": "passed", "not ok": "failed", UNSTABLE: "unstable", "warn": "warned", "skip": "skipped"}
 
 
 class Row(NamedTuple):
@@ -25,25 +25,25 @@ class Row(NamedTuple):
 
 def counts(rows: List[Row]) -> Dict[str, int]:
     """Returns the number of cases by outcome."""
-    return {word: sum(row.status == status for row in rows) for status, word in WORDS.items()}
+    return {word: sum(row.status == status for row in rows) for status, word in STATUS_WORDS.items()}
 
 
 def by_rule(rows: List[Row]) -> Dict[str, List[Row]]:
     """Returns the cases of each rule."""
     found: Dict[str, List[Row]] = {}
-    for row in sorted(rows, key=lambda row: [int(part) for part in number(row.rule).split(".")]):
+    for row in sorted(rows, key=lambda row: [int(part) for part in get_section_number(row.rule).split(".")]):
         found.setdefault(row.rule, []).append(row)
     return found
 
 
-def number(rule: str) -> str:
+def get_section_number(rule: str) -> str:
     """Returns the section number of a rule: 6.1.2 of `CTAP 2.1, 6.1.2 authenticator..`."""
     return rule.partition(", ")[2].split(" ")[0] or "0"
 
 
 def case_object(row: Row) -> Dict[str, object]:
     """Returns a case as an object of the JSON report."""
-    case: Dict[str, object] = {"name": row.name, "rule": row.rule, "result": WORDS[row.status]}
+    case: Dict[str, object] = {"name": row.name, "rule": row.rule, "result": STATUS_WORDS[row.status]}
     case.update({"details": row.details, "said": row.details})
     if row.recordings:
         case["recordings"] = row.recordings
@@ -66,7 +66,7 @@ def html_report(rows: List[Row], header: Dict[str, str], note: str) -> None:
     for name, value in header.items():
         print(f"<tr><th>{escape(name)}</th><td><code>{escape(value)}</code></td></tr>")
     print(f"</table>\n<p>{escape(note)}</p>\n<h2>By section</h2>\n<table>")
-    print("<tr><th>Section</th>" + "".join(f"<th>{word}</th>" for word in WORDS.values()) + "</tr>")
+    print("<tr><th>Section</th>" + "".join(f"<th>{word}</th>" for word in STATUS_WORDS.values()) + "</tr>")
     for rule, found in by_rule(rows).items():
         cells = "".join(f"<td>{count}</td>" for count in counts(found).values())
         print(f"<tr><td>{escape(rule)}</td>{cells}</tr>")

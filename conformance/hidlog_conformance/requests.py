@@ -11,7 +11,7 @@ from hidlog_conformance.quantity import quantity
 
 MAKE, GET, INFO, PIN, RESET, NEXT, SELECTION = 0x01, 0x02, 0x04, 0x06, 0x07, 0x08, 0x0B
 # Other commands of CTAP 2.1, and vendor commands (8.1).
-OTHERS = (0x09, 0x0A, 0x0C, 0x0D, *range(0x40, 0xC0))
+OTHER_COMMANDS = (0x09, 0x0A, 0x0C, 0x0D, *range(0x40, 0xC0))
 NAMES = {
     MAKE: "authenticatorMakeCredential",
     GET: "authenticatorGetAssertion",
@@ -43,12 +43,12 @@ def is_descriptor(item: Any) -> bool:
     return isinstance(transports, list) and all(map(is_text, transports))
 
 
-def is_parameter(item: Any) -> bool:
+def is_algorithm(item: Any) -> bool:
     """Returns whether an item is an algorithm with its type."""
     return isinstance(item, dict) and isinstance(item.get("alg"), int) and isinstance(item.get("type"), str)
 
 
-def listed(check: Callable[[Any], bool]) -> Callable[[Any], bool]:
+def make_list_check(check: Callable[[Any], bool]) -> Callable[[Any], bool]:
     """Returns a check that each element of a list passes `check`."""
     return lambda item: isinstance(item, list) and all(map(check, item))
 
@@ -105,8 +105,8 @@ MEMBERS: Dict[int, Dict[int, Member]] = {
         1: ("clientDataHash", True, is_hash),
         2: ("rp", True, is_rp),
         3: ("user", True, is_user),
-        4: ("pubKeyCredParams", True, listed(is_parameter)),
-        5: ("excludeList", False, listed(is_descriptor)),
+        4: ("pubKeyCredParams", True, make_list_check(is_algorithm)),
+        5: ("excludeList", False, make_list_check(is_descriptor)),
         6: ("extensions", False, is_map),
         7: ("options", False, is_options),
         8: ("pinUvAuthParam", False, is_bytes),
@@ -116,7 +116,7 @@ MEMBERS: Dict[int, Dict[int, Member]] = {
     GET: {
         1: ("rpId", True, is_text),
         2: ("clientDataHash", True, is_hash),
-        3: ("allowList", False, listed(is_descriptor)),
+        3: ("allowList", False, make_list_check(is_descriptor)),
         4: ("extensions", False, is_map),
         5: ("options", False, is_options),
         6: ("pinUvAuthParam", False, is_bytes),
@@ -136,20 +136,20 @@ MEMBERS: Dict[int, Dict[int, Member]] = {
 
 
 @lru_cache(maxsize=16)
-def parameters_of(request: bytes) -> Optional[Dict[Any, Any]]:
+def decode_parameters(request: bytes) -> Optional[Dict[Any, Any]]:
     """Returns the parameters of a request, not to be modified; None if they are invalid."""
     try:
-        item = ctap_cbor.decoded(request[1:]) if len(request) > 1 else {}
+        item = ctap_cbor.decode_cached(request[1:]) if len(request) > 1 else {}
     except ctap_cbor.CborError:
         return None
     return dict(item) if isinstance(item, dict) else None
 
 
 @lru_cache(maxsize=16)
-def fault_of(request: bytes) -> Optional[Fault]:
+def find_fault(request: bytes) -> Optional[Fault]:
     """Returns the first error in a request, or None."""
     command = request[0]
-    if command not in NAMES and command not in OTHERS:
+    if command not in NAMES and command not in OTHER_COMMANDS:
         return Fault(UNKNOWN, "a known command", f"command {command:02x}", rules.COMMANDS_OTHER)
     if len(request) == 1:
         needs = any(has_to_be for _, has_to_be, _ in MEMBERS.get(command, {}).values())
@@ -159,15 +159,15 @@ def fault_of(request: bytes) -> Optional[Fault]:
             FORM, "a command without parameters", f"{quantity(len(request) - 1, 'byte')} of parameters", should=True
         )
     try:
-        item = ctap_cbor.decoded(request[1:])
+        item = ctap_cbor.decode_cached(request[1:])
     except ctap_cbor.CborError as fault:
         return Fault(FORM, "parameters in CTAP2 canonical CBOR", str(fault), "8")
     if not isinstance(item, dict):
-        return Fault(FORM, "parameters as a map", ctap_cbor.shown(item), "8")
-    return members_fault(command, item)
+        return Fault(FORM, "parameters as a map", ctap_cbor.to_diagnostic(item), "8")
+    return find_member_fault(command, item)
 
 
-def members_fault(command: int, item: Dict[Any, Any]) -> Optional[Fault]:
+def find_member_fault(command: int, item: Dict[Any, Any]) -> Optional[Fault]:
     """Returns an error for the first member that is missing or has a wrong type."""
     members = MEMBERS.get(command, {})
     wrong = [name for key, (name, _, is_right) in members.items() if key in item and not is_right(item[key])]
@@ -175,8 +175,8 @@ def members_fault(command: int, item: Dict[Any, Any]) -> Optional[Fault]:
         f"{name} under the key {key}" for key, (name, required, _) in members.items() if required and key not in item
     ]
     if wrong:
-        return Fault(FORM, f"{wrong[0]} with its type", ctap_cbor.shown(item))
-    return Fault(MISSING, lacking[0], ctap_cbor.shown(item)) if lacking else None
+        return Fault(FORM, f"{wrong[0]} with its type", ctap_cbor.to_diagnostic(item))
+    return Fault(MISSING, lacking[0], ctap_cbor.to_diagnostic(item)) if lacking else None
 
 
 def unknown_parts(command: int, item: Dict[Any, Any]) -> List[str]:

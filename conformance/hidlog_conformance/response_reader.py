@@ -12,11 +12,11 @@ from hidlog_conformance.devices import Device
 from hidlog_conformance.init_response import is_valid_keepalive
 from hidlog_conformance.hid_packets import Message
 from hidlog_conformance.check_credential_management import Listing
-from hidlog_conformance.outcome import derived
+from hidlog_conformance.outcome import derive_id
 from hidlog_conformance.platform_side import Platform
 from hidlog_conformance.quantity import quantity
 from hidlog_conformance.session_file import Session, Step
-from hidlog_conformance.credential_reuse import CredentialReuse, with_rp
+from hidlog_conformance.credential_reuse import CredentialReuse, prefix_rp_id
 
 # Expectations of any session.
 GOES_ON = "a device that keeps running"
@@ -202,17 +202,17 @@ class ResponseReader:
         for name, identity in self.names():
             data = data.replace(ctap_cbor.encode(name), ctap_cbor.encode(identity))
         data = self.platform.fill(data)
-        data = with_rp(data, self.front) if self.front else data
+        data = prefix_rp_id(data, self.front) if self.front else data
         if data == messages[0].data:
             return packets
-        return hid.packets_of(messages[0].channel, hid.CBOR, data)
+        return hid.fragment_message(messages[0].channel, hid.CBOR, data)
 
     def names(self) -> List[Tuple[bytes, bytes]]:
         """Returns pairs of the session's credential IDs and the device's, including derived IDs."""
         found = [(name, credential.id) for name, credential in self.known.items()]
         for name, (kind, origin) in self.session.derived.items():
             if origin in self.known:
-                found.append((name, derived(kind, self.known[origin].id)))
+                found.append((name, derive_id(kind, self.known[origin].id)))
         return found
 
     def is_expected_keepalive(self, message: Message) -> bool:

@@ -75,7 +75,7 @@ class Seen:
         return self.actual.data if self.actual is not None and self.actual.command == hid.CBOR else b""
 
 
-def broken(seen: Seen) -> str:
+def find_violated_section(seen: Seen) -> str:
     """Returns the section whose rule a difference violates."""
     kind = seen.expected.split(" ")[0]
     if kind == "zeros" or seen.partial or (seen.actual is not None and seen.actual.problem):
@@ -101,10 +101,10 @@ def broken(seen: Seen) -> str:
         return PING if seen.actual is not None and seen.actual.command == hid.PING else seen.own
     if kind == "error" and seen.own != CBOR:
         return CODES.get(seen.expected.split(" ")[1][:2], seen.own)
-    return of_answer(kind, seen)
+    return find_response_section(kind, seen)
 
 
-def of_answer(kind: str, seen: Seen) -> str:
+def find_response_section(kind: str, seen: Seen) -> str:
     """Returns the rule that a wrong, early or missing response to a request violates."""
     if kind == "status" and seen.cancelled and "2d" in seen.expected:
         return CANCEL

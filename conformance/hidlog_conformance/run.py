@@ -17,16 +17,22 @@ import threading
 from typing import Dict, List, Optional, Tuple, TypeVar
 
 from hidlog_conformance import __version__, executor, interrupts, keys, report
-from hidlog_conformance.client_runner import Played, client_sessions, keep_logs, play_clients, read_client_session
+from hidlog_conformance.client_runner import (
+    Played,
+    client_sessions,
+    write_failed_logs,
+    play_clients,
+    read_client_session,
+)
 from hidlog_conformance.devices import Device, HidrawDevice, LiveDevice, PipeDevice, kill_running
-from hidlog_conformance.expected_failures import failing
+from hidlog_conformance.expected_failures import parse_list
 from hidlog_conformance.device_info import DeviceInfo, empty_blobs, prepare
 from hidlog_conformance.paths import PROGRAM
 from hidlog_conformance.outcome import FAILED, UNSTABLE, Outcome
 from hidlog_conformance.quantity import quantity
 from hidlog_conformance.response_reader import CASE_SECONDS, GOES_ON, IN_TIME
 from hidlog_conformance.results import Results, collect
-from hidlog_conformance.sanitize import clean
+from hidlog_conformance.sanitize import escape_text
 from hidlog_conformance.player import Player
 from hidlog_conformance.session_cache import session_name, session_path, sessions_folder
 from hidlog_conformance.session_file import Session, read_session, sends_reset
@@ -56,7 +62,7 @@ def all_sessions(only: str = "", paths: Tuple[str, ...] = (), skip: Tuple[str, .
     return [session for session in sessions if chosen(session)]
 
 
-def device_of(options: argparse.Namespace) -> Device:
+def make_device(options: argparse.Namespace) -> Device:
     """Returns the device that the options name."""
     if options.device is None:
         if not os.path.exists(PROGRAM):
@@ -69,7 +75,7 @@ def device_of(options: argparse.Namespace) -> Device:
     return PipeDevice(options.device, options.touch, options.touch_line, options.persistent)
 
 
-def judged(outcome: Outcome, options: argparse.Namespace, device_info: DeviceInfo) -> Outcome:
+def adjust_outcome(outcome: Outcome, options: argparse.Namespace, device_info: DeviceInfo) -> Outcome:
     """Returns the outcome to report: SHOULD violations are warnings, and choices of this project's profile are
     skipped."""
     session = outcome.session
@@ -93,7 +99,7 @@ def may_be_late(device: Device, outcome: Outcome, options: argparse.Namespace) -
     return outcome.status == "not ok" and not outcome.hung and device.late > MAX_DELAY and not asks
 
 
-def unstable(first: Outcome, second: Outcome, late: float) -> Outcome:
+def mark_unstable(first: Outcome, second: Outcome, late: float) -> Outcome:
     """Returns the outcome of a case that differed and then did not: a failure is unstable, with both recordings."""
     if first.status == "not ok":
         first.status = UNSTABLE
@@ -133,35 +139,35 @@ def play_one(
     if may_be_late(device, outcome, options) and again:
         late = device.late
         second = play_one(device, session, options, device_info, reuse, False)
-        first = judged(outcome, options, device_info)
-        return second if second.status in FAILED else unstable(first, second, late)
+        first = adjust_outcome(outcome, options, device_info)
+        return second if second.status in FAILED else mark_unstable(first, second, late)
     if front and outcome.status == "skip":
         # No space beside the credentials of other cases.
         return play_one(device, session, options, device_info)
-    return judged(outcome, options, device_info)
+    return adjust_outcome(outcome, options, device_info)
 
 
-def touches(session: Session) -> int:
+def count_touches(session: Session) -> int:
     """Returns how many touches a session needs."""
     return sum(step.kind == "p" and step.words[:1] == ["granted"] for step in session.steps)
 
 
-def in_order(device: Device, sessions: List[Session], asks: bool) -> List[Session]:
+def order_sessions(device: Device, sessions: List[Session], asks: bool) -> List[Session]:
     """Returns sessions in the order to play them: those that set a PIN last if the device keeps it; and if a person
     touches, by the number of touches."""
     if asks:
-        asking = [count for count in map(touches, sessions) if count]
+        asking = [count for count in map(count_touches, sessions) if count]
         first = quantity(len(sessions) - len(asking), "case")
         most = quantity(sum(asking), "touch", "touches")
         print(f"{first} without a touch first, then {len(asking)} with at most {most}", file=sys.stderr)
-    by_touches = sorted(sessions, key=touches) if asks else sessions
+    by_touches = sorted(sessions, key=count_touches) if asks else sessions
     return sorted(by_touches, key=lambda session: bool(device.lasting and PINS in session.uses))
 
 
 def play_in_worker(task: Tuple[Session, argparse.Namespace, DeviceInfo]) -> Outcome:
     """Plays a session against a new device, in a worker process."""
     session, options, device_info = task
-    return play_one(device_of(options), session, options, device_info)
+    return play_one(make_device(options), session, options, device_info)
 
 
 def play_on_cluster(
@@ -212,7 +218,7 @@ def play_all(
         for number, session in enumerate(sessions):
             results.add(number, play(session, device))
     else:
-        collect(lambda session: play(session, device_of(options)), sessions, options.jobs, results)
+        collect(lambda session: play(session, make_device(options)), sessions, options.jobs, results)
 
 
 def device_words(parser: argparse.ArgumentParser) -> None:
@@ -266,7 +272,7 @@ def parse_options(arguments: List[str]) -> argparse.Namespace:
     options = parser.parse_args(arguments)
     if options.executor:
         try:
-            executor.address_of(options.executor)
+            executor.parse_address(options.executor)
         except ValueError as fault:
             parser.error(str(fault))
     options.touch = options.touch or bool(options.touch_line)
@@ -296,7 +302,7 @@ def finish(options: argparse.Namespace, outcomes: List[Outcome], header: Dict[st
     if not options.expected_failures:
         return 1 if failed else 0
     played = {outcome.session.name for outcome in outcomes if outcome.status != "skip"}
-    expected = set(failing(options.expected_failures)) & played
+    expected = set(parse_list(options.expected_failures)) & played
     for name in sorted(failed ^ expected):
         text = "unexpected failure" if name in failed else "unexpected success"
         print(f"{text} (by {options.expected_failures}): {name}", file=sys.stderr)
@@ -317,8 +323,8 @@ def play_to_client(options: argparse.Namespace) -> int:
         interrupted = True
     played = results_so_far(results)
     if options.logs:
-        keep_logs(options.logs, played)
-    header = report.header_of_client(options.client)
+        write_failed_logs(options.logs, played)
+    header = report.make_client_header(options.client)
     return finish(options, [outcome for outcome, _ in played], header, len(paths) if interrupted else 0)
 
 
@@ -338,7 +344,7 @@ def play_to_device(options: argparse.Namespace) -> int:
     sessions = all_sessions(options.only, tuple(options.sessions), tuple(options.skip))
     if not sessions:
         raise ValueError(f"no case contains {options.only!r}")
-    device = device_of(options)
+    device = make_device(options)
     device_info, results = DeviceInfo(display=options.display), Results[Outcome]()
     interrupted = False
     try:
@@ -347,7 +353,7 @@ def play_to_device(options: argparse.Namespace) -> int:
             print("skipped: signatures not checked: python3-cryptography is not installed", file=sys.stderr)
         if options.reset and not device.fresh:
             print("RESETTING the device: all its credentials are deleted", file=sys.stderr)
-        ordered = in_order(device, sessions, options.touch and not options.touch_line)
+        ordered = order_sessions(device, sessions, options.touch and not options.touch_line)
         play_all(device, ordered, options, device_info, results)
         if device.lasting and options.reset and any(PINS in session.uses for session in sessions):
             print("resetting the device to remove the PIN", file=sys.stderr)
@@ -357,7 +363,7 @@ def play_to_device(options: argparse.Namespace) -> int:
         if device.lasting and options.reset:
             print("the device may have a PIN and credentials of the interrupted case", file=sys.stderr)
     outcomes = results_so_far(results)
-    header = report.header_of_device(options.device or "release/hidlog live", device_info)
+    header = report.make_device_header(options.device or "release/hidlog live", device_info)
     return finish(options, outcomes, header, len(sessions) if interrupted else 0)
 
 
@@ -371,7 +377,7 @@ def main(arguments: List[str]) -> int:
     except BrokenPipeError:
         raise
     except (OSError, ValueError) as fault:
-        print(f"hidlog-conformance: {clean(str(fault))}", file=sys.stderr)
+        print(f"hidlog-conformance: {escape_text(str(fault))}", file=sys.stderr)
         return 2
 
 

@@ -29,7 +29,7 @@ PREFIX = "sessions-"
 KEPT_SECONDS = 3600
 
 
-def sources() -> List[str]:
+def list_sources() -> List[str]:
     """Returns the paths of the package's modules, and of the logs that cases are made from."""
     found = []
     for folder in (PACKAGE, os.path.join(DATA, "fuzzed"), os.path.join(DATA, "recorded")):
@@ -38,10 +38,10 @@ def sources() -> List[str]:
     return sorted(found)
 
 
-def hash_of_sources() -> str:
+def compute_hash() -> str:
     """Returns a hash of the sources' paths and bytes."""
     digest = hashlib.sha256()
-    for path in sources():
+    for path in list_sources():
         with open(path, "rb") as file:
             data = file.read()
         digest.update(f"{os.path.relpath(path, DATA)} {len(data)}\n".encode() + data)
@@ -71,7 +71,7 @@ def generate(folder: str) -> None:
         shutil.rmtree(work, ignore_errors=True)
 
 
-def temporary() -> str:
+def write_temporary() -> str:
     """Writes the sessions into a temporary folder, which is removed when this process ends."""
     from hidlog_conformance.cases.all_cases import write_sessions
 
@@ -128,12 +128,12 @@ def sessions_folder() -> str:
     """Returns the folder of the session files, and writes them first if they are not there."""
     if INSTALLED:
         return SESSIONS
-    folder = os.path.join(CACHE, PREFIX + hash_of_sources())
+    folder = os.path.join(CACHE, PREFIX + compute_hash())
     if not is_readable(folder):
         try:
             generate(folder)
         except OSError:
-            return temporary()
+            return write_temporary()
     with contextlib.suppress(OSError):
         os.utime(folder)
         copy(folder)

@@ -7,108 +7,108 @@ import secrets
 from typing import Any, Dict, List
 
 from cryptography.hazmat.primitives.asymmetric import ec, utils
-from mutant import Mutant, after, around, both, instead, member
+from mutant import Mutant, change_result, wrap_method, combine, replace_method, change_member
 from hidlog_conformance.ctap_cbor import encode
 from hidlog_conformance.reference.credential import new_key
 from hidlog_conformance.reference.pin import RequestError
 from hidlog_conformance.reference.traits import EDDSA, ES256, DeviceTraits
 
 MAKE, GET, NEXT, RESET = "6.1.2", "6.2.2", "6.3", "6.6"
-ORDER = 0xFFFFFFFF00000000FFFFFFFFFFFFFFFFBCE6FAADA7179E84F3B9CAC2FC632551
+GROUP_ORDER = 0xFFFFFFFF00000000FFFFFFFFFFFFFFFFBCE6FAADA7179E84F3B9CAC2FC632551
 NONCE = 0x1234567890ABCDEF
 X5C = DeviceTraits(format="x5c")
-KEYS = {number: new_key(number) for number in (ES256, EDDSA)}
+SHARED_KEYS = {number: new_key(number) for number in (ES256, EDDSA)}
 
 
-def same_nonce(key: Any, one: Any, data: bytes) -> bytes:
-    """Signs by ES256 with the same random number each time."""
+def sign_with_same_nonce(key: Any, one: Any, data: bytes) -> bytes:
+    """Signs with ES256 and the same nonce each time."""
     if one.algorithm != ES256:
         return bytes(one.sign(data))
-    x = ec.derive_private_key(NONCE, ec.SECP256R1()).public_key().public_numbers().x % ORDER
+    x = ec.derive_private_key(NONCE, ec.SECP256R1()).public_key().public_numbers().x % GROUP_ORDER
     secret = one.private.private_numbers().private_value
     z = int.from_bytes(hashlib.sha256(data).digest(), "big")
-    return bytes(utils.encode_dss_signature(x, pow(NONCE, -1, ORDER) * (z + x * secret) % ORDER))
+    return bytes(utils.encode_dss_signature(x, pow(NONCE, -1, GROUP_ORDER) * (z + x * secret) % GROUP_ORDER))
 
 
-def statement(change: Any) -> Any:
+def change_statement(change: Any) -> Any:
     """Returns a change of the attestation statement."""
-    return member("attestation", 3, lambda found: change(dict(found)))
+    return change_member("attestation", 3, lambda found: change(dict(found)))
 
 
-def without(name: str) -> Any:
+def remove_statement_member(name: str) -> Any:
     """Returns a change that removes a member of the statement."""
-    return statement(lambda found: {key: value for key, value in found.items() if key != name})
+    return change_statement(lambda found: {key: value for key, value in found.items() if key != name})
 
 
-def put(name: str, value: Any) -> Any:
+def set_statement_member(name: str, value: Any) -> Any:
     """Returns a change that adds a member to the statement."""
-    return statement(lambda found: {**found, name: value})
+    return change_statement(lambda found: {**found, name: value})
 
 
-def named_by(same: Any) -> Any:
-    """Returns a change of comparison of IDs in allow lists."""
+def compare_allow_list_ids(same: Any) -> Any:
+    """Returns a change that compares credential IDs of allow lists by a function."""
 
     def named(key: Any, listed: List[Dict[str, Any]], one: Any) -> bool:
         return any(entry["type"] == "public-key" and same(entry["id"], one.id) for entry in listed)
 
-    return instead("named", named)
+    return replace_method("named", named)
 
 
-def excluded_by(same: Any) -> Any:
-    """Returns a change of comparison in exclude lists: it gets the entry, the credential and the RP of the request."""
+def compare_exclude_list(same: Any) -> Any:
+    """Returns a change that compares exclude lists by a function of the entry, the credential and the RP of the request."""
 
     def excluded(key: Any, asked: Any) -> bool:
         rp, listed = asked.item[2]["id"], asked.item.get(5, [])
         return any(same(entry, one, rp) for entry in listed for one in key.credentials)
 
-    return instead("excluded", excluded)
+    return replace_method("excluded", excluded)
 
 
-def plain(entry: Dict[str, Any], one: Any, rp: str) -> bool:
-    """Compares as the standard says it."""
+def is_excluded_entry(entry: Dict[str, Any], one: Any, rp: str) -> bool:
+    """Returns whether an entry excludes the RP's registration, by the standard."""
     return bool(entry["type"] == "public-key" and entry["id"] == one.id and one.rp == rp)
 
 
-def sequential(key: Any, rp: str, user: Any) -> bytes:
-    """Counts IDs."""
+def make_sequential_id(key: Any, rp: str, user: Any) -> bytes:
+    """Returns consecutive credential IDs."""
     key.ids = getattr(key, "ids", 0x1000) + 1
     return (key.ids << 8).to_bytes(32, "big")
 
 
-def flags(change: Any) -> Any:
+def change_flags(change: Any) -> Any:
     """Returns a change of flags."""
-    return after("flags", lambda key, found, asked: change(found))
+    return change_result("flags", lambda key, found, asked: change(found))
 
 
-def overwrites(key: Any, old: Any, new: Any) -> None:
-    """Loses the oldest credential if the device is full."""
+def overwrite_oldest(key: Any, old: Any, new: Any) -> None:
+    """Overwrites the oldest credential if the device is full."""
     if len(key.credentials) >= key.traits.capacity:
         key.credentials.pop(0)
     old(new)
 
 
-def small_store(key: Any, old: Any, new: Any) -> None:
-    """Loses a new credential if the device is full."""
+def drop_when_full(key: Any, old: Any, new: Any) -> None:
+    """Drops a new credential if the device is full."""
     if len(key.credentials) < key.traits.capacity:
         old(new)
 
 
-def listed_anyway(key: Any, old: Any, asked: Any) -> Any:
-    """Accepts a list that names no public key for none."""
+def accept_list_without_public_key(key: Any, old: Any, asked: Any) -> Any:
+    """Treats an allow list without the type public-key as no list."""
     listed = asked.item.get(3, [])
     if listed and not any(entry["type"] == "public-key" for entry in listed):
-        return [one for one in key.of_rp(asked.item[1]) if one.discoverable]
+        return [one for one in key.list_of_rp(asked.item[1]) if one.discoverable]
     return old(asked)
 
 
-def second_only(key: Any, asked: Any) -> bool:
-    """Looks at the first entry of an exclude list alone."""
+def check_first_entry_only(key: Any, asked: Any) -> bool:
+    """Checks only the first entry of an exclude list."""
     rp, listed = asked.item[2]["id"], asked.item.get(5, [])[:1]
-    return any(plain(entry, one, rp) for entry in listed for one in key.credentials)
+    return any(is_excluded_entry(entry, one, rp) for entry in listed for one in key.credentials)
 
 
-def last_algorithm(key: Any, listed: Any) -> int:
-    """Processes the last algorithm that is supported."""
+def use_last_algorithm(key: Any, listed: Any) -> int:
+    """Uses the last supported algorithm instead of the first."""
     found = [
         entry["alg"] for entry in listed if entry["type"] == "public-key" and entry["alg"] in key.traits.algorithms
     ]
@@ -117,148 +117,219 @@ def last_algorithm(key: Any, listed: Any) -> int:
     return int(found[-1])
 
 
-def any_type(key: Any, listed: Any) -> int:
-    """Doesn't look at the type of an algorithm."""
+def ignore_algorithm_type(key: Any, listed: Any) -> int:
+    """Ignores the type of an algorithm."""
     found = [entry["alg"] for entry in listed if entry["alg"] in key.traits.algorithms]
     if not found:
         raise RequestError(0x26)
     return int(found[0])
 
 
-def no_eddsa(key: Any, old: Any, listed: Any) -> int:
-    """Serves no EdDSA, though getInfo names it."""
+def never_use_eddsa(key: Any, old: Any, listed: Any) -> int:
+    """Never uses EdDSA, although getInfo names it."""
     return int(old([entry for entry in listed if entry["alg"] != EDDSA]))
 
 
-CREDENTIALS: List[Mutant] = [
-    Mutant("same_key", MAKE, "All credentials share a key pair.", instead("new_private", lambda key, a: KEYS[a])),
-    Mutant("same_nonce", GET, "ECDSA uses the same random number twice.", instead("sign", same_nonce)),
-    Mutant("x5c_wrong_signature", MAKE, "The certificate's signature is of nothing.", put("sig", bytes(70)), X5C),
-    Mutant("x5c_other_key", MAKE, "The certificate is of another key.", put("x5c", [b"0"]), X5C),
-    Mutant("x5c_empty", MAKE, "There is no certificate in x5c.", put("x5c", []), X5C),
-    Mutant("x5c_text", MAKE, "x5c is not an array.", put("x5c", b"0"), X5C),
-    Mutant("x5c_without_alg", MAKE, "The statement has x5c and no alg.", without("alg"), X5C),
-    Mutant("x5c_without_sig", MAKE, "The statement has x5c and no signature.", without("sig"), X5C),
-    Mutant("x5c_wrong_alg", MAKE, "The statement names another algorithm.", put("alg", -257), X5C),
-    Mutant("self_without_alg", MAKE, "Self attestation has no alg.", without("alg")),
-    Mutant("self_without_sig", MAKE, "Self attestation has no signature.", without("sig")),
-    Mutant("self_wrong_alg", MAKE, "Self attestation names another algorithm.", put("alg", -257)),
-    Mutant("format_unknown", MAKE, "The format has a name that nobody knows.", member("attestation", 1, "packaged")),
-    Mutant("format_number", MAKE, "The format is a number.", member("attestation", 1, 1)),
-    Mutant("none_with_statement", MAKE, "The format none has a statement.", member("attestation", 1, "none")),
-    Mutant("statement_missing_whole", MAKE, "There is no statement.", member("attestation", 3, None)),
-    Mutant("data_missing", MAKE, "There is no authenticator data.", member("attestation", 2, None)),
-    Mutant("data_longer", MAKE, "A byte is behind the key.", member("attestation", 2, lambda data: data + b"\0")),
-    Mutant("data_cut", MAKE, "The key is cut.", member("attestation", 2, lambda data: data[:-1])),
-    Mutant("eddsa_not_served", MAKE, "EdDSA is named but not supported.", around("algorithm", no_eddsa)),
-    Mutant("last_algorithm", MAKE, "The last algorithm of the list is accepted.", instead("algorithm", last_algorithm)),
-    Mutant("algorithm_of_any_type", MAKE, "The type of an algorithm is ignored.", instead("algorithm", any_type)),
-    Mutant("no_algorithm_taken", MAKE, "ES256 is made whatever is asked for.", instead("algorithm", lambda key, a: -7)),
+CREDENTIAL_MUTANTS: List[Mutant] = [
+    Mutant(
+        "same_key",
+        MAKE,
+        "All credentials share a key pair.",
+        replace_method("new_private", lambda key, a: SHARED_KEYS[a]),
+    ),
+    Mutant("same_nonce", GET, "ECDSA uses the same random number twice.", replace_method("sign", sign_with_same_nonce)),
+    Mutant(
+        "x5c_wrong_signature",
+        MAKE,
+        "The certificate's signature is of nothing.",
+        set_statement_member("sig", bytes(70)),
+        X5C,
+    ),
+    Mutant("x5c_other_key", MAKE, "The certificate is of another key.", set_statement_member("x5c", [b"0"]), X5C),
+    Mutant("x5c_empty", MAKE, "There is no certificate in x5c.", set_statement_member("x5c", []), X5C),
+    Mutant("x5c_text", MAKE, "x5c is not an array.", set_statement_member("x5c", b"0"), X5C),
+    Mutant("x5c_without_alg", MAKE, "The statement has x5c and no alg.", remove_statement_member("alg"), X5C),
+    Mutant("x5c_without_sig", MAKE, "The statement has x5c and no signature.", remove_statement_member("sig"), X5C),
+    Mutant("x5c_wrong_alg", MAKE, "The statement names another algorithm.", set_statement_member("alg", -257), X5C),
+    Mutant("self_without_alg", MAKE, "Self attestation has no alg.", remove_statement_member("alg")),
+    Mutant("self_without_sig", MAKE, "Self attestation has no signature.", remove_statement_member("sig")),
+    Mutant("self_wrong_alg", MAKE, "Self attestation names another algorithm.", set_statement_member("alg", -257)),
+    Mutant(
+        "format_unknown", MAKE, "The format has a name that nobody knows.", change_member("attestation", 1, "packaged")
+    ),
+    Mutant("format_number", MAKE, "The format is a number.", change_member("attestation", 1, 1)),
+    Mutant("none_with_statement", MAKE, "The format none has a statement.", change_member("attestation", 1, "none")),
+    Mutant("statement_missing_whole", MAKE, "There is no statement.", change_member("attestation", 3, None)),
+    Mutant("data_missing", MAKE, "There is no authenticator data.", change_member("attestation", 2, None)),
+    Mutant(
+        "data_longer", MAKE, "A byte is behind the key.", change_member("attestation", 2, lambda data: data + b"\0")
+    ),
+    Mutant("data_cut", MAKE, "The key is cut.", change_member("attestation", 2, lambda data: data[:-1])),
+    Mutant("eddsa_not_served", MAKE, "EdDSA is named but not supported.", wrap_method("algorithm", never_use_eddsa)),
+    Mutant(
+        "last_algorithm",
+        MAKE,
+        "The last algorithm of the list is accepted.",
+        replace_method("algorithm", use_last_algorithm),
+    ),
+    Mutant(
+        "algorithm_of_any_type",
+        MAKE,
+        "The type of an algorithm is ignored.",
+        replace_method("algorithm", ignore_algorithm_type),
+    ),
+    Mutant(
+        "no_algorithm_taken",
+        MAKE,
+        "ES256 is made whatever is asked for.",
+        replace_method("algorithm", lambda key, a: -7),
+    ),
     Mutant(
         "aaguid_differs",
         MAKE,
         "The AAGUID isn't that of getInfo.",
-        after("attested", lambda key, data, new: bytes(16) + data[16:]),
+        change_result("attested", lambda key, data, new: bytes(16) + data[16:]),
     ),
-    Mutant("flag_reserved_1", MAKE, "Bit 1 of the flags is set.", flags(lambda found: found | 0x02)),
-    Mutant("flag_reserved_5", MAKE, "Bit 5 of the flags is set.", flags(lambda found: found | 0x20)),
-    Mutant("bs_without_be", MAKE, "Flag BS is set without BE.", flags(lambda found: found | 0x10)),
-    Mutant("uv_set_always", MAKE, "Flag UV is set without user verification.", flags(lambda found: found | 0x04)),
-    Mutant("up_set_never", MAKE, "Flag UP is never set.", flags(lambda found: found & 0xFE)),
+    Mutant("flag_reserved_1", MAKE, "Bit 1 of the flags is set.", change_flags(lambda found: found | 0x02)),
+    Mutant("flag_reserved_5", MAKE, "Bit 5 of the flags is set.", change_flags(lambda found: found | 0x20)),
+    Mutant("bs_without_be", MAKE, "Flag BS is set without BE.", change_flags(lambda found: found | 0x10)),
     Mutant(
-        "id_by_beginning", GET, "IDs are compared by their first 16 bytes.", named_by(lambda a, b: a[:16] == b[:16])
+        "uv_set_always", MAKE, "Flag UV is set without user verification.", change_flags(lambda found: found | 0x04)
     ),
-    Mutant("id_with_more", GET, "An ID with bytes behind is accepted.", named_by(lambda a, b: a.startswith(b))),
+    Mutant("up_set_never", MAKE, "Flag UP is never set.", change_flags(lambda found: found & 0xFE)),
     Mutant(
-        "id_cut_taken", GET, "An ID that is cut is accepted.", named_by(lambda a, b: len(a) > 8 and b.startswith(a))
+        "id_by_beginning",
+        GET,
+        "IDs are compared by their first 16 bytes.",
+        compare_allow_list_ids(lambda a, b: a[:16] == b[:16]),
     ),
-    Mutant("id_last_byte", GET, "The last byte of an ID isn't compared.", named_by(lambda a, b: a[:-1] == b[:-1])),
+    Mutant(
+        "id_with_more",
+        GET,
+        "An ID with bytes behind is accepted.",
+        compare_allow_list_ids(lambda a, b: a.startswith(b)),
+    ),
+    Mutant(
+        "id_cut_taken",
+        GET,
+        "An ID that is cut is accepted.",
+        compare_allow_list_ids(lambda a, b: len(a) > 8 and b.startswith(a)),
+    ),
+    Mutant(
+        "id_last_byte",
+        GET,
+        "The last byte of an ID isn't compared.",
+        compare_allow_list_ids(lambda a, b: a[:-1] == b[:-1]),
+    ),
     Mutant(
         "list_of_any_type",
         GET,
         "The type of a descriptor is ignored.",
-        instead("named", lambda key, listed, one: any(entry["id"] == one.id for entry in listed)),
+        replace_method("named", lambda key, listed, one: any(entry["id"] == one.id for entry in listed)),
     ),
     Mutant(
         "list_first_only",
         GET,
         "The first entry of an allow list counts alone.",
-        instead("named", lambda key, listed, one: listed[0]["type"] == "public-key" and listed[0]["id"] == one.id),
+        replace_method(
+            "named", lambda key, listed, one: listed[0]["type"] == "public-key" and listed[0]["id"] == one.id
+        ),
     ),
     Mutant(
-        "other_types_as_none", GET, "A list of other types is treated as absent.", around("applicable", listed_anyway)
+        "other_types_as_none",
+        GET,
+        "A list of other types is treated as absent.",
+        wrap_method("applicable", accept_list_without_public_key),
     ),
-    Mutant("ids_in_a_row", MAKE, "IDs follow from one another.", instead("new_id", sequential)),
+    Mutant("ids_in_a_row", MAKE, "IDs follow from one another.", replace_method("new_id", make_sequential_id)),
     Mutant(
-        "id_repeated", MAKE, "Every credential has the same ID.", instead("new_id", lambda key, rp, user: b"\7" * 32)
+        "id_repeated",
+        MAKE,
+        "Every credential has the same ID.",
+        replace_method("new_id", lambda key, rp, user: b"\7" * 32),
     ),
     Mutant(
         "id_of_user",
         MAKE,
         "the ID holds the user's.",
-        instead("new_id", lambda key, rp, user: (user["id"] + secrets.token_bytes(24))[:96]),
+        replace_method("new_id", lambda key, rp, user: (user["id"] + secrets.token_bytes(24))[:96]),
     ),
-    Mutant("id_short", MAKE, "IDs have eight bytes.", instead("new_id", lambda key, rp, user: secrets.token_bytes(8))),
     Mutant(
-        "id_too_long", MAKE, "IDs have 1024 bytes.", instead("new_id", lambda key, rp, user: secrets.token_bytes(1024))
+        "id_short",
+        MAKE,
+        "IDs have eight bytes.",
+        replace_method("new_id", lambda key, rp, user: secrets.token_bytes(8)),
+    ),
+    Mutant(
+        "id_too_long",
+        MAKE,
+        "IDs have 1024 bytes.",
+        replace_method("new_id", lambda key, rp, user: secrets.token_bytes(1024)),
     ),
     Mutant(
         "exclude_by_beginning",
         MAKE,
         "Exclude lists compare the first 16 bytes.",
-        excluded_by(lambda entry, one, rp: entry["id"][:16] == one.id[:16] and one.rp == rp),
+        compare_exclude_list(lambda entry, one, rp: entry["id"][:16] == one.id[:16] and one.rp == rp),
     ),
     Mutant(
         "exclude_with_more",
         MAKE,
         "Exclude lists take an ID with bytes behind.",
-        excluded_by(lambda entry, one, rp: entry["id"].startswith(one.id) and one.rp == rp),
+        compare_exclude_list(lambda entry, one, rp: entry["id"].startswith(one.id) and one.rp == rp),
     ),
     Mutant(
         "exclude_cut",
         MAKE,
         "Exclude lists take an ID that is cut.",
-        excluded_by(lambda entry, one, rp: len(entry["id"]) > 8 and one.id.startswith(entry["id"]) and one.rp == rp),
+        compare_exclude_list(
+            lambda entry, one, rp: len(entry["id"]) > 8 and one.id.startswith(entry["id"]) and one.rp == rp
+        ),
     ),
     Mutant(
         "exclude_of_any_rp",
         MAKE,
         "A credential of another RP excludes.",
-        excluded_by(lambda entry, one, rp: plain(entry, one, one.rp)),
+        compare_exclude_list(lambda entry, one, rp: is_excluded_entry(entry, one, one.rp)),
     ),
     Mutant(
         "exclude_of_any_type",
         MAKE,
         "An entry of another type excludes.",
-        excluded_by(lambda entry, one, rp: entry["id"] == one.id and one.rp == rp),
+        compare_exclude_list(lambda entry, one, rp: entry["id"] == one.id and one.rp == rp),
     ),
-    Mutant("exclude_first_only", MAKE, "The first entry excludes alone.", instead("excluded", second_only)),
-    Mutant("exclude_never", MAKE, "Nothing excludes.", instead("excluded", lambda key, asked: False)),
+    Mutant(
+        "exclude_first_only",
+        MAKE,
+        "The first entry excludes alone.",
+        replace_method("excluded", check_first_entry_only),
+    ),
+    Mutant("exclude_never", MAKE, "Nothing excludes.", replace_method("excluded", lambda key, asked: False)),
     Mutant(
         "full_overwrites",
         GET,
         "A full device loses the oldest credential.",
-        around("store", overwrites),
+        wrap_method("store", overwrite_oldest),
         DeviceTraits(capacity=20),
     ),
     Mutant(
         "full_forgets",
         GET,
         "A full device loses the new credential.",
-        around("store", small_store),
+        wrap_method("store", drop_when_full),
         DeviceTraits(capacity=20),
     ),
     Mutant(
         "replaces_never",
         GET,
         "A user has several discoverable credentials.",
-        instead("replaces", lambda key, new, old: False),
+        replace_method("replaces", lambda key, new, old: False),
     ),
     Mutant(
         "replaces_hidden",
         GET,
         "A non-discoverable credential is replaced too.",
-        instead(
+        replace_method(
             "replaces", lambda key, new, old: new.discoverable and new.rp == old.rp and new.user["id"] == old.user["id"]
         ),
     ),
@@ -266,7 +337,7 @@ CREDENTIALS: List[Mutant] = [
         "replaced_by_hidden",
         GET,
         "A non-discoverable credential replaces.",
-        instead(
+        replace_method(
             "replaces", lambda key, new, old: new.rp == old.rp and new.user["id"] == old.user["id"] and old.discoverable
         ),
     ),
@@ -274,7 +345,7 @@ CREDENTIALS: List[Mutant] = [
         "replaces_of_any_rp",
         GET,
         "A user of another RP is replaced.",
-        instead(
+        replace_method(
             "replaces", lambda key, new, old: new.discoverable and old.discoverable and new.user["id"] == old.user["id"]
         ),
     ),
@@ -282,37 +353,39 @@ CREDENTIALS: List[Mutant] = [
         "replaces_of_any_user",
         GET,
         "Another user of the RP is replaced.",
-        instead("replaces", lambda key, new, old: new.discoverable and old.discoverable and new.rp == old.rp),
+        replace_method("replaces", lambda key, new, old: new.discoverable and old.discoverable and new.rp == old.rp),
     ),
     Mutant(
         "key_with_more",
         MAKE,
         "The COSE key has a member more.",
-        after("attested", lambda key, data, new: data[: 18 + len(new.id)] + encode({**new.cose(), 2: b"x"})),
+        change_result("attested", lambda key, data, new: data[: 18 + len(new.id)] + encode({**new.cose(), 2: b"x"})),
     ),
     Mutant(
         "key_off_curve",
         MAKE,
         "The public key is not on the curve.",
-        after("attested", lambda key, data, new: data[: 18 + len(new.id)] + encode({**new.cose(), -2: bytes(32)})),
+        change_result(
+            "attested", lambda key, data, new: data[: 18 + len(new.id)] + encode({**new.cose(), -2: bytes(32)})
+        ),
     ),
     Mutant(
         "key_other_alg",
         MAKE,
         "The COSE key names another algorithm.",
-        after("attested", lambda key, data, new: data[: 18 + len(new.id)] + encode({**new.cose(), 3: -35})),
+        change_result("attested", lambda key, data, new: data[: 18 + len(new.id)] + encode({**new.cose(), 3: -35})),
     ),
     Mutant(
         "id_length_wrong",
         MAKE,
         "The length of the ID is one too great.",
-        after("attested", lambda key, data, new: data[:16] + (len(new.id) + 1).to_bytes(2, "big") + data[18:]),
+        change_result("attested", lambda key, data, new: data[:16] + (len(new.id) + 1).to_bytes(2, "big") + data[18:]),
     ),
     Mutant(
         "reset_keeps_discoverable",
         RESET,
         "A reset keeps discoverable credentials.",
-        instead(
+        replace_method(
             "forget", lambda key: setattr(key, "credentials", [one for one in key.credentials if one.discoverable])
         ),
     ),
@@ -320,19 +393,19 @@ CREDENTIALS: List[Mutant] = [
         "reset_keeps_hidden",
         RESET,
         "A reset keeps non-discoverable credentials.",
-        instead(
+        replace_method(
             "forget", lambda key: setattr(key, "credentials", [one for one in key.credentials if not one.discoverable])
         ),
     ),
-    Mutant("reset_of_nothing", RESET, "A reset forgets nothing.", instead("forget", lambda key: None)),
+    Mutant("reset_of_nothing", RESET, "A reset forgets nothing.", replace_method("forget", lambda key: None)),
     Mutant(
         "reset_keeps_pending",
         NEXT,
         "Assertions are pending after a reset.",
-        both(
-            instead("forget", lambda key: setattr(key, "credentials", [])),
-            around(
-                "transport.serve", lambda key, old, at, channel, data: keeps_pending(key, old, at, channel, data, 7)
+        combine(
+            replace_method("forget", lambda key: setattr(key, "credentials", [])),
+            wrap_method(
+                "transport.serve", lambda key, old, at, channel, data: keep_pending(key, old, at, channel, data, 7)
             ),
         ),
     ),
@@ -340,21 +413,25 @@ CREDENTIALS: List[Mutant] = [
         "failed_keeps_pending",
         NEXT,
         "Assertions are pending after a sign-in that failed.",
-        around("transport.serve", lambda key, old, at, channel, data: keeps_pending(key, old, at, channel, data, 2)),
+        wrap_method(
+            "transport.serve", lambda key, old, at, channel, data: keep_pending(key, old, at, channel, data, 2)
+        ),
     ),
     Mutant(
         "make_keeps_pending",
         NEXT,
         "Assertions are pending after a registration.",
-        around("transport.serve", lambda key, old, at, channel, data: keeps_pending(key, old, at, channel, data, 1)),
+        wrap_method(
+            "transport.serve", lambda key, old, at, channel, data: keep_pending(key, old, at, channel, data, 1)
+        ),
         DeviceTraits(),
         "a SHOULD: it warns",
     ),
 ]
 
 
-def keeps_pending(key: Any, old: Any, at: int, channel: int, data: bytes, command: int) -> Any:
-    """Serves a command, and leaves pending what was so before, where the command leaves nothing itself."""
+def keep_pending(key: Any, old: Any, at: int, channel: int, data: bytes, command: int) -> Any:
+    """Lets pending assertions survive a command."""
     before = key.pending
     answer = yield from old(at, channel, data)
     if data[0] == command and key.pending is None:

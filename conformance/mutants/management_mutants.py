@@ -4,275 +4,355 @@ from __future__ import annotations
 
 from typing import Any, Dict, List
 
-from mutant import Mutant, after, around, instead, member
-from hidlog_conformance.reference.large_blobs import EMPTY
+from mutant import Mutant, change_result, wrap_method, replace_method, change_member
+from hidlog_conformance.reference.large_blobs import EMPTY_ARRAY
 from hidlog_conformance.reference.traits import DeviceTraits
 
 MANAGE, BLOBS, KEY, PIN, MAKE, GET, RESET = "6.8", "6.10", "12.3", "6.5", "6.1.2", "6.2.2", "6.6"
 FINGERPRINT = DeviceTraits(built_in_uv=True)
 
 
-def permits_all(key: Any, old: Any, asked: Dict[int, Any]) -> None:
-    """Accepts any token as one that may manage."""
+def permit_any_token(key: Any, old: Any, asked: Dict[int, Any]) -> None:
+    """Accepts any token for credential management."""
     key.pin.permissions |= 4
     old(asked)
 
 
-def without_token(key: Any, old: Any, asked: Dict[int, Any]) -> None:
-    """Manages without a token too."""
+def permit_without_token(key: Any, old: Any, asked: Dict[int, Any]) -> None:
+    """Accepts credential management without a token."""
     if 4 in asked:
         old(asked)
 
 
-def twice(key: Any, old: Any) -> Any:
-    """Lists the first credential again and again."""
+def repeat_first_credential(key: Any, old: Any) -> Any:
+    """Returns the same credential at each step of an enumeration."""
     left = list(key.management.left)
     found = old()
     key.management.left = left[:1] + left[2:]
     return found
 
 
-def first_rp_again(key: Any, old: Any) -> Any:
-    """Lists the first RP again and again."""
+def repeat_first_rp(key: Any, old: Any) -> Any:
+    """Returns the same RP at each step of an enumeration."""
     left = list(key.management.rps)
     found = old()
     key.management.rps = left[:1] + left[2:]
     return found
 
 
-def other_user(key: Any, old: Any, asked: Dict[int, Any]) -> Any:
-    """Changes the user's ID too."""
+def change_user_id(key: Any, old: Any, asked: Dict[int, Any]) -> Any:
+    """Also changes the user ID in an update."""
     one = key.management.named(asked)
     one.user = dict(asked[3])
     return {}
 
 
-def of_all_rps(key: Any, old: Any, asked: Dict[int, Any]) -> Any:
+def list_all_rps(key: Any, old: Any, asked: Dict[int, Any]) -> Any:
     """Lists the credentials of all RPs."""
     key.management.left = key.management.stored()
     return {**key.management.next_of_rp(), 9: len(key.management.left) + 1}
 
 
-def write_permitted(key: Any, old: Any, asked: Dict[int, Any]) -> None:
-    """Accepts any token as one that may write."""
+def permit_write_with_any_token(key: Any, old: Any, asked: Dict[int, Any]) -> None:
+    """Accepts any token for writing large blobs."""
     key.pin.permissions |= 16
     old(asked)
 
 
-def kept(key: Any, old: Any) -> None:
-    """Leaves the array at a reset."""
+def keep_array_at_reset(key: Any, old: Any) -> None:
+    """Keeps the large-blob array at a reset."""
     array = key.large_blobs.stored
     old()
     key.large_blobs.stored = array
 
 
-def counts_at_once(key: Any, old: Any, asked: Dict[int, Any]) -> Any:
-    """Lets each fragment count at once."""
+def apply_fragment_at_once(key: Any, old: Any, asked: Dict[int, Any]) -> Any:
+    """Replaces the array at the first fragment instead of the last."""
     answer = old(asked)
     key.large_blobs.stored = key.large_blobs.coming or key.large_blobs.stored
     return answer
 
 
-def any_order(key: Any, old: Any, asked: Dict[int, Any]) -> Any:
-    """Takes fragment in any order."""
+def accept_any_order(key: Any, old: Any, asked: Dict[int, Any]) -> Any:
+    """Accepts fragments in any order."""
     key.large_blobs.coming = key.large_blobs.coming[: asked[3]].ljust(asked[3], b"\0")
     return old(asked)
 
 
-def no_length(key: Any, old: Any, asked: Dict[int, Any]) -> None:
-    """Accepts any length, also none."""
+def accept_any_length(key: Any, old: Any, asked: Dict[int, Any]) -> None:
+    """Accepts any length of a new array, or none."""
     if not asked[3]:
         key.large_blobs.coming, key.large_blobs.expected = b"", asked.get(4, len(asked[2]))
 
 
-def nobody_verified(key: Any, old: Any, asked: Any, *words: Any) -> None:
-    """Verifies the user, and doesn't say so."""
+def clear_verified(key: Any, old: Any, asked: Any, *words: Any) -> None:
+    """Verifies the user, but does not set flag UV."""
     old(asked, *words)
     asked.verified = False
 
 
-def asks_nobody(key: Any, old: Any, asked: Dict[int, Any]) -> Any:
-    """Gives a token without the user."""
+def grant_without_user(key: Any, old: Any, asked: Dict[int, Any]) -> Any:
+    """Returns a token without user verification."""
     protocol = key.pin.protocol(asked, 1)
     return key.pin.grant(protocol, protocol.shared(asked[3]), asked[9], asked.get(10, ""))
     yield
 
 
-def every_permission(key: Any, old: Any, asked: Dict[int, Any]) -> Any:
-    """Gives a token that permits everything, at every RP."""
+def grant_every_permission(key: Any, old: Any, asked: Dict[int, Any]) -> Any:
+    """Returns a token with all permissions, for every RP."""
     answer = yield from old(asked)
     key.pin.permissions, key.pin.rp = 0xFF, ""
     return answer
 
 
-def no_cost(key: Any, old: Any, reply: str) -> None:
-    """Lets a user fail as often as may be."""
+def restore_user_retries(key: Any, old: Any, reply: str) -> None:
+    """Never decrements the user verification retries."""
     try:
         old(reply)
     finally:
         key.pin.user_retries = 5
 
 
-def without(found: Dict[Any, Any], key: Any) -> Dict[Any, Any]:
+def remove_key(found: Dict[Any, Any], key: Any) -> Dict[Any, Any]:
     """Returns a map without a member."""
     return {name: value for name, value in found.items() if name != key}
 
 
-def each(path: str, key: Any, value: Any) -> Any:
-    """Returns a change of member in what a listing names."""
-    return member(f"management.{path}", key, value)
+def change_listing_member(path: str, key: Any, value: Any) -> Any:
+    """Returns a change of a member in the response of an enumeration."""
+    return change_member(f"management.{path}", key, value)
 
 
-MANAGEMENT: List[Mutant] = [
-    Mutant("manage_counts_all", MANAGE, "Non-discoverable credentials are counted.", each("metadata", 1, 3)),
-    Mutant("manage_no_rest", MANAGE, "The remaining capacity is missing.", each("metadata", 2, None)),
-    Mutant("manage_permits_all", MANAGE, "Any token manages.", around("management.authorize", permits_all)),
-    Mutant("manage_without_token", MANAGE, "No token is needed.", around("management.authorize", without_token)),
-    Mutant("manage_not_verified", MANAGE, "Nothing is verified.", instead("pin.verified", lambda key, *words: True)),
+MANAGEMENT_MUTANTS: List[Mutant] = [
+    Mutant(
+        "manage_counts_all",
+        MANAGE,
+        "Non-discoverable credentials are counted.",
+        change_listing_member("metadata", 1, 3),
+    ),
+    Mutant("manage_no_rest", MANAGE, "The remaining capacity is missing.", change_listing_member("metadata", 2, None)),
+    Mutant("manage_permits_all", MANAGE, "Any token manages.", wrap_method("management.authorize", permit_any_token)),
+    Mutant(
+        "manage_without_token", MANAGE, "No token is needed.", wrap_method("management.authorize", permit_without_token)
+    ),
+    Mutant(
+        "manage_not_verified", MANAGE, "Nothing is verified.", replace_method("pin.verified", lambda key, *words: True)
+    ),
     Mutant(
         "manage_of_every_rp",
         MANAGE,
         "A token for an RP manages all of them.",
-        instead("management.of_token", lambda key, *words: True),
+        replace_method("management.of_token", lambda key, *words: True),
     ),
-    Mutant("manage_rp_twice", MANAGE, "An RP is listed twice.", around("management.next_rp", first_rp_again)),
-    Mutant("manage_twice", MANAGE, "A credential is listed twice.", around("management.next_of_rp", twice)),
-    Mutant("manage_rp_hash", MANAGE, "The hash is that of nothing.", each("next_rp", 4, bytes(32))),
-    Mutant("manage_rp_name", MANAGE, "An RP is named by another ID.", each("next_rp", 3, {"id": "other.example"})),
+    Mutant("manage_rp_twice", MANAGE, "An RP is listed twice.", wrap_method("management.next_rp", repeat_first_rp)),
     Mutant(
-        "manage_rps_total", MANAGE, "The number of RPs is one too low.", each("first_rp", 5, lambda total: total - 1)
+        "manage_twice",
+        MANAGE,
+        "A credential is listed twice.",
+        wrap_method("management.next_of_rp", repeat_first_credential),
     ),
-    Mutant("manage_rps_no_total", MANAGE, "The number of RPs is missing.", each("first_rp", 5, None)),
+    Mutant("manage_rp_hash", MANAGE, "The hash is that of nothing.", change_listing_member("next_rp", 4, bytes(32))),
+    Mutant(
+        "manage_rp_name",
+        MANAGE,
+        "An RP is named by another ID.",
+        change_listing_member("next_rp", 3, {"id": "other.example"}),
+    ),
+    Mutant(
+        "manage_rps_total",
+        MANAGE,
+        "The number of RPs is one too low.",
+        change_listing_member("first_rp", 5, lambda total: total - 1),
+    ),
+    Mutant("manage_rps_no_total", MANAGE, "The number of RPs is missing.", change_listing_member("first_rp", 5, None)),
     Mutant(
         "manage_total",
         MANAGE,
         "The number of credentials is one too low.",
-        each("first_of_rp", 9, lambda item: item - 1),
+        change_listing_member("first_of_rp", 9, lambda item: item - 1),
     ),
     Mutant(
-        "manage_all_rps", MANAGE, "Credentials of all RPs are listed.", around("management.first_of_rp", of_all_rps)
+        "manage_all_rps",
+        MANAGE,
+        "Credentials of all RPs are listed.",
+        wrap_method("management.first_of_rp", list_all_rps),
     ),
-    Mutant("manage_no_user", MANAGE, "Users aren't listed.", each("next_of_rp", 6, {"id": b"nobody"})),
-    Mutant("manage_other_key", MANAGE, "Another public key is listed.", each("next_of_rp", 8, {1: 2, 3: -7})),
-    Mutant("manage_no_protection", MANAGE, "credProtect is always 1.", each("next_of_rp", 10, 1)),
-    Mutant("manage_no_blob_key", MANAGE, "Large blob keys aren't listed.", each("next_of_rp", 11, None)),
+    Mutant("manage_no_user", MANAGE, "Users aren't listed.", change_listing_member("next_of_rp", 6, {"id": b"nobody"})),
     Mutant(
-        "manage_empty_list", MANAGE, "Nothing is an empty list.", instead("management.first_rp", lambda key, item: {})
+        "manage_other_key",
+        MANAGE,
+        "Another public key is listed.",
+        change_listing_member("next_of_rp", 8, {1: 2, 3: -7}),
     ),
-    Mutant("manage_no_next", MANAGE, "Behind the last is another.", instead("management.next_rp", lambda key: {3: {}})),
-    Mutant("delete_nothing", MANAGE, "Nothing is deleted.", instead("management.delete", lambda key, asked: {})),
-    Mutant("update_nothing", MANAGE, "No name changes.", instead("management.update", lambda key, asked: {})),
-    Mutant("update_id", MANAGE, "The user's ID changes too.", around("management.update", other_user)),
+    Mutant("manage_no_protection", MANAGE, "credProtect is always 1.", change_listing_member("next_of_rp", 10, 1)),
+    Mutant(
+        "manage_no_blob_key", MANAGE, "Large blob keys aren't listed.", change_listing_member("next_of_rp", 11, None)
+    ),
+    Mutant(
+        "manage_empty_list",
+        MANAGE,
+        "Nothing is an empty list.",
+        replace_method("management.first_rp", lambda key, item: {}),
+    ),
+    Mutant(
+        "manage_no_next",
+        MANAGE,
+        "Behind the last is another.",
+        replace_method("management.next_rp", lambda key: {3: {}}),
+    ),
+    Mutant("delete_nothing", MANAGE, "Nothing is deleted.", replace_method("management.delete", lambda key, asked: {})),
+    Mutant("update_nothing", MANAGE, "No name changes.", replace_method("management.update", lambda key, asked: {})),
+    Mutant("update_id", MANAGE, "The user's ID changes too.", wrap_method("management.update", change_user_id)),
 ]
-USERS: List[Mutant] = [
-    Mutant("user_without_uv", MAKE, "Flag UV isn't set.", around("verify", nobody_verified), FINGERPRINT),
+USER_MUTANTS: List[Mutant] = [
+    Mutant("user_without_uv", MAKE, "Flag UV isn't set.", wrap_method("verify", clear_verified), FINGERPRINT),
     Mutant(
         "user_not_needed",
         MAKE,
         "It registers without the user.",
-        instead("make_wants_user", lambda key, item: None),
+        replace_method("make_wants_user", lambda key, item: None),
         FINGERPRINT,
     ),
     Mutant(
         "user_hides_all",
         GET,
         "What is protected is hidden with user verification.",
-        instead("shown", lambda key, asked, one, listed: one.protection < 2),
+        replace_method("shown", lambda key, asked, one, listed: one.protection < 2),
         FINGERPRINT,
     ),
-    Mutant("user_token_at_once", PIN, "A token needs no user.", around("pin.user_token", asks_nobody), FINGERPRINT),
-    Mutant("user_token_of_all", MAKE, "A token permits all.", around("pin.user_token", every_permission), FINGERPRINT),
-    Mutant("user_retries_stay", PIN, "Failing costs nothing.", around("pin.user_seen", no_cost), FINGERPRINT),
+    Mutant(
+        "user_token_at_once",
+        PIN,
+        "A token needs no user.",
+        wrap_method("pin.user_token", grant_without_user),
+        FINGERPRINT,
+    ),
+    Mutant(
+        "user_token_of_all",
+        MAKE,
+        "A token permits all.",
+        wrap_method("pin.user_token", grant_every_permission),
+        FINGERPRINT,
+    ),
+    Mutant(
+        "user_retries_stay",
+        PIN,
+        "Failing costs nothing.",
+        wrap_method("pin.user_seen", restore_user_retries),
+        FINGERPRINT,
+    ),
     Mutant(
         "user_no_retries",
         PIN,
         "The user verification retries are 0.",
-        member("pin.get_user_retries", 5, 0),
+        change_member("pin.get_user_retries", 5, 0),
         FINGERPRINT,
     ),
     Mutant(
         "user_permits_nothing",
         PIN,
         "A token may permit nothing.",
-        instead("pin.permissible", lambda key, asked: None),
+        replace_method("pin.permissible", lambda key, asked: None),
         FINGERPRINT,
     ),
 ]
-ARRAYS: List[Mutant] = [
+ARRAY_MUTANTS: List[Mutant] = [
     Mutant(
         "blobs_begin_with_nothing",
         BLOBS,
         "It begins with no bytes.",
-        after("large_blobs.piece", lambda key, item, *a: item.replace(EMPTY, b"")),
+        change_result("large_blobs.piece", lambda key, item, *a: item.replace(EMPTY_ARRAY, b"")),
     ),
     Mutant(
         "blobs_whole",
         BLOBS,
         "All is read at once.",
-        instead("large_blobs.piece", lambda key, *a: key.large_blobs.stored),
+        replace_method("large_blobs.piece", lambda key, *a: key.large_blobs.stored),
     ),
     Mutant(
         "blobs_no_offset",
         BLOBS,
         "The offset is ignored.",
-        instead("large_blobs.piece", lambda key, offset, count: key.large_blobs.stored[:count]),
+        replace_method("large_blobs.piece", lambda key, offset, count: key.large_blobs.stored[:count]),
     ),
     Mutant(
         "blobs_behind",
         BLOBS,
         "Behind the end is nothing.",
-        instead("large_blobs.piece", lambda key, offset, count: key.large_blobs.stored[offset : offset + count]),
+        replace_method("large_blobs.piece", lambda key, offset, count: key.large_blobs.stored[offset : offset + count]),
     ),
-    Mutant("blobs_any_hash", BLOBS, "Any hash will do.", instead("large_blobs.whole", lambda key, array: True)),
-    Mutant("blobs_at_once", BLOBS, "A fragment counts at once.", around("large_blobs.write", counts_at_once)),
-    Mutant("blobs_any_order", BLOBS, "Fragments come in any order.", around("large_blobs.write", any_order)),
-    Mutant("blobs_any_length", BLOBS, "Lengths are ignored.", around("large_blobs.begin", no_length)),
+    Mutant("blobs_any_hash", BLOBS, "Any hash will do.", replace_method("large_blobs.whole", lambda key, array: True)),
     Mutant(
-        "blobs_any_size", BLOBS, "A fragment may have any size.", instead("large_blobs.longest", lambda key: 2**31)
+        "blobs_at_once", BLOBS, "A fragment counts at once.", wrap_method("large_blobs.write", apply_fragment_at_once)
     ),
     Mutant(
-        "blobs_without_token", BLOBS, "No token is needed.", instead("large_blobs.authorize", lambda key, asked: None)
+        "blobs_any_order", BLOBS, "Fragments come in any order.", wrap_method("large_blobs.write", accept_any_order)
     ),
-    Mutant("blobs_permit_all", BLOBS, "Any token writes.", around("large_blobs.authorize", write_permitted)),
-    Mutant("blobs_not_verified", BLOBS, "Nothing is verified.", instead("pin.verified", lambda key, *words: True)),
-    Mutant("blobs_lost", BLOBS, "Nothing is kept.", instead("large_blobs.commit", lambda key: None)),
-    Mutant("blobs_outlast_reset", RESET, "A reset leaves the array.", around("forget", kept)),
+    Mutant("blobs_any_length", BLOBS, "Lengths are ignored.", wrap_method("large_blobs.begin", accept_any_length)),
+    Mutant(
+        "blobs_any_size",
+        BLOBS,
+        "A fragment may have any size.",
+        replace_method("large_blobs.longest", lambda key: 2**31),
+    ),
+    Mutant(
+        "blobs_without_token",
+        BLOBS,
+        "No token is needed.",
+        replace_method("large_blobs.authorize", lambda key, asked: None),
+    ),
+    Mutant(
+        "blobs_permit_all",
+        BLOBS,
+        "Any token writes.",
+        wrap_method("large_blobs.authorize", permit_write_with_any_token),
+    ),
+    Mutant(
+        "blobs_not_verified", BLOBS, "Nothing is verified.", replace_method("pin.verified", lambda key, *words: True)
+    ),
+    Mutant("blobs_lost", BLOBS, "Nothing is kept.", replace_method("large_blobs.commit", lambda key: None)),
+    Mutant("blobs_outlast_reset", RESET, "A reset leaves the array.", wrap_method("forget", keep_array_at_reset)),
     Mutant(
         "blobs_outlast_power",
         BLOBS,
         "Half an array outlasts the power.",
-        instead("power_cycle", lambda key: key.transport.channels.clear()),
+        replace_method("power_cycle", lambda key: key.transport.channels.clear()),
     ),
     Mutant(
         "blob_key_of_all",
         KEY,
         "All credentials have one key.",
-        instead("extensions.new_blob_key", lambda key: bytes(32)),
+        replace_method("extensions.new_blob_key", lambda key: bytes(32)),
     ),
-    Mutant("blob_key_short", KEY, "A key has 16 bytes.", after("extensions.new_blob_key", lambda key, item: item[:16])),
+    Mutant(
+        "blob_key_short",
+        KEY,
+        "A key has 16 bytes.",
+        change_result("extensions.new_blob_key", lambda key, item: item[:16]),
+    ),
     Mutant(
         "blob_key_changes",
         KEY,
         "A key changes.",
-        after("extensions.blob_key_of", lambda key, item, asked, one: item and one.sign(b"x")[-32:]),
+        change_result("extensions.blob_key_of", lambda key, item, asked, one: item and one.sign(b"x")[-32:]),
     ),
     Mutant(
         "blob_key_unasked",
         KEY,
         "A key comes unasked.",
-        after("assertion", lambda key, item, *a: {**item, 7: bytes(32)}),
+        change_result("assertion", lambda key, item, *a: {**item, 7: bytes(32)}),
     ),
     Mutant(
         "blob_key_not_said",
         KEY,
         "A registration has no key.",
-        after("attestation", lambda key, item, *a: without(item, 5)),
+        change_result("attestation", lambda key, item, *a: remove_key(item, 5)),
     ),
     Mutant(
         "blob_key_any",
         KEY,
         "It is accepted as anything, for any credential.",
-        instead("extensions.blob_key_wanted", lambda key, *words: None),
+        replace_method("extensions.blob_key_wanted", lambda key, *words: None),
     ),
 ]
-MORE = MANAGEMENT + USERS + ARRAYS
+MORE_MUTANTS = MANAGEMENT_MUTANTS + USER_MUTANTS + ARRAY_MUTANTS

@@ -23,7 +23,7 @@ class Mutant(NamedTuple):
     missed: str = ""
 
 
-def owner_of(authenticator: Authenticator, path: str) -> Tuple[Any, str]:
+def resolve_path(authenticator: Authenticator, path: str) -> Tuple[Any, str]:
     """Returns the object and the method's name of a path such as `transport.cancel`."""
     *parts, name = path.split(".")
     owner: Any = authenticator
@@ -32,39 +32,39 @@ def owner_of(authenticator: Authenticator, path: str) -> Tuple[Any, str]:
     return owner, name
 
 
-def instead(path: str, body: Callable[..., Any]) -> Change:
+def replace_method(path: str, body: Callable[..., Any]) -> Change:
     """Returns a change that replaces a method: `body` gets the authenticator and the arguments."""
 
     def plant(authenticator: Authenticator) -> None:
-        owner, name = owner_of(authenticator, path)
+        owner, name = resolve_path(authenticator, path)
         setattr(owner, name, lambda *words: body(authenticator, *words))
 
     return plant
 
 
-def after(path: str, change: Callable[..., Any]) -> Change:
+def change_result(path: str, change: Callable[..., Any]) -> Change:
     """Returns a change of a method's result: `change` gets the authenticator, the result and the arguments."""
 
     def plant(authenticator: Authenticator) -> None:
-        owner, name = owner_of(authenticator, path)
+        owner, name = resolve_path(authenticator, path)
         old = getattr(owner, name)
         setattr(owner, name, lambda *words: change(authenticator, old(*words), *words))
 
     return plant
 
 
-def around(path: str, body: Callable[..., Any]) -> Change:
+def wrap_method(path: str, body: Callable[..., Any]) -> Change:
     """Returns a change that wraps a method: `body` gets the authenticator, the old method and the arguments."""
 
     def plant(authenticator: Authenticator) -> None:
-        owner, name = owner_of(authenticator, path)
+        owner, name = resolve_path(authenticator, path)
         old = getattr(owner, name)
         setattr(owner, name, lambda *words: body(authenticator, old, *words))
 
     return plant
 
 
-def both(*changes: Change) -> Change:
+def combine(*changes: Change) -> Change:
     """Returns a change that combines several."""
 
     def plant(authenticator: Authenticator) -> None:
@@ -85,7 +85,7 @@ def with_traits(**traits: Any) -> Change:
     return plant
 
 
-def member(path: str, key: Any, value: Any) -> Change:
+def change_member(path: str, key: Any, value: Any) -> Change:
     """Returns a change of a member in the map that a method returns; None removes it."""
 
     def change(authenticator: Authenticator, item: Dict[Any, Any], *words: Any) -> Dict[Any, Any]:
@@ -96,4 +96,4 @@ def member(path: str, key: Any, value: Any) -> Change:
             found[key] = value(item.get(key)) if callable(value) else value
         return found
 
-    return after(path, change)
+    return change_result(path, change)

@@ -5,22 +5,26 @@ from __future__ import annotations
 from typing import Dict, Iterator, List, Tuple
 
 from mutant import Mutant
-from answer_mutants import ANSWERS
-from credential_mutants import CREDENTIALS
-from management_mutants import MORE
-from pin_mutants import PINS
-from wire_mutants import WIRE
+from answer_mutants import ANSWER_MUTANTS
+from credential_mutants import CREDENTIAL_MUTANTS
+from management_mutants import MORE_MUTANTS
+from pin_mutants import PIN_MUTANTS
+from wire_mutants import WIRE_MUTANTS
 
 from hidlog_conformance.device_info import DeviceInfo
 from hidlog_conformance.outcome import Outcome
 from hidlog_conformance.reference.device import ReferenceDevice
 from hidlog_conformance.run import all_sessions, play_one, parse_options
 
-MUTANTS: Dict[str, Mutant] = {fault.name: fault for fault in CREDENTIALS + ANSWERS + WIRE + PINS + MORE}
-assert len(MUTANTS) == len(CREDENTIALS + ANSWERS + WIRE + PINS + MORE), "a mutant's name is not unique"
+MUTANTS: Dict[str, Mutant] = {
+    fault.name: fault for fault in CREDENTIAL_MUTANTS + ANSWER_MUTANTS + WIRE_MUTANTS + PIN_MUTANTS + MORE_MUTANTS
+}
+assert len(MUTANTS) == len(
+    CREDENTIAL_MUTANTS + ANSWER_MUTANTS + WIRE_MUTANTS + PIN_MUTANTS + MORE_MUTANTS
+), "a mutant's name is not unique"
 
 
-def outcomes_of(device: ReferenceDevice, section: str) -> Iterator[Outcome]:
+def iter_outcomes(device: ReferenceDevice, section: str) -> Iterator[Outcome]:
     """Yields the outcomes of all cases, those of the section first, without --profile-choices and
     --warnings-as-errors."""
     options = parse_options(["--device", "reference", "--touch", "--reset"])
@@ -29,14 +33,14 @@ def outcomes_of(device: ReferenceDevice, section: str) -> Iterator[Outcome]:
     return (play_one(device, session, options, device_info) for session in sessions)
 
 
-def judged(name: str, whole: bool = False) -> Tuple[bool, str]:
+def run_mutant(name: str, whole: bool = False) -> Tuple[bool, str]:
     """Runs one mutant until two cases detect it by its section, or all; returns whether it was detected, and a
     report."""
     fault = MUTANTS[name]
     text = f"{name} ({fault.section}): {fault.says}"
     failed: List[Outcome] = []
     try:
-        for outcome in outcomes_of(ReferenceDevice(fault.traits, fault.change), fault.section):
+        for outcome in iter_outcomes(ReferenceDevice(fault.traits, fault.change), fault.section):
             if outcome.status == "not ok":
                 failed.append(outcome)
             if not whole and sum(one.broken == fault.section for one in failed) > 1:

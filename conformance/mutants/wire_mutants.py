@@ -4,7 +4,7 @@ from __future__ import annotations
 
 from typing import Any, List
 
-from mutant import Mutant, after, around, instead, with_traits
+from mutant import Mutant, change_result, wrap_method, replace_method, with_traits
 from hidlog_conformance.reference import transport as hid
 from hidlog_conformance.reference.traits import DeviceTraits
 
@@ -14,31 +14,33 @@ INIT, PING, CANCEL, ERROR, KEEPALIVE = "11.2.9.1.3", "11.2.9.1.4", "11.2.9.1.5",
 WINK, MAKE, GET = "11.2.9.2.1", "6.1.2", "6.2.2"
 
 
-def sent(change: Any) -> Any:
-    """Returns a change of what is sent."""
-    return around("transport.send", change)
+def wrap_send(change: Any) -> Any:
+    """Returns a change that wraps the sending of a message."""
+    return wrap_method("transport.send", change)
 
 
-def packets(change: Any) -> Any:
+def change_packets(change: Any) -> Any:
     """Returns a change of a message's packets."""
-    return after("transport.packets", lambda key, pieces, channel, command, data: change(pieces, command, data))
+    return change_result("transport.packets", lambda key, pieces, channel, command, data: change(pieces, command, data))
 
 
-def greeting(place: int, new: bytes) -> Any:
+def change_init_response(place: int, new: bytes) -> Any:
     """Returns a change of bytes in the INIT response."""
-    return after("transport.nonce_answer", lambda key, data, *words: data[:place] + new + data[place + len(new) :])
+    return change_result(
+        "transport.nonce_answer", lambda key, data, *words: data[:place] + new + data[place + len(new) :]
+    )
 
 
-def behind(key: Any, old: Any, channel: int, command: int, data: bytes) -> None:
-    """Sends an empty continuation packet behind a response that fills its last packet."""
+def add_empty_packet(key: Any, old: Any, channel: int, command: int, data: bytes) -> None:
+    """Sends an empty continuation packet after a response that fills its last packet."""
     old(channel, command, data)
     if len(data) >= 57 and (len(data) - 57) % 59 == 0:
         number = (len(data) - 57) // 59
         key.transport.out.append(channel.to_bytes(4, "big") + bytes([number & 0x7F]) + bytes(59))
 
 
-def keepalives(body: Any) -> Any:
-    """Returns a change of KEEPALIVE."""
+def wrap_keepalives(body: Any) -> Any:
+    """Returns a change that wraps the sending of KEEPALIVEs."""
 
     def send(key: Any, old: Any, channel: int, command: int, data: bytes) -> None:
         if command == hid.KEEPALIVE:
@@ -46,22 +48,22 @@ def keepalives(body: Any) -> Any:
         else:
             old(channel, command, data)
 
-    return sent(send)
+    return wrap_send(send)
 
 
-def errors(change: Any) -> Any:
-    """Returns a change of codes of ERROR; None sends nothing."""
+def change_error_codes(change: Any) -> Any:
+    """Returns a change of ERROR codes by a function; None drops the ERROR."""
 
     def error(key: Any, old: Any, channel: int, code: int) -> None:
         other = change(code)
         if other is not None:
             old(channel, other)
 
-    return around("transport.error", error)
+    return wrap_method("transport.error", error)
 
 
-def stale(key: Any, old: Any, channel: int, command: int, data: bytes) -> None:
-    """Leaves bytes of the last message in an ERROR's padding."""
+def leave_stale_padding(key: Any, old: Any, channel: int, command: int, data: bytes) -> None:
+    """Leaves bytes of the last message in the padding of an ERROR."""
     before = getattr(key, "stale", bytes(57))
     key.stale = (data + before[len(data) :])[:57]
     if command == hid.ERROR:
@@ -71,7 +73,7 @@ def stale(key: Any, old: Any, channel: int, command: int, data: bytes) -> None:
         old(channel, command, data)
 
 
-def early_touch(key: Any, old: Any, at: int, reply: str = "granted") -> None:
+def keep_early_touch(key: Any, old: Any, at: int, reply: str = "granted") -> None:
     """Keeps a touch that was not requested."""
     now = key.transport.now
     if now is None or now.work is None:
@@ -79,8 +81,8 @@ def early_touch(key: Any, old: Any, at: int, reply: str = "granted") -> None:
     old(at, reply)
 
 
-def uses_kept(key: Any, old: Any, reply: str = "") -> None:
-    """Uses a touch that was kept."""
+def use_kept_touch(key: Any, old: Any, reply: str = "") -> None:
+    """Uses a touch that was kept from before the request."""
     old(reply)
     now = key.transport.now
     if now is not None and now.work is not None and getattr(key, "kept_touch", False):
@@ -88,14 +90,14 @@ def uses_kept(key: Any, old: Any, reply: str = "") -> None:
         old("granted")
 
 
-def kept(authenticator: Any) -> None:
-    """Returns a change that makes both."""
-    around("transport.touch", early_touch)(authenticator)
-    around("transport.work_on", uses_kept)(authenticator)
+def keep_and_use_touch(authenticator: Any) -> None:
+    """Keeps a touch that was not requested, and uses it for the next request."""
+    wrap_method("transport.touch", keep_early_touch)(authenticator)
+    wrap_method("transport.work_on", use_kept_touch)(authenticator)
 
 
-def counted_twice(key: Any, old: Any, reply: str = "") -> None:
-    """Uses a touch for the next request too."""
+def use_touch_twice(key: Any, old: Any, reply: str = "") -> None:
+    """Uses a touch for the next request as well."""
     used = getattr(key, "used", False) and not reply
     key.used = reply == "granted"
     old(reply)
@@ -104,15 +106,15 @@ def counted_twice(key: Any, old: Any, reply: str = "") -> None:
         old("granted")
 
 
-def cancel_of_any(key: Any, channel: int) -> None:
-    """Ends the request of any channel."""
+def cancel_any_channel(key: Any, channel: int) -> None:
+    """Cancels the request of any channel."""
     now = key.transport.now
     if now is not None and now.work is not None:
         key.transport.finish(b"\x2d")
 
 
-def cancel_answered(key: Any, old: Any, channel: int) -> None:
-    """Answers a CANCEL without a pending request."""
+def respond_to_idle_cancel(key: Any, old: Any, channel: int) -> None:
+    """Sends an ERROR for a CANCEL without a pending request."""
     now = key.transport.now
     if now is None or now.channel != channel or now.work is None:
         key.transport.error(channel, 1)
@@ -120,8 +122,8 @@ def cancel_answered(key: Any, old: Any, channel: int) -> None:
         old(channel)
 
 
-def cancel_ends_message(key: Any, old: Any, channel: int) -> None:
-    """Drops a message that comes in."""
+def drop_message_at_cancel(key: Any, old: Any, channel: int) -> None:
+    """Drops an incomplete message at a CANCEL."""
     now = key.transport.now
     if now is not None and now.work is None and now.channel == channel:
         key.transport.now = None
@@ -129,28 +131,28 @@ def cancel_ends_message(key: Any, old: Any, channel: int) -> None:
         old(channel)
 
 
-def cancel_undone(key: Any, old: Any, channel: int) -> None:
-    """Ends a request, and keeps what it would do."""
+def keep_cancelled_request(key: Any, old: Any, channel: int) -> None:
+    """Cancels a request, and keeps it to run it later."""
     now = key.transport.now
     old(channel)
     if now is not None and now.work is not None and now.channel == channel:
         key.cancelled = now
 
 
-def any_sequence(key: Any, old: Any, channel: int, sequence: int, data: bytes) -> None:
+def accept_any_sequence(key: Any, old: Any, channel: int, sequence: int, data: bytes) -> None:
     """Accepts any sequence number."""
     now = key.transport.now
     old(channel, now.sequence if now is not None else sequence, data)
 
 
-def of_any_channel(key: Any, old: Any, channel: int, sequence: int, data: bytes) -> None:
-    """Takes continuation packets of any channel."""
+def accept_packets_of_any_channel(key: Any, old: Any, channel: int, sequence: int, data: bytes) -> None:
+    """Accepts continuation packets of any channel."""
     now = key.transport.now
     old(now.channel if now is not None else channel, sequence, data)
 
 
-def stray_refused(key: Any, old: Any, channel: int, sequence: int, data: bytes) -> None:
-    """Answers a continuation packet outside any message."""
+def respond_to_stray_packet(key: Any, old: Any, channel: int, sequence: int, data: bytes) -> None:
+    """Sends an ERROR for a continuation packet outside any message."""
     now = key.transport.now
     if now is None or now.work is not None or now.channel != channel:
         key.transport.error(channel, 4)
@@ -158,81 +160,83 @@ def stray_refused(key: Any, old: Any, channel: int, sequence: int, data: bytes) 
         old(channel, sequence, data)
 
 
-def any_channel(key: Any, old: Any, channel: int, command: int, length: int, data: bytes) -> None:
+def accept_unallocated_channels(key: Any, old: Any, channel: int, command: int, length: int, data: bytes) -> None:
     """Serves unallocated channels."""
     if channel not in (0, hid.BROADCAST) and channel not in key.transport.channels:
         key.transport.channels.append(channel)
     old(channel, command, length, data)
 
 
-def channel_zero(key: Any, old: Any, channel: int, command: int, length: int, data: bytes) -> None:
+def accept_channel_zero(key: Any, old: Any, channel: int, command: int, length: int, data: bytes) -> None:
     """Serves channel 0."""
     if channel == 0 and 0 not in key.transport.channels:
         key.transport.channels.append(0)
     old(channel, command, length, data)
 
 
-def interrupts(key: Any, old: Any, channel: int, command: int, length: int, data: bytes) -> None:
-    """Drops a message or a request for another channel's."""
+def replace_other_channel(key: Any, old: Any, channel: int, command: int, length: int, data: bytes) -> None:
+    """Drops a message or a request when another channel sends one."""
     now = key.transport.now
     if now is not None and now.channel != channel and channel in key.transport.channels and command != hid.CANCEL:
         key.transport.now = None
     old(channel, command, length, data)
 
 
-def init_keeps(key: Any, old: Any, channel: int, length: int, nonce: bytes) -> None:
-    """Keeps what is open on the channel of an INIT."""
+def keep_transaction_at_init(key: Any, old: Any, channel: int, length: int, nonce: bytes) -> None:
+    """Continues the transaction of a channel after its INIT."""
     now = key.transport.now
     old(channel, length, nonce)
     key.transport.now = now
 
 
-def init_any_length(key: Any, old: Any, channel: int, length: int, nonce: bytes) -> None:
-    """Accepts a INIT of any length."""
+def accept_any_init_length(key: Any, old: Any, channel: int, length: int, nonce: bytes) -> None:
+    """Accepts an INIT of any length."""
     old(channel, 8, nonce)
 
 
-def ping_cut(key: Any, old: Any, channel: int, command: int, data: bytes) -> None:
-    """Answers 1024 bytes of a PING."""
+def truncate_ping(key: Any, old: Any, channel: int, command: int, data: bytes) -> None:
+    """Returns at most 1024 bytes of a PING."""
     old(channel, command, data[:1024] if command == hid.PING else data)
 
 
-def wrong_order(pieces: List[bytes], command: int, data: bytes) -> List[bytes]:
+def reverse_packets(pieces: List[bytes], command: int, data: bytes) -> List[bytes]:
     """Sends continuation packets in another order."""
     return [pieces[0], *pieces[:0:-1]]
 
 
-WIRE: List[Mutant] = [
-    Mutant("continuation_behind", PACKETS, "An empty continuation follows a full answer.", sent(behind)),
+WIRE_MUTANTS: List[Mutant] = [
+    Mutant("continuation_behind", PACKETS, "An empty continuation follows a full answer.", wrap_send(add_empty_packet)),
     Mutant(
         "sequence_from_1",
         PACKETS,
         "Continuation packets are numbered from 1.",
-        packets(
+        change_packets(
             lambda pieces, command, data: [
                 pieces[0],
                 *(piece[:4] + bytes([(piece[4] + 1) & 0x7F]) + piece[5:] for piece in pieces[1:]),
             ]
         ),
     ),
-    Mutant("packets_turned", PACKETS, "Continuation packets come the wrong way round.", packets(wrong_order)),
+    Mutant(
+        "packets_turned", PACKETS, "Continuation packets come the wrong way round.", change_packets(reverse_packets)
+    ),
     Mutant(
         "last_packet_lost",
         PACKETS,
         "The last packet of a long answer is lost.",
-        packets(lambda pieces, command, data: pieces[:1] + pieces[1:-1] if len(pieces) > 1 else pieces),
+        change_packets(lambda pieces, command, data: pieces[:1] + pieces[1:-1] if len(pieces) > 1 else pieces),
     ),
     Mutant(
         "packet_short",
         PACKETS,
         "The last packet has less than 64 bytes.",
-        packets(lambda pieces, command, data: [*pieces[:-1], pieces[-1].rstrip(b"\0")]),
+        change_packets(lambda pieces, command, data: [*pieces[:-1], pieces[-1].rstrip(b"\0")]),
     ),
     Mutant(
         "error_uninitialised",
         PACKETS,
         "The padding of an ERROR has bytes of another message.",
-        sent(stale),
+        wrap_send(leave_stale_padding),
         DeviceTraits(),
         "a SHOULD: it warns",
     ),
@@ -240,7 +244,7 @@ WIRE: List[Mutant] = [
         "length_of_packets",
         PACKETS,
         "The length counts whole packets.",
-        packets(
+        change_packets(
             lambda pieces, command, data: [
                 pieces[0][:5] + (57 + 59 * (len(pieces) - 1)).to_bytes(2, "big") + pieces[0][7:],
                 *pieces[1:],
@@ -251,207 +255,265 @@ WIRE: List[Mutant] = [
         "long_taken",
         PACKETS,
         "A length that can't be is accepted.",
-        around(
+        wrap_method(
             "transport.take",
             lambda key, old, channel, command, length, data: old(channel, command, min(length, len(data)), data),
         ),
     ),
     Mutant(
-        "length_other_code", PACKETS, "A wrong length has another code.", errors(lambda code: 1 if code == 3 else code)
+        "length_other_code",
+        PACKETS,
+        "A wrong length has another code.",
+        change_error_codes(lambda code: 1 if code == 3 else code),
     ),
-    Mutant("nonce_zero", INIT, "The nonce is not returned.", greeting(0, bytes(8))),
+    Mutant("nonce_zero", INIT, "The nonce is not returned.", change_init_response(0, bytes(8))),
     Mutant(
-        "channel_again", INIT, "The same channel is allocated again.", instead("transport.new_channel", lambda key: 77)
+        "channel_again",
+        INIT,
+        "The same channel is allocated again.",
+        replace_method("transport.new_channel", lambda key: 77),
     ),
     Mutant(
         "channel_broadcast",
         INIT,
         "The broadcast channel is allocated.",
-        instead("transport.new_channel", lambda key: hid.BROADCAST),
+        replace_method("transport.new_channel", lambda key: hid.BROADCAST),
     ),
-    Mutant("channel_reserved", INIT, "Channel 0 is allocated.", instead("transport.new_channel", lambda key: 0)),
-    Mutant("protocol_1", INIT, "The protocol's version is 1.", greeting(12, b"\1")),
+    Mutant("channel_reserved", INIT, "Channel 0 is allocated.", replace_method("transport.new_channel", lambda key: 0)),
+    Mutant("protocol_1", INIT, "The protocol's version is 1.", change_init_response(12, b"\1")),
     Mutant(
         "no_cbor",
         INIT,
         "The capability CBOR is missing.",
-        after("transport.nonce_answer", lambda key, data, *words: data[:16] + bytes([data[16] & ~4])),
+        change_result("transport.nonce_answer", lambda key, data, *words: data[:16] + bytes([data[16] & ~4])),
     ),
     Mutant(
         "init_short",
         INIT,
         "The INIT response has 16 bytes.",
-        after("transport.nonce_answer", lambda key, data, *words: data[:16]),
+        change_result("transport.nonce_answer", lambda key, data, *words: data[:16]),
     ),
-    Mutant("init_keeps_all", ABORT, "INIT ends neither message nor request.", around("transport.init", init_keeps)),
-    Mutant("init_any_length", PACKETS, "INIT of any length is accepted.", around("transport.init", init_any_length)),
+    Mutant(
+        "init_keeps_all",
+        ABORT,
+        "INIT ends neither message nor request.",
+        wrap_method("transport.init", keep_transaction_at_init),
+    ),
+    Mutant(
+        "init_any_length",
+        PACKETS,
+        "INIT of any length is accepted.",
+        wrap_method("transport.init", accept_any_init_length),
+    ),
     Mutant(
         "nmsg_lies",
         ERROR,
         "The capabilities have NMSG, but MSG is supported.",
-        after("transport.nonce_answer", lambda key, data, *words: data[:16] + bytes([data[16] | 8])),
+        change_result("transport.nonce_answer", lambda key, data, *words: data[:16] + bytes([data[16] | 8])),
     ),
     Mutant(
         "msg_lies",
         MSG,
         "MSG is not supported, without the capability.",
-        after("transport.serves", lambda key, found, command: found and command != hid.MSG),
+        change_result("transport.serves", lambda key, found, command: found and command != hid.MSG),
     ),
     Mutant(
         "wink_lies",
         WINK,
         "The capabilities have WINK, but it is not supported.",
-        after("transport.nonce_answer", lambda key, data, *words: data[:16] + bytes([data[16] | 1])),
+        change_result("transport.nonce_answer", lambda key, data, *words: data[:16] + bytes([data[16] | 1])),
     ),
     Mutant(
         "wink_hidden",
         ERROR,
         "WINK is served, without the capability.",
-        after("transport.serves", lambda key, found, command: found or command == hid.WINK),
+        change_result("transport.serves", lambda key, found, command: found or command == hid.WINK),
     ),
-    Mutant("ping_cut", PING, "PING is returned with 1024 bytes.", sent(ping_cut)),
+    Mutant("ping_cut", PING, "PING is returned with 1024 bytes.", wrap_send(truncate_ping)),
     Mutant(
         "ping_changed",
         PING,
         "A bit of PING's bytes is lost.",
-        sent(
+        wrap_send(
             lambda key, old, channel, command, data: old(
                 channel, command, bytes(byte & 0x7F for byte in data) if command == hid.PING else data
             )
         ),
     ),
     Mutant(
-        "cancel_of_any", CANCEL, "CANCEL of any channel ends a request.", instead("transport.cancel", cancel_of_any)
+        "cancel_of_any",
+        CANCEL,
+        "CANCEL of any channel ends a request.",
+        replace_method("transport.cancel", cancel_any_channel),
     ),
-    Mutant("cancel_never", CANCEL, "CANCEL ends nothing.", instead("transport.cancel", lambda key, channel: None)),
+    Mutant(
+        "cancel_never", CANCEL, "CANCEL ends nothing.", replace_method("transport.cancel", lambda key, channel: None)
+    ),
     Mutant(
         "cancel_is_answered",
         CANCEL,
         "A CANCEL without a request is answered.",
-        around("transport.cancel", cancel_answered),
+        wrap_method("transport.cancel", respond_to_idle_cancel),
     ),
     Mutant(
         "cancel_drops_message",
         CANCEL,
         "CANCEL drops a message that comes in.",
-        around("transport.cancel", cancel_ends_message),
+        wrap_method("transport.cancel", drop_message_at_cancel),
     ),
     Mutant(
         "cancel_other_status",
         CANCEL,
         "A cancelled request has another status.",
-        after("transport.cancel", lambda key, found, channel: relabel(key)),
+        change_result("transport.cancel", lambda key, found, channel: replace_cancel_status(key)),
     ),
     Mutant(
         "cancel_silent",
         CANCEL,
         "A cancelled request gets no response.",
-        instead("transport.cancel", lambda key, channel: drop(key, channel)),
+        replace_method("transport.cancel", lambda key, channel: drop_request(key, channel)),
     ),
-    Mutant("keepalive_never", KEEPALIVE, "There are no KEEPALIVEs.", keepalives(lambda key, old, channel, data: None)),
+    Mutant(
+        "keepalive_never", KEEPALIVE, "There are no KEEPALIVEs.", wrap_keepalives(lambda key, old, channel, data: None)
+    ),
     Mutant(
         "keepalive_broadcast",
         KEEPALIVE,
         "KEEPALIVEs go to the broadcast channel.",
-        keepalives(lambda key, old, channel, data: old(hid.BROADCAST, hid.KEEPALIVE, data)),
+        wrap_keepalives(lambda key, old, channel, data: old(hid.BROADCAST, hid.KEEPALIVE, data)),
     ),
     Mutant(
         "keepalive_empty",
         KEEPALIVE,
         "KEEPALIVEs have no status.",
-        keepalives(lambda key, old, channel, data: old(channel, hid.KEEPALIVE, b"")),
+        wrap_keepalives(lambda key, old, channel, data: old(channel, hid.KEEPALIVE, b"")),
     ),
     Mutant(
         "keepalive_status_3",
         KEEPALIVE,
         "KEEPALIVEs have the status 03.",
-        keepalives(lambda key, old, channel, data: old(channel, hid.KEEPALIVE, b"\3")),
+        wrap_keepalives(lambda key, old, channel, data: old(channel, hid.KEEPALIVE, b"\3")),
     ),
     Mutant(
         "keepalive_working",
         KEEPALIVE,
         "KEEPALIVEs never say that a touch is requested.",
-        keepalives(lambda key, old, channel, data: old(channel, hid.KEEPALIVE, b"\1")),
+        wrap_keepalives(lambda key, old, channel, data: old(channel, hid.KEEPALIVE, b"\1")),
     ),
     Mutant(
-        "busy_other_code", BUSY, "A second host gets another code.", errors(lambda code: 0x7F if code == 6 else code)
+        "busy_other_code",
+        BUSY,
+        "A second host gets another code.",
+        change_error_codes(lambda code: 0x7F if code == 6 else code),
     ),
-    Mutant("busy_unheard", BUSY, "A second host gets no response.", errors(lambda code: None if code == 6 else code)),
-    Mutant("interrupted", BUSY, "Another channel's message drops what is open.", around("transport.begin", interrupts)),
+    Mutant(
+        "busy_unheard",
+        BUSY,
+        "A second host gets no response.",
+        change_error_codes(lambda code: None if code == 6 else code),
+    ),
+    Mutant(
+        "interrupted",
+        BUSY,
+        "Another channel's message drops what is open.",
+        wrap_method("transport.begin", replace_other_channel),
+    ),
     Mutant("time_out_never", TIME, "An incomplete message never times out.", with_traits(time_out=10**9)),
     Mutant(
-        "time_out_other_code", TIME, "A timeout has another code.", errors(lambda code: 0x7F if code == 5 else code)
+        "time_out_other_code",
+        TIME,
+        "A timeout has another code.",
+        change_error_codes(lambda code: 0x7F if code == 5 else code),
     ),
-    Mutant("any_sequence", SEQUENCE, "Any sequence number is accepted.", around("transport.go_on", any_sequence)),
+    Mutant(
+        "any_sequence",
+        SEQUENCE,
+        "Any sequence number is accepted.",
+        wrap_method("transport.go_on", accept_any_sequence),
+    ),
     Mutant(
         "sequence_unheard",
         SEQUENCE,
         "A wrong number gets no response.",
-        errors(lambda code: None if code == 4 else code),
+        change_error_codes(lambda code: None if code == 4 else code),
     ),
     Mutant(
         "sequence_of_any",
         SEQUENCE,
         "Continuation packets of any channel are accepted.",
-        around("transport.go_on", of_any_channel),
+        wrap_method("transport.go_on", accept_packets_of_any_channel),
     ),
     Mutant(
         "stray_refused",
         SEQUENCE,
         "A continuation packet outside any message is answered.",
-        around("transport.go_on", stray_refused),
+        wrap_method("transport.go_on", respond_to_stray_packet),
     ),
-    Mutant("any_channel", CHANNELS, "An unallocated channel is accepted.", around("transport.begin", any_channel)),
-    Mutant("channel_zero", CHANNELS, "Channel 0 is served.", around("transport.begin", channel_zero)),
+    Mutant(
+        "any_channel",
+        CHANNELS,
+        "An unallocated channel is accepted.",
+        wrap_method("transport.begin", accept_unallocated_channels),
+    ),
+    Mutant("channel_zero", CHANNELS, "Channel 0 is served.", wrap_method("transport.begin", accept_channel_zero)),
     Mutant(
         "channel_unheard",
         CHANNELS,
         "An unallocated channel gets no response.",
-        errors(lambda code: None if code == 11 else code),
+        change_error_codes(lambda code: None if code == 11 else code),
     ),
     Mutant(
         "channel_other_code",
         CHANNELS,
         "An unallocated channel gets another code.",
-        errors(lambda code: 1 if code == 11 else code),
+        change_error_codes(lambda code: 1 if code == 11 else code),
     ),
     Mutant(
         "command_unheard",
         ERROR,
         "An unknown command gets no response.",
-        errors(lambda code: None if code == 1 else code),
+        change_error_codes(lambda code: None if code == 1 else code),
     ),
     Mutant(
         "command_echoed",
         ERROR,
         "An unknown command is returned.",
-        after("transport.serves", lambda key, found, command: True),
+        change_result("transport.serves", lambda key, found, command: True),
     ),
     Mutant(
         "cbor_as_msg",
         COMMAND,
         "CBOR answers come as MSG.",
-        sent(lambda key, old, channel, command, data: old(channel, hid.MSG if command == hid.CBOR else command, data)),
+        wrap_send(
+            lambda key, old, channel, command, data: old(channel, hid.MSG if command == hid.CBOR else command, data)
+        ),
     ),
     Mutant(
         "cbor_empty_taken",
         COMMAND,
         "A CBOR message of length 0 is ignored.",
-        instead("transport.empty", lambda key, channel: None),
+        replace_method("transport.empty", lambda key, channel: None),
     ),
     Mutant(
         "cbor_status_alone",
         COMMAND,
         "A success has no map.",
-        sent(lambda key, old, channel, command, data: old(channel, command, data[:1] if command == hid.CBOR else data)),
+        wrap_send(
+            lambda key, old, channel, command, data: old(channel, command, data[:1] if command == hid.CBOR else data)
+        ),
     ),
-    Mutant("touch_kept", MAKE, "A touch from before the request counts.", kept),
-    Mutant("touch_twice", GET, "A touch counts for the next request too.", around("transport.work_on", counted_twice)),
+    Mutant("touch_kept", MAKE, "A touch from before the request counts.", keep_and_use_touch),
+    Mutant(
+        "touch_twice",
+        GET,
+        "A touch counts for the next request too.",
+        wrap_method("transport.work_on", use_touch_twice),
+    ),
     Mutant(
         "u2f_version",
         MSG,
         "U2F's version is another.",
-        after(
+        change_result(
             "transport.serve_message",
             lambda key, found, at, apdu: b"U2F_V1\x90\0" if found.startswith(b"U2F_V2") else found,
         ),
@@ -460,25 +522,27 @@ WIRE: List[Mutant] = [
         "u2f_class",
         MSG,
         "An unknown class is served.",
-        around("transport.serve_message", lambda key, old, at, apdu: old(at, b"\0" + apdu[1:])),
+        wrap_method("transport.serve_message", lambda key, old, at, apdu: old(at, b"\0" + apdu[1:])),
     ),
     Mutant(
         "u2f_unknown",
         MSG,
         "An unknown instruction returns 9000.",
-        after("transport.serve_message", lambda key, found, at, apdu: b"\x90\0" if found == b"\x6d\0" else found),
+        change_result(
+            "transport.serve_message", lambda key, found, at, apdu: b"\x90\0" if found == b"\x6d\0" else found
+        ),
     ),
 ]
 
 
-def relabel(key: Any) -> None:
-    """Puts another status instead of 2D."""
+def replace_cancel_status(key: Any) -> None:
+    """Returns another status than 2D for a cancelled request."""
     if key.transport.out and key.transport.out[-1][7:8] == b"\x2d":
         key.transport.out[-1] = key.transport.out[-1][:7] + b"\x27" + key.transport.out[-1][8:]
 
 
-def drop(key: Any, channel: int) -> None:
-    """Drops the request of a channel."""
+def drop_request(key: Any, channel: int) -> None:
+    """Drops the request of a channel without a response."""
     now = key.transport.now
     if now is not None and now.work is not None and now.channel == channel:
         key.transport.now = None

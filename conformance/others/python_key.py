@@ -24,7 +24,7 @@ AAGUID = bytes.fromhex("70797468 6f6e2d6b 65792d66 6f722d63".replace(" ", ""))
 INVALID_COMMAND, INVALID_PARAMETER, UNEXPECTED_TYPE, INVALID_CBOR, MISSING = 0x01, 0x02, 0x11, 0x12, 0x14
 EXCLUDED, ALGORITHM, FULL, UNSUPPORTED, INVALID_OPTION = 0x19, 0x26, 0x28, 0x2B, 0x2C
 NO_CREDENTIALS, NOT_ALLOWED, PIN_NOT_SET = 0x2E, 0x30, 0x35
-ROOM = 100
+CAPACITY = 100
 
 
 class RequestError(Exception):
@@ -69,7 +69,7 @@ def member(item: Dict[Any, Any], key: Any, kind: type, required: bool = True) ->
     return item[key]
 
 
-def ids_of(item: Dict[Any, Any], key: int) -> Optional[List[bytes]]:
+def list_ids(item: Dict[Any, Any], key: int) -> Optional[List[bytes]]:
     """Returns the IDs of the descriptors with the type public-key."""
     found = member(item, key, list, False)
     if found is None:
@@ -84,7 +84,7 @@ def ids_of(item: Dict[Any, Any], key: int) -> Optional[List[bytes]]:
     return ids
 
 
-def options_of(item: Dict[Any, Any], key: int) -> Dict[str, bool]:
+def read_options(item: Dict[Any, Any], key: int) -> Dict[str, bool]:
     """Returns the options; refuses user verification, which is not supported."""
     found = member(item, key, dict, False) or {}
     options = {name: member(found, name, bool) for name in ("rk", "up", "uv") if name in found}
@@ -152,8 +152,8 @@ class Key:
         user, kinds = member(item, 3, dict), member(item, 4, list)
         rp_id = member(rp, "id", str)
         member(user, "id", bytes)
-        excluded = ids_of(item, 5) or []
-        options = options_of(item, 7)
+        excluded = list_ids(item, 5) or []
+        options = read_options(item, 7)
         yield from self.no_pin(item, 8)
         if not [1 for kind in kinds if member(kind, "type", str) == "public-key" and member(kind, "alg", int) == -7]:
             raise RequestError(ALGORITHM)
@@ -173,7 +173,7 @@ class Key:
         if discoverable:
             same = [one for one in self.credentials if one.rp == rp_id and one.user["id"] == user["id"]]
             self.credentials = [one for one in self.credentials if one not in same or not one.discoverable]
-        if len(self.credentials) >= ROOM:
+        if len(self.credentials) >= CAPACITY:
             raise RequestError(FULL)
         self.credentials.append(new)
         attested = AAGUID + struct.pack(">H", len(new.id)) + new.id + new.cose()
@@ -184,7 +184,7 @@ class Key:
     def get(self, at: int, channel: int, item: Dict[Any, Any]) -> Work:
         """Serves authenticatorGetAssertion."""
         rp_id, client_hash = member(item, 1, str), member(item, 2, bytes)
-        allowed, options = ids_of(item, 3), options_of(item, 5)
+        allowed, options = list_ids(item, 3), read_options(item, 5)
         yield from self.no_pin(item, 6)
         if "rk" in options:
             raise RequestError(UNSUPPORTED)

@@ -28,7 +28,7 @@ sys.path.insert(0, CORPUS)
 from hidlog_conformance import __version__  # noqa: E402
 from hidlog_conformance.cases.all_cases import build_session_texts  # noqa: E402
 
-MOMENT = (2026, 11, 26, 0, 0, 0)
+TIMESTAMP = (2026, 11, 26, 0, 0, 0)
 EPOCH = 1795651200
 SUMMARY = "Conformance tests for CTAP 2.1 over USB HID, for authenticators and clients"
 MAINTAINER = "Cogtzil maintainers <maintainers@users.noreply.cogtzil.example>"
@@ -42,7 +42,7 @@ Requires-Dist: cryptography
 Description-Content-Type: text/markdown
 
 """
-ABOUT = """Sessions of a host and of a device, with the responses that CTAP 2.1 requires. The runner plays them against
+DESCRIPTION = """Sessions of a host and of a device, with the responses that CTAP 2.1 requires. The runner plays them against
 an authenticator or a client, and reports violations.
 
 The tests were written from knowledge of the standard and have not been checked against its text line by line. This is
@@ -82,7 +82,7 @@ def wheel(folder: str) -> str:
     """Writes the wheel."""
     info = f"hidlog_conformance-{__version__}.dist-info"
     found = files()
-    found[f"{info}/METADATA"] = (METADATA + ABOUT).encode()
+    found[f"{info}/METADATA"] = (METADATA + DESCRIPTION).encode()
     found[f"{info}/WHEEL"] = b"Wheel-Version: 1.0\nGenerator: hidlog\nRoot-Is-Purelib: true\nTag: py3-none-any\n"
     found[f"{info}/entry_points.txt"] = b"[console_scripts]\nhidlog-conformance = hidlog_conformance.run:installed\n"
     for name in ("LICENSE-APACHE", "LICENSE-MIT"):
@@ -95,7 +95,7 @@ def wheel(folder: str) -> str:
     path = os.path.join(folder, f"hidlog_conformance-{__version__}-py3-none-any.whl")
     with zipfile.ZipFile(path, "w", zipfile.ZIP_DEFLATED) as archive:
         for name, data in found.items():
-            entry = zipfile.ZipInfo(name, MOMENT)
+            entry = zipfile.ZipInfo(name, TIMESTAMP)
             entry.external_attr = 0o644 << 16
             archive.writestr(entry, data, zipfile.ZIP_DEFLATED)
     return path
@@ -138,7 +138,7 @@ def deb(folder: str) -> str:
         control += f"Section: utils\nPriority: optional\nInstalled-Size: {size}\n"
         control += "Depends: python3 (>= 3.9), python3-cryptography\n"
         control += f"Description: {SUMMARY.lower().replace('ctap', 'CTAP').replace('usb hid', 'USB HID')}\n"
-        control += "".join(f" {line or '.'}\n" for line in ABOUT.splitlines())
+        control += "".join(f" {line or '.'}\n" for line in DESCRIPTION.splitlines())
         put(root, "DEBIAN/control", control.encode())
         for place, folders, names in os.walk(root):
             os.chmod(place, 0o755)

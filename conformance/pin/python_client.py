@@ -23,7 +23,7 @@ ES256 = [{"alg": -7, "type": "public-key"}]
 UV = 0x04
 
 
-def wrong_pin(pin: Any) -> None:
+def try_wrong_pin(pin: Any) -> None:
     """Tries a wrong PIN, and compares the retries."""
     before = pin.get_pin_retries()[0]
     try:
@@ -37,7 +37,7 @@ def wrong_pin(pin: Any) -> None:
         raise ValueError("a wrong PIN did not decrement the retries")
 
 
-def registered(ctap: Any, pin: Any, protocol: Any) -> AttestationObject:
+def register_with_pin(ctap: Any, pin: Any, protocol: Any) -> AttestationObject:
     """Registers a discoverable credential with the PIN, and with the extensions."""
     token = pin.get_pin_token("4321", ClientPin.PERMISSION.MAKE_CREDENTIAL, RP)
     asked = {"credProtect": 3, "credBlob": b"a blob", "hmac-secret": True}
@@ -51,18 +51,18 @@ def registered(ctap: Any, pin: Any, protocol: Any) -> AttestationObject:
     return made
 
 
-def secret(extension: Any, ctap: Any, salts: List[bytes]) -> Any:
+def make_secret_input(extension: Any, ctap: Any, salts: List[bytes]) -> Any:
     """Returns the input of hmac-secret."""
     return extension.process_get_input({"hmacGetSecret": {f"salt{n}": salt for n, salt in enumerate(salts, 1)}})
 
 
-def signed_in(ctap: Any, pin: Any, protocol: Any, made: Any) -> None:
+def sign_in_with_secrets(ctap: Any, pin: Any, protocol: Any, made: Any) -> None:
     """Signs in without an allow list, with the PIN and with secrets."""
     extension = HmacSecretExtension(ctap, protocol)
     secrets = []
     for salts in ([b"1" * 32], [b"1" * 32, b"2" * 32]):
         token = pin.get_pin_token("4321", ClientPin.PERMISSION.GET_ASSERTION, RP)
-        asked = {"credBlob": True, "hmac-secret": secret(extension, ctap, salts)}
+        asked = {"credBlob": True, "hmac-secret": make_secret_input(extension, ctap, salts)}
         param = protocol.authenticate(token, HASH)
         found = ctap.get_assertion(RP, HASH, None, asked, None, param, protocol.VERSION)
         found.verify(HASH, made.auth_data.credential_data.public_key)
@@ -80,9 +80,9 @@ def main(words: List[str]) -> int:
     pin = ClientPin(ctap, protocol)
     pin.set_pin("1234")
     pin.change_pin("1234", "4321")
-    wrong_pin(pin)
-    made = registered(ctap, pin, protocol)
-    signed_in(ctap, pin, protocol, made)
+    try_wrong_pin(pin)
+    made = register_with_pin(ctap, pin, protocol)
+    sign_in_with_secrets(ctap, pin, protocol, made)
     print("ok", flush=True)
     return 0
 

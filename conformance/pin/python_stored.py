@@ -58,57 +58,57 @@ class Stored:
         return CredentialManagement(self.ctap, self.protocol, self.token(MAY.CREDENTIAL_MGMT))
 
 
-def same(what: str, found: Any, expected: Any) -> None:
+def expect_equal(what: str, found: Any, expected: Any) -> None:
     """Compares."""
     if found != expected:
         raise ValueError(f"{what}: {found!r} instead of {expected!r}")
 
 
-def listed(stored: Stored, made: List[Any]) -> None:
+def check_listed(stored: Stored, made: List[Any]) -> None:
     """Lists RPs and credentials, and compares them with the registrations."""
-    same("the count", stored.management().get_metadata()[FOUND.EXISTING_CRED_COUNT], len(made))
+    expect_equal("the count", stored.management().get_metadata()[FOUND.EXISTING_CRED_COUNT], len(made))
     rps = stored.management().enumerate_rps()
-    same("the RPs", sorted(rp[FOUND.RP]["id"] for rp in rps), [RP, OTHER])
+    expect_equal("the RPs", sorted(rp[FOUND.RP]["id"] for rp in rps), [RP, OTHER])
     digest = next(rp[FOUND.RP_ID_HASH] for rp in rps if rp[FOUND.RP]["id"] == RP)
     found = {cred[FOUND.CREDENTIAL_ID]["id"]: cred for cred in stored.management().enumerate_creds(digest)}
     for one in made[:2]:
         data, item = one.auth_data.credential_data, found[one.auth_data.credential_data.credential_id]
-        same("the public key", item[FOUND.PUBLIC_KEY], dict(data.public_key))
-        same("the protection", item[FOUND.CRED_PROTECT], 2)
-        same("the large blob key", item[FOUND.LARGE_BLOB_KEY], one.data[AttestationObject.KEY.LARGE_BLOB_KEY])
-    same("the credentials of the RP", len(found), 2)
+        expect_equal("the public key", item[FOUND.PUBLIC_KEY], dict(data.public_key))
+        expect_equal("the protection", item[FOUND.CRED_PROTECT], 2)
+        expect_equal("the large blob key", item[FOUND.LARGE_BLOB_KEY], one.data[AttestationObject.KEY.LARGE_BLOB_KEY])
+    expect_equal("the credentials of the RP", len(found), 2)
 
 
-def changed(stored: Stored, made: List[Any]) -> None:
+def check_changes(stored: Stored, made: List[Any]) -> None:
     """Renames one and deletes another."""
     first, second = ({"id": one.auth_data.credential_data.credential_id, "type": "public-key"} for one in made[:2])
     stored.management().update_user_info(first, {"id": b"alice", "name": "renamed", "displayName": "Renamed"})
     stored.management().delete_cred(second)
     digest = made[0].auth_data.rp_id_hash
     (left,) = stored.management().enumerate_creds(digest)
-    same("the credential that is left", left[FOUND.CREDENTIAL_ID]["id"], first["id"])
-    same("its user's name", left[FOUND.USER]["name"], "renamed")
+    expect_equal("the credential that is left", left[FOUND.CREDENTIAL_ID]["id"], first["id"])
+    expect_equal("its user's name", left[FOUND.USER]["name"], "renamed")
 
 
-def blobs(stored: Stored, made: List[Any]) -> None:
+def check_blobs(stored: Stored, made: List[Any]) -> None:
     """Writes a large blob, and reads it by its key and by another one."""
     keys = [one.data[AttestationObject.KEY.LARGE_BLOB_KEY] for one in made]
     store = LargeBlobs(stored.ctap, stored.protocol, stored.token(MAY.LARGE_BLOB_WRITE))
-    same("what it begins with", store.read_blob_array(), [])
+    expect_equal("what it begins with", store.read_blob_array(), [])
     store.put_blob(keys[0], BLOB)
-    same("the blob", store.get_blob(keys[0]), BLOB)
-    same("the blob of another key", store.get_blob(keys[1]), None)
+    expect_equal("the blob", store.get_blob(keys[0]), BLOB)
+    expect_equal("the blob of another key", store.get_blob(keys[1]), None)
 
 
 def main(words: List[str]) -> int:
     """Registers, lists, renames, deletes and writes."""
     stored = Stored(int(words[0]), "uv" in words)
     if stored.by_user:
-        same("the user verification retries", stored.pin.get_uv_retries()[0], 5)
+        expect_equal("the user verification retries", stored.pin.get_uv_retries()[0], 5)
     made = [stored.register(RP, "alice"), stored.register(RP, "bob"), stored.register(OTHER, "alice")]
-    listed(stored, made)
-    changed(stored, made)
-    blobs(stored, made)
+    check_listed(stored, made)
+    check_changes(stored, made)
+    check_blobs(stored, made)
     print("ok", flush=True)
     return 0
 

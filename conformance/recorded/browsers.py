@@ -30,14 +30,14 @@ HERE = os.path.dirname(os.path.abspath(__file__))
 sys.path.insert(0, os.path.join(HERE, ".."))
 
 from hidlog_conformance.devices import LiveDevice  # noqa: E402
-from trim import trimmed  # noqa: E402
+from trim import trim_recording  # noqa: E402
 
 # The report descriptor of CTAP 2.1, 11.2.8.1: usage page f1d0, 64 bytes each way.
 DESCRIPTOR = bytes.fromhex("06d0f10901a1010920150026ff00750895408102092115002 6ff00750895409102c0".replace(" ", ""))
 TOUCH_AFTER = 0.3
 SECONDS = 60
 # Seconds without a packet after which a browser waits for a person to close its dialog.
-IDLE = 7.0
+IDLE_SECONDS = 7.0
 # The steps of the page, by name; each has a new browser and key.
 RUNS = {
     "excluded": "register,sign_in,excluded",
@@ -161,7 +161,7 @@ class Handler(BaseHTTPRequestHandler):
         self.end_headers()
 
 
-def compiled(room: str) -> str:
+def compile_fake_udev(room: str) -> str:
     """Compiles the replacement of libudev."""
     library = os.path.join(room, "libudev.so.1")
     words = ["gcc", "-std=c11", "-O2", "-shared", "-fPIC", "-Wl,-soname,libudev.so.1"]
@@ -182,11 +182,15 @@ def record(name: str, steps: str, room: str) -> List[str]:
         file.write(DESCRIPTOR)
     places = {"PROFILE": os.path.join(room, "profile"), "URL": f"http://localhost:{server.server_port}/#{steps}"}
     words = [word.replace("PROFILE", places["PROFILE"]).replace("URL", places["URL"]) for word in BROWSERS[name]]
-    fake = {"LD_PRELOAD": compiled(room), "FAKE_HIDRAW": terminal.path, "FAKE_SYSFS": os.path.join(room, "sysfs")}
+    fake = {
+        "LD_PRELOAD": compile_fake_udev(room),
+        "FAKE_HIDRAW": terminal.path,
+        "FAKE_SYSFS": os.path.join(room, "sysfs"),
+    }
     quiet = subprocess.DEVNULL if "VERBOSE" not in os.environ else None
     browser = subprocess.Popen(words, env={**os.environ, **fake}, stdout=quiet, stderr=quiet, start_new_session=True)
     end = time.monotonic() + SECONDS
-    while not server.done.wait(0.1) and time.monotonic() < min(end, terminal.latest + IDLE):
+    while not server.done.wait(0.1) and time.monotonic() < min(end, terminal.latest + IDLE_SECONDS):
         pass
     os.killpg(browser.pid, signal.SIGTERM)
     browser.wait()
@@ -206,7 +210,7 @@ def main(words: List[str]) -> int:
             continue
         for run, steps in RUNS.items():
             with tempfile.TemporaryDirectory(ignore_cleanup_errors=True) as room:
-                lines = trimmed(record(name, steps, room))
+                lines = trim_recording(record(name, steps, room))
             os.makedirs(words[0], exist_ok=True)
             with open(os.path.join(words[0], f"{name}_{run}.log"), "w", encoding="utf-8") as file:
                 file.write("\n".join(lines) + "\n")

@@ -12,7 +12,7 @@ import sys
 from typing import List
 
 
-def trimmed(lines: List[str]) -> List[str]:
+def trim_recording(lines: List[str]) -> List[str]:
     """Returns the lines to keep."""
     kept, latest, at = [], -1, 0
     for line in lines:
@@ -36,7 +36,7 @@ def main(paths: List[str]) -> int:
         with open(path, encoding="utf-8") as file:
             lines = file.read().splitlines()
         with open(path, "w", encoding="utf-8") as file:
-            file.write("\n".join(trimmed(lines)) + "\n")
+            file.write("\n".join(trim_recording(lines)) + "\n")
     return 0
 
 

@@ -12,7 +12,7 @@ import time
 import xml.etree.ElementTree as xml
 from typing import Dict, List, Set, Tuple
 
-from trying import HERE, Test, odd
+from trying import HERE, Test, make_device_arguments
 
 RUN = [sys.executable, os.path.join(HERE, "..", "run.py")]
 CLIENT = os.path.join(HERE, "..", "clients", "python_fido2.py")
@@ -21,7 +21,7 @@ MARK = "an_interrupted_run"
 ENDED = 130
 
 
-def commands_of(process: "subprocess.Popen[str]") -> Set[str]:
+def list_commands(process: "subprocess.Popen[str]") -> Set[str]:
     """Returns the IDs of a process's commands that are running."""
     return set(
         subprocess.run(["ps", "--ppid", str(process.pid), "-o", "pid="], capture_output=True, text=True).stdout.split()
@@ -35,7 +35,7 @@ def interrupt(words: List[str], commands: int, number: int = signal.SIGINT) -> T
         process = subprocess.Popen([*RUN, *words], stdout=out, stderr=heard, text=True, start_new_session=True)
         seen: Set[str] = set()
         while len(seen) < commands and process.poll() is None:
-            seen |= commands_of(process)
+            seen |= list_commands(process)
         if process.poll() is not None:
             heard.seek(0)
             raise AssertionError(f"ended too early: {heard.read()}")
@@ -49,7 +49,7 @@ def interrupt(words: List[str], commands: int, number: int = signal.SIGINT) -> T
         return process.returncode, out.read(), heard.read()
 
 
-def left() -> str:
+def list_running_commands() -> str:
     """Returns the running commands of this test's devices."""
     lines = subprocess.run(["ps", "-eo", "args"], capture_output=True, text=True, check=True).stdout.splitlines()
     return "\n".join(line for line in lines if line.endswith(MARK))
@@ -58,15 +58,17 @@ def left() -> str:
 def check_none_left() -> None:
     """Checks that no command is left; one that was just starting ends at the end of its input."""
     end = time.monotonic() + 60
-    while left() and time.monotonic() < end:
+    while list_running_commands() and time.monotonic() < end:
         time.sleep(0.2)
-    assert not left(), left()
+    assert not list_running_commands(), list_running_commands()
 
 
 def text() -> None:
     """The text report of an interrupted run has the cases so far, none of which failed."""
     for number in (signal.SIGINT, signal.SIGTERM):
-        status, out, heard = interrupt([*odd(f"plain {MARK}"), "--jobs", "2", "--only", "ping/"], 9, number)
+        status, out, heard = interrupt(
+            [*make_device_arguments(f"plain {MARK}"), "--jobs", "2", "--only", "ping/"], 9, number
+        )
         assert status == ENDED and "Traceback" not in heard, (status, heard)
         passed, _, rest = out.splitlines()[-1].partition(" passed, 0 failed, 0 warned, ")
         assert int(passed) >= 5 and rest == "0 skipped", out
@@ -78,12 +80,12 @@ def text() -> None:
 def formats() -> None:
     """The JSON and JUnit reports of an interrupted run are whole; so is that of this repository's program."""
     no_device: List[str] = []
-    for device in (odd(f"plain {MARK}"), no_device):
+    for device in (make_device_arguments(f"plain {MARK}"), no_device):
         status, out, heard = interrupt([*device, "--report", "json"], 4)
         report = json.loads(out)
         assert status == ENDED and report["interrupted"].startswith(f"after {len(report['cases'])} of "), heard
         assert not report["totals"]["failed"] and not report["totals"]["unstable"], report["totals"]
-    status, out, heard = interrupt([*odd(f"plain {MARK}"), "--report", "junit", "--only", "ping/"], 7)
+    status, out, heard = interrupt([*make_device_arguments(f"plain {MARK}"), "--report", "junit", "--only", "ping/"], 7)
     suite = xml.fromstring(out)
     assert status == ENDED and suite.get("failures") == "0" and suite.findall("testcase"), heard
     check_none_left()

@@ -59,7 +59,7 @@ def played(words: List[str]) -> Tuple[Dict[str, str], KeptKey]:
     with redirect_stderr(io.StringIO()):
         device_info = DeviceInfo.ask(device, True)
         device.touches = 0
-        sessions = run.in_order(device, run.all_sessions(options.only), True)
+        sessions = run.order_sessions(device, run.all_sessions(options.only), True)
         results: Results[Outcome] = Results()
         run.play_all(device, sessions, options, device_info, results)
     return {outcome.session.name: outcome.status for outcome in results.close()}, device

@@ -7,7 +7,7 @@ import sys
 from typing import Dict
 
 from hidlog_conformance import client_runner
-from trying import HERE, Test, noticed, run_command
+from trying import HERE, Test, check_detected, run_command
 
 ODD = f"{sys.executable} {os.path.join(HERE, 'odd_client.py')}"
 # The beginning of the verdict by client.
@@ -46,12 +46,12 @@ def children() -> None:
 
 
 TESTS: Dict[str, Test] = {
-    "client/verdicts": noticed(
+    "client/verdicts": check_detected(
         verdicts,
         (client_runner.Conversation, "crash", lambda self: "refused the command ended"),
         (client_runner.Conversation, "waiting", lambda self: "waits"),
     ),
-    "client/refusal_by_crash": noticed(
+    "client/refusal_by_crash": check_detected(
         refusal_by_crash, (client_runner.Conversation, "crash", lambda self: "refused the command ended")
     ),
     "client/children": children,

@@ -47,7 +47,7 @@ class OddKey:
 
     def keepalive(self, channel: int, status: bytes = b"\1") -> None:
         """Writes a KEEPALIVE."""
-        self.say(hid.packets_of(channel, hid.KEEPALIVE, status)[0])
+        self.say(hid.fragment_message(channel, hid.KEEPALIVE, status)[0])
 
     def take(self, line: bytes) -> None:
         """Processes a line of the host."""
@@ -66,7 +66,7 @@ class OddKey:
             self.kept.append((now() + WORK, packet))
             return
         if self.kind == "full" and is_cbor and packet[7] == 1:
-            self.say(hid.packets_of(channel, hid.CBOR, b"\x28")[0])
+            self.say(hid.fragment_message(channel, hid.CBOR, b"\x28")[0])
             return
         self.key.hid.packet(now(), packet)
 
@@ -104,7 +104,7 @@ class OddKey:
 
 def out_of_order(kind: str) -> None:
     """Writes a flood of packets, or a line without a newline."""
-    packet = hid.packets_of(hid.BROADCAST, hid.KEEPALIVE, b"\1")[0].hex().encode() + b"\n"
+    packet = hid.fragment_message(hid.BROADCAST, hid.KEEPALIVE, b"\1")[0].hex().encode() + b"\n"
     piece = {"flood": packet * 100, "no_line_feed": b"0" * 4096}[kind]
     while True:
         os.write(1, piece)

@@ -16,14 +16,14 @@ from hidlog_conformance import hid_packets as hid
 from hidlog_conformance.devices import HidrawDevice
 from hidlog_conformance.player import Player
 from hidlog_conformance.session_file import Session
-from trying import HERE, Test, noticed, odd, run_command
+from trying import HERE, Test, check_detected, make_device_arguments, run_command
 
 # Packets of another host: a response, a KEEPALIVE, a new host's INIT response, and an incomplete message.
 OTHERS = [
-    hid.packets_of(0x0000BEEF, hid.CBOR, b"\0\xa0")[0],
-    hid.packets_of(0x0000BEEF, hid.KEEPALIVE, b"\2")[0],
-    hid.packets_of(hid.BROADCAST, hid.INIT, b"browsers" + b"\0\0\xbe\xf0\2\0\0\0\x04")[0],
-    hid.packets_of(0x0000BEF0, hid.PING, bytes(100))[0],
+    hid.fragment_message(0x0000BEEF, hid.CBOR, b"\0\xa0")[0],
+    hid.fragment_message(0x0000BEEF, hid.KEEPALIVE, b"\2")[0],
+    hid.fragment_message(hid.BROADCAST, hid.INIT, b"browsers" + b"\0\0\xbe\xf0\2\0\0\0\x04")[0],
+    hid.fragment_message(0x0000BEF0, hid.PING, bytes(100))[0],
 ]
 
 
@@ -51,19 +51,19 @@ def other_hosts() -> None:
 
 def keepalive_first() -> None:
     """A KEEPALIVE before getInfo's response does not change the supported features."""
-    status, out, _ = run_command([*odd("keepalive_first"), "--reset", "--only", "lists/allow_empty"])
+    status, out, _ = run_command([*make_device_arguments("keepalive_first"), "--reset", "--only", "lists/allow_empty"])
     assert status == 0 and "1 passed, 0 failed" in out, out
 
 
 def skip_names_info() -> None:
     """A case skipped for a missing feature prints the getInfo response."""
-    _, out, _ = run_command([*odd("plain"), "--only", "ping/bytes_7609"])
+    _, out, _ = run_command([*make_device_arguments("plain"), "--only", "ping/bytes_7609"])
     assert "does not support: messages of 7609 (getInfo: {1: " in out, out
 
 
 def busy() -> None:
     """A device that asks for a touch only after 3.5 seconds passes."""
-    status, out, _ = run_command([*odd("busy"), "--only", "selection/granted", "--deadline", "12"])
+    status, out, _ = run_command([*make_device_arguments("busy"), "--only", "selection/granted", "--deadline", "12"])
     assert status == 0 and "1 passed" in out, out
 
 
@@ -73,22 +73,24 @@ def never_asked(player: Player) -> None:
 
 def for_ever() -> None:
     """Endless KEEPALIVEs fail at the deadline, and after three such cases the run stops."""
-    words = [*odd("keepalive_for_ever"), "--deadline", "2", "--jobs", "1", "--only", "cancel/of"]
+    words = [*make_device_arguments("keepalive_for_ever"), "--deadline", "2", "--jobs", "1", "--only", "cancel/of"]
     status, out, _ = run_command(words)
     assert status == 1 and "the end of the case before its deadline" in out, out
-    _, out, _ = run_command([*odd("keepalive_for_ever"), "--deadline", "1", "--jobs", "1", "--only", "recorded/"])
+    _, out, _ = run_command(
+        [*make_device_arguments("keepalive_for_ever"), "--deadline", "1", "--jobs", "1", "--only", "recorded/"]
+    )
     assert out.count("not played: 3 cases reached their deadline") > 3, out
 
 
 def without_line_feed() -> None:
     """A line without a newline is reported."""
-    status, _, heard = run_command(odd("no_line_feed"))
+    status, _, heard = run_command(make_device_arguments("no_line_feed"))
     assert status == 2 and "a line without a newline" in heard, heard
 
 
 def flood() -> None:
     """A flood of packets is reported."""
-    status, _, heard = run_command(odd("flood"))
+    status, _, heard = run_command(make_device_arguments("flood"))
     assert status == 2 and "does not respond to INIT" in heard, heard
 
 
@@ -100,14 +102,14 @@ def zeros() -> None:
 
 def full() -> None:
     """A case is skipped if the device may have been full before."""
-    _, out, _ = run_command([*odd("full"), "--only", "make/answer"])
+    _, out, _ = run_command([*make_device_arguments("full"), "--only", "make/answer"])
     assert "1 skipped" in out and "the device is full (28)" in out, out
 
 
 def children() -> None:
     """A command's child processes are killed."""
     seconds = "38.4321"
-    run_command([*odd(f"with_a_child {seconds}"), "--only", "init/nonce_count"])
+    run_command([*make_device_arguments(f"with_a_child {seconds}"), "--only", "init/nonce_count"])
     found = subprocess.run(["ps", "-eo", "args"], capture_output=True, text=True, check=True).stdout
     assert f"sleep {seconds}" not in found, found
 
@@ -115,7 +117,7 @@ def children() -> None:
 def evil_text() -> None:
     """Text of a device is escaped for terminals and XML."""
     for kind in ("text", "junit", "tap", "json", "html"):
-        _, out, _ = run_command([*odd("evil_text"), "--only", "ping/bytes_7609", "--report", kind])
+        _, out, _ = run_command([*make_device_arguments("evil_text"), "--only", "ping/bytes_7609", "--report", kind])
         assert not set(out) & set("\x1b\u202e\x01"), repr(out)
         if kind == "junit":
             xml.fromstring(out)
@@ -123,7 +125,7 @@ def evil_text() -> None:
 
 def behind() -> None:
     """In real time, too, a packet after the last response is detected."""
-    status, out, _ = run_command([*odd("continues"), "--only", "ping/bytes_0057"])
+    status, out, _ = run_command([*make_device_arguments("continues"), "--only", "ping/bytes_0057"])
     assert status == 1 and "a continuation packet" in out, out
 
 
@@ -161,10 +163,10 @@ def reader_ends() -> None:
 
 def results() -> None:
     """SHOULD violations are warnings, or failures with --warnings-as-errors; choices count with --profile-choices."""
-    words = [*odd("plain"), "--only", "cbor/uint_in_1_level_2"]
+    words = [*make_device_arguments("plain"), "--only", "cbor/uint_in_1_level_2"]
     assert run_command(words)[:1] == (0,) and "0 failed, 1 warned" in run_command(words)[1], run_command(words)
     assert run_command([*words, "--warnings-as-errors"])[0] == 1, "--warnings-as-errors"
-    words = [*odd("plain"), "--only", "cbor/array_in_1_level_1"]
+    words = [*make_device_arguments("plain"), "--only", "cbor/array_in_1_level_1"]
     assert (
         run_command(words)[0] == 0 and "differs from a choice of this project's profile" in run_command(words)[1]
     ), run_command(words)
@@ -173,18 +175,22 @@ def results() -> None:
 
 def known() -> None:
     """An expected failure does not count, and an unexpected success is reported."""
-    words = [*odd("plain"), "--only", "cbor/break_alone_level_"]
+    words = [*make_device_arguments("plain"), "--only", "cbor/break_alone_level_"]
     names = [f"cbor/break_alone_level_{level}" for level in (2, 3, 4)]
     with tempfile.NamedTemporaryFile("w") as file:
         file.write("# python-fido2's reader\n" + "\n".join(names) + "\n")
         file.flush()
         status, _, heard = run_command([*words, "--expected-failures", file.name])
         assert status == 0 and "unexpected" not in heard, heard
-        status, _, heard = run_command([*odd("plain"), "--only", "ping/bytes_0000", "--expected-failures", file.name])
+        status, _, heard = run_command(
+            [*make_device_arguments("plain"), "--only", "ping/bytes_0000", "--expected-failures", file.name]
+        )
         assert status == 0, heard
         file.write("ping/bytes_0000\n")
         file.flush()
-        status, _, heard = run_command([*odd("plain"), "--only", "ping/bytes_0000", "--expected-failures", file.name])
+        status, _, heard = run_command(
+            [*make_device_arguments("plain"), "--only", "ping/bytes_0000", "--expected-failures", file.name]
+        )
         assert "unexpected success" in heard, heard
 
 
@@ -192,7 +198,7 @@ def unstable() -> None:
     """A case that failed and then passed fails the run, with both recordings."""
     for kind in ("text", "junit", "tap", "json", "html"):
         with tempfile.TemporaryDirectory() as room:
-            words = [*odd(f"unstable {room}/pinged"), "--only", "ping/bytes_0058", "--report", kind]
+            words = [*make_device_arguments(f"unstable {room}/pinged"), "--only", "ping/bytes_0058", "--report", kind]
             status, out, _ = run_command(words)
         assert status == 1 and "unstable" in out, out
         if kind == "text":
@@ -231,22 +237,22 @@ def skips(self: Any, session: Session, device: Any, touch: bool, reset: bool) ->
 
 
 TESTS: Dict[str, Test] = {
-    "device/other_hosts": noticed(other_hosts, (Player, "for_others", lambda self, packet: False)),
-    "device/keepalive_first": noticed(keepalive_first, (device_info, "read_message", first_message)),
-    "device/skip_names_info": noticed(skip_names_info, (device_info.DeviceInfo, "lacking", skips)),
-    "device/busy": noticed(busy, (Player, "until_asked", never_asked)),
+    "device/other_hosts": check_detected(other_hosts, (Player, "for_others", lambda self, packet: False)),
+    "device/keepalive_first": check_detected(keepalive_first, (device_info, "read_message", first_message)),
+    "device/skip_names_info": check_detected(skip_names_info, (device_info.DeviceInfo, "lacking", skips)),
+    "device/busy": check_detected(busy, (Player, "until_asked", never_asked)),
     "device/for_ever": for_ever,
     "device/without_line_feed": without_line_feed,
     "device/flood": flood,
     "device/zeros": zeros,
-    "device/full": noticed(full, (devices.Device, "fresh", True)),
-    "device/children": noticed(children, (devices.os, "killpg", lambda process, number: None)),
-    "device/evil_text": noticed(evil_text, (report, "clean", str)),
-    "device/behind": noticed(behind, (Player, "check_end", lambda self: None)),
+    "device/full": check_detected(full, (devices.Device, "fresh", True)),
+    "device/children": check_detected(children, (devices.os, "killpg", lambda process, number: None)),
+    "device/evil_text": check_detected(evil_text, (report, "escape_text", str)),
+    "device/behind": check_detected(behind, (Player, "check_end", lambda self: None)),
     "device/unplugged": unplugged,
     "device/reader_ends": reader_ends,
     "report/results": results,
     "report/known": known,
     "report/lists": lists,
-    "report/unstable": noticed(unstable, (run, "unstable", lambda first, second, late: second)),
+    "report/unstable": check_detected(unstable, (run, "mark_unstable", lambda first, second, late: second)),
 }

@@ -24,12 +24,12 @@ def run_command(words: List[str]) -> Tuple[int, str, str]:
     return status, out.getvalue(), heard.getvalue()
 
 
-def odd(kind: str) -> List[str]:
+def make_device_arguments(kind: str) -> List[str]:
     """Returns the arguments for an odd device."""
     return ["--device", f"{sys.executable} {os.path.join(HERE, 'odd_device.py')} {kind}", "--touch-line", "touch"]
 
 
-def fails(test: Test) -> bool:
+def is_failing(test: Test) -> bool:
     """Returns whether a test fails."""
     try:
         test()
@@ -38,7 +38,7 @@ def fails(test: Test) -> bool:
     return False
 
 
-def noticed(test: Test, *undone: Undone) -> Test:
+def check_detected(test: Test, *undone: Undone) -> Test:
     """Returns a test that also checks that `test` fails with each replacement."""
 
     def both() -> None:
@@ -47,7 +47,7 @@ def noticed(test: Test, *undone: Undone) -> Test:
             before = getattr(owner, name)
             setattr(owner, name, other)
             try:
-                assert fails(test), f"the test passes without {name}"
+                assert is_failing(test), f"the test passes without {name}"
             finally:
                 setattr(owner, name, before)
 

@@ -12,10 +12,10 @@ from typing import Any, Dict, List, Set, Tuple
 
 import proved_walk
 from hidlog import logs
-from hidlog_conformance.judged_log import Recording, powered, walked
+from hidlog_conformance.judged_log import Recording, split_at_power_cycles, walked
 from hidlog_conformance.transactions import Entry, Lines, Owners, Transactions
 from second_walk import walk_log
-from trying import noticed
+from trying import check_detected
 
 TOP = os.path.join(os.path.dirname(os.path.abspath(__file__)), "..", "..")
 FOLDERS = ("examples", "examples/failing", "tests/captures/data", "conformance/recorded", "conformance/clients/logs")
@@ -24,7 +24,7 @@ Ends = Dict[int, Tuple[str, int, int, List[int]]]
 OPEN = ("", "unanswered", "not whole")
 
 
-def entries_of(log: bytes) -> List[Entry]:
+def read_entries(log: bytes) -> List[Entry]:
     """Returns the packets of a log, with their transactions by `hidlog_transactions`."""
     recording, owners = Recording(), Owners(proved_walk.walk(log))
     for number, line in enumerate(log.split(b"\n"), 1):
@@ -32,7 +32,7 @@ def entries_of(log: bytes) -> List[Entry]:
     return list(recording.walk.take_entries())
 
 
-def ends_of(owners: Dict[int, List[int]], transactions: List[Any], unsure: Set[int]) -> Ends:
+def list_ends(owners: Dict[int, List[int]], transactions: List[Any], unsure: Set[int]) -> Ends:
     """Returns the ends of transactions, except on channels that are not compared."""
     return {
         one.line: ("" if one.end in OPEN else one.end, one.by or 0, one.cancelled or 0, owners.get(one.line, []))
@@ -41,29 +41,29 @@ def ends_of(owners: Dict[int, List[int]], transactions: List[Any], unsure: Set[i
     }
 
 
-def proved(log: bytes) -> Tuple[Ends, Set[int]]:
+def list_proved_ends(log: bytes) -> Tuple[Ends, Set[int]]:
     """Returns the ends of transactions by `hidlog_transactions`, and the channels where it is unsure."""
     owners: Dict[int, List[int]] = {}
-    entries = entries_of(log)
+    entries = read_entries(log)
     transactions = [one.transaction for one in entries if one.part == "start" and one.transaction is not None]
     unsure = {one.channel for one in transactions if one.is_unknown}
     for entry in entries:
         if entry.transaction is not None:
             owners.setdefault(entry.transaction.line, []).append(entry.line)
-    return ends_of(owners, transactions, unsure), unsure
+    return list_ends(owners, transactions, unsure), unsure
 
 
-def second(log: bytes, unsure: Set[int]) -> Ends:
+def list_second_ends(log: bytes, unsure: Set[int]) -> Ends:
     """Returns the ends of transactions by the second implementation."""
     found = walk_log(log)
     owners: Dict[int, List[int]] = {}
     for entry in found.entries:
         if entry.transaction is not None and entry.kind != "reply":
             owners.setdefault(entry.transaction.line, []).append(entry.line)
-    return ends_of(owners, found.transactions, unsure)
+    return list_ends(owners, found.transactions, unsure)
 
 
-def recorded() -> List[Tuple[str, bytes]]:
+def list_recorded_logs() -> List[Tuple[str, bytes]]:
     """Returns the valid logs of the repository, by path; logs of only inputs with this key's packets."""
     found = []
     for path in sorted(path for folder in FOLDERS for path in glob.glob(os.path.join(TOP, folder, "*.log"))):
@@ -77,10 +77,10 @@ def recorded() -> List[Tuple[str, bytes]]:
 def both_walks_agree() -> None:
     """The transactions of each log have the same packets and ends."""
     count = 0
-    for path, log in recorded():
-        for part in powered(log):
-            ends, unsure = proved(walked(part))
-            assert ends == second(walked(part), unsure), f"{path}: the two implementations differ"
+    for path, log in list_recorded_logs():
+        for part in split_at_power_cycles(log):
+            ends, unsure = list_proved_ends(walked(part))
+            assert ends == list_second_ends(walked(part), unsure), f"{path}: the two implementations differ"
             count += len(ends)
     assert count > 300, f"only {count} transactions were compared"
 
@@ -98,7 +98,7 @@ def lines_are_read_in_pieces() -> None:
 
 
 TESTS = {
-    "walks/agree": noticed(
+    "walks/agree": check_detected(
         both_walks_agree,
         (Transactions, "leave_late", lambda *words: None),
         (Transactions, "ended", lambda *words: None),

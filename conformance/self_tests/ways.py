@@ -167,11 +167,11 @@ def order() -> None:
     """Cases that need no touch run before the first request for one."""
     sessions = run.all_sessions()
     with redirect_stderr(io.StringIO()):
-        played = run.in_order(LiveDevice(), sessions, True)
-    counts = [run.touches(session) for session in played]
+        played = run.order_sessions(LiveDevice(), sessions, True)
+    counts = [run.count_touches(session) for session in played]
     assert counts == sorted(counts) and counts[0] == 0 < counts[-1], counts[:9]
     assert {session.name for session in played} == {session.name for session in sessions}
-    assert run.in_order(LiveDevice(), sessions, False) == sessions
+    assert run.order_sessions(LiveDevice(), sessions, False) == sessions
 
 
 class LateDevice(PipeDevice):

@@ -17,7 +17,7 @@ from hidlog.judge import _check_recording, judge
 sys.path.append(str(Path(__file__).resolve().parents[2] / "conformance"))
 
 from hidlog_conformance import ctap_cbor, judged_report, keys  # noqa: E402
-from hidlog_conformance.hid_packets import packets_of  # noqa: E402
+from hidlog_conformance.hid_packets import fragment_message  # noqa: E402
 
 BROADCAST = 0xFFFFFFFF
 PING, MSG, LOCK, INIT, CBOR, CANCEL, KEEPALIVE, ERROR = 0x01, 0x03, 0x04, 0x06, 0x10, 0x11, 0x3B, 0x3F
@@ -36,13 +36,13 @@ class Log:
 
     def add_request(self, at: int, channel: int, command: int, data: bytes = b"") -> Log:
         """Adds a message of the host."""
-        self.lines += [f"> {at} {packet.hex()}" for packet in packets_of(channel, command, data)]
+        self.lines += [f"> {at} {packet.hex()}" for packet in fragment_message(channel, command, data)]
         return self
 
     def add_response(self, channel: int, command: int, data: bytes = b"", at: int | None = None, lost: int = -1) -> Log:
         """Adds a message of the key, possibly without a lost packet."""
         self.lines += [] if at is None else [f"t {at}"]
-        packets = packets_of(channel, command, data)
+        packets = fragment_message(channel, command, data)
         self.lines += [f"< {packet.hex()}" for number, packet in enumerate(packets) if number != lost]
         return self
 
@@ -282,12 +282,12 @@ def test_what_a_recorder_lost_is_said_first() -> None:
     lost = (
         Log("# note: the recorder lost 3 packets").add_init().add_request(10, 1, PING, b"a").add_response(1, PING, b"b")
     )
-    found = judged_report.text_of_recording(_check_recording(lost.text)).splitlines()
+    found = judged_report.format_recording(_check_recording(lost.text)).splitlines()
     assert found[0].startswith("note: the recorder lost packets")
     assert found[1].startswith("line 6: the key violates MUST")
     gap = Log("# imported from a capture of USB: bus 1").add_init().add_request(10, 1, PING, b"a" * 200)
     gap = gap.add_response(1, PING, b"a" * 200, lost=2).add_init(2000, 2)
-    found = judged_report.text_of_recording(_check_recording(gap.text)).splitlines()
+    found = judged_report.format_recording(_check_recording(gap.text)).splitlines()
     assert found[0].startswith("note: the capture may have lost packets, since line 11 ")
 
 

@@ -103,7 +103,7 @@ def read_json(data: bytes) -> None:
 
 def read_canonical(data: bytes) -> None:
     value = ctap_cbor.decode(data)
-    assert ctap_cbor.encode(value) == data and isinstance(ctap_cbor.shown(value), str)
+    assert ctap_cbor.encode(value) == data and isinstance(ctap_cbor.to_diagnostic(value), str)
 
 
 def read_packets(data: bytes) -> None:

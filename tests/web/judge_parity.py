@@ -52,15 +52,15 @@ def judge_in_python(log: bytes) -> Dict[str, Any]:
         found = judge(log)
     except LogError as error:
         return {"refused": str(error)}
-    findings = [judged_report.object_of(finding) for finding in found.findings]
-    return {"findings": findings, "notes": judged_report.notes_of(found), "total": judged_report.total(found)}
+    findings = [judged_report.to_finding_object(finding) for finding in found.findings]
+    return {"findings": findings, "notes": judged_report.list_notes(found), "total": judged_report.format_total(found)}
 
 
 def iter_recordings() -> Iterator[Tuple[str, bytes]]:
     """Yields recordings of wrong authenticators and of conforming ones, with their names."""
     for name in list(judged.MUTANTS)[::EACH]:
         try:
-            for session, log, _ in itertools.islice(judged.recordings(name), 1):
+            for session, log, _ in itertools.islice(judged.iter_recordings(name), 1):
                 yield f"{name} at {session}", log
         except OSError:
             continue
@@ -69,7 +69,7 @@ def iter_recordings() -> Iterator[Tuple[str, bytes]]:
         options = judged.parse_options(["--device", "reference", "--touch", "--reset"])
         device_info = judged.DeviceInfo.ask(device, True)
         recorder = judged.Recorder(device)
-        first = judged.asked_first(device, recorder)
+        first = judged.record_get_info(device, recorder)
         for session in judged.all_sessions()[::SESSIONS]:
             if judged.play_one(device, session, options, device_info).status != "skip":
                 yield f"{name} at {session.name}", recorder.log(first)

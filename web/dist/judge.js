@@ -988,10 +988,10 @@
 
     $.modules.keys = () => ({
         AVAILABLE: Boolean(globalThis.crypto?.subtle),
-        verifies: (cose, signed, signature) =>
+        is_valid_signature: (cose, signed, signature) =>
             getVerdict(`${$.repr(cose)} ${signed.digits} ${signature.digits}`,
                 { cose, signed: signed.data, signature: signature.data }),
-        verified_by: (certificate, alg, signed, signature) =>
+        is_valid_for_certificate: (certificate, alg, signed, signature) =>
             getVerdict(`${certificate.digits} ${alg} ${signed.digits} ${signature.digits}`,
                 { certificate: certificate.data, alg, signed: signed.data, signature: signature.data }),
     });
@@ -1035,7 +1035,7 @@ $t1 = $.Tuple.of(1, 3, 4, 6, 8, 16, 17, 59, 63); $t2 = $.unpackItems($t1, 9); PI
 NAMES = $.makeDict([[PING, "PING"], [MSG, "MSG"], [LOCK, "LOCK"], [INIT, "INIT"], [WINK, "WINK"], [CBOR, "CBOR"], [CANCEL, "CANCEL"]]); 
 $.call(NAMES, "update", [$.makeDict([[KEEPALIVE, "KEEPALIVE"], [ERROR, "ERROR"]])]);
 LONGEST = 7609; 
-function packets_of(channel, command, data, length = null) {
+function fragment_message(channel, command, data, length = null) {
 let front, named, number, pieces, rest, $t1, $t2;
 front = $.call(channel, "to_bytes", [4, "big"]); 
 named = (((length === null)) ? $.apply(len, [data]) : length); 
@@ -1048,7 +1048,7 @@ $.call(pieces, "append", [$.add($.add(front, $.apply(bytes, [[$.and(number, 127)
 return (() => { const $r = []; for (const $t2 of $.iter(pieces)) { let piece; piece = $t2; $r.push($.call(piece, "ljust", [64, $.parseHex("00")])); } return $r; })();
 return null;
 }
-packets_of.$names = ["channel", "command", "data", "length"];
+fragment_message.$names = ["channel", "command", "data", "length"];
 class Message extends $.Object {
 __init__(channel, command, data, problem = "", padding = $.parseHex("")) {
 this.channel = channel;
@@ -1141,7 +1141,7 @@ return null;
 }
 }
 Collector.$names = {"__init__": ["of_host"], "feed": ["packet"], "begin": ["channel", "packet"], "ended": ["channel", "part"]};
-return { BROADCAST, CANCEL, CBOR, Collector, ERROR, INIT, KEEPALIVE, LOCK, LONGEST, MSG, Message, NAMES, PING, Part, WINK, packets_of };
+return { BROADCAST, CANCEL, CBOR, Collector, ERROR, INIT, KEEPALIVE, LOCK, LONGEST, MSG, Message, NAMES, PING, Part, WINK, fragment_message };
 };
 
 $.modules["ctap_cbor"] = () => {
@@ -1160,7 +1160,7 @@ return null;
 }
 }
 Raw.$names = {"__init__": ["data"]};
-function head(major, argument) {
+function encode_head(major, argument) {
 let size;
 if (($.lt(argument, 24))) {
 return $.apply(bytes, [[$.or($.shiftLeft(major, 5), argument)]]);
@@ -1169,7 +1169,7 @@ size = (($.lt(argument, $.pow(2, 8))) ? 1 : (($.lt(argument, $.pow(2, 16))) ? 2 
 return $.add($.apply(bytes, [[$.or($.shiftLeft(major, 5), $.getItem($.makeDict([[1, 24], [2, 25], [4, 26], [8, 27]]), size))]]), $.call(argument, "to_bytes", [size, "big"]));
 return null;
 }
-head.$names = ["major", "argument"];
+encode_head.$names = ["major", "argument"];
 function encode(item) {
 let pairs, $t1, $t2, $t3, $t4, $t5;
 if ($.isTrue($.apply(isinstance, [item, Raw]))) {
@@ -1179,19 +1179,19 @@ if ((((item === null)) || $.isTrue($.apply(isinstance, [item, bool])))) {
 return $.getItem($.makeDict([[null, $.parseHex("f6")], [false, $.parseHex("f4")], [true, $.parseHex("f5")]]), item);
 }
 if ($.isTrue($.apply(isinstance, [item, int]))) {
-return (($.le(0, item)) ? $.apply(head, [0, item]) : $.apply(head, [1, $.sub($.sub(0, 1), item)]));
+return (($.le(0, item)) ? $.apply(encode_head, [0, item]) : $.apply(encode_head, [1, $.sub($.sub(0, 1), item)]));
 }
 if ($.isTrue($.apply(isinstance, [item, bytes]))) {
-return $.add($.apply(head, [2, $.apply(len, [item])]), item);
+return $.add($.apply(encode_head, [2, $.apply(len, [item])]), item);
 }
 if ($.isTrue($.apply(isinstance, [item, str]))) {
-return $.add($.apply(head, [3, $.apply(len, [$.call(item, "encode", [])])]), $.call(item, "encode", []));
+return $.add($.apply(encode_head, [3, $.apply(len, [$.call(item, "encode", [])])]), $.call(item, "encode", []));
 }
 if ($.isTrue($.apply(isinstance, [item, list]))) {
-return $.add($.apply(head, [4, $.apply(len, [item])]), $.call($.parseHex(""), "join", [(function* () { for (const $t1 of $.iter(item)) { let part; part = $t1; yield $.apply(encode, [part]); } })()]));
+return $.add($.apply(encode_head, [4, $.apply(len, [item])]), $.call($.parseHex(""), "join", [(function* () { for (const $t1 of $.iter(item)) { let part; part = $t1; yield $.apply(encode, [part]); } })()]));
 }
 pairs = $.apply(sorted, [(function* () { for (const $t2 of $.iter($.call(item, "items", []))) { let key, value; $t3 = $.unpackItems($t2, 2); key = $t3[0]; value = $t3[1]; yield $.Tuple.of($.apply(encode, [key]), $.apply(encode, [value])); } })()]); 
-return $.add($.apply(head, [5, $.apply(len, [item])]), $.call($.parseHex(""), "join", [(function* () { for (const $t4 of $.iter(pairs)) { let key, value; $t5 = $.unpackItems($t4, 2); key = $t5[0]; value = $t5[1]; yield $.add(key, value); } })()]));
+return $.add($.apply(encode_head, [5, $.apply(len, [item])]), $.call($.parseHex(""), "join", [(function* () { for (const $t4 of $.iter(pairs)) { let key, value; $t5 = $.unpackItems($t4, 2); key = $t5[0]; value = $t5[1]; yield $.add(key, value); } })()]));
 return null;
 }
 encode.$names = ["item"];
@@ -1319,28 +1319,28 @@ return item;
 return null;
 }
 decode.$names = ["data"];
-function decoded(data) {
+function decode_cached(data) {
 return $.apply(decode, [data]);
 return null;
 }
-decoded.$names = ["data"];
-function shown(item) {
+decode_cached.$names = ["data"];
+function to_diagnostic(item) {
 let parts, $t1, $t2, $t3;
 if ($.isTrue($.apply(isinstance, [item, bytes]))) {
 return ("" + "h'" + $.format($.call(item, "hex", []), "") + "'");
 }
 if ($.isTrue($.apply(isinstance, [item, list]))) {
-return $.add($.add("[", $.call(", ", "join", [(function* () { for (const $t1 of $.iter(item)) { let part; part = $t1; yield $.apply(shown, [part]); } })()])), "]");
+return $.add($.add("[", $.call(", ", "join", [(function* () { for (const $t1 of $.iter(item)) { let part; part = $t1; yield $.apply(to_diagnostic, [part]); } })()])), "]");
 }
 if ($.isTrue($.apply(isinstance, [item, dict]))) {
-parts = (() => { const $r = []; for (const $t2 of $.iter($.call(item, "items", []))) { let key, value; $t3 = $.unpackItems($t2, 2); key = $t3[0]; value = $t3[1]; $r.push(("" + $.format($.apply(shown, [key]), "") + ": " + $.format($.apply(shown, [value]), ""))); } return $r; })(); 
+parts = (() => { const $r = []; for (const $t2 of $.iter($.call(item, "items", []))) { let key, value; $t3 = $.unpackItems($t2, 2); key = $t3[0]; value = $t3[1]; $r.push(("" + $.format($.apply(to_diagnostic, [key]), "") + ": " + $.format($.apply(to_diagnostic, [value]), ""))); } return $r; })(); 
 return $.add($.add("{", $.call(", ", "join", [parts])), "}");
 }
 return (!$.isTrue($.apply(isinstance, [item, str])) ? $.apply(repr, [item]) : ("" + "\"" + $.format(item, "") + "\""));
 return null;
 }
-shown.$names = ["item"];
-return { CborError, MAX_DEPTH, MIN_ARGUMENT, Raw, Reader, decode, decoded, encode, head, shown };
+to_diagnostic.$names = ["item"];
+return { CborError, MAX_DEPTH, MIN_ARGUMENT, Raw, Reader, decode, decode_cached, encode, encode_head, to_diagnostic };
 };
 
 $.modules["curve"] = () => {
@@ -1358,15 +1358,15 @@ return { B, PRIME, is_point };
 };
 
 $.modules["sanitize"] = () => {
-let HIDDEN, unicodedata;
+let HIDDEN_CATEGORIES, unicodedata;
 unicodedata = $.module("unicodedata");
-HIDDEN = $.Tuple.of("Cc", "Cf", "Cs", "Co", "Cn", "Zl", "Zp"); 
-function clean(text) {
+HIDDEN_CATEGORIES = $.Tuple.of("Cc", "Cf", "Cs", "Co", "Cn", "Zl", "Zp"); 
+function escape_text(text) {
 let letter, parts, $t1;
 parts = []; 
 for (const $t1$ of $.iter(text)) {
 letter = $t1$; 
-if (($.contains(HIDDEN, $.call(unicodedata, "category", [letter])))) {
+if (($.contains(HIDDEN_CATEGORIES, $.call(unicodedata, "category", [letter])))) {
 $.call(parts, "append", [(($.lt($.apply(ord, [letter]), 65536)) ? ("" + "\\u" + $.format($.apply(ord, [letter]), "04x")) : ("" + "\\U" + $.format($.apply(ord, [letter]), "08x")))]);
 } else {
 $.call(parts, "append", [letter]);
@@ -1375,8 +1375,8 @@ $.call(parts, "append", [letter]);
 return $.call("", "join", [parts]);
 return null;
 }
-clean.$names = ["text"];
-return { HIDDEN, clean };
+escape_text.$names = ["text"];
+return { HIDDEN_CATEGORIES, escape_text };
 };
 
 $.modules["skipped"] = () => {
@@ -1387,7 +1387,7 @@ return { CaseSkipped };
 };
 
 $.modules["answers"] = () => {
-let AT, BE, BLOBS, BS, CaseSkipped, DRAFTS, ED, FORMATS, GET, INFO, MAKE, MAX_RETRIES, MAX_USER_RETRIES, NEXT, RESERVED, RESET, SELECTION, UP, UV, ctap_cbor, curve, hashlib, keys, quantity, $t1, $t2, $t3, $t4, $t5, $t6;
+let AT, BE, BLOBS, BS, CaseSkipped, EARLIER_VERSIONS, ED, FORMATS, GET, INFO, MAKE, MAX_RETRIES, MAX_USER_RETRIES, NEXT, RESERVED_FLAGS, RESET, SELECTION, UP, UV, ctap_cbor, curve, hashlib, keys, quantity, $t1, $t2, $t3, $t4, $t5, $t6;
 hashlib = $.module("hashlib");
 ctap_cbor = $.module("ctap_cbor");
 curve = $.module("curve");
@@ -1395,9 +1395,9 @@ keys = $.module("keys");
 quantity = $.module("quantity").quantity;
 CaseSkipped = $.module("skipped").CaseSkipped;
 $t1 = $.Tuple.of(1, 4, 8, 16, 64, 128); $t2 = $.unpackItems($t1, 6); UP = $t2[0]; UV = $t2[1]; BE = $t2[2]; BS = $t2[3]; AT = $t2[4]; ED = $t2[5]; 
-RESERVED = 34; 
+RESERVED_FLAGS = 34; 
 FORMATS = $.Tuple.of("packed", "tpm", "android-key", "android-safetynet", "fido-u2f", "apple", "none", "compound"); 
-DRAFTS = $.Tuple.of("FIDO_2_0", "FIDO_2_1_PRE"); 
+EARLIER_VERSIONS = $.Tuple.of("FIDO_2_0", "FIDO_2_1_PRE"); 
 $t3 = $.Tuple.of(8, 25); $t4 = $.unpackItems($t3, 2); MAX_RETRIES = $t4[0]; MAX_USER_RETRIES = $t4[1]; 
 $t5 = $.Tuple.of(1, 2, 4, 7, 8, 11, 12); $t6 = $.unpackItems($t5, 7); MAKE = $t6[0]; GET = $t6[1]; INFO = $t6[2]; RESET = $t6[3]; NEXT = $t6[4]; SELECTION = $t6[5]; BLOBS = $t6[6]; 
 class Mismatch extends Exception {
@@ -1436,15 +1436,15 @@ this.min_pin_length = min_pin_length;
 }
 DeviceFacts.$names = {"__init__": ["aaguid", "algorithms", "old", "display", "halves", "protection", "min_pin_length"]};
 DeviceFacts.$fields = ["aaguid", "algorithms", "old", "display", "halves", "protection", "min_pin_length"];
-function is_old(versions) {
+function is_before_ctap_2_1(versions) {
 let $t1, $t2;
-return !$.isTrue($.apply(any, [(function* () { for (const $t2 of $.iter(versions)) { let name; name = $t2; if (!$.isTrue($.apply(isinstance, [name, str]))) { continue; } yield ($.isTrue($t1 = $.call(name, "startswith", ["FIDO_2_"])) ? !$.contains(DRAFTS, name) : $t1); } })()]));
+return !$.isTrue($.apply(any, [(function* () { for (const $t2 of $.iter(versions)) { let name; name = $t2; if (!$.isTrue($.apply(isinstance, [name, str]))) { continue; } yield ($.isTrue($t1 = $.call(name, "startswith", ["FIDO_2_"])) ? !$.contains(EARLIER_VERSIONS, name) : $t1); } })()]));
 return null;
 }
-is_old.$names = ["versions"];
+is_before_ctap_2_1.$names = ["versions"];
 function check(condition, expected, actual) {
 if (!$.isTrue(condition)) {
-throw $.apply(Mismatch, [expected, ($.isTrue($.apply(isinstance, [actual, str])) ? actual : $.call(ctap_cbor, "shown", [actual]))]);
+throw $.apply(Mismatch, [expected, ($.isTrue($.apply(isinstance, [actual, str])) ? actual : $.call(ctap_cbor, "to_diagnostic", [actual]))]);
 }
 return null;
 }
@@ -1453,7 +1453,7 @@ function decode_map(data) {
 let fault, item, $t1, $t2;
 $.apply(check, [$.eq($.getSlice(data, null, 1), $.parseHex("00")), "status 00 and a map", ($.isTrue(data) ? ("" + "status " + $.format($.call($.getSlice(data, null, 1), "hex", []), "")) : "an empty message")]);
 try {
-item = $.call(ctap_cbor, "decoded", [$.getSlice(data, 1, null)]); 
+item = $.call(ctap_cbor, "decode_cached", [$.getSlice(data, 1, null)]); 
 } catch ($t1e) {
 if ($.isinstance($t1e, $.attribute(ctap_cbor, "CborError"))) {
 fault = $t1e;
@@ -1466,20 +1466,20 @@ return $.apply(dict, [item]);
 return null;
 }
 decode_map.$names = ["data"];
-function member(item, key, kind, name) {
+function get_member(item, key, kind, name) {
 $.apply(check, [$.contains(item, key), ("" + $.format(name, "") + " under the key " + $.repr(key)), item]);
 $.apply(check, [$.apply(isinstance, [$.getItem(item, key), kind]), ("" + $.format(name, "") + " as " + $.format($.attribute(kind, "__name__"), "")), $.getItem(item, key)]);
 return $.getItem(item, key);
 return null;
 }
-member.$names = ["item", "key", "kind", "name"];
-function parameters(request) {
+get_member.$names = ["item", "key", "kind", "name"];
+function decode_parameters(request) {
 let found;
-found = $.call(ctap_cbor, "decoded", [$.getSlice(request, 1, null)]); 
+found = $.call(ctap_cbor, "decode_cached", [$.getSlice(request, 1, null)]); 
 return ($.isTrue($.apply(isinstance, [found, dict])) ? $.apply(dict, [found]) : $.makeDict([]));
 return null;
 }
-parameters.$names = ["request"];
+decode_parameters.$names = ["request"];
 function check_auth_data(auth, rp, words) {
 let expected, flags, $t1;
 $.apply(check, [$.le(37, $.apply(len, [auth])), "authenticator data of at least 37 bytes", auth]);
@@ -1498,7 +1498,7 @@ $.apply(check, [$.apply(bool, [$.and(flags, UV)]), "flag UV set", ("" + "flags "
 if (($.contains(words, "no-uv"))) {
 $.apply(check, [!$.isTrue($.and(flags, UV)), "flag UV not set", ("" + "flags " + $.format(flags, "02x"))]);
 }
-$.apply(check, [!$.isTrue($.and(flags, RESERVED)), "reserved flags (bits 1 and 5) not set", ("" + "flags " + $.format(flags, "02x"))]);
+$.apply(check, [!$.isTrue($.and(flags, RESERVED_FLAGS)), "reserved flags (bits 1 and 5) not set", ("" + "flags " + $.format(flags, "02x"))]);
 $.apply(check, [($.isTrue($t1 = !$.isTrue($.and(flags, BS))) ? $t1 : $.apply(bool, [$.and(flags, BE)])), "flag BS only with BE", ("" + "flags " + $.format(flags, "02x"))]);
 return null;
 }
@@ -1529,7 +1529,7 @@ return $.apply(dict, [found]);
 return null;
 }
 check_extensions.$names = ["data", "flags", "words"];
-function cose_key(data) {
+function read_cose_key(data) {
 let fault, key, reader, $t1, $t2, $t3, $t4, $t5, $t6, $t7;
 try {
 reader = $.call(ctap_cbor, "Reader", [data]); 
@@ -1553,10 +1553,10 @@ $.apply(check, [($.isTrue($t7 = $.eq($.apply(set, [key]), $.makeSet([1, 3, $.sub
 return $.Tuple.of($.apply(dict, [key]), $.getSlice(data, $.attribute(reader, "place"), null));
 return null;
 }
-cose_key.$names = ["data"];
-function agreement_key(item) {
+read_cose_key.$names = ["data"];
+function read_agreement_key(item) {
 let key, right, $t1, $t2, $t3, $t4;
-key = $.apply(member, [item, 1, dict, "the key agreement key"]); 
+key = $.apply(get_member, [item, 1, dict, "the key agreement key"]); 
 $.apply(check, [($.isTrue($t2 = $.eq($.call(key, "get", [1]), 2)) ? ($.isTrue($t1 = $.eq($.call(key, "get", [3]), $.sub(0, 25))) ? $.eq($.call(key, "get", [$.sub(0, 1)]), 1) : $t1) : $t2), "a key of kty 2, alg -25, crv 1", key]);
 $.apply(check, [$.eq($.apply(set, [key]), $.makeSet([1, 3, $.sub(0, 1), $.sub(0, 2), $.sub(0, 3)])), "only the members 1, 3, -1, -2, -3", key]);
 right = $.apply(all, [(function* () { for (const $t3 of $.iter($.Tuple.of($.sub(0, 2), $.sub(0, 3)))) { let part; part = $t3; yield $.apply(isinstance, [$.getItem(key, part), bytes]); } })()]); 
@@ -1564,28 +1564,28 @@ $.apply(check, [($.isTrue($t4 = right) ? $.call(curve, "is_point", [key]) : $t4)
 return $.apply(dict, [key]);
 return null;
 }
-agreement_key.$names = ["item"];
+read_agreement_key.$names = ["item"];
 function check_attestation(item, auth, cose, client_hash) {
 let alg, chain, expected, signature, statement, $t1, $t2;
-statement = $.apply(member, [item, 3, dict, "the attestation statement"]); 
+statement = $.apply(get_member, [item, 3, dict, "the attestation statement"]); 
 $.apply(check, [$.contains(FORMATS, $.getItem(item, 1)), ("" + "a format of " + $.format($.call(", ", "join", [FORMATS]), "")), $.getItem(item, 1)]);
 if (($.eq($.getItem(item, 1), "none"))) {
 $.apply(check, [$.eq(statement, $.makeDict([])), "an empty statement of the format none", statement]);
 }
 if ((($.eq($.getItem(item, 1), "packed")) && ($.contains(statement, "x5c")))) {
-chain = $.apply(member, [statement, "x5c", list, "the certificates"]); 
+chain = $.apply(get_member, [statement, "x5c", list, "the certificates"]); 
 $.apply(check, [($.isTrue($t2 = $.apply(bool, [chain])) ? $.apply(all, [(function* () { for (const $t1 of $.iter(chain)) { let one; one = $t1; yield $.apply(isinstance, [one, bytes]); } })()]) : $t2), "at least one certificate", chain]);
-alg = $.apply(member, [statement, "alg", int, "the algorithm"]); 
-signature = $.apply(member, [statement, "sig", bytes, "the signature"]); 
+alg = $.apply(get_member, [statement, "alg", int, "the algorithm"]); 
+signature = $.apply(get_member, [statement, "sig", bytes, "the signature"]); 
 expected = "a signature that verifies under the first certificate of x5c"; 
-$.apply(check, [$.call(keys, "verified_by", [$.getItem(chain, 0), alg, $.add(auth, client_hash), signature]), expected, signature]);
+$.apply(check, [$.call(keys, "is_valid_for_certificate", [$.getItem(chain, 0), alg, $.add(auth, client_hash), signature]), expected, signature]);
 }
 if (((!$.eq($.getItem(item, 1), "packed")) || ($.contains(statement, "x5c")))) {
 return null;
 }
-$.apply(check, [$.eq($.apply(member, [statement, "alg", int, "the algorithm"]), $.getItem(cose, 3)), ("" + "alg " + $.format($.getItem(cose, 3), "") + ", the key's"), statement]);
-signature = $.apply(member, [statement, "sig", bytes, "the signature"]); 
-$.apply(check, [$.call(keys, "verifies", [cose, $.add(auth, client_hash), signature]), "a signature that verifies under the new key", signature]);
+$.apply(check, [$.eq($.apply(get_member, [statement, "alg", int, "the algorithm"]), $.getItem(cose, 3)), ("" + "alg " + $.format($.getItem(cose, 3), "") + ", the key's"), statement]);
+signature = $.apply(get_member, [statement, "sig", bytes, "the signature"]); 
+$.apply(check, [$.call(keys, "is_valid_signature", [cose, $.add(auth, client_hash), signature]), "a signature that verifies under the new key", signature]);
 return null;
 }
 check_attestation.$names = ["item", "auth", "cose", "client_hash"];
@@ -1611,9 +1611,9 @@ return null;
 check_algorithm.$names = ["cose", "asked", "facts"];
 function check_make_credential_response(data, request, words, known, facts) {
 let asked, auth, behind, cose, counter, credential, discoverable, item, length, outputs, rp, $t1, $t2, $t3, $t4, $t5, $t6, $t7;
-$t1 = $.Tuple.of($.apply(decode_map, [data]), $.apply(parameters, [request])); $t2 = $.unpackItems($t1, 2); item = $t2[0]; asked = $t2[1]; 
-$.apply(member, [item, 1, str, "the attestation format"]);
-auth = $.apply(member, [item, 2, bytes, "the authenticator data"]); 
+$t1 = $.Tuple.of($.apply(decode_map, [data]), $.apply(decode_parameters, [request])); $t2 = $.unpackItems($t1, 2); item = $t2[0]; asked = $t2[1]; 
+$.apply(get_member, [item, 1, str, "the attestation format"]);
+auth = $.apply(get_member, [item, 2, bytes, "the authenticator data"]); 
 rp = $.getItem($.getItem(asked, 2), "id"); 
 $.apply(check_auth_data, [auth, rp, words]);
 $.apply(check, [$.apply(bool, [$.and($.getItem(auth, 32), AT)]), "flag AT set", ("" + "flags " + $.format($.getItem(auth, 32), "02x"))]);
@@ -1622,7 +1622,7 @@ $.apply(check, [($.isTrue($t3 = $.eq($.getSlice(auth, 37, 53), $.attribute(facts
 length = $.call(int, "from_bytes", [$.getSlice(auth, 53, 55), "big"]); 
 credential = $.getSlice(auth, 55, $.add(55, length)); 
 $.apply(check_credential_id, [credential, length, $.getItem($.getItem(asked, 3), "id"), known]);
-$t4 = $.apply(cose_key, [$.getSlice(auth, $.add(55, length), null)]); $t5 = $.unpackItems($t4, 2); cose = $t5[0]; behind = $t5[1]; 
+$t4 = $.apply(read_cose_key, [$.getSlice(auth, $.add(55, length), null)]); $t5 = $.unpackItems($t4, 2); cose = $t5[0]; behind = $t5[1]; 
 outputs = $.apply(check_extensions, [behind, $.getItem(auth, 32), words]); 
 if (($.isTrue($.apply(isinstance, [$.call(outputs, "get", ["credProtect"]), int])) && (!$.contains($.call(asked, "get", [6, $.makeDict([])]), "credProtect")))) {
 $t6 = $.apply(max, [$.attribute(facts, "protection"), $.getItem(outputs, "credProtect")]); facts.protection = $t6; 
@@ -1652,7 +1652,7 @@ check_signature_nonce_reuse.$names = ["cose", "signed", "signature", "facts"];
 function check_user_entity(item, words, facts) {
 let expected, name, user;
 if (($.contains(words, "user"))) {
-user = $.apply(member, [item, 4, dict, "the user"]); 
+user = $.apply(get_member, [item, 4, dict, "the user"]); 
 $.apply(check, [$.eq($.call(user, "get", ["id"]), $.call(bytes, "fromhex", [$.getItem(words, $.add($.call(words, "index", ["user"]), 1))])), "the user ID", user]);
 }
 if (($.contains(words, "no-user"))) {
@@ -1680,17 +1680,17 @@ return null;
 check_user_entity.$names = ["item", "words", "facts"];
 function check_assertion_response(data, request, words, known, expected, facts) {
 let allowed, asked, auth, counter, descriptor, found, identity, item, rises, signature, signed, $t1, $t2, $t3, $t4, $t5, $t6, $t7, $t8, $t9, $t10, $t11, $t12, $t13, $t14;
-$t1 = $.Tuple.of($.apply(decode_map, [data]), $.apply(parameters, [request])); $t2 = $.unpackItems($t1, 2); item = $t2[0]; asked = $t2[1]; 
-auth = $.apply(member, [item, 2, bytes, "the authenticator data"]); 
-signature = $.apply(member, [item, 3, bytes, "the signature"]); 
+$t1 = $.Tuple.of($.apply(decode_map, [data]), $.apply(decode_parameters, [request])); $t2 = $.unpackItems($t1, 2); item = $t2[0]; asked = $t2[1]; 
+auth = $.apply(get_member, [item, 2, bytes, "the authenticator data"]); 
+signature = $.apply(get_member, [item, 3, bytes, "the signature"]); 
 $.apply(check_auth_data, [auth, $.getItem(asked, 1), words]);
 $.apply(check, [!$.isTrue($.and($.getItem(auth, 32), AT)), "flag AT not set", auth]);
 $.apply(check_extensions, [$.getSlice(auth, 37, null), $.getItem(auth, 32), words]);
 allowed = (() => { const $r = []; for (const $t3 of $.iter($.call(asked, "get", [3, []]))) { let entry; entry = $t3; $r.push($.getItem(entry, "id")); } return $r; })(); 
 if (($.contains(item, 1))) {
-descriptor = $.apply(member, [item, 1, dict, "the credential"]); 
+descriptor = $.apply(get_member, [item, 1, dict, "the credential"]); 
 $.apply(check, [$.eq($.call(descriptor, "get", ["type"]), "public-key"), "a credential of type \"public-key\"", descriptor]);
-identity = $.apply(member, [descriptor, "id", bytes, "the credential ID"]); 
+identity = $.apply(get_member, [descriptor, "id", bytes, "the credential ID"]); 
 } else {
 $.apply(check, [$.eq($.apply(len, [allowed]), 1), "the credential, since the allow list has more than one entry", item]);
 identity = $.getItem(allowed, 0); 
@@ -1708,7 +1708,7 @@ $t14 = $.apply(max, [counter, $.attribute($.getItem(found, 0), "counter")]); $.g
 $.apply(check_user_entity, [item, words, facts]);
 signed = $.add(auth, $.getItem(asked, 2)); 
 $.apply(check_signature_nonce_reuse, [$.attribute($.getItem(found, 0), "cose"), signed, signature, facts]);
-$.apply(check, [$.call(keys, "verifies", [$.attribute($.getItem(found, 0), "cose"), signed, signature]), "a signature that verifies under the registered key", signature]);
+$.apply(check, [$.call(keys, "is_valid_signature", [$.attribute($.getItem(found, 0), "cose"), signed, signature]), "a signature that verifies under the registered key", signature]);
 return $.getItem(found, 0);
 return null;
 }
@@ -1718,7 +1718,7 @@ let entries, entry, key, kind, listed, name, $t1, $t2, $t3, $t4, $t5, $t6, $t7, 
 for (const $t1$ of $.iter($.Tuple.of($.Tuple.of(2, str, "extensions"), $.Tuple.of(6, int, "PIN protocols"), $.Tuple.of(9, str, "transports")))) {
 $t2 = $.unpackItems($t1$, 3); key = $t2[0]; kind = $t2[1]; name = $t2[2]; 
 if (($.contains(item, key))) {
-listed = $.apply(member, [item, key, list, name]); 
+listed = $.apply(get_member, [item, key, list, name]); 
 $.apply(check, [($.isTrue($t3 = $.apply(bool, [listed])) ? $t3 : $.eq(key, 2)), ("" + $.format(name, "") + " as a non-empty list"), listed]);
 $.apply(check, [$.apply(all, [(function* () { for (const $t4 of $.iter(listed)) { let one; one = $t4; yield $.apply(isinstance, [one, kind]); } })()]), ("" + $.format(name, "") + " of one type"), listed]);
 $.apply(check, [$.eq($.apply(len, [(() => { const $r = []; for (const $t5 of $.iter(listed)) { let one; one = $t5; $r.push($.apply(repr, [one])); } return $.makeSet($r); })()]), $.apply(len, [listed])), ("" + $.format(name, "") + ", each once"), listed]);
@@ -1743,10 +1743,10 @@ check_info_lists.$names = ["item"];
 function check_get_info_response(data) {
 let item, options, versions, $t1, $t2, $t3, $t4;
 item = $.apply(decode_map, [data]); 
-versions = $.apply(member, [item, 1, list, "the versions"]); 
+versions = $.apply(get_member, [item, 1, list, "the versions"]); 
 $.apply(check, [$.apply(all, [(function* () { for (const $t1 of $.iter(versions)) { let name; name = $t1; yield $.apply(isinstance, [name, str]); } })()]), "versions as text strings", versions]);
 $.apply(check, [$.apply(any, [(function* () { for (const $t2 of $.iter(versions)) { let name; name = $t2; yield $.call(name, "startswith", ["FIDO_2"]); } })()]), "a version FIDO_2_..", versions]);
-$.apply(check, [$.eq($.apply(len, [$.apply(member, [item, 3, bytes, "the AAGUID"])]), 16), "an AAGUID of 16 bytes", $.getItem(item, 3)]);
+$.apply(check, [$.eq($.apply(len, [$.apply(get_member, [item, 3, bytes, "the AAGUID"])]), 16), "an AAGUID of 16 bytes", $.getItem(item, 3)]);
 options = $.call(item, "get", [4, $.makeDict([])]); 
 $.apply(check, [$.apply(isinstance, [options, dict]), "options as a map", options]);
 $.apply(check, [$.apply(all, [(function* () { for (const $t3 of $.iter(options)) { let key; key = $t3; yield $.apply(isinstance, [key, str]); } })()]), "options with text strings as keys", options]);
@@ -1763,7 +1763,7 @@ return item;
 return null;
 }
 check_get_info_response.$names = ["data"];
-return { AT, BE, BLOBS, BS, Credential, DRAFTS, DeviceFacts, ED, FORMATS, GET, INFO, MAKE, MAX_RETRIES, MAX_USER_RETRIES, Mismatch, NEXT, RESERVED, RESET, SELECTION, UP, UV, agreement_key, check, check_algorithm, check_assertion_response, check_attestation, check_auth_data, check_credential_id, check_extensions, check_get_info_response, check_info_lists, check_make_credential_response, check_signature_nonce_reuse, check_user_entity, cose_key, decode_map, is_old, member, parameters };
+return { AT, BE, BLOBS, BS, Credential, DeviceFacts, EARLIER_VERSIONS, ED, FORMATS, GET, INFO, MAKE, MAX_RETRIES, MAX_USER_RETRIES, Mismatch, NEXT, RESERVED_FLAGS, RESET, SELECTION, UP, UV, check, check_algorithm, check_assertion_response, check_attestation, check_auth_data, check_credential_id, check_extensions, check_get_info_response, check_info_lists, check_make_credential_response, check_signature_nonce_reuse, check_user_entity, decode_map, decode_parameters, get_member, is_before_ctap_2_1, read_agreement_key, read_cose_key };
 };
 
 $.modules["init_response"] = () => {
@@ -1847,7 +1847,7 @@ return null;
 }
 Seen.$names = {"__init__": ["own", "expected", "actual", "partial", "request", "cancelled"], "of_request": [], "refusal": [], "answered": []};
 Seen.$fields = ["own", "expected", "actual", "partial", "request", "cancelled"];
-function broken(seen) {
+function find_violated_section(seen) {
 let kind;
 kind = $.getItem($.call($.attribute(seen, "expected"), "split", [" "]), 0); 
 if ((($.eq(kind, "zeros")) || $.isTrue($.attribute(seen, "partial")) || ((($.attribute(seen, "actual") !== null)) && $.isTrue($.attribute($.attribute(seen, "actual"), "problem"))))) {
@@ -1883,11 +1883,11 @@ return (((($.attribute(seen, "actual") !== null)) && ($.eq($.attribute($.attribu
 if ((($.eq(kind, "error")) && (!$.eq($.attribute(seen, "own"), CBOR)))) {
 return $.call(CODES, "get", [$.getSlice($.getItem($.call($.attribute(seen, "expected"), "split", [" "]), 1), null, 2), $.attribute(seen, "own")]);
 }
-return $.apply(of_answer, [kind, seen]);
+return $.apply(find_response_section, [kind, seen]);
 return null;
 }
-broken.$names = ["seen"];
-function of_answer(kind, seen) {
+find_violated_section.$names = ["seen"];
+function find_response_section(kind, seen) {
 let success;
 if ((($.eq(kind, "status")) && $.isTrue($.attribute(seen, "cancelled")) && ($.contains($.attribute(seen, "expected"), "2d")))) {
 return CANCEL;
@@ -1914,17 +1914,17 @@ return $.attribute(seen, "of_request");
 return $.attribute(seen, "own");
 return null;
 }
-of_answer.$names = ["kind", "seen"];
-return { ABORT, ANSWERS, BUSY, CANCEL, CBOR, CHANNELS, CODES, COMMANDS, COMMANDS_OTHER, ERROR, INIT, KEEPALIVE, MAPS, MSG, OF_COMMAND, PACKETS, PING, REPLY_COMMANDS, RESET, SEQUENCE, Seen, TIMEOUT, WINK, broken, of_answer };
+find_response_section.$names = ["kind", "seen"];
+return { ABORT, ANSWERS, BUSY, CANCEL, CBOR, CHANNELS, CODES, COMMANDS, COMMANDS_OTHER, ERROR, INIT, KEEPALIVE, MAPS, MSG, OF_COMMAND, PACKETS, PING, REPLY_COMMANDS, RESET, SEQUENCE, Seen, TIMEOUT, WINK, find_response_section, find_violated_section };
 };
 
 $.modules["requests"] = () => {
-let FORM, GET, INFO, MAKE, MEMBERS, MISSING, Member, NAMES, NEXT, OTHERS, PIN, RESET, SELECTION, UNKNOWN, ctap_cbor, quantity, rules, $t1, $t2, $t3, $t4;
+let FORM, GET, INFO, MAKE, MEMBERS, MISSING, Member, NAMES, NEXT, OTHER_COMMANDS, PIN, RESET, SELECTION, UNKNOWN, ctap_cbor, quantity, rules, $t1, $t2, $t3, $t4;
 ctap_cbor = $.module("ctap_cbor");
 rules = $.module("rules");
 quantity = $.module("quantity").quantity;
 $t1 = $.Tuple.of(1, 2, 4, 6, 7, 8, 11); $t2 = $.unpackItems($t1, 7); MAKE = $t2[0]; GET = $t2[1]; INFO = $t2[2]; PIN = $t2[3]; RESET = $t2[4]; NEXT = $t2[5]; SELECTION = $t2[6]; 
-OTHERS = $.Tuple.of(9, 10, 12, 13, ...$.iter($.apply(range, [64, 192]))); 
+OTHER_COMMANDS = $.Tuple.of(9, 10, 12, 13, ...$.iter($.apply(range, [64, 192]))); 
 NAMES = $.makeDict([[MAKE, "authenticatorMakeCredential"], [GET, "authenticatorGetAssertion"], [INFO, "authenticatorGetInfo"], [PIN, "authenticatorClientPIN"], [RESET, "authenticatorReset"], [NEXT, "authenticatorGetNextAssertion"], [SELECTION, "authenticatorSelection"]]); 
 $t3 = $.Tuple.of("missing", "unknown", "form"); $t4 = $.unpackItems($t3, 3); MISSING = $t4[0]; UNKNOWN = $t4[1]; FORM = $t4[2]; 
 class Fault extends $.Object {
@@ -1948,18 +1948,18 @@ return ($.isTrue($t1 = $.apply(isinstance, [transports, list])) ? $.apply(all, [
 return null;
 }
 is_descriptor.$names = ["item"];
-function is_parameter(item) {
+function is_algorithm(item) {
 let $t1, $t2;
 return ($.isTrue($t2 = $.apply(isinstance, [item, dict])) ? ($.isTrue($t1 = $.apply(isinstance, [$.call(item, "get", ["alg"]), int])) ? $.apply(isinstance, [$.call(item, "get", ["type"]), str]) : $t1) : $t2);
 return null;
 }
-is_parameter.$names = ["item"];
-function listed(check) {
+is_algorithm.$names = ["item"];
+function make_list_check(check) {
 let $t1;
 return ((item) => ($.isTrue($t1 = $.apply(isinstance, [item, list])) ? $.apply(all, [$.apply(map, [check, item])]) : $t1));
 return null;
 }
-listed.$names = ["check"];
+make_list_check.$names = ["check"];
 function has_names(item) {
 let $t1;
 return $.apply(all, [(function* () { for (const $t1 of $.iter($.Tuple.of("name", "displayName", "icon"))) { let name; name = $t1; yield $.apply(isinstance, [$.call(item, "get", [name, ""]), str]); } })()]);
@@ -2011,11 +2011,11 @@ return $.apply(isinstance, [item, bytes]);
 return null;
 }
 is_bytes.$names = ["item"];
-MEMBERS = $.makeDict([[MAKE, $.makeDict([[1, $.Tuple.of("clientDataHash", true, is_hash)], [2, $.Tuple.of("rp", true, is_rp)], [3, $.Tuple.of("user", true, is_user)], [4, $.Tuple.of("pubKeyCredParams", true, $.apply(listed, [is_parameter]))], [5, $.Tuple.of("excludeList", false, $.apply(listed, [is_descriptor]))], [6, $.Tuple.of("extensions", false, is_map)], [7, $.Tuple.of("options", false, is_options)], [8, $.Tuple.of("pinUvAuthParam", false, is_bytes)], [9, $.Tuple.of("pinUvAuthProtocol", false, is_number)], [10, $.Tuple.of("enterpriseAttestation", false, is_number)]])], [GET, $.makeDict([[1, $.Tuple.of("rpId", true, is_text)], [2, $.Tuple.of("clientDataHash", true, is_hash)], [3, $.Tuple.of("allowList", false, $.apply(listed, [is_descriptor]))], [4, $.Tuple.of("extensions", false, is_map)], [5, $.Tuple.of("options", false, is_options)], [6, $.Tuple.of("pinUvAuthParam", false, is_bytes)], [7, $.Tuple.of("pinUvAuthProtocol", false, is_number)]])], [PIN, $.makeDict([[1, $.Tuple.of("pinUvAuthProtocol", false, is_number)], [2, $.Tuple.of("subCommand", true, is_number)], [3, $.Tuple.of("keyAgreement", false, is_map)], [4, $.Tuple.of("pinUvAuthParam", false, is_bytes)], [5, $.Tuple.of("newPinEnc", false, is_bytes)], [6, $.Tuple.of("pinHashEnc", false, is_bytes)], [9, $.Tuple.of("permissions", false, is_number)], [10, $.Tuple.of("rpId", false, is_text)]])]]); 
-function parameters_of(request) {
+MEMBERS = $.makeDict([[MAKE, $.makeDict([[1, $.Tuple.of("clientDataHash", true, is_hash)], [2, $.Tuple.of("rp", true, is_rp)], [3, $.Tuple.of("user", true, is_user)], [4, $.Tuple.of("pubKeyCredParams", true, $.apply(make_list_check, [is_algorithm]))], [5, $.Tuple.of("excludeList", false, $.apply(make_list_check, [is_descriptor]))], [6, $.Tuple.of("extensions", false, is_map)], [7, $.Tuple.of("options", false, is_options)], [8, $.Tuple.of("pinUvAuthParam", false, is_bytes)], [9, $.Tuple.of("pinUvAuthProtocol", false, is_number)], [10, $.Tuple.of("enterpriseAttestation", false, is_number)]])], [GET, $.makeDict([[1, $.Tuple.of("rpId", true, is_text)], [2, $.Tuple.of("clientDataHash", true, is_hash)], [3, $.Tuple.of("allowList", false, $.apply(make_list_check, [is_descriptor]))], [4, $.Tuple.of("extensions", false, is_map)], [5, $.Tuple.of("options", false, is_options)], [6, $.Tuple.of("pinUvAuthParam", false, is_bytes)], [7, $.Tuple.of("pinUvAuthProtocol", false, is_number)]])], [PIN, $.makeDict([[1, $.Tuple.of("pinUvAuthProtocol", false, is_number)], [2, $.Tuple.of("subCommand", true, is_number)], [3, $.Tuple.of("keyAgreement", false, is_map)], [4, $.Tuple.of("pinUvAuthParam", false, is_bytes)], [5, $.Tuple.of("newPinEnc", false, is_bytes)], [6, $.Tuple.of("pinHashEnc", false, is_bytes)], [9, $.Tuple.of("permissions", false, is_number)], [10, $.Tuple.of("rpId", false, is_text)]])]]); 
+function decode_parameters(request) {
 let item, $t1;
 try {
-item = (($.lt(1, $.apply(len, [request]))) ? $.call(ctap_cbor, "decoded", [$.getSlice(request, 1, null)]) : $.makeDict([])); 
+item = (($.lt(1, $.apply(len, [request]))) ? $.call(ctap_cbor, "decode_cached", [$.getSlice(request, 1, null)]) : $.makeDict([])); 
 } catch ($t1e) {
 if ($.isinstance($t1e, $.attribute(ctap_cbor, "CborError"))) {
 return null;
@@ -2024,11 +2024,11 @@ return null;
 return ($.isTrue($.apply(isinstance, [item, dict])) ? $.apply(dict, [item]) : null);
 return null;
 }
-parameters_of.$names = ["request"];
-function fault_of(request) {
+decode_parameters.$names = ["request"];
+function find_fault(request) {
 let command, fault, item, needs, $t1, $t2, $t3;
 command = $.getItem(request, 0); 
-if (((!$.contains(NAMES, command)) && (!$.contains(OTHERS, command)))) {
+if (((!$.contains(NAMES, command)) && (!$.contains(OTHER_COMMANDS, command)))) {
 return $.apply(Fault, [UNKNOWN, "a known command", ("" + "command " + $.format(command, "02x")), $.attribute(rules, "COMMANDS_OTHER")]);
 }
 if (($.eq($.apply(len, [request]), 1))) {
@@ -2039,7 +2039,7 @@ if (($.contains($.Tuple.of(INFO, RESET, NEXT, SELECTION), command))) {
 return $.apply(Fault, [FORM, "a command without parameters", ("" + $.format($.apply(quantity, [$.sub($.apply(len, [request]), 1), "byte"]), "") + " of parameters")], {should: true});
 }
 try {
-item = $.call(ctap_cbor, "decoded", [$.getSlice(request, 1, null)]); 
+item = $.call(ctap_cbor, "decode_cached", [$.getSlice(request, 1, null)]); 
 } catch ($t3e) {
 if ($.isinstance($t3e, $.attribute(ctap_cbor, "CborError"))) {
 fault = $t3e;
@@ -2047,24 +2047,24 @@ return $.apply(Fault, [FORM, "parameters in CTAP2 canonical CBOR", $.apply(str, 
 } else { throw $t3e; }
 }
 if (!$.isTrue($.apply(isinstance, [item, dict]))) {
-return $.apply(Fault, [FORM, "parameters as a map", $.call(ctap_cbor, "shown", [item]), "8"]);
+return $.apply(Fault, [FORM, "parameters as a map", $.call(ctap_cbor, "to_diagnostic", [item]), "8"]);
 }
-return $.apply(members_fault, [command, item]);
+return $.apply(find_member_fault, [command, item]);
 return null;
 }
-fault_of.$names = ["request"];
-function members_fault(command, item) {
+find_fault.$names = ["request"];
+function find_member_fault(command, item) {
 let lacking, members, wrong, $t1, $t2, $t3, $t4, $t5, $t6;
 members = $.call(MEMBERS, "get", [command, $.makeDict([])]); 
 wrong = (() => { const $r = []; for (const $t1 of $.iter($.call(members, "items", []))) { let _, is_right, key, name; $t2 = $.unpackItems($t1, 2); key = $t2[0]; $t3 = $.unpackItems($t2[1], 3); name = $t3[0]; _ = $t3[1]; is_right = $t3[2]; if (!(($.contains(item, key)) && !$.isTrue($.apply(is_right, [$.getItem(item, key)])))) { continue; } $r.push(name); } return $r; })(); 
 lacking = (() => { const $r = []; for (const $t4 of $.iter($.call(members, "items", []))) { let _, key, name, required; $t5 = $.unpackItems($t4, 2); key = $t5[0]; $t6 = $.unpackItems($t5[1], 3); name = $t6[0]; required = $t6[1]; _ = $t6[2]; if (!($.isTrue(required) && (!$.contains(item, key)))) { continue; } $r.push(("" + $.format(name, "") + " under the key " + $.format(key, ""))); } return $r; })(); 
 if ($.isTrue(wrong)) {
-return $.apply(Fault, [FORM, ("" + $.format($.getItem(wrong, 0), "") + " with its type"), $.call(ctap_cbor, "shown", [item])]);
+return $.apply(Fault, [FORM, ("" + $.format($.getItem(wrong, 0), "") + " with its type"), $.call(ctap_cbor, "to_diagnostic", [item])]);
 }
-return ($.isTrue(lacking) ? $.apply(Fault, [MISSING, $.getItem(lacking, 0), $.call(ctap_cbor, "shown", [item])]) : null);
+return ($.isTrue(lacking) ? $.apply(Fault, [MISSING, $.getItem(lacking, 0), $.call(ctap_cbor, "to_diagnostic", [item])]) : null);
 return null;
 }
-members_fault.$names = ["command", "item"];
+find_member_fault.$names = ["command", "item"];
 function unknown_parts(command, item) {
 let extensions, found, options, $t1, $t2, $t3;
 found = (() => { const $r = []; for (const $t1 of $.iter(item)) { let key; key = $t1; if (!(!$.contains($.call(MEMBERS, "get", [command, $.makeDict([])]), key))) { continue; } $r.push(("" + "the member " + $.repr(key))); } return $r; })(); 
@@ -2075,7 +2075,7 @@ return $.add(found, (() => { const $r = []; for (const $t3 of $.iter(extensions)
 return null;
 }
 unknown_parts.$names = ["command", "item"];
-return { FORM, Fault, GET, INFO, MAKE, MEMBERS, MISSING, Member, NAMES, NEXT, OTHERS, PIN, RESET, SELECTION, UNKNOWN, fault_of, has_names, is_bytes, is_descriptor, is_hash, is_map, is_number, is_options, is_parameter, is_rp, is_text, is_user, listed, members_fault, parameters_of, unknown_parts };
+return { FORM, Fault, GET, INFO, MAKE, MEMBERS, MISSING, Member, NAMES, NEXT, OTHER_COMMANDS, PIN, RESET, SELECTION, UNKNOWN, decode_parameters, find_fault, find_member_fault, has_names, is_algorithm, is_bytes, is_descriptor, is_hash, is_map, is_number, is_options, is_rp, is_text, is_user, make_list_check, unknown_parts };
 };
 
 $.modules["transactions"] = () => {
@@ -2519,11 +2519,11 @@ return { ANSWERED, Answer, BLOCK, BUSY, BY_ERROR, CANCELLED, ENDS, Ending, Entry
 };
 
 $.modules["check_credential_management"] = () => {
-let BLOB_KEY, COUNT, CREDENTIALS, Credential, ID, KEY, LEFT, PROTECTION, RP, RPS, RP_HASH, USER, check, hashlib, member, quantity, $t1, $t2;
+let BLOB_KEY, COUNT, CREDENTIALS, Credential, ID, KEY, LEFT, PROTECTION, RP, RPS, RP_HASH, USER, check, get_member, hashlib, quantity, $t1, $t2;
 hashlib = $.module("hashlib");
 Credential = $.module("answers").Credential;
 check = $.module("answers").check;
-member = $.module("answers").member;
+get_member = $.module("answers").get_member;
 quantity = $.module("quantity").quantity;
 $t1 = $.apply(range, [1, 12]); $t2 = $.unpackItems($t1, 11); COUNT = $t2[0]; LEFT = $t2[1]; RP = $t2[2]; RP_HASH = $t2[3]; RPS = $t2[4]; USER = $t2[5]; ID = $t2[6]; KEY = $t2[7]; CREDENTIALS = $t2[8]; PROTECTION = $t2[9]; BLOB_KEY = $t2[10]; 
 function hash_of(rp) {
@@ -2546,10 +2546,10 @@ return null;
 check_count(item, count) {
 const self = this;
 let more, total, $t1, $t2;
-total = $.apply(member, [item, COUNT, int, "the number of credentials"]); 
+total = $.apply(get_member, [item, COUNT, int, "the number of credentials"]); 
 more = ($.isTrue($.getMember(self, "is_complete")) ? "" : "at least "); 
 $.apply(check, [($.isTrue($t2 = $.eq(total, count)) ? $t2 : ($.isTrue($t1 = $.lt(count, total)) ? !$.isTrue($.getMember(self, "is_complete")) : $t1)), $.add(more, $.apply(quantity, [count, "credential"])), item]);
-$.apply(check, [$.le(0, $.apply(member, [item, LEFT, int, "the remaining capacity"])), "a remaining capacity", item]);
+$.apply(check, [$.le(0, $.apply(get_member, [item, LEFT, int, "the remaining capacity"])), "a remaining capacity", item]);
 return null;
 }
 check_rp(item, known, total) {
@@ -2558,8 +2558,8 @@ let digest, found, name, rp_id, $t1, $t2, $t3;
 if (((total !== null))) {
 $.call($.getMember(self, "rps"), "clear", []);
 }
-digest = $.apply(member, [item, RP_HASH, bytes, "the RP ID hash"]); 
-rp_id = $.apply(member, [$.apply(member, [item, RP, dict, "the RP"]), "id", str, "the RP ID"]); 
+digest = $.apply(get_member, [item, RP_HASH, bytes, "the RP ID hash"]); 
+rp_id = $.apply(get_member, [$.apply(get_member, [item, RP, dict, "the RP"]), "id", str, "the RP ID"]); 
 $.apply(check, [($.isTrue($t1 = $.eq($.apply(hash_of, [rp_id]), digest)) ? $t1 : $.le(32, $.apply(len, [$.call(rp_id, "encode", [])]))), "the RP ID hash", item]);
 found = (() => { const $r = []; for (const $t2 of $.iter(known)) { let one; one = $t2; if (!($.isTrue($.attribute(one, "discoverable")) && ($.eq($.apply(hash_of, [$.attribute(one, "rp")]), digest)))) { continue; } $r.push($.attribute(one, "rp")); } return $r; })(); 
 $.apply(check, [($.isTrue($t3 = $.apply(bool, [found])) ? $t3 : !$.isTrue($.getMember(self, "is_complete"))), "an RP with a discoverable credential", item]);
@@ -2576,9 +2576,9 @@ let descriptor, identity, level, $t1, $t2;
 if (((total !== null))) {
 $.call($.getMember(self, "ids"), "clear", []);
 }
-descriptor = $.apply(member, [item, ID, dict, "the credential"]); 
+descriptor = $.apply(get_member, [item, ID, dict, "the credential"]); 
 $.apply(check, [$.eq($.call(descriptor, "get", ["type"]), "public-key"), "a credential of type \"public-key\"", descriptor]);
-identity = $.apply(member, [descriptor, "id", bytes, "the credential ID"]); 
+identity = $.apply(get_member, [descriptor, "id", bytes, "the credential ID"]); 
 $.apply(check, [!$.contains($.getMember(self, "ids"), identity), "a credential that was not listed before", item]);
 $.call($.getMember(self, "ids"), "add", [identity]);
 $.call(self, "check_known", [(() => { const $r = []; for (const $t1 of $.iter(known)) { let one; one = $t1; if (!($.eq($.attribute(one, "id"), identity))) { continue; } $r.push(one); } return $r; })(), item, rp]);
@@ -2590,8 +2590,8 @@ return null;
 check_known(found, item, rp) {
 const self = this;
 let key, right, user, $t1, $t2;
-user = $.apply(member, [item, USER, dict, "the user"]); 
-key = $.apply(member, [item, KEY, dict, "the public key"]); 
+user = $.apply(get_member, [item, USER, dict, "the user"]); 
+key = $.apply(get_member, [item, KEY, dict, "the public key"]); 
 if ((!$.isTrue(found) && !$.isTrue($.getMember(self, "is_complete")))) {
 return null;
 }
@@ -2639,7 +2639,7 @@ if ((!$.contains(words, "blob-key"))) {
 return null;
 }
 name = $.getItem(words, $.add($.call(words, "index", ["blob-key"]), 1)); 
-found = $.apply(member, [item, key, bytes, "the large blob key"]); 
+found = $.apply(get_member, [item, key, bytes, "the large blob key"]); 
 $.apply(check, [$.eq($.apply(len, [found]), 32), "a large blob key of 32 bytes", found]);
 $.apply(check, [$.eq($.call($.getMember(self, "blob_keys"), "setdefault", [name, found]), found), ("" + "the large blob key " + $.format(name, "") + " again"), found]);
 other = $.call($.getMember(self, "blob_names"), "setdefault", [found, name]); 
@@ -2648,16 +2648,16 @@ return null;
 }
 }
 Listing.$names = {"__init__": ["is_complete"], "check_count": ["item", "count"], "check_rp": ["item", "known", "total"], "check_credential": ["item", "known", "rp", "total"], "check_known": ["found", "item", "rp"], "check_total": ["item", "key", "total", "name"], "check_words": ["item", "words"], "check_blob_key": ["item", "key", "words"]};
-function check_piece(item, expected) {
-$.apply(check, [$.eq($.apply(member, [item, 1, bytes, "a fragment of the array"]), expected), ("" + "the fragment " + $.format($.call(expected, "hex", []), "")), item]);
+function check_fragment(item, expected) {
+$.apply(check, [$.eq($.apply(get_member, [item, 1, bytes, "a fragment of the array"]), expected), ("" + "the fragment " + $.format($.call(expected, "hex", []), "")), item]);
 return null;
 }
-check_piece.$names = ["item", "expected"];
-return { BLOB_KEY, COUNT, CREDENTIALS, ID, KEY, LEFT, Listing, PROTECTION, RP, RPS, RP_HASH, USER, check_piece, hash_of };
+check_fragment.$names = ["item", "expected"];
+return { BLOB_KEY, COUNT, CREDENTIALS, ID, KEY, LEFT, Listing, PROTECTION, RP, RPS, RP_HASH, USER, check_fragment, hash_of };
 };
 
 $.modules["judged_log"] = () => {
-let Answer, HOST, HostJudge, KEY, KeyJudge, LOST, Lines, MUST, Message, Mismatch, Owners, POWER_CYCLE, Part, SECTIONS, SHOULD, SILENCE, TITLES, Transaction, Transactions, _CUT, hid, re, rules, $t1, $t2, $t3, $t4, $t5;
+let Answer, HOST, HostJudge, KEY, KeyJudge, LOST, Lines, MUST, Message, Mismatch, Owners, POWER_CYCLE, Part, SECTIONS, SHOULD, SILENCE_MS, TITLES, Transaction, Transactions, _CUT, hid, re, rules, $t1, $t2, $t3, $t4, $t5;
 re = $.module("re");
 hid = $.module("hid_packets");
 rules = $.module("rules");
@@ -2673,7 +2673,7 @@ Transactions = $.module("transactions").Transactions;
 TITLES = (() => { const $r = []; for (const $t1 of $.iter($.call(SECTIONS, "values", []))) { let title; title = $t1; $r.push([$.getItem($.call(title, "split", [" "]), 0), $.add("CTAP 2.1, ", title)]); } return $.makeDict($r); })(); 
 $t2 = $.Tuple.of("key", "host"); $t3 = $.unpackItems($t2, 2); KEY = $t3[0]; HOST = $t3[1]; 
 $t4 = $.Tuple.of("must", "should"); $t5 = $.unpackItems($t4, 2); MUST = $t5[0]; SHOULD = $t5[1]; 
-SILENCE = 1000; 
+SILENCE_MS = 1000; 
 POWER_CYCLE = $.parseHex("2320706f776572206379636c65"); 
 LOST = $.Tuple.of($.parseHex("746865207265636f72646572206c6f737420"), $.parseHex("69742077617320706173736564206f766572"), $.parseHex("736b69707065642061"), $.parseHex("3a20736b6970706564"), $.parseHex("6973206c656674206f75743a20")); 
 _CUT = $.call(re, "compile", [$.parseHex("232063757420746f205c642b2062797465733a20285b3c3e5d2920285c647b312c32307d292028283f3a5b302d39612d665d7b327d297b382c36337d29")]); 
@@ -2819,7 +2819,7 @@ judged(seen, line, differs, level = MUST) {
 const self = this;
 let encoding, $t1;
 encoding = ($.isTrue($t1 = $.contains($.attribute(differs, "expected"), "canonical CBOR")) ? $t1 : $.eq($.attribute(differs, "expected"), "a map")); 
-$.call(self, "find", [line, KEY, $.call(rules, "broken", [seen]), $.attribute(differs, "expected"), $.attribute(differs, "actual"), level, ($.isTrue(encoding) ? "8" : "")]);
+$.call(self, "find", [line, KEY, $.call(rules, "find_violated_section", [seen]), $.attribute(differs, "expected"), $.attribute(differs, "actual"), level, ($.isTrue(encoding) ? "8" : "")]);
 return null;
 }
 was_unread(line) {
@@ -2884,7 +2884,7 @@ KeyJudge = $.module("judged_key").KeyJudge;
 recording = $.apply(Recording, []); 
 $t1 = $.Tuple.of($.apply(HostJudge, [recording]), $.apply(KeyJudge, [recording])); $t2 = $.unpackItems($t1, 2); host = $t2[0]; key = $t2[1]; 
 number = 0; 
-for (const $t3$ of $.iter($.apply(powered, [log]))) {
+for (const $t3$ of $.iter($.apply(split_at_power_cycles, [log]))) {
 part = $t3$; 
 $t4 = $.Tuple.of($.apply(Owners, [$.apply(walk, [$.apply(walked, [part])]), number]), $.apply(Lines, [part])); $t5 = $.unpackItems($t4, 2); owners = $t5[0]; lines = $t5[1]; 
 block = $.call(lines, "block", []); 
@@ -2917,7 +2917,7 @@ $.call(key, "take", [entry]);
 return null;
 }
 check_entries.$names = ["recording", "host", "key"];
-function powered(log) {
+function split_at_power_cycles(log) {
 let line, parts, $t1, $t2;
 if ((!$.contains(log, POWER_CYCLE))) {
 return [log];
@@ -2933,18 +2933,18 @@ $.call($.getItem(parts, $.sub(0, 1)), "append", [line]);
 return (() => { const $r = []; for (const $t2 of $.iter(parts)) { let part; part = $t2; $r.push($.call($.parseHex("0a"), "join", [part])); } return $r; })();
 return null;
 }
-powered.$names = ["log"];
-function counts(findings) {
+split_at_power_cycles.$names = ["log"];
+function count_violations(findings) {
 let $t1, $t2;
 return (() => { const $r = []; for (const $t2 of $.iter($.Tuple.of(MUST, SHOULD))) { let level; level = $t2; $r.push([level, $.apply(sum, [(function* () { for (const $t1 of $.iter(findings)) { let finding; finding = $t1; yield $.eq($.attribute(finding, "level"), level); } })()])]); } return $.makeDict($r); })();
 return null;
 }
-counts.$names = ["findings"];
-return { Finding, HOST, KEY, LOST, MUST, POWER_CYCLE, Recording, SHOULD, SILENCE, TITLES, _CUT, check_entries, counts, judge, message_of, padded, powered, section_of, seen, walked, whole_line };
+count_violations.$names = ["findings"];
+return { Finding, HOST, KEY, LOST, MUST, POWER_CYCLE, Recording, SHOULD, SILENCE_MS, TITLES, _CUT, check_entries, count_violations, judge, message_of, padded, section_of, seen, split_at_power_cycles, walked, whole_line };
 };
 
 $.modules["judged_parts"] = () => {
-let BLOB, CHANGE_PIN, Credential, ED, GET_AGREEMENT, GET_RETRIES, GET_TOKEN, GET_USER_RETRIES, MAKE, MAX_RETRIES, Mismatch, OTHERWISE, PROTECT, SECRET, SET_PIN, TOKENS, USER_INVALID, USER_TOKEN, WRONG_IN_A_ROW, answers, check, ctap_cbor, parameters_of, quantity, $t1, $t2, $t3, $t4, $t5, $t6;
+let BLOB, CHANGE_PIN, Credential, ED, GET_AGREEMENT, GET_RETRIES, GET_TOKEN, GET_USER_RETRIES, MAKE, MAX_RETRIES, Mismatch, OTHERWISE, PROTECT, SECRET, SET_PIN, TOKENS, USER_INVALID, USER_TOKEN, WRONG_IN_A_ROW, answers, check, ctap_cbor, decode_parameters, quantity, $t1, $t2, $t3, $t4, $t5, $t6;
 answers = $.module("answers");
 ctap_cbor = $.module("ctap_cbor");
 ED = $.module("answers").ED;
@@ -2954,7 +2954,7 @@ Credential = $.module("answers").Credential;
 Mismatch = $.module("answers").Mismatch;
 check = $.module("answers").check;
 quantity = $.module("quantity").quantity;
-parameters_of = $.module("requests").parameters_of;
+decode_parameters = $.module("requests").decode_parameters;
 $t1 = $.Tuple.of("credProtect", "credBlob", "hmac-secret"); $t2 = $.unpackItems($t1, 3); PROTECT = $t2[0]; BLOB = $t2[1]; SECRET = $t2[2]; 
 $t3 = $.Tuple.of(1, 2, 3, 4, 5, $.Tuple.of(5, 6, 9)); $t4 = $.unpackItems($t3, 6); GET_RETRIES = $t4[0]; GET_AGREEMENT = $t4[1]; SET_PIN = $t4[2]; CHANGE_PIN = $t4[3]; GET_TOKEN = $t4[4]; TOKENS = $t4[5]; 
 $t5 = $.Tuple.of(6, 7); $t6 = $.unpackItems($t5, 2); USER_TOKEN = $t6[0]; GET_USER_RETRIES = $t6[1]; 
@@ -2974,7 +2974,7 @@ this.flags = flags;
 }
 Pending.$names = {"__init__": ["request", "left", "at", "channel", "is_sure", "signed", "flags"]};
 Pending.$fields = ["request", "left", "at", "channel", "is_sure", "signed", "flags"];
-class Kept extends $.Object {
+class KnownCredential extends $.Object {
 __init__(credential, discoverable, extensions = $.apply(dict, []), name = null, shown = 0) {
 this.credential = credential;
 this.discoverable = discoverable;
@@ -2983,9 +2983,9 @@ this.name = name;
 this.shown = shown;
 }
 }
-Kept.$names = {"__init__": ["credential", "discoverable", "extensions", "name", "shown"]};
-Kept.$fields = ["credential", "discoverable", "extensions", "name", "shown"];
-class KeptCredentials extends $.Object {
+KnownCredential.$names = {"__init__": ["credential", "discoverable", "extensions", "name", "shown"]};
+KnownCredential.$fields = ["credential", "discoverable", "extensions", "name", "shown"];
+class KnownCredentials extends $.Object {
 __init__() {
 const self = this;
 self.by_id = $.makeDict([]); 
@@ -3001,7 +3001,7 @@ let credential, $t1, $t2, $t3, $t4, $t5;
 credential = $.attribute(kept, "credential"); 
 $t1 = kept; $.setItem($.getMember(self, "by_id"), $.attribute(credential, "id"), $t1); 
 $t2 = kept; $.setItem($.getMember(self, "by_key"), $.call(ctap_cbor, "encode", [$.attribute(credential, "cose")]), $t2); 
-$t3 = kept; $.setItem($.call($.getMember(self, "by_front"), "setdefault", [$.apply(front_of, [$.attribute(credential, "id")]), $.makeDict([])]), $.attribute(credential, "id"), $t3); 
+$t3 = kept; $.setItem($.call($.getMember(self, "by_front"), "setdefault", [$.apply(id_prefix, [$.attribute(credential, "id")]), $.makeDict([])]), $.attribute(credential, "id"), $t3); 
 if ($.isTrue($.attribute(kept, "discoverable"))) {
 $t4 = kept; $.setItem($.call($.getMember(self, "discoverable"), "setdefault", [$.attribute(credential, "rp"), $.makeDict([])]), $.attribute(credential, "id"), $t4); 
 }
@@ -3018,7 +3018,7 @@ if (((kept === null))) {
 return null;
 }
 $.call($.getMember(self, "by_key"), "pop", [$.call(ctap_cbor, "encode", [$.attribute($.attribute(kept, "credential"), "cose")]), null]);
-$.call($.getItem($.getMember(self, "by_front"), $.apply(front_of, [identity])), "pop", [identity, null]);
+$.call($.getItem($.getMember(self, "by_front"), $.apply(id_prefix, [identity])), "pop", [identity, null]);
 $.call($.call($.getMember(self, "discoverable"), "get", [$.attribute($.attribute(kept, "credential"), "rp"), $.makeDict([])]), "pop", [identity, null]);
 $.call($.call($.getMember(self, "extended"), "get", [$.attribute($.attribute(kept, "credential"), "rp"), $.makeDict([])]), "pop", [identity, null]);
 return null;
@@ -3031,7 +3031,7 @@ return null;
 near(identity) {
 const self = this;
 let found, front, $t1;
-front = $.apply(front_of, [identity]); 
+front = $.apply(id_prefix, [identity]); 
 found = [...$.iter($.call($.call($.getMember(self, "by_front"), "get", [$.sub(front, 1), $.makeDict([])]), "values", [])), ...$.iter($.call($.call($.getMember(self, "by_front"), "get", [front, $.makeDict([])]), "values", []))]; 
 found = $.add(found, $.call($.call($.getMember(self, "by_front"), "get", [$.add(front, 1), $.makeDict([])]), "values", [])); 
 return (() => { const $r = []; for (const $t1 of $.iter(found)) { let one; one = $t1; $r.push([$.attribute($.attribute(one, "credential"), "id"), $.attribute(one, "credential")]); } return $.makeDict($r); })();
@@ -3044,22 +3044,22 @@ return (() => { const $r = []; for (const $t2 of $.iter($.call($.getMember(self,
 return null;
 }
 }
-KeptCredentials.$names = {"__init__": [], "add": ["kept"], "remove": ["identity"], "get": ["identity"], "near": ["identity"], "stored": []};
-function front_of(identity) {
+KnownCredentials.$names = {"__init__": [], "add": ["kept"], "remove": ["identity"], "get": ["identity"], "near": ["identity"], "stored": []};
+function id_prefix(identity) {
 return $.call(int, "from_bytes", [$.getSlice(identity, null, $.apply(max, [0, $.sub($.apply(len, [identity]), 8)])), "big"]);
 return null;
 }
-front_of.$names = ["identity"];
-function made_id(data) {
+id_prefix.$names = ["identity"];
+function read_credential_id(data) {
 let auth, $t1;
-auth = $.call(($.isTrue($t1 = $.apply(parameters_of, [data])) ? $t1 : $.makeDict([])), "get", [2]); 
+auth = $.call(($.isTrue($t1 = $.apply(decode_parameters, [data])) ? $t1 : $.makeDict([])), "get", [2]); 
 if ((!$.isTrue($.apply(isinstance, [auth, bytes])) || ($.le($.apply(len, [auth]), 55)))) {
 return $.parseHex("");
 }
 return $.getSlice(auth, 55, $.add(55, $.call(int, "from_bytes", [$.getSlice(auth, 53, 55), "big"])));
 return null;
 }
-made_id.$names = ["data"];
+read_credential_id.$names = ["data"];
 class ExtensionMismatch extends Mismatch {
 __init__(section, expected, actual) {
 const self = this;
@@ -3073,20 +3073,20 @@ ExtensionMismatch.$names = {"__init__": ["section", "expected", "actual"]};
 class UncertainMismatch extends Mismatch {
 }
 UncertainMismatch.$names = {};
-function retries(count) {
+function describe_retries(count) {
 let $t1;
 return $.apply(quantity, [($.isTrue($t1 = count) ? $t1 : 0), "retry", "retries"]);
 return null;
 }
-retries.$names = ["count"];
-function outputs_of(auth) {
+describe_retries.$names = ["count"];
+function decode_outputs(auth) {
 let _, found, rest, $t1, $t2, $t3;
 if ((($.lt($.apply(len, [auth]), 37)) || !$.isTrue($.and($.getItem(auth, 32), ED)))) {
 return $.makeDict([]);
 }
 rest = $.getSlice(auth, 37, null); 
 if ($.isTrue($.and($.getItem(auth, 32), $.attribute(answers, "AT")))) {
-$t1 = $.call(answers, "cose_key", [$.getSlice(auth, $.add(55, $.call(int, "from_bytes", [$.getSlice(auth, 53, 55), "big"])), null)]); $t2 = $.unpackItems($t1, 2); _ = $t2[0]; rest = $t2[1]; 
+$t1 = $.call(answers, "read_cose_key", [$.getSlice(auth, $.add(55, $.call(int, "from_bytes", [$.getSlice(auth, 53, 55), "big"])), null)]); $t2 = $.unpackItems($t1, 2); _ = $t2[0]; rest = $t2[1]; 
 }
 try {
 found = $.call(ctap_cbor, "decode", [rest]); 
@@ -3098,12 +3098,12 @@ return $.makeDict([]);
 return ($.isTrue($.apply(isinstance, [found, dict])) ? found : $.makeDict([]));
 return null;
 }
-outputs_of.$names = ["auth"];
+decode_outputs.$names = ["auth"];
 function check_extension_outputs(command, data, asked, info, made) {
 let expected, name, named, outputs, requested, value, $t1, $t2;
 requested = $.call(asked, "get", [(($.eq(command, MAKE)) ? 6 : 4), $.makeDict([])]); 
 named = (() => { const $r = []; for (const $t1 of $.iter($.call(info, "get", [2, []]))) { let name; name = $t1; if (!($.contains(requested, name))) { continue; } $r.push(name); } return $r; })(); 
-outputs = $.apply(outputs_of, [$.getItem($.call(answers, "decode_map", [data]), 2)]); 
+outputs = $.apply(decode_outputs, [$.getItem($.call(answers, "decode_map", [data]), 2)]); 
 for (const $t2$ of $.iter(named)) {
 name = $t2$; 
 value = $.getItem(requested, name); 
@@ -3154,7 +3154,7 @@ return null;
 check_blob.$names = ["command", "value", "outputs", "info", "made"];
 function check_extension(section, condition, expected, actual) {
 if (!$.isTrue(condition)) {
-throw $.apply(ExtensionMismatch, [section, expected, $.call(ctap_cbor, "shown", [actual])]);
+throw $.apply(ExtensionMismatch, [section, expected, $.call(ctap_cbor, "to_diagnostic", [actual])]);
 }
 return null;
 }
@@ -3173,7 +3173,7 @@ this.rp = rp;
 judge(request, data) {
 const self = this;
 let asked, kind, status, $t1, $t2, $t3, $t4, $t5;
-asked = $.apply(parameters_of, [request]); 
+asked = $.apply(decode_parameters, [request]); 
 if ((((asked === null)) || !$.isTrue($.apply(isinstance, [$.call(asked, "get", [2]), int])))) {
 return null;
 }
@@ -3202,14 +3202,14 @@ take(kind, asked, data) {
 const self = this;
 let left, lengths, token, $t1, $t2, $t3, $t4, $t5, $t6, $t7, $t8, $t9, $t10, $t11, $t12, $t13, $t14, $t15;
 if (($.eq(kind, GET_RETRIES))) {
-left = $.call(answers, "member", [$.call(answers, "decode_map", [data]), 3, int, "the retries"]); 
+left = $.call(answers, "get_member", [$.call(answers, "decode_map", [data]), 3, int, "the retries"]); 
 $.apply(check, [(($t1 = left, $.le(0, $t1)) && ($t2 = MAX_RETRIES, $.le($t1, $t2))), ("" + "0 to " + $.format(MAX_RETRIES, "") + " retries"), $.apply(str, [left])]);
-$.apply(check, [($.isTrue($t3 = ($.getMember(self, "retries") === null)) ? $t3 : $.eq(left, $.getMember(self, "retries"))), $.apply(retries, [$.getMember(self, "retries")]), $.apply(retries, [left])]);
+$.apply(check, [($.isTrue($t3 = ($.getMember(self, "retries") === null)) ? $t3 : $.eq(left, $.getMember(self, "retries"))), $.apply(describe_retries, [$.getMember(self, "retries")]), $.apply(describe_retries, [left])]);
 $t4 = left; self.retries = $t4; 
 } else {
 if (($.eq(kind, GET_USER_RETRIES))) {
-left = $.call(answers, "member", [$.call(answers, "decode_map", [data]), 5, int, "the retries"]); 
-$.apply(check, [$.contains($.Tuple.of(null, left), $.getMember(self, "user_retries")), $.apply(retries, [$.getMember(self, "user_retries")]), $.apply(retries, [left])]);
+left = $.call(answers, "get_member", [$.call(answers, "decode_map", [data]), 5, int, "the retries"]); 
+$.apply(check, [$.contains($.Tuple.of(null, left), $.getMember(self, "user_retries")), $.apply(describe_retries, [$.getMember(self, "user_retries")]), $.apply(describe_retries, [left])]);
 $t5 = left; self.user_retries = $t5; 
 } else {
 if (($.eq(kind, GET_AGREEMENT))) {
@@ -3225,7 +3225,7 @@ $t8 = $.Tuple.of(null, 0); $t9 = $.unpackItems($t8, 2); self.retries = $t9[0]; s
 if (($.contains(TOKENS, kind))) {
 $.apply(check, [($.isTrue($t10 = $.eq(kind, GET_TOKEN)) ? $t10 : !$.eq($.call(asked, "get", [9]), 0)), "status 02, since no permission is requested", "status 00"]);
 $t11 = (($.eq(kind, USER_TOKEN)) ? null : $.getMember(self, "user_retries")); self.user_retries = $t11; 
-token = $.call(answers, "member", [$.call(answers, "decode_map", [data]), 2, bytes, "the token"]); 
+token = $.call(answers, "get_member", [$.call(answers, "decode_map", [data]), 2, bytes, "the token"]); 
 lengths = (($.eq($.call(asked, "get", [1]), 1)) ? $.Tuple.of(16, 32) : $.Tuple.of(48)); 
 $.apply(check, [$.contains(lengths, $.apply(len, [token])), ("" + "an encrypted token of " + $.format($.call(" or ", "join", [$.apply(map, [str, lengths])]), "") + " bytes"), token]);
 $t12 = $.Tuple.of(null, 0); $t13 = $.unpackItems($t12, 2); self.retries = $t13[0]; self.wrong = $t13[1]; 
@@ -3242,7 +3242,7 @@ take_agreement(asked, data) {
 const self = this;
 let found, $t1, $t2, $t3;
 found = $.call(answers, "decode_map", [data]); 
-$.call(answers, "agreement_key", [found]);
+$.call(answers, "read_agreement_key", [found]);
 $.apply(check, [($.isTrue($t1 = !$.isTrue($.getMember(self, "is_stale"))) ? $t1 : !$.eq($.call(found, "get", [1]), $.getMember(self, "agreement"))), "a new key after a wrong PIN", found]);
 $t2 = $.Tuple.of($.call(found, "get", [1]), false); $t3 = $.unpackItems($t2, 2); self.agreement = $t3[0]; self.is_stale = $t3[1]; 
 return null;
@@ -3294,38 +3294,38 @@ $.apply(check, [!$.eq($.getSlice(data, $.sub(0, 2), null), $.parseHex("9000")), 
 return null;
 }
 check_u2f.$names = ["request", "data"];
-return { BLOB, CHANGE_PIN, ExtensionMismatch, GET_AGREEMENT, GET_RETRIES, GET_TOKEN, GET_USER_RETRIES, Kept, KeptCredentials, OTHERWISE, PROTECT, Pending, Pins, SECRET, SET_PIN, TOKENS, USER_INVALID, USER_TOKEN, UncertainMismatch, WRONG_IN_A_ROW, check_blob, check_extension, check_extension_outputs, check_secret, check_u2f, front_of, made_id, outputs_of, retries };
+return { BLOB, CHANGE_PIN, ExtensionMismatch, GET_AGREEMENT, GET_RETRIES, GET_TOKEN, GET_USER_RETRIES, KnownCredential, KnownCredentials, OTHERWISE, PROTECT, Pending, Pins, SECRET, SET_PIN, TOKENS, USER_INVALID, USER_TOKEN, UncertainMismatch, WRONG_IN_A_ROW, check_blob, check_extension, check_extension_outputs, check_secret, check_u2f, decode_outputs, describe_retries, id_prefix, read_credential_id };
 };
 
 $.modules["judged_stored"] = () => {
-let BLOBS, BLOB_KEY, COUNT, CREDENTIALS, Credential, DELETE, EMPTY, ExtensionMismatch, KeptCredentials, LENGTH, LIST, LIST_RPS, Listing, MANAGE, MAY_MANAGE, MAY_WRITE, Mismatch, NEXT, NEXT_RP, OFFSET, PARAM, PREVIEW, PROTECTION, Pins, READ, RPS, SET, SHORTEST, UPDATE, answers, check, check_piece, hash_of, hashlib, parameters_of, quantity, $t1, $t2, $t3, $t4, $t5, $t6, $t7, $t8;
+let BLOBS, BLOB_KEY, COUNT, CREDENTIALS, Credential, DELETE, EMPTY_ARRAY, ExtensionMismatch, KnownCredentials, LENGTH, LIST, LIST_RPS, Listing, MANAGE, MAY_MANAGE, MAY_WRITE, Mismatch, NEXT, NEXT_RP, OFFSET, PARAM, PREVIEW, PROTECTION, Pins, READ, RPS, SET, SHORTEST, UPDATE, answers, check, check_fragment, decode_parameters, hash_of, hashlib, quantity, $t1, $t2, $t3, $t4, $t5, $t6, $t7, $t8;
 hashlib = $.module("hashlib");
 answers = $.module("answers");
 Credential = $.module("answers").Credential;
 Mismatch = $.module("answers").Mismatch;
 check = $.module("answers").check;
 ExtensionMismatch = $.module("judged_parts").ExtensionMismatch;
-KeptCredentials = $.module("judged_parts").KeptCredentials;
+KnownCredentials = $.module("judged_parts").KnownCredentials;
 Pins = $.module("judged_parts").Pins;
 CREDENTIALS = $.module("check_credential_management").CREDENTIALS;
 PROTECTION = $.module("check_credential_management").PROTECTION;
 RPS = $.module("check_credential_management").RPS;
 Listing = $.module("check_credential_management").Listing;
 hash_of = $.module("check_credential_management").hash_of;
-check_piece = $.module("check_credential_management").check_piece;
+check_fragment = $.module("check_credential_management").check_fragment;
 quantity = $.module("quantity").quantity;
-parameters_of = $.module("requests").parameters_of;
+decode_parameters = $.module("requests").decode_parameters;
 $t1 = $.Tuple.of(10, 12); $t2 = $.unpackItems($t1, 2); MANAGE = $t2[0]; BLOBS = $t2[1]; 
 PREVIEW = 65; 
 $t3 = $.apply(range, [1, 8]); $t4 = $.unpackItems($t3, 7); COUNT = $t4[0]; LIST_RPS = $t4[1]; NEXT_RP = $t4[2]; LIST = $t4[3]; NEXT = $t4[4]; DELETE = $t4[5]; UPDATE = $t4[6]; 
 $t5 = $.Tuple.of(1, 2, 3, 4, 5); $t6 = $.unpackItems($t5, 5); READ = $t6[0]; SET = $t6[1]; OFFSET = $t6[2]; LENGTH = $t6[3]; PARAM = $t6[4]; 
 $t7 = $.Tuple.of(4, 16, 17); $t8 = $.unpackItems($t7, 3); MAY_MANAGE = $t8[0]; MAY_WRITE = $t8[1]; SHORTEST = $t8[2]; 
 BLOB_KEY = "largeBlobKey"; 
-function array_of(data) {
+function append_hash(data) {
 return $.add(data, $.getSlice($.call($.call(hashlib, "sha256", [data]), "digest", []), null, 16));
 return null;
 }
-array_of.$names = ["data"];
+append_hash.$names = ["data"];
 function named_credential_id(asked) {
 let descriptor, identity, parameters;
 parameters = $.call(asked, "get", [2, $.makeDict([])]); 
@@ -3335,7 +3335,7 @@ return ($.isTrue($.apply(isinstance, [identity, bytes])) ? identity : $.parseHex
 return null;
 }
 named_credential_id.$names = ["asked"];
-EMPTY = $.apply(array_of, [$.parseHex("80")]); 
+EMPTY_ARRAY = $.apply(append_hash, [$.parseHex("80")]); 
 class StoredJudge extends $.Object {
 __init__() {
 const self = this;
@@ -3360,13 +3360,13 @@ reset() {
 const self = this;
 let $t1, $t2, $t3;
 $t1 = $.apply(Listing, []); self.listing = $t1; 
-$t2 = $.Tuple.of(EMPTY, $.parseHex(""), 0, true); $t3 = $.unpackItems($t2, 4); self.array = $t3[0]; self.coming = $t3[1]; self.expected = $t3[2]; self.is_reset = $t3[3]; 
+$t2 = $.Tuple.of(EMPTY_ARRAY, $.parseHex(""), 0, true); $t3 = $.unpackItems($t2, 4); self.array = $t3[0]; self.coming = $t3[1]; self.expected = $t3[2]; self.is_reset = $t3[3]; 
 return null;
 }
 judge(request, data, kept, pins, info) {
 const self = this;
 let asked, $t1;
-asked = $.apply(parameters_of, [request]); 
+asked = $.apply(decode_parameters, [request]); 
 if (((asked === null))) {
 return null;
 }
@@ -3490,9 +3490,9 @@ $.apply(check, [!$.isTrue(wrong), "status 02, since a read has only `get` and `o
 longest = $.sub($.apply(max, [$.call(info, "get", [5, 1024]), 1024]), 64); 
 $.apply(check, [$.le($.getItem(asked, READ), longest), ("" + "status 03, since a fragment has at most " + $.format(longest, "") + " bytes"), "status 00"]);
 item = $.call(answers, "decode_map", [data]); 
-$t2 = $.Tuple.of($.getItem(asked, OFFSET), $.call(answers, "member", [item, 1, bytes, "a fragment of the array"])); $t3 = $.unpackItems($t2, 2); offset = $t3[0]; piece = $t3[1]; 
+$t2 = $.Tuple.of($.getItem(asked, OFFSET), $.call(answers, "get_member", [item, 1, bytes, "a fragment of the array"])); $t3 = $.unpackItems($t2, 2); offset = $t3[0]; piece = $t3[1]; 
 if (((($.getMember(self, "array") === null)) && ($.eq(offset, 0)) && ($.lt($.apply(len, [piece]), $.getItem(asked, READ))))) {
-$.apply(check, [($.isTrue($t4 = $.eq($.apply(array_of, [$.getSlice(piece, null, $.sub(0, 16))]), piece)) ? $.le(SHORTEST, $.apply(len, [piece])) : $t4), "an array that ends with its hash", piece]);
+$.apply(check, [($.isTrue($t4 = $.eq($.apply(append_hash, [$.getSlice(piece, null, $.sub(0, 16))]), piece)) ? $.le(SHORTEST, $.apply(len, [piece])) : $t4), "an array that ends with its hash", piece]);
 $t5 = piece; self.array = $t5; 
 }
 $.apply(check, [$.le($.apply(len, [piece]), $.getItem(asked, READ)), ("" + "at most " + $.format($.apply(quantity, [$.getItem(asked, READ), "byte"]), "")), piece]);
@@ -3502,7 +3502,7 @@ expected = $.getSlice($.getMember(self, "array"), offset, $.add(offset, $.getIte
 if (($.isTrue($.getMember(self, "is_reset")) && (!$.eq(piece, expected)))) {
 throw $.apply(ExtensionMismatch, ["6.6", ("" + "the fragment " + $.format($.call(expected, "hex", []), "") + ", after the reset"), $.call(piece, "hex", [])]);
 }
-$.apply(check_piece, [item, expected]);
+$.apply(check_fragment, [item, expected]);
 }
 return null;
 }
@@ -3529,7 +3529,7 @@ length = $.apply(len, [whole]);
 $.apply(check, [$.le(length, $.getMember(self, "expected")), ("" + "status 02, since the array has " + $.format($.apply(quantity, [$.getMember(self, "expected"), "byte"]), "")), "status 00"]);
 if (($.eq(length, $.getMember(self, "expected")))) {
 $t8 = $.Tuple.of($.parseHex(""), 0); $t9 = $.unpackItems($t8, 2); self.coming = $t9[0]; self.expected = $t9[1]; 
-$.apply(check, [$.eq($.apply(array_of, [$.getSlice(whole, null, $.sub(0, 16))]), whole), "status 3d, since the hash is wrong", "status 00"]);
+$.apply(check, [$.eq($.apply(append_hash, [$.getSlice(whole, null, $.sub(0, 16))]), whole), "status 3d, since the hash is wrong", "status 00"]);
 $t10 = $.Tuple.of(whole, false); $t11 = $.unpackItems($t10, 2); self.array = $t11[0]; self.is_reset = $t11[1]; 
 }
 return null;
@@ -3566,11 +3566,11 @@ return null;
 }
 }
 StoredJudge.$names = {"__init__": [], "power_cycle": [], "reset": [], "judge": ["request", "data", "kept", "pins", "info"], "check_managed": ["asked", "data", "kept", "pins"], "check_next": ["follows", "key"], "check_token": ["asked", "param", "permission", "pins"], "check_rp": ["command", "parameters", "kept", "pins"], "check_listed": ["command", "parameters", "data", "stored", "kept"], "check_change": ["command", "parameters", "kept"], "check_read": ["asked", "data", "info"], "check_written": ["asked", "pins", "info"], "is_refused": ["asked", "status", "makes", "info"], "check_key": ["data", "extensions", "identity", "key", "made"]};
-return { BLOBS, BLOB_KEY, COUNT, DELETE, EMPTY, LENGTH, LIST, LIST_RPS, MANAGE, MAY_MANAGE, MAY_WRITE, NEXT, NEXT_RP, OFFSET, PARAM, PREVIEW, READ, SET, SHORTEST, StoredJudge, UPDATE, array_of, named_credential_id };
+return { BLOBS, BLOB_KEY, COUNT, DELETE, EMPTY_ARRAY, LENGTH, LIST, LIST_RPS, MANAGE, MAY_MANAGE, MAY_WRITE, NEXT, NEXT_RP, OFFSET, PARAM, PREVIEW, READ, SET, SHORTEST, StoredJudge, UPDATE, append_hash, named_credential_id };
 };
 
 $.modules["judged_statuses"] = () => {
-let ANY, AnswerJudge, CANCELLED, DENIED, EXCLUDED, Entry, ExtensionMismatch, FIT, FORM, Fault, GET, INFO, JITTER, KEY, Kept, LIMIT, MAKE, MISSING, Mismatch, NEXT, NOT_ALLOWED, NO_CREDENTIALS, NO_TIME_OUT, OF_FORM, OTHER, OTHERWISE, PENDING, PIN, RESET, RESET_WITHIN, SELECTION, SHOULD, TIMED_OUT, Transaction, UNKNOWN, UNSUPPORTED, UP, USER_TOKEN, UncertainMismatch, check, fault_of, parameters_of, quantity, rules, unknown_parts, $t1, $t2, $t3, $t4, $t5, $t6;
+let ANY_REQUEST_STATUSES, AnswerJudge, CANCELLED, DENIED, EXCLUDED, Entry, ExtensionMismatch, FIT, FORM, Fault, GET, INFO, JITTER_MS, KEY, KnownCredential, LIMIT_MS, MAKE, MALFORMED_STATUSES, MISSING, Mismatch, NEXT, NOT_ALLOWED, NO_CREDENTIALS, NO_TIME_OUT, OTHER, OTHERWISE, PENDING, PIN, RESET, RESET_WITHIN, SELECTION, SHOULD, TIMED_OUT, Transaction, UNKNOWN, UNSUPPORTED, UP, USER_TOKEN, UncertainMismatch, check, decode_parameters, find_fault, quantity, rules, unknown_parts, $t1, $t2, $t3, $t4, $t5, $t6;
 rules = $.module("rules");
 GET = $.module("answers").GET;
 INFO = $.module("answers").INFO;
@@ -3586,7 +3586,7 @@ SHOULD = $.module("judged_log").SHOULD;
 OTHERWISE = $.module("judged_parts").OTHERWISE;
 USER_TOKEN = $.module("judged_parts").USER_TOKEN;
 ExtensionMismatch = $.module("judged_parts").ExtensionMismatch;
-Kept = $.module("judged_parts").Kept;
+KnownCredential = $.module("judged_parts").KnownCredential;
 UncertainMismatch = $.module("judged_parts").UncertainMismatch;
 quantity = $.module("quantity").quantity;
 FORM = $.module("requests").FORM;
@@ -3594,19 +3594,19 @@ MISSING = $.module("requests").MISSING;
 PIN = $.module("requests").PIN;
 UNKNOWN = $.module("requests").UNKNOWN;
 Fault = $.module("requests").Fault;
-fault_of = $.module("requests").fault_of;
-parameters_of = $.module("requests").parameters_of;
+find_fault = $.module("requests").find_fault;
+decode_parameters = $.module("requests").decode_parameters;
 unknown_parts = $.module("requests").unknown_parts;
 NO_TIME_OUT = $.module("transactions").NO_TIME_OUT;
 Entry = $.module("transactions").Entry;
 Transaction = $.module("transactions").Transaction;
 $t1 = $.Tuple.of(10000, 30000); $t2 = $.unpackItems($t1, 2); RESET_WITHIN = $t2[0]; PENDING = $t2[1]; 
-JITTER = 100; 
-LIMIT = 21; 
+JITTER_MS = 100; 
+LIMIT_MS = 21; 
 $t3 = $.Tuple.of(39, 47, 45, 127); $t4 = $.unpackItems($t3, 4); DENIED = $t4[0]; TIMED_OUT = $t4[1]; CANCELLED = $t4[2]; OTHER = $t4[3]; 
 $t5 = $.Tuple.of(25, 46, 48, 38); $t6 = $.unpackItems($t5, 4); EXCLUDED = $t6[0]; NO_CREDENTIALS = $t6[1]; NOT_ALLOWED = $t6[2]; UNSUPPORTED = $t6[3]; 
-OF_FORM = $.Tuple.of(1, 2, 3, 17, 18, 20, 21, 43, 44, 57); 
-ANY = $.Tuple.of(DENIED, CANCELLED, 58, OTHER, 6, 5, ...$.iter($.apply(range, [224, 256]))); 
+MALFORMED_STATUSES = $.Tuple.of(1, 2, 3, 17, 18, 20, 21, 43, 44, 57); 
+ANY_REQUEST_STATUSES = $.Tuple.of(DENIED, CANCELLED, 58, OTHER, 6, 5, ...$.iter($.apply(range, [224, 256]))); 
 FIT = $.makeDict([[INFO, $.Tuple.of(0)], [RESET, $.Tuple.of(0, NOT_ALLOWED, TIMED_OUT, 1)], [SELECTION, $.Tuple.of(0, TIMED_OUT, 1)], [NEXT, $.Tuple.of(0, NOT_ALLOWED, 1)]]); 
 class StatusJudge extends $.Object {
 __init__(answers) {
@@ -3620,7 +3620,7 @@ const self = this;
 let actual, command, elapsed, expected, fault, status, $t1, $t2, $t3, $t4, $t5;
 $t1 = $.Tuple.of($.getItem($.attribute(transaction, "data"), 0), $.getItem(data, 0)); $t2 = $.unpackItems($t1, 2); command = $t2[0]; status = $t2[1]; 
 $.apply(check, [($.isTrue($t3 = $.eq(status, 0)) ? $t3 : $.eq($.apply(len, [data]), 1)), "only a status", ("" + $.format($.apply(quantity, [$.apply(len, [data]), "byte"]), "") + " with status " + $.format(status, "02x"))]);
-fault = $.apply(fault_of, [$.attribute(transaction, "data")]); 
+fault = $.apply(find_fault, [$.attribute(transaction, "data")]); 
 if (((fault !== null))) {
 if (!$.isTrue($.attribute(fault, "should"))) {
 $.call(self, "check_refusal", [command, fault, status]);
@@ -3628,7 +3628,7 @@ $.call(self, "check_refusal", [command, fault, status]);
 return null;
 }
 $.call(self, "check_user_presence", [entry, transaction, data]);
-if ((($.contains(FIT, command)) && (!$.contains($.Tuple.of(...$.iter($.getItem(FIT, command)), ...$.iter(ANY)), status)))) {
+if ((($.contains(FIT, command)) && (!$.contains($.Tuple.of(...$.iter($.getItem(FIT, command)), ...$.iter(ANY_REQUEST_STATUSES)), status)))) {
 expected = $.call("|", "join", [(function* () { for (const $t4 of $.iter($.getItem(FIT, command))) { let one; one = $t4; yield ("" + $.format(one, "02x")); } })()]); 
 throw $.apply(Mismatch, [("" + "status " + $.format(expected, "")), ("" + "status " + $.format(status, "02x"))]);
 }
@@ -3646,7 +3646,7 @@ $.call(self, "check_next_status", [entry, transaction, status]);
 } else {
 if (($.eq(command, RESET))) {
 elapsed = $.sub($.attribute(transaction, "last"), ((($.attribute($.getMember(self, "answers"), "powered") !== null)) ? $.attribute($.getMember(self, "answers"), "powered") : ($.isTrue($t5 = $.attribute($.attribute($.getMember(self, "answers"), "recording"), "start")) ? $t5 : 0))); 
-if ((($.eq(status, 0)) && ($.lt($.add(RESET_WITHIN, JITTER), elapsed)) && !$.isTrue($.attribute($.attribute($.getMember(self, "answers"), "recording"), "has_no_timestamps")))) {
+if ((($.eq(status, 0)) && ($.lt($.add(RESET_WITHIN, JITTER_MS), elapsed)) && !$.isTrue($.attribute($.attribute($.getMember(self, "answers"), "recording"), "has_no_timestamps")))) {
 actual = ("" + "status 00 after " + $.format(elapsed, "") + " ms"); 
 $.apply(check, [!$.isTrue($.attribute($.getMember(self, "answers"), "no_display")), "status 30, more than 10 s after power-up", actual]);
 throw $.apply(UncertainMismatch, ["status 30, more than 10 s after power-up, unless the key has a display", actual]);
@@ -3661,12 +3661,12 @@ check_user_presence(entry, transaction, data) {
 const self = this;
 let asked, auth, command, expected, has_token, needs, section, status, was_asked, $t1, $t2, $t3, $t4, $t5, $t6, $t7, $t8, $t9, $t10, $t11, $t12, $t13;
 $t1 = $.Tuple.of($.getItem($.attribute(transaction, "data"), 0), $.getItem(data, 0)); $t2 = $.unpackItems($t1, 2); command = $t2[0]; status = $t2[1]; 
-asked = ($.isTrue($t3 = $.apply(parameters_of, [$.attribute(transaction, "data")])) ? $t3 : $.makeDict([])); 
+asked = ($.isTrue($t3 = $.apply(decode_parameters, [$.attribute(transaction, "data")])) ? $t3 : $.makeDict([])); 
 needs = ($.isTrue($t4 = $.contains($.Tuple.of(RESET, SELECTION), command)) ? $.eq(status, 0) : $t4); 
 needs = ($.isTrue($t6 = needs) ? $t6 : ($.isTrue($t5 = $.eq(command, MAKE)) ? $.contains($.Tuple.of(0, EXCLUDED), status) : $t5)); 
 needs = ($.isTrue($t9 = needs) ? $t9 : ($.isTrue($t8 = $.eq(command, PIN)) ? ($.isTrue($t7 = $.eq($.call(asked, "get", [2]), USER_TOKEN)) ? $.eq(status, 0) : $t7) : $t8)); 
 if ((($.eq(command, GET)) && ($.eq(status, 0)))) {
-auth = $.call(($.isTrue($t10 = $.apply(parameters_of, [data])) ? $t10 : $.makeDict([])), "get", [2]); 
+auth = $.call(($.isTrue($t10 = $.apply(decode_parameters, [data])) ? $t10 : $.makeDict([])), "get", [2]); 
 needs = ($.isTrue($t12 = $.apply(isinstance, [auth, bytes])) ? ($.isTrue($t11 = $.lt(32, $.apply(len, [auth]))) ? $.apply(bool, [$.and($.getItem(auth, 32), UP)]) : $t11) : $t12); 
 }
 has_token = $.contains(asked, (($.eq(command, MAKE)) ? 8 : 6)); 
@@ -3687,10 +3687,10 @@ check_refusal(command, fault, status) {
 const self = this;
 let unknown, $t1;
 unknown = (($.contains($.Tuple.of(MAKE, GET, INFO), command)) ? $.Tuple.of() : $.Tuple.of(1)); 
-if ((($.eq($.attribute(fault, "kind"), MISSING)) && (!$.contains($.Tuple.of(0, 20, ...$.iter(unknown), ...$.iter(ANY)), status)))) {
+if ((($.eq($.attribute(fault, "kind"), MISSING)) && (!$.contains($.Tuple.of(0, 20, ...$.iter(unknown), ...$.iter(ANY_REQUEST_STATUSES)), status)))) {
 throw $.apply(Mismatch, [("" + "status 14, since " + $.format($.attribute(fault, "expected"), "") + " is missing"), ("" + "status " + $.format(status, "02x"))]);
 }
-if ((($.eq($.attribute(fault, "kind"), UNKNOWN)) && (!$.contains($.Tuple.of(1, ...$.iter(ANY)), status)))) {
+if ((($.eq($.attribute(fault, "kind"), UNKNOWN)) && (!$.contains($.Tuple.of(1, ...$.iter(ANY_REQUEST_STATUSES)), status)))) {
 throw $.apply(Mismatch, ["status 01", ("" + "status " + $.format(status, "02x"))]);
 }
 $.apply(check, [($.isTrue($t1 = !$.eq(status, 0)) ? $t1 : !$.contains($.Tuple.of(FORM, MISSING), $.attribute(fault, "kind"))), ("" + "an error, since " + $.format($.attribute(fault, "expected"), "") + " is required"), "status 00"]);
@@ -3699,7 +3699,7 @@ return null;
 check_form(transaction, status) {
 const self = this;
 let asked, expected, options, own, rk_is_open, strange, taken, wrong, $t1, $t2, $t3;
-asked = ($.isTrue($t1 = $.apply(parameters_of, [$.attribute(transaction, "data")])) ? $t1 : $.makeDict([])); 
+asked = ($.isTrue($t1 = $.apply(decode_parameters, [$.attribute(transaction, "data")])) ? $t1 : $.makeDict([])); 
 options = $.call(asked, "get", [(($.eq($.getItem($.attribute(transaction, "data"), 0), MAKE)) ? 7 : 5), $.makeDict([])]); 
 wrong = $.call(self, "wrong_option", [$.getItem($.attribute(transaction, "data"), 0), asked, options]); 
 if ($.isTrue(wrong)) {
@@ -3710,7 +3710,7 @@ return null;
 if ($.isTrue($.call($.attribute($.getMember(self, "answers"), "stored"), "is_refused", [asked, status, $.eq($.getItem($.attribute(transaction, "data"), 0), MAKE), $.attribute($.getMember(self, "answers"), "info")]))) {
 return null;
 }
-if ((($.eq(status, LIMIT)) && $.isTrue($.call(self, "has_long_list", [$.call(asked, "get", [(($.eq($.getItem($.attribute(transaction, "data"), 0), MAKE)) ? 5 : 3), []])])))) {
+if ((($.eq(status, LIMIT_MS)) && $.isTrue($.call(self, "has_long_list", [$.call(asked, "get", [(($.eq($.getItem($.attribute(transaction, "data"), 0), MAKE)) ? 5 : 3), []])])))) {
 return null;
 }
 strange = $.apply(unknown_parts, [$.getItem($.attribute(transaction, "data"), 0), asked]); 
@@ -3719,7 +3719,7 @@ rk_is_open = ($.isTrue($t2 = $.call(options, "get", ["rk"])) ? !$.isTrue($.call(
 if (($.isTrue($.and(own, $.apply(set, [asked]))) || $.isTrue(rk_is_open) || $.isTrue($.call(options, "get", ["uv"])))) {
 return null;
 }
-if ((($.lt($.call($.attribute($.getMember(self, "answers"), "info"), "get", [5, 1024]), $.attribute(transaction, "length"))) || (!$.contains(OF_FORM, status)))) {
+if ((($.lt($.call($.attribute($.getMember(self, "answers"), "info"), "get", [5, 1024]), $.attribute(transaction, "length"))) || (!$.contains(MALFORMED_STATUSES, status)))) {
 return null;
 }
 $t3 = ((!$.isTrue(strange) || $.isTrue($.call($.getItem(strange, 0), "startswith", ["the option"]))) ? "" : $.getItem(strange, 0)); $.getMember(self, "answers").passed_over = $t3; 
@@ -3760,7 +3760,7 @@ return null;
 check_make_status(transaction, status) {
 const self = this;
 let allowed, asked, excluded, expected, listed, names, open_question, served, $t1, $t2, $t3, $t4, $t5, $t6, $t7, $t8, $t9;
-asked = ($.isTrue($t1 = $.apply(parameters_of, [$.attribute(transaction, "data")])) ? $t1 : $.makeDict([])); 
+asked = ($.isTrue($t1 = $.apply(decode_parameters, [$.attribute(transaction, "data")])) ? $t1 : $.makeDict([])); 
 excluded = $.call(self, "listed", [asked, 5, $.getItem($.getItem(asked, 2), "id")]); 
 if ((($.eq(status, 0)) && $.isTrue(excluded))) {
 expected = "status 19, since the list has a credential of this key"; 
@@ -3778,7 +3778,7 @@ listed = (() => { const $r = []; for (const $t8 of $.iter($.getItem(asked, 4))) 
 served = $.attribute($.attribute($.getMember(self, "answers"), "facts"), "algorithms"); 
 $.call(self, "check_capabilities", [asked, status]);
 if (($.isTrue(served) && !$.isTrue($.and($.apply(set, [served]), $.apply(set, [listed]))))) {
-allowed = $.Tuple.of(UNSUPPORTED, ...$.iter(ANY), ...$.iter(($.isTrue($.call(asked, "get", [5])) ? $.Tuple.of(EXCLUDED) : $.Tuple.of()))); 
+allowed = $.Tuple.of(UNSUPPORTED, ...$.iter(ANY_REQUEST_STATUSES), ...$.iter(($.isTrue($.call(asked, "get", [5])) ? $.Tuple.of(EXCLUDED) : $.Tuple.of()))); 
 $.apply(check, [($.isTrue($t9 = $.contains(allowed, status)) ? $t9 : $.contains(asked, 8)), "status 26, since no algorithm is supported", ("" + "status " + $.format(status, "02x"))]);
 } else {
 if ($.isTrue(served)) {
@@ -3826,9 +3826,9 @@ check_get_status(transaction, data) {
 const self = this;
 let asked, expected, mine, status, used, $t1, $t2, $t3;
 status = $.getItem(data, 0); 
-asked = ($.isTrue($t1 = $.apply(parameters_of, [$.attribute(transaction, "data")])) ? $t1 : $.makeDict([])); 
+asked = ($.isTrue($t1 = $.apply(decode_parameters, [$.attribute(transaction, "data")])) ? $t1 : $.makeDict([])); 
 mine = $.call(self, "candidates", [asked]); 
-used = (($.eq(status, 0)) ? $.call($.getMember(self, "answers"), "identity", [asked, ($.isTrue($t2 = $.apply(parameters_of, [data])) ? $t2 : $.makeDict([]))]) : $.parseHex("")); 
+used = (($.eq(status, 0)) ? $.call($.getMember(self, "answers"), "identity", [asked, ($.isTrue($t2 = $.apply(decode_parameters, [data])) ? $t2 : $.makeDict([]))]) : $.parseHex("")); 
 if (($.contains($.attribute($.getMember(self, "answers"), "forgotten"), used))) {
 throw $.apply(ExtensionMismatch, ["6.6", "no credential from before the reset", $.call(used, "hex", [])]);
 }
@@ -3840,7 +3840,7 @@ throw $.apply(UncertainMismatch, [("" + $.format(expected, "") + ", " + $.format
 if ((($.eq(status, 0)) && $.isTrue($.attribute($.getMember(self, "answers"), "is_complete")) && !$.isTrue(mine) && !$.isTrue($.call(self, "is_protected", [asked])))) {
 throw $.apply(Mismatch, ["status 2e, since the key has no credential for it", "status 00"]);
 }
-if ((!$.isTrue(mine) && $.isTrue($.attribute($.getMember(self, "answers"), "is_complete")) && (!$.contains($.Tuple.of(0, NO_CREDENTIALS, ...$.iter(ANY), TIMED_OUT), status)) && ($.lt(status, 49)))) {
+if ((!$.isTrue(mine) && $.isTrue($.attribute($.getMember(self, "answers"), "is_complete")) && (!$.contains($.Tuple.of(0, NO_CREDENTIALS, ...$.iter(ANY_REQUEST_STATUSES), TIMED_OUT), status)) && ($.lt(status, 49)))) {
 throw $.apply(Mismatch, ["status 2e, since the key has no credential for it", ("" + "status " + $.format(status, "02x"))]);
 }
 return null;
@@ -3870,14 +3870,14 @@ return null;
 }
 if (($.eq(status, 0))) {
 $.apply(check, [$.lt(0, $.attribute(waiting, "left")), "status 30, since no assertion is pending", "status 00"]);
-$.apply(check, [$.le($.sub($.attribute(transaction, "last"), $.attribute(waiting, "at")), $.add(PENDING, JITTER)), "status 30, after 30 s", ("" + "status 00 after " + $.format($.sub($.attribute(transaction, "last"), $.attribute(waiting, "at")), "") + " ms")]);
+$.apply(check, [$.le($.sub($.attribute(transaction, "last"), $.attribute(waiting, "at")), $.add(PENDING, JITTER_MS)), "status 30, after 30 s", ("" + "status 00 after " + $.format($.sub($.attribute(transaction, "last"), $.attribute(waiting, "at")), "") + " ms")]);
 } else {
-if ((!$.contains($.Tuple.of(NOT_ALLOWED, ...$.iter(ANY)), status))) {
+if ((!$.contains($.Tuple.of(NOT_ALLOWED, ...$.iter(ANY_REQUEST_STATUSES)), status))) {
 throw $.apply(Mismatch, ["status 30", ("" + "status " + $.format(status, "02x"))]);
 } else {
 if ((($.eq(status, NOT_ALLOWED)) && ($.lt(0, $.attribute(waiting, "left"))))) {
 sure = ($.isTrue($t1 = $.attribute(waiting, "is_sure")) ? $.eq($.attribute(waiting, "channel"), $.attribute(transaction, "channel")) : $t1); 
-late = $.le($.sub(PENDING, JITTER), $.sub($.attribute(transaction, "last"), $.attribute(waiting, "at"))); 
+late = $.le($.sub(PENDING, JITTER_MS), $.sub($.attribute(transaction, "last"), $.attribute(waiting, "at"))); 
 $.apply(check, [($.isTrue($t2 = late) ? $t2 : !$.isTrue(sure)), "the pending assertion", "status 30"]);
 }
 }
@@ -3886,11 +3886,11 @@ return null;
 }
 }
 StatusJudge.$names = {"__init__": ["answers"], "check_status": ["entry", "transaction", "data"], "check_user_presence": ["entry", "transaction", "data"], "check_refusal": ["command", "fault", "status"], "check_form": ["transaction", "status"], "has_long_list": ["listed"], "wrong_option": ["command", "asked", "options"], "listed": ["asked", "key", "rp"], "check_make_status": ["transaction", "status"], "has_hidden": ["asked", "key"], "lacks_enterprise": [], "check_capabilities": ["asked", "status"], "check_get_status": ["transaction", "data"], "is_protected": ["asked"], "candidates": ["asked"], "check_next_status": ["entry", "transaction", "status"]};
-return { ANY, CANCELLED, DENIED, EXCLUDED, FIT, JITTER, LIMIT, NOT_ALLOWED, NO_CREDENTIALS, OF_FORM, OTHER, PENDING, RESET_WITHIN, StatusJudge, TIMED_OUT, UNSUPPORTED };
+return { ANY_REQUEST_STATUSES, CANCELLED, DENIED, EXCLUDED, FIT, JITTER_MS, LIMIT_MS, MALFORMED_STATUSES, NOT_ALLOWED, NO_CREDENTIALS, OTHER, PENDING, RESET_WITHIN, StatusJudge, TIMED_OUT, UNSUPPORTED };
 };
 
 $.modules["judged_answers"] = () => {
-let BLOBS, BLOB_KEY, Credential, DELETE, DELETED_WITHIN, DeviceFacts, EXPECTED, Entry, ExtensionMismatch, GET, INFO, KEY, Kept, KeptCredentials, MAKE, MANAGE, MUST, Mismatch, NEXT, NOT_ALLOWED, OTHERWISE, PIN, PREVIEW, Pending, Pins, RESET, Recording, SHOULD, StatusJudge, StoredJudge, Transaction, UP, UPDATE, UV, UncertainMismatch, answers, check, check_extension_outputs, ctap_cbor, fault_of, hid, made_id, named_credential_id, parameters_of, rules, seen;
+let BLOBS, BLOB_KEY, Credential, DELETE, DeviceFacts, EXPECTED, Entry, ExtensionMismatch, GET, INFO, KEY, KnownCredential, KnownCredentials, MAKE, MANAGE, MIN_DELETION_MS, MUST, Mismatch, NEXT, NOT_ALLOWED, OTHERWISE, PIN, PREVIEW, Pending, Pins, RESET, Recording, SHOULD, StatusJudge, StoredJudge, Transaction, UP, UPDATE, UV, UncertainMismatch, answers, check, check_extension_outputs, ctap_cbor, decode_parameters, find_fault, hid, named_credential_id, read_credential_id, rules, seen;
 answers = $.module("answers");
 ctap_cbor = $.module("ctap_cbor");
 rules = $.module("rules");
@@ -3913,13 +3913,13 @@ Recording = $.module("judged_log").Recording;
 seen = $.module("judged_log").seen;
 OTHERWISE = $.module("judged_parts").OTHERWISE;
 ExtensionMismatch = $.module("judged_parts").ExtensionMismatch;
-Kept = $.module("judged_parts").Kept;
-KeptCredentials = $.module("judged_parts").KeptCredentials;
+KnownCredential = $.module("judged_parts").KnownCredential;
+KnownCredentials = $.module("judged_parts").KnownCredentials;
 Pending = $.module("judged_parts").Pending;
 Pins = $.module("judged_parts").Pins;
 UncertainMismatch = $.module("judged_parts").UncertainMismatch;
 check_extension_outputs = $.module("judged_parts").check_extension_outputs;
-made_id = $.module("judged_parts").made_id;
+read_credential_id = $.module("judged_parts").read_credential_id;
 NOT_ALLOWED = $.module("judged_statuses").NOT_ALLOWED;
 StatusJudge = $.module("judged_statuses").StatusJudge;
 BLOB_KEY = $.module("judged_stored").BLOB_KEY;
@@ -3931,14 +3931,14 @@ UPDATE = $.module("judged_stored").UPDATE;
 StoredJudge = $.module("judged_stored").StoredJudge;
 named_credential_id = $.module("judged_stored").named_credential_id;
 PIN = $.module("requests").PIN;
-fault_of = $.module("requests").fault_of;
-parameters_of = $.module("requests").parameters_of;
+find_fault = $.module("requests").find_fault;
+decode_parameters = $.module("requests").decode_parameters;
 Entry = $.module("transactions").Entry;
 Transaction = $.module("transactions").Transaction;
-DELETED_WITHIN = 1000; 
+MIN_DELETION_MS = 1000; 
 EXPECTED = $.makeDict([[MAKE, "made"], [GET, "asserted"], [NEXT, "asserted"], [INFO, "info"]]); 
 function describe_error(fault) {
-return ($.isTrue($.apply(isinstance, [fault, KeyError])) ? ("" + "no member " + $.format($.call(ctap_cbor, "shown", [$.getItem($.attribute(fault, "args"), 0)]), "")) : "another structure");
+return ($.isTrue($.apply(isinstance, [fault, KeyError])) ? ("" + "no member " + $.format($.call(ctap_cbor, "to_diagnostic", [$.getItem($.attribute(fault, "args"), 0)]), "")) : "another structure");
 return null;
 }
 describe_error.$names = ["fault"];
@@ -3949,7 +3949,7 @@ let $t1, $t2, $t3, $t4, $t5, $t6, $t7, $t8, $t9;
 $t1 = recording; self.recording = $t1; 
 $t2 = $.apply(DeviceFacts, [], {old: true}); self.facts = $t2; 
 self.info = $.makeDict([]); 
-$t3 = $.apply(KeptCredentials, []); self.kept = $t3; 
+$t3 = $.apply(KnownCredentials, []); self.kept = $t3; 
 self.forgotten = $.apply(set, []); 
 self.replaced = $.apply(set, []); 
 self.strangers = $.makeDict([]); 
@@ -4000,14 +4000,14 @@ if (((!$.eq($.attribute(transaction, "command"), $.attribute(hid, "CBOR"))) || !
 return null;
 }
 request = $.attribute(transaction, "data"); 
-asked = ($.isTrue($t2 = $.apply(parameters_of, [request])) ? $t2 : $.makeDict([])); 
+asked = ($.isTrue($t2 = $.apply(decode_parameters, [request])) ? $t2 : $.makeDict([])); 
 if (($.eq($.getItem(request, 0), RESET))) {
-$t3 = $.Tuple.of($.apply(KeptCredentials, []), $.makeDict([])); $t4 = $.unpackItems($t3, 2); self.kept = $t4[0]; self.strangers = $t4[1]; 
+$t3 = $.Tuple.of($.apply(KnownCredentials, []), $.makeDict([])); $t4 = $.unpackItems($t3, 2); self.kept = $t4[0]; self.strangers = $t4[1]; 
 $.call(self, "passed", [transaction]);
 } else {
 if (($.contains($.Tuple.of(MAKE, PIN, MANAGE, PREVIEW, BLOBS), $.getItem(request, 0)))) {
 $.call(self, "passed", [transaction]);
-if ((($.eq($.getItem(request, 0), MAKE)) && (($.apply(fault_of, [request]) === null)))) {
+if ((($.eq($.getItem(request, 0), MAKE)) && (($.apply(find_fault, [request]) === null)))) {
 $.call(self, "forget_account", [$.getItem($.getItem(asked, 2), "id"), $.getItem($.getItem(asked, 3), "id")]);
 } else {
 if ((($.contains($.Tuple.of(MANAGE, PREVIEW), $.getItem(request, 0))) && ($.contains($.Tuple.of(DELETE, UPDATE), $.call(asked, "get", [1]))))) {
@@ -4044,7 +4044,7 @@ return null;
 is_fresh(kept, transaction) {
 const self = this;
 let $t1;
-return ($.isTrue($t1 = !$.isTrue($.attribute($.getMember(self, "recording"), "has_no_timestamps"))) ? $.lt($.sub($.attribute(transaction, "last"), $.attribute(kept, "shown")), DELETED_WITHIN) : $t1);
+return ($.isTrue($t1 = !$.isTrue($.attribute($.getMember(self, "recording"), "has_no_timestamps"))) ? $.lt($.sub($.attribute(transaction, "last"), $.attribute(kept, "shown")), MIN_DELETION_MS) : $t1);
 return null;
 }
 user_needed(entry, transaction) {
@@ -4053,7 +4053,7 @@ let actual, asked, expected, fault, level, options, own, section, wrong, $t1, $t
 if (!$.isTrue($.attribute(transaction, "data"))) {
 return null;
 }
-fault = $.apply(fault_of, [$.attribute(transaction, "data")]); 
+fault = $.apply(find_fault, [$.attribute(transaction, "data")]); 
 section = $.call($.attribute(rules, "COMMANDS"), "get", [$.getItem($.attribute(transaction, "data"), 0), $.attribute(rules, "COMMANDS_OTHER")]); 
 actual = "a touch is requested"; 
 if ((((fault !== null)) && !$.isTrue($.attribute(fault, "should")))) {
@@ -4062,7 +4062,7 @@ expected = ("" + "an error, since " + $.format($.attribute(fault, "expected"), "
 $.call($.getMember(self, "recording"), "find", [$.attribute(entry, "line"), KEY, ($.isTrue($t1 = $.attribute(fault, "section")) ? $t1 : section), expected, actual, level]);
 return null;
 }
-asked = ($.isTrue($t2 = $.apply(parameters_of, [$.attribute(transaction, "data")])) ? $t2 : $.makeDict([])); 
+asked = ($.isTrue($t2 = $.apply(decode_parameters, [$.attribute(transaction, "data")])) ? $t2 : $.makeDict([])); 
 options = $.call(asked, "get", [(($.eq($.getItem($.attribute(transaction, "data"), 0), MAKE)) ? 7 : 5), $.makeDict([])]); 
 wrong = (($.contains($.Tuple.of(MAKE, GET), $.getItem($.attribute(transaction, "data"), 0))) ? $.call($.getMember(self, "statuses"), "wrong_option", [$.getItem($.attribute(transaction, "data"), 0), asked, options]) : ""); 
 own = $.call($.getMember(self, "info"), "get", [4, $.makeDict([])]); 
@@ -4109,7 +4109,7 @@ differs = $t3e;
 $.call($.getMember(self, "recording"), "find", [$.attribute(entry, "line"), KEY, $.attribute(differs, "section"), $.attribute(differs, "expected"), $.attribute(differs, "actual")]);
 } else if ($.isinstance($t3e, Mismatch)) {
 differs = $t3e;
-fault = $.apply(fault_of, [request]); 
+fault = $.apply(find_fault, [request]); 
 is_should = ($.isTrue($t5 = $.apply(isinstance, [differs, UncertainMismatch])) ? $t5 : ($.isTrue($t4 = (fault !== null)) ? $.eq($.attribute(fault, "section"), "8") : $t4)); 
 level = ($.isTrue(is_should) ? SHOULD : MUST); 
 $.call($.getMember(self, "recording"), "judged", [$.call(self, "seen", [transaction, expected, message]), $.attribute(entry, "line"), differs, level]);
@@ -4142,7 +4142,7 @@ return null;
 take_preview(request, data) {
 const self = this;
 let asked;
-asked = $.apply(parameters_of, [request]); 
+asked = $.apply(decode_parameters, [request]); 
 if ((((asked === null)) || (!$.eq($.getItem(data, 0), 0)) || (!$.contains($.Tuple.of(DELETE, UPDATE), $.call(asked, "get", [1]))))) {
 return null;
 }
@@ -4155,7 +4155,7 @@ return null;
 seen(transaction, expected, message) {
 const self = this;
 let fault, own, $t1, $t2;
-fault = $.apply(fault_of, [$.attribute(transaction, "data")]); 
+fault = $.apply(find_fault, [$.attribute(transaction, "data")]); 
 own = ((((fault !== null)) && $.isTrue($.attribute(fault, "section"))) ? $.attribute(fault, "section") : ""); 
 if ($.isTrue($.getMember(self, "passed_over"))) {
 $t1 = $.Tuple.of("8", ""); $t2 = $.unpackItems($t1, 2); own = $t2[0]; self.passed_over = $t2[1]; 
@@ -4171,7 +4171,7 @@ $t1 = item; self.info = $t1;
 $t2 = $.getItem(item, 3); $.getMember(self, "facts").aaguid = $t2; 
 $t4 = (() => { const $r = []; for (const $t3 of $.iter($.call(item, "get", [10, []]))) { let one; one = $t3; $r.push($.getItem(one, "alg")); } return $r; })(); $.getMember(self, "facts").algorithms = $t4; 
 $.call($.getMember(self, "pins"), "check_info", [item]);
-$t5 = $.call(answers, "is_old", [$.getItem(item, 1)]); $.getMember(self, "facts").old = $t5; 
+$t5 = $.call(answers, "is_before_ctap_2_1", [$.getItem(item, 1)]); $.getMember(self, "facts").old = $t5; 
 return null;
 }
 check_made(transaction, data) {
@@ -4179,19 +4179,19 @@ const self = this;
 let asked, extensions, kept, made, request, words, $t1, $t2, $t3, $t4;
 request = $.attribute(transaction, "data"); 
 words = $.add(["up"], ($.isTrue($.call(self, "has_no_verification", [request])) ? ["no-uv"] : [])); 
-if ($.isTrue($.call($.call(answers, "parameters", [request]), "get", [8]))) {
+if ($.isTrue($.call($.call(answers, "decode_parameters", [request]), "get", [8]))) {
 $.call(words, "append", ["uv"]);
 }
-made = $.call(answers, "check_make_credential_response", [data, request, words, $.call($.getMember(self, "kept"), "near", [$.apply(made_id, [data])]), $.getMember(self, "facts")]); 
+made = $.call(answers, "check_make_credential_response", [data, request, words, $.call($.getMember(self, "kept"), "near", [$.apply(read_credential_id, [data])]), $.getMember(self, "facts")]); 
 $.apply(check, [!$.contains($.attribute($.getMember(self, "kept"), "by_key"), $.call(ctap_cbor, "encode", [$.attribute(made, "cose")])), "a new key pair", $.attribute(made, "cose")]);
-asked = $.call(answers, "parameters", [request]); 
+asked = $.call(answers, "decode_parameters", [request]); 
 $.apply(check_extension_outputs, [MAKE, data, asked, $.getMember(self, "info"), $.makeDict([])]);
 $.call(self, "replace", [made, asked]);
 if ($.isTrue($.attribute($.getMember(self, "recording"), "has_lost"))) {
 $t1 = false; self.is_complete = $t1; 
 }
 extensions = (() => { const $r = []; for (const $t2 of $.iter($.call($.call(asked, "get", [6, $.makeDict([])]), "items", []))) { let name, value; $t3 = $.unpackItems($t2, 2); name = $t3[0]; value = $t3[1]; $r.push([name, value]); } return $.makeDict($r); })(); 
-kept = $.apply(Kept, [made, $.apply(bool, [$.call($.call(asked, "get", [7, $.makeDict([])]), "get", ["rk"])]), extensions]); 
+kept = $.apply(KnownCredential, [made, $.apply(bool, [$.call($.call(asked, "get", [7, $.makeDict([])]), "get", ["rk"])]), extensions]); 
 $t4 = $.attribute(transaction, "last"); kept.shown = $t4; 
 $.call($.getMember(self, "kept"), "add", [kept]);
 $.call($.getMember(self, "stored"), "check_key", [data, $.call(self, "served", [extensions]), $.attribute(made, "id"), 5, true]);
@@ -4221,7 +4221,7 @@ return null;
 has_no_verification(request) {
 const self = this;
 let asked, $t1, $t2;
-asked = $.call(answers, "parameters", [request]); 
+asked = $.call(answers, "decode_parameters", [request]); 
 return ($.isTrue($t2 = $.apply(bool, [$.getMember(self, "info")])) ? ($.isTrue($t1 = !$.isTrue($.call($.call($.getMember(self, "info"), "get", [4, $.makeDict([])]), "get", ["uv"]))) ? !$.isTrue($.and($.makeSet([8, 6]), $.apply(set, [asked]))) : $t1) : $t2);
 return null;
 }
@@ -4233,7 +4233,7 @@ request = (($.isTrue(follows) && $.isTrue($.getMember(self, "pending"))) ? $.att
 if ((!$.isTrue(request) || (!$.eq($.getItem(request, 0), GET)))) {
 return null;
 }
-asked = $.call(answers, "parameters", [request]); 
+asked = $.call(answers, "decode_parameters", [request]); 
 item = $.call(answers, "decode_map", [data]); 
 words = $.call(self, "words_of", [asked, item, follows]); 
 identity = $.call(self, "identity", [asked, item]); 
@@ -4319,10 +4319,10 @@ return null;
 check_account(transaction, item, follows, identity) {
 const self = this;
 let asked, differs, is_sure, kept, kind, mine, words, $t1, $t2, $t3, $t4, $t5, $t6;
-asked = ($.isTrue($t1 = $.apply(parameters_of, [$.attribute(transaction, "data")])) ? $t1 : $.makeDict([])); 
+asked = ($.isTrue($t1 = $.apply(decode_parameters, [$.attribute(transaction, "data")])) ? $t1 : $.makeDict([])); 
 if (($.eq($.call(item, "get", [5]), 1))) {
 kind = ($.isTrue($.attribute($.getMember(self, "facts"), "old")) ? UncertainMismatch : Mismatch); 
-throw $.apply(kind, ["no numberOfCredentials of 1", $.call(ctap_cbor, "shown", [item])]);
+throw $.apply(kind, ["no numberOfCredentials of 1", $.call(ctap_cbor, "to_diagnostic", [item])]);
 }
 if (($.isTrue(follows) || $.isTrue($.call(asked, "get", [3])))) {
 return null;
@@ -4370,17 +4370,17 @@ let auth, command, flags, item, left, number, signed, status, $t1, $t2, $t3, $t4
 $t1 = $.Tuple.of($.getItem($.attribute(transaction, "data"), 0), $.getItem(data, 0)); $t2 = $.unpackItems($t1, 2); command = $t2[0]; status = $t2[1]; 
 if ((($.eq(command, RESET)) && ($.eq(status, 0)))) {
 $.call($.getMember(self, "forgotten"), "update", [$.apply(list, [$.attribute($.getMember(self, "kept"), "by_id")])]);
-$t4 = $.Tuple.of($.apply(KeptCredentials, []), ($.isTrue($t3 = !$.isTrue($.attribute($.getMember(self, "facts"), "old"))) ? !$.isTrue($.attribute($.getMember(self, "recording"), "has_lost")) : $t3)); $t5 = $.unpackItems($t4, 2); self.kept = $t5[0]; self.is_complete = $t5[1]; 
+$t4 = $.Tuple.of($.apply(KnownCredentials, []), ($.isTrue($t3 = !$.isTrue($.attribute($.getMember(self, "facts"), "old"))) ? !$.isTrue($.attribute($.getMember(self, "recording"), "has_lost")) : $t3)); $t5 = $.unpackItems($t4, 2); self.kept = $t5[0]; self.is_complete = $t5[1]; 
 $t6 = $.Tuple.of($.apply(Pins, [], {is_set: false}), $.apply(Pending, [$.parseHex(""), 0, $.attribute(entry, "at")])); $t7 = $.unpackItems($t6, 2); self.pins = $t7[0]; self.pending = $t7[1]; 
 $.call($.getMember(self, "stored"), "reset", []);
 } else {
 if ((($.eq(command, GET)) && ($.eq(status, 0)))) {
-item = ($.isTrue($t8 = $.apply(parameters_of, [data])) ? $t8 : $.makeDict([])); 
+item = ($.isTrue($t8 = $.apply(decode_parameters, [data])) ? $t8 : $.makeDict([])); 
 $t9 = $.Tuple.of($.call(item, "get", [5]), $.call(item, "get", [2])); $t10 = $.unpackItems($t9, 2); number = $t10[0]; auth = $t10[1]; 
 $t13 = ($.isTrue($t12 = $.getMember(self, "no_display")) ? $t12 : ($.isTrue($t11 = $.apply(isinstance, [number, int])) ? $.lt(1, number) : $t11)); self.no_display = $t13; 
 left = ($.isTrue($.apply(isinstance, [number, int])) ? $.sub(number, 1) : 0); 
 flags = (($.isTrue($.apply(isinstance, [auth, bytes])) && ($.lt(32, $.apply(len, [auth])))) ? $.getItem(auth, 32) : 0); 
-signed = [$.call(self, "identity", [($.isTrue($t14 = $.apply(parameters_of, [$.attribute(transaction, "data")])) ? $t14 : $.makeDict([])), item])]; 
+signed = [$.call(self, "identity", [($.isTrue($t14 = $.apply(decode_parameters, [$.attribute(transaction, "data")])) ? $t14 : $.makeDict([])), item])]; 
 $t15 = $.apply(Pending, [$.attribute(transaction, "data"), left, $.attribute(entry, "at"), $.attribute(transaction, "channel"), true, signed, flags]); self.pending = $t15; 
 } else {
 if ((($.eq(command, NEXT)) && ($.eq(status, 0)) && (($.getMember(self, "pending") !== null)))) {
@@ -4406,11 +4406,11 @@ return null;
 }
 }
 AnswerJudge.$names = {"__init__": ["recording"], "power_cycle": ["at"], "restart": ["at", "is_likely"], "passed": ["transaction"], "unanswered": ["transaction"], "forget_account": ["rp", "user"], "take_u2f": ["request", "data"], "is_fresh": ["kept", "transaction"], "user_needed": ["entry", "transaction"], "judge": ["entry", "transaction", "message"], "check_stored": ["transaction", "data"], "take_preview": ["request", "data"], "seen": ["transaction", "expected", "message"], "check_info": ["transaction", "data"], "check_made": ["transaction", "data"], "served": ["extensions"], "replace": ["made", "asked"], "has_no_verification": ["request"], "check_asserted": ["transaction", "data"], "check_series": ["item", "follows", "identity"], "check_protection": ["item", "asked", "identity"], "identity": ["asked", "item"], "words_of": ["asked", "item", "follows"], "check_account": ["transaction", "item", "follows", "identity"], "check_newest": ["asked", "item", "names", "identity"], "follow": ["entry", "transaction", "data"]};
-return { AnswerJudge, DELETED_WITHIN, EXPECTED, describe_error };
+return { AnswerJudge, EXPECTED, MIN_DELETION_MS, describe_error };
 };
 
 $.modules["judged_host"] = () => {
-let Entry, HOST, INVALID_CHANNEL, LENGTHS, MUST, Recording, SERVED, SHOULD, Transaction, VENDOR, fault_of, hid, quantity, rules, section_of;
+let Entry, HOST, INVALID_CHANNEL, LENGTHS, MUST, Recording, SERVED, SHOULD, Transaction, VENDOR, find_fault, hid, quantity, rules, section_of;
 hid = $.module("hid_packets");
 rules = $.module("rules");
 HOST = $.module("judged_log").HOST;
@@ -4419,7 +4419,7 @@ SHOULD = $.module("judged_log").SHOULD;
 Recording = $.module("judged_log").Recording;
 section_of = $.module("judged_log").section_of;
 quantity = $.module("quantity").quantity;
-fault_of = $.module("requests").fault_of;
+find_fault = $.module("requests").find_fault;
 Entry = $.module("transactions").Entry;
 Transaction = $.module("transactions").Transaction;
 INVALID_CHANNEL = 11; 
@@ -4595,7 +4595,7 @@ if ($.isTrue($.apply(any, [$.attribute(transaction, "padding")]))) {
 $.call(self, "find", [$.attribute(entry, "line"), $.attribute(rules, "PACKETS"), "zeros as padding", "other bytes", SHOULD]);
 }
 if ((($.eq($.attribute(transaction, "command"), $.attribute(hid, "CBOR"))) && $.isTrue($.attribute(transaction, "data")))) {
-fault = $.apply(fault_of, [$.attribute(transaction, "data")]); 
+fault = $.apply(find_fault, [$.attribute(transaction, "data")]); 
 if (((fault !== null))) {
 section = ($.isTrue($t1 = $.attribute(fault, "section")) ? $t1 : $.apply(section_of, [transaction])); 
 $.call(self, "find", [$.attribute(transaction, "line"), section, $.attribute(fault, "expected"), $.attribute(fault, "actual"), ($.isTrue($.attribute(fault, "should")) ? SHOULD : MUST)]);
@@ -4760,7 +4760,7 @@ return null;
 if ((($.contains($.Tuple.of($.attribute(hid, "PING"), $.attribute(hid, "INIT"), $.attribute(hid, "CBOR")), $.attribute(transaction, "command"))) && !($.isTrue($.attribute($.getMember(self, "key"), "is_first")) && ($.eq(code, BUSY))))) {
 expected = $.getItem($.makeDict([[$.attribute(hid, "PING"), "echo"], [$.attribute(hid, "INIT"), "init"], [$.attribute(hid, "CBOR"), "status"]]), $.attribute(transaction, "command")); 
 actual = $.call(hid, "Message", [$.attribute(transaction, "channel"), $.attribute(hid, "ERROR"), $.apply(bytes, [[code]])]); 
-section = $.call(rules, "broken", [$.apply(seen, [transaction, expected, actual])]); 
+section = $.call(rules, "find_violated_section", [$.apply(seen, [transaction, expected, actual])]); 
 $.call($.getMember(self, "key"), "find", [$.attribute(entry, "line"), section, "a response", ("" + "ERROR " + $.format(code, "02x"))]);
 }
 return null;
@@ -4790,7 +4790,7 @@ return { ErrorJudge, OPTIONAL, OTHER_ERROR, SERVED };
 };
 
 $.modules["judged_key"] = () => {
-let AWAY, AnswerJudge, CANCELLED, CBOR, Entry, ErrorJudge, JITTER, KEY, MAX_OPEN, MUST, Mismatch, NO_TIME_OUT, PATIENCE, Recording, SERVED, SHOULD, SILENCE, Transaction, check_init_response, check_u2f, hid, is_valid_keepalive, message_of, quantity, rules, seen;
+let AnswerJudge, CANCELLED, CBOR, Entry, ErrorJudge, JITTER_MS, KEY, MAX_OPEN, MESSAGE_TIMEOUT_MS, MIN_UNPLUGGED_MS, MUST, Mismatch, NO_TIME_OUT, Recording, SERVED, SHOULD, SILENCE_MS, Transaction, check_init_response, check_u2f, hid, is_valid_keepalive, message_of, quantity, rules, seen;
 hid = $.module("hid_packets");
 rules = $.module("rules");
 Mismatch = $.module("answers").Mismatch;
@@ -4804,18 +4804,18 @@ check_u2f = $.module("judged_parts").check_u2f;
 KEY = $.module("judged_log").KEY;
 MUST = $.module("judged_log").MUST;
 SHOULD = $.module("judged_log").SHOULD;
-SILENCE = $.module("judged_log").SILENCE;
+SILENCE_MS = $.module("judged_log").SILENCE_MS;
 Recording = $.module("judged_log").Recording;
 message_of = $.module("judged_log").message_of;
 seen = $.module("judged_log").seen;
-JITTER = $.module("judged_statuses").JITTER;
+JITTER_MS = $.module("judged_statuses").JITTER_MS;
 quantity = $.module("quantity").quantity;
 CANCELLED = $.module("transactions").CANCELLED;
 NO_TIME_OUT = $.module("transactions").NO_TIME_OUT;
 Entry = $.module("transactions").Entry;
 Transaction = $.module("transactions").Transaction;
-PATIENCE = 3000; 
-AWAY = 100; 
+MESSAGE_TIMEOUT_MS = 3000; 
+MIN_UNPLUGGED_MS = 100; 
 MAX_OPEN = 64; 
 class KeyJudge extends $.Object {
 __init__(recording) {
@@ -5038,7 +5038,7 @@ const self = this;
 if (((($.attribute(transaction, "cancelled") === null)) || $.isTrue($.call($.getMember(self, "recording"), "was_unread", [$.attribute(entry, "line")])))) {
 return null;
 }
-if ((($.le(SILENCE, $.sub($.attribute(entry, "at"), $.attribute(transaction, "cancelled_at")))) && ($.lt($.attribute(transaction, "cancelled"), $.attribute(entry, "line"))))) {
+if ((($.le(SILENCE_MS, $.sub($.attribute(entry, "at"), $.attribute(transaction, "cancelled_at")))) && ($.lt($.attribute(transaction, "cancelled"), $.attribute(entry, "line"))))) {
 $.call(self, "find", [$.attribute(entry, "line"), $.attribute(rules, "CANCEL"), "status 2d, since CANCEL came", "KEEPALIVEs go on"]);
 }
 return null;
@@ -5075,7 +5075,7 @@ check_gap(entry, transaction) {
 const self = this;
 let gaps, $t1, $t2;
 gaps = (() => { const $r = []; for (const $t1 of $.iter($.apply(zip, [$.attribute(transaction, "times"), $.getSlice($.attribute(transaction, "times"), 1, null)]))) { let after, before; $t2 = $.unpackItems($t1, 2); before = $t2[0]; after = $t2[1]; $r.push($.sub(after, before)); } return $r; })(); 
-if (($.isTrue(gaps) && ($.le(PATIENCE, $.apply(max, [gaps]))))) {
+if (($.isTrue(gaps) && ($.le(MESSAGE_TIMEOUT_MS, $.apply(max, [gaps]))))) {
 $.call(self, "find", [$.attribute(entry, "line"), $.attribute(rules, "TIMEOUT"), "error 05, since the message timed out", "a response", SHOULD]);
 }
 return null;
@@ -5188,7 +5188,7 @@ $.call($.getMember(self, "answers"), "take_u2f", [$.attribute(transaction, "data
 } else {
 if ((($.eq($.attribute(message, "command"), $.attribute(hid, "LOCK"))) && ($.eq($.apply(len, [$.attribute(transaction, "data")]), 1)))) {
 seconds = $.getItem($.attribute(transaction, "data"), 0); 
-$t5 = $.Tuple.of(($.isTrue(seconds) ? $.attribute(transaction, "channel") : 0), $.add($.add($.attribute(entry, "at"), $.mul(1000, seconds)), JITTER)); self.locked = $t5; 
+$t5 = $.Tuple.of(($.isTrue(seconds) ? $.attribute(transaction, "channel") : 0), $.add($.add($.attribute(entry, "at"), $.mul(1000, seconds)), JITTER_MS)); self.locked = $t5; 
 }
 }
 }
@@ -5225,7 +5225,7 @@ return null;
 check_restart(entry, channel) {
 const self = this;
 let away, $t1, $t2;
-away = ($.isTrue($t2 = $.attribute($.getMember(self, "recording"), "has_no_timestamps")) ? $t2 : ($.isTrue($t1 = ($.getMember(self, "sent_at") === null)) ? $t1 : $.le(AWAY, $.sub($.attribute(entry, "at"), $.getMember(self, "sent_at"))))); 
+away = ($.isTrue($t2 = $.attribute($.getMember(self, "recording"), "has_no_timestamps")) ? $t2 : ($.isTrue($t1 = ($.getMember(self, "sent_at") === null)) ? $t1 : $.le(MIN_UNPLUGGED_MS, $.sub($.attribute(entry, "at"), $.getMember(self, "sent_at"))))); 
 if (($.isTrue(away) && ($.contains($.getMember(self, "allocated"), channel)))) {
 $.call(self, "forget", []);
 $.call($.getMember(self, "answers"), "restart", [$.attribute(entry, "at"), true]);
@@ -5295,7 +5295,7 @@ if (($.isTrue(is_due) && $.isTrue($.call(self, "is_silent", [owner, now, line]))
 $.call($.getMember(self, "missed"), "add", [$.attribute(owner, "line")]);
 $.call(self, "missing", [owner]);
 } else {
-if ((!$.isTrue(is_due) && (($.attribute(owner, "by") === null)) && ($.le(PATIENCE, $.sub(now, $.attribute(owner, "last")))))) {
+if ((!$.isTrue(is_due) && (($.attribute(owner, "by") === null)) && ($.le(MESSAGE_TIMEOUT_MS, $.sub(now, $.attribute(owner, "last")))))) {
 $.call($.getMember(self, "missed"), "add", [$.attribute(owner, "line")]);
 $.call(self, "find", [$.getItem($.attribute(owner, "lines"), $.sub(0, 1)), $.attribute(rules, "TIMEOUT"), "error 05, since the message timed out", "nothing", SHOULD]);
 }
@@ -5308,7 +5308,7 @@ const self = this;
 let channel, entry, expected, left, part, $t1, $t2;
 for (const $t1$ of $.iter($.apply(list, [$.call($.getMember(self, "parts"), "items", [])]))) {
 $t2 = $.unpackItems($t1$, 2); channel = $t2[0]; entry = $t2[1]; 
-if ((($.le(SILENCE, $.sub(now, $.attribute(entry, "at")))) && !$.isTrue($.call($.getMember(self, "recording"), "was_unread", [line])))) {
+if ((($.le(SILENCE_MS, $.sub(now, $.attribute(entry, "at")))) && !$.isTrue($.call($.getMember(self, "recording"), "was_unread", [line])))) {
 part = $.call($.attribute($.getMember(self, "guest"), "open"), "get", [channel]); 
 left = (((part !== null)) ? $.sub($.attribute(part, "length"), $.apply(len, [$.attribute(part, "data")])) : 0); 
 expected = ("" + "the other " + $.format($.apply(quantity, [left, "byte"]), "") + " of the message"); 
@@ -5323,14 +5323,14 @@ return null;
 is_silent(owner, now, line) {
 const self = this;
 let last;
-if ((($.lt($.sub(now, $.attribute(owner, "last")), SILENCE)) || ($.eq($.attribute(owner, "end"), "replaced")) || $.isTrue($.attribute(owner, "is_unknown")))) {
+if ((($.lt($.sub(now, $.attribute(owner, "last")), SILENCE_MS)) || ($.eq($.attribute(owner, "end"), "replaced")) || $.isTrue($.attribute(owner, "is_unknown")))) {
 return false;
 }
 if ((((($.attribute(owner, "by") !== null)) && ($.lt($.attribute(owner, "by"), line))) || $.isTrue($.call($.getMember(self, "recording"), "was_unread", [line])))) {
 return false;
 }
 last = $.call($.getMember(self, "last_keepalive"), "get", [$.attribute(owner, "line"), $.attribute(owner, "last")]); 
-return $.le(SILENCE, $.sub(now, last));
+return $.le(SILENCE_MS, $.sub(now, last));
 return null;
 }
 missing(owner) {
@@ -5392,7 +5392,7 @@ const self = this;
 let late, owner, wrong, $t1, $t2, $t3, $t4;
 for (const $t1$ of $.iter($.getMember(self, "wrong"))) {
 wrong = $t1$; 
-$t2 = $.Tuple.of($.attribute(wrong, "transaction"), $.le(SILENCE, $.sub($.attribute($.attribute($.getMember(self, "recording"), "walk"), "now"), $.attribute(wrong, "at")))); $t3 = $.unpackItems($t2, 2); owner = $t3[0]; late = $t3[1]; 
+$t2 = $.Tuple.of($.attribute(wrong, "transaction"), $.le(SILENCE_MS, $.sub($.attribute($.attribute($.getMember(self, "recording"), "walk"), "now"), $.attribute(wrong, "at")))); $t3 = $.unpackItems($t2, 2); owner = $t3[0]; late = $t3[1]; 
 if ((((owner === null)) || (((entry === null)) && !$.isTrue(late)))) {
 continue;
 }
@@ -5405,11 +5405,11 @@ return null;
 }
 }
 KeyJudge.$names = {"__init__": ["recording"], "find": ["line", "section", "expected", "actual", "level"], "find_gap": ["line", "section", "expected", "actual", "level", "also"], "take": ["entry"], "power_cycle": ["at"], "forget": [], "take_input": ["entry"], "take_sent": ["entry"], "check_packet": ["entry"], "close": ["entry"], "close_channel": ["init"], "is_ousted": ["transaction"], "check_keepalive": ["entry", "message"], "was_aborted": ["entry"], "check_cancelled_on": ["entry", "transaction"], "is_late_start": ["entry"], "check_first_packet": ["entry"], "check_gap": ["entry", "transaction"], "is_waiting": ["item", "other", "entry"], "check_unasked": ["entry", "command", "name"], "expected_init": ["waiting"], "check_whole": ["entry"], "check_init_response": ["entry", "transaction", "message"], "check_restart": ["entry", "channel"], "check_without_cbor": [], "check_echo": ["transaction", "message"], "check_status": ["entry", "transaction", "message"], "check_silence": ["now", "line"], "check_parts": ["now", "line"], "is_silent": ["owner", "now", "line"], "missing": ["owner"], "missing_response": ["owner"], "was_cancelled_inside": ["owner"], "finish": [], "check_unfinished": ["entry"]};
-return { AWAY, KeyJudge, MAX_OPEN, PATIENCE };
+return { KeyJudge, MAX_OPEN, MESSAGE_TIMEOUT_MS, MIN_UNPLUGGED_MS };
 };
 
 $.modules["judged_report"] = () => {
-let AVAILABLE, FORMAT, Finding, KEY, MUST, OLD_NAMES, Recording, SHOULD, SIDES, WRITERS, clean, escape, json, quantity, quoteattr;
+let AVAILABLE, FORMAT, Finding, KEY, MUST, OLD_NAMES, Recording, SHOULD, SIDES, WRITERS, escape, escape_text, json, quantity, quoteattr;
 json = $.module("json");
 escape = $.module("xml.sax.saxutils").escape;
 quoteattr = $.module("xml.sax.saxutils").quoteattr;
@@ -5420,25 +5420,25 @@ Finding = $.module("judged_log").Finding;
 Recording = $.module("judged_log").Recording;
 AVAILABLE = $.module("keys").AVAILABLE;
 quantity = $.module("quantity").quantity;
-clean = $.module("sanitize").clean;
+escape_text = $.module("sanitize").escape_text;
 FORMAT = 2; 
 OLD_NAMES = $.makeDict([["relatedSections", "also"], ["expected", "due"], ["actual", "came"]]); 
 SIDES = $.makeDict([[KEY, "the key"], ["host", "the host"]]); 
-function packets_of(recording) {
+function count_packets(recording) {
 return $.attribute($.attribute(recording, "walk"), "packets");
 return null;
 }
-packets_of.$names = ["recording"];
-function total(recording) {
+count_packets.$names = ["recording"];
+function format_total(recording) {
 let counts, packets, violations, $t1, $t2;
 counts = (() => { const $r = []; for (const $t2 of $.iter($.Tuple.of(MUST, SHOULD))) { let level; level = $t2; $r.push([level, $.apply(sum, [(function* () { for (const $t1 of $.iter($.attribute(recording, "findings"))) { let finding; finding = $t1; yield $.eq($.attribute(finding, "level"), level); } })()])]); } return $.makeDict($r); })(); 
-packets = $.apply(packets_of, [recording]); 
+packets = $.apply(count_packets, [recording]); 
 violations = ("" + $.format($.apply(quantity, [$.getItem(counts, MUST), "MUST violation"]), "") + ", " + $.format($.apply(quantity, [$.getItem(counts, SHOULD), "SHOULD violation"]), "")); 
 return ("" + $.format($.apply(quantity, [packets, "packet"]), "") + ", " + $.format($.apply(quantity, [$.attribute($.attribute(recording, "walk"), "count"), "transaction"]), "") + ": " + $.format(violations, ""));
 return null;
 }
-total.$names = ["recording"];
-function notes_of(recording) {
+format_total.$names = ["recording"];
+function list_notes(recording) {
 let are, gap, notes;
 notes = []; 
 if ($.isTrue($.attribute(recording, "has_lost"))) {
@@ -5471,62 +5471,62 @@ $.call(notes, "append", ["signatures were not verified: the package cryptography
 return notes;
 return null;
 }
-notes_of.$names = ["recording"];
-function lines_of(finding) {
-return [("" + "line " + $.format($.attribute(finding, "line"), "") + ": " + $.format($.getItem(SIDES, $.attribute(finding, "side")), "") + " violates " + $.format($.call($.attribute(finding, "level"), "upper", []), "") + ": " + $.format($.attribute(finding, "rule"), "")), ("" + "  expected: " + $.format($.apply(clean, [$.attribute(finding, "expected")]), "")), ("" + "  actual:   " + $.format($.apply(clean, [$.attribute(finding, "actual")]), ""))];
+list_notes.$names = ["recording"];
+function format_finding(finding) {
+return [("" + "line " + $.format($.attribute(finding, "line"), "") + ": " + $.format($.getItem(SIDES, $.attribute(finding, "side")), "") + " violates " + $.format($.call($.attribute(finding, "level"), "upper", []), "") + ": " + $.format($.attribute(finding, "rule"), "")), ("" + "  expected: " + $.format($.apply(escape_text, [$.attribute(finding, "expected")]), "")), ("" + "  actual:   " + $.format($.apply(escape_text, [$.attribute(finding, "actual")]), ""))];
 return null;
 }
-lines_of.$names = ["finding"];
-function text_of_recording(recording) {
+format_finding.$names = ["finding"];
+function format_recording(recording) {
 let lines, $t1, $t2, $t3, $t4;
-lines = (() => { const $r = []; for (const $t1 of $.iter($.apply(notes_of, [recording]))) { let note; note = $t1; $r.push(("" + "note: " + $.format(note, ""))); } return $r; })(); 
-lines = $.add(lines, (() => { const $r = []; for (const $t3 of $.iter($.attribute(recording, "findings"))) { let finding; finding = $t3; for (const $t2 of $.iter($.apply(lines_of, [finding]))) { let line; line = $t2; $r.push(line); }; } return $r; })()); 
-return $.call("", "join", [(function* () { for (const $t4 of $.iter([...$.iter(lines), $.apply(total, [recording])])) { let line; line = $t4; yield ("" + $.format(line, "") + "\n"); } })()]);
+lines = (() => { const $r = []; for (const $t1 of $.iter($.apply(list_notes, [recording]))) { let note; note = $t1; $r.push(("" + "note: " + $.format(note, ""))); } return $r; })(); 
+lines = $.add(lines, (() => { const $r = []; for (const $t3 of $.iter($.attribute(recording, "findings"))) { let finding; finding = $t3; for (const $t2 of $.iter($.apply(format_finding, [finding]))) { let line; line = $t2; $r.push(line); }; } return $r; })()); 
+return $.call("", "join", [(function* () { for (const $t4 of $.iter([...$.iter(lines), $.apply(format_total, [recording])])) { let line; line = $t4; yield ("" + $.format(line, "") + "\n"); } })()]);
 return null;
 }
-text_of_recording.$names = ["recording"];
-function as_text(judged) {
+format_recording.$names = ["recording"];
+function to_text(judged) {
 let $t1, $t2;
 if (($.eq($.apply(len, [judged]), 1))) {
-return $.apply(text_of_recording, [$.getItem($.getItem(judged, 0), 1)]);
+return $.apply(format_recording, [$.getItem($.getItem(judged, 0), 1)]);
 }
-return $.call("\n", "join", [(function* () { for (const $t1 of $.iter(judged)) { let name, recording; $t2 = $.unpackItems($t1, 2); name = $t2[0]; recording = $t2[1]; yield ("" + $.format($.apply(clean, [name]), "") + "\n" + $.format($.apply(text_of_recording, [recording]), "")); } })()]);
+return $.call("\n", "join", [(function* () { for (const $t1 of $.iter(judged)) { let name, recording; $t2 = $.unpackItems($t1, 2); name = $t2[0]; recording = $t2[1]; yield ("" + $.format($.apply(escape_text, [name]), "") + "\n" + $.format($.apply(format_recording, [recording]), "")); } })()]);
 return null;
 }
-as_text.$names = ["judged"];
-function object_of(finding) {
+to_text.$names = ["judged"];
+function to_finding_object(finding) {
 return $.makeDict([["line", $.attribute(finding, "line")], ["side", $.attribute(finding, "side")], ["level", $.attribute(finding, "level")], ["section", $.attribute(finding, "section")], ["relatedSections", $.attribute(finding, "also")], ["rule", $.attribute(finding, "rule")], ["expected", $.attribute(finding, "expected")], ["actual", $.attribute(finding, "actual")]]);
 return null;
 }
-object_of.$names = ["finding"];
-function with_old_names(members) {
+to_finding_object.$names = ["finding"];
+function add_old_names(members) {
 let $t1, $t2;
 return $.makeDict([...$.pairs(members), ...$.pairs((() => { const $r = []; for (const $t1 of $.iter($.call(OLD_NAMES, "items", []))) { let name, old; $t2 = $.unpackItems($t1, 2); name = $t2[0]; old = $t2[1]; $r.push([old, $.getItem(members, name)]); } return $.makeDict($r); })())]);
 return null;
 }
-with_old_names.$names = ["members"];
-function recording_object(name, recording) {
+add_old_names.$names = ["members"];
+function to_recording_object(name, recording) {
 let $t1;
-return $.makeDict([["format", FORMAT], ["log", name], ["packets", $.apply(packets_of, [recording])], ["transactions", $.attribute($.attribute(recording, "walk"), "count")], ["findings", (() => { const $r = []; for (const $t1 of $.iter($.attribute(recording, "findings"))) { let finding; finding = $t1; $r.push($.apply(with_old_names, [$.apply(object_of, [finding])])); } return $r; })()], ["notes", $.apply(notes_of, [recording])]]);
+return $.makeDict([["format", FORMAT], ["log", name], ["packets", $.apply(count_packets, [recording])], ["transactions", $.attribute($.attribute(recording, "walk"), "count")], ["findings", (() => { const $r = []; for (const $t1 of $.iter($.attribute(recording, "findings"))) { let finding; finding = $t1; $r.push($.apply(add_old_names, [$.apply(to_finding_object, [finding])])); } return $r; })()], ["notes", $.apply(list_notes, [recording])]]);
 return null;
 }
-recording_object.$names = ["name", "recording"];
-function as_json(judged) {
+to_recording_object.$names = ["name", "recording"];
+function to_json(judged) {
 let objects, $t1, $t2;
-objects = (() => { const $r = []; for (const $t1 of $.iter(judged)) { let name, recording; $t2 = $.unpackItems($t1, 2); name = $t2[0]; recording = $t2[1]; $r.push($.apply(recording_object, [name, recording])); } return $r; })(); 
+objects = (() => { const $r = []; for (const $t1 of $.iter(judged)) { let name, recording; $t2 = $.unpackItems($t1, 2); name = $t2[0]; recording = $t2[1]; $r.push($.apply(to_recording_object, [name, recording])); } return $r; })(); 
 return $.add($.call(json, "dumps", [(($.eq($.apply(len, [objects]), 1)) ? $.getItem(objects, 0) : objects)], {indent: 1}), "\n");
 return null;
 }
-as_json.$names = ["judged"];
-function suite_of(name, recording) {
+to_json.$names = ["judged"];
+function to_suite(name, recording) {
 let cases, failures, finding, head, kind, opened, text, title, $t1, $t2;
 cases = []; 
 for (const $t1$ of $.iter($.attribute(recording, "findings"))) {
 finding = $t1$; 
-text = $.apply(escape, [$.call("\n", "join", [$.apply(lines_of, [finding])])]); 
+text = $.apply(escape, [$.call("\n", "join", [$.apply(format_finding, [finding])])]); 
 title = $.apply(quoteattr, [("" + "line " + $.format($.attribute(finding, "line"), "") + ": " + $.format($.attribute(finding, "side"), "") + ": " + $.format($.attribute(finding, "rule"), ""))]); 
 kind = (($.eq($.attribute(finding, "level"), MUST)) ? "failure" : "system-out"); 
-opened = (($.eq($.attribute(finding, "level"), MUST)) ? ("" + "<failure message=" + $.format($.apply(quoteattr, [$.apply(clean, [$.attribute(finding, "expected")])]), "") + ">") : "<system-out>"); 
+opened = (($.eq($.attribute(finding, "level"), MUST)) ? ("" + "<failure message=" + $.format($.apply(quoteattr, [$.apply(escape_text, [$.attribute(finding, "expected")])]), "") + ">") : "<system-out>"); 
 $.call(cases, "append", [("" + "  <testcase classname=" + $.format($.apply(quoteattr, [name]), "") + " name=" + $.format(title, "") + ">" + $.format(opened, "") + $.format(text, "") + "</" + $.format(kind, "") + "></testcase>")]);
 }
 if (!$.isTrue(cases)) {
@@ -5537,19 +5537,19 @@ head = ("" + "<testsuite name=\"hidlog judge\" tests=\"" + $.format($.apply(len,
 return [head, ...$.iter(cases), "</testsuite>"];
 return null;
 }
-suite_of.$names = ["name", "recording"];
-function as_junit(judged) {
+to_suite.$names = ["name", "recording"];
+function to_junit(judged) {
 let suites, $t1, $t2, $t3;
-suites = (() => { const $r = []; for (const $t2 of $.iter(judged)) { let name, recording; $t3 = $.unpackItems($t2, 2); name = $t3[0]; recording = $t3[1]; for (const $t1 of $.iter($.apply(suite_of, [name, recording]))) { let line; line = $t1; $r.push(line); }; } return $r; })(); 
+suites = (() => { const $r = []; for (const $t2 of $.iter(judged)) { let name, recording; $t3 = $.unpackItems($t2, 2); name = $t3[0]; recording = $t3[1]; for (const $t1 of $.iter($.apply(to_suite, [name, recording]))) { let line; line = $t1; $r.push(line); }; } return $r; })(); 
 if (($.lt(1, $.apply(len, [judged])))) {
 suites = ["<testsuites>", ...$.iter(suites), "</testsuites>"]; 
 }
 return $.call("\n", "join", [["<?xml version=\"1.0\" encoding=\"UTF-8\"?>", ...$.iter(suites), ""]]);
 return null;
 }
-as_junit.$names = ["judged"];
-WRITERS = $.makeDict([["text", as_text], ["json", as_json], ["junit", as_junit]]); 
-return { FORMAT, OLD_NAMES, SIDES, WRITERS, as_json, as_junit, as_text, lines_of, notes_of, object_of, packets_of, recording_object, suite_of, text_of_recording, total, with_old_names };
+to_junit.$names = ["judged"];
+WRITERS = $.makeDict([["text", to_text], ["json", to_json], ["junit", to_junit]]); 
+return { FORMAT, OLD_NAMES, SIDES, WRITERS, add_old_names, count_packets, format_finding, format_recording, format_total, list_notes, to_finding_object, to_json, to_junit, to_recording_object, to_suite, to_text };
 };
 
 })();

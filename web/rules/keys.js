@@ -162,10 +162,10 @@
 
     $.modules.keys = () => ({
         AVAILABLE: Boolean(globalThis.crypto?.subtle),
-        verifies: (cose, signed, signature) =>
+        is_valid_signature: (cose, signed, signature) =>
             getVerdict(`${$.repr(cose)} ${signed.digits} ${signature.digits}`,
                 { cose, signed: signed.data, signature: signature.data }),
-        verified_by: (certificate, alg, signed, signature) =>
+        is_valid_for_certificate: (certificate, alg, signed, signature) =>
             getVerdict(`${certificate.digits} ${alg} ${signed.digits} ${signature.digits}`,
                 { certificate: certificate.data, alg, signed: signed.data, signature: signature.data }),
     });

@@ -90,7 +90,12 @@ def read_cases() -> List[Case]:
     cases.append(BlobCase("begins_empty", "The initial array is empty.").holds(EMPTY_ARRAY))
     case = BlobCase("read_in_pieces", "A read returns the requested number of bytes from the offset.")
     case.read(10).expect(f"piece {EMPTY_ARRAY[:10].hex()}")
-    cases.append(case.read(5, 10).expect(f"piece {EMPTY_ARRAY[10:15].hex()}").read(9, 15).expect(f"piece {EMPTY_ARRAY[15:].hex()}"))
+    cases.append(
+        case.read(5, 10)
+        .expect(f"piece {EMPTY_ARRAY[10:15].hex()}")
+        .read(9, 15)
+        .expect(f"piece {EMPTY_ARRAY[15:].hex()}")
+    )
     case = BlobCase("read_at_the_end", "A read at the end returns no bytes.")
     cases.append(case.read(10, 17).expect("piece "))
     case = BlobCase("read_behind_the_end", "An offset past the end is refused.")
@@ -121,7 +126,9 @@ def write_cases() -> List[Case]:
     case = BlobCase("written", "A written array can be read.")
     cases.append(case.whole(ARRAY_WITH_ENTRY).expect("status 00").holds(ARRAY_WITH_ENTRY))
     case = BlobCase("written_again", "A second write replaces the array.")
-    cases.append(case.whole(ARRAY_WITH_ENTRY).expect("status 00").whole(OTHER_ARRAY).expect("status 00").holds(OTHER_ARRAY))
+    cases.append(
+        case.whole(ARRAY_WITH_ENTRY).expect("status 00").whole(OTHER_ARRAY).expect("status 00").holds(OTHER_ARRAY)
+    )
     case = BlobCase("written_in_pieces", "An array written in fragments takes effect with the last one.")
     case.write(ARRAY_WITH_ENTRY[:30], 0, len(ARRAY_WITH_ENTRY)).expect("status 00").holds(EMPTY_ARRAY)
     case.write(ARRAY_WITH_ENTRY[30:50], 30).expect("status 00").holds(EMPTY_ARRAY)
@@ -134,7 +141,9 @@ def write_cases() -> List[Case]:
     case.whole(ARRAY_WITH_ENTRY).expect("status 00").cbor(RESET).presence().expect("status 00")
     cases.append(case.holds(EMPTY_ARRAY))
     case = BlobCase("reset_after_pieces", "A reset empties an array that was written in fragments.", "reset", ["touch"])
-    case.write(OTHER_ARRAY[:30], 0, len(OTHER_ARRAY)).expect("status 00").write(OTHER_ARRAY[30:], 30).expect("status 00")
+    case.write(OTHER_ARRAY[:30], 0, len(OTHER_ARRAY)).expect("status 00").write(OTHER_ARRAY[30:], 30).expect(
+        "status 00"
+    )
     case.cbor(RESET).presence().expect("status 00").holds(EMPTY_ARRAY)
     cases.append(case.whole(ARRAY_WITH_ENTRY).expect("status 00").holds(ARRAY_WITH_ENTRY))
     case = BlobCase("stays", "The array survives a power cycle.", "blobs", ["power cycle"])
@@ -148,7 +157,9 @@ def write_cases() -> List[Case]:
         "blobs",
         ["power cycle"],
     )
-    case.whole(OTHER_ARRAY).expect("status 00").write(ARRAY_WITH_ENTRY[:50], 0, len(ARRAY_WITH_ENTRY)).expect("status 00").power_cycle().greet()
+    case.whole(OTHER_ARRAY).expect("status 00").write(ARRAY_WITH_ENTRY[:50], 0, len(ARRAY_WITH_ENTRY)).expect(
+        "status 00"
+    ).power_cycle().greet()
     cases.append(case.write(ARRAY_WITH_ENTRY[50:60], 50).expect("status 04").holds(OTHER_ARRAY))
     return cases
 
@@ -192,7 +203,11 @@ def token_cases(protocol: int) -> List[Case]:
     cases.append(case.writing().authentic().expect("status 00").holds(ARRAY_WITH_ENTRY))
     case = TokenCase("pieces_by_token", "One token can write all fragments.", protocol)
     case.writing().write(ARRAY_WITH_ENTRY[:30], 0, len(ARRAY_WITH_ENTRY), p5=b"=blob", p6=protocol).expect("status 00")
-    cases.append(case.write(ARRAY_WITH_ENTRY[30:], 30, None, p5=b"=blob", p6=protocol).expect("status 00").holds(ARRAY_WITH_ENTRY))
+    cases.append(
+        case.write(ARRAY_WITH_ENTRY[30:], 30, None, p5=b"=blob", p6=protocol)
+        .expect("status 00")
+        .holds(ARRAY_WITH_ENTRY)
+    )
     case = TokenCase("read_without_token", "Reading needs no token.", protocol)
     cases.append(case.with_pin().holds(EMPTY_ARRAY))
     case = TokenCase("without_token", "With a PIN set, a write without a token is refused.", protocol)

@@ -100,7 +100,9 @@ def list_kinds() -> List[Tuple[str, bytes, str, Dict[str, str]]]:
     found: List[Tuple[str, bytes, str, Dict[str, str]]] = []
     found += [(name, bytes.fromhex(text), "refused 12", {}) for name, text in MALFORMED.items()]
     found += [(name, bytes.fromhex(text), "status 12", {"level": "should"}) for name, text in NOT_CANONICAL.items()]
-    found += [(name, bytes.fromhex(text), "status 12", {"profile": PROFILE_CHOICE}) for name, text in OTHER_ITEMS.items()]
+    found += [
+        (name, bytes.fromhex(text), "status 12", {"profile": PROFILE_CHOICE}) for name, text in OTHER_ITEMS.items()
+    ]
     return found
 
 

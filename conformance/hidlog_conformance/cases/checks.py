@@ -4,7 +4,16 @@ from __future__ import annotations
 
 from typing import Any, Callable, Dict, List, NamedTuple, Tuple
 
-from hidlog_conformance.cases.corpus import GET, KIND, MAKE, Case, descriptor, get_request, make_request, credential_name
+from hidlog_conformance.cases.corpus import (
+    GET,
+    KIND,
+    MAKE,
+    Case,
+    descriptor,
+    get_request,
+    make_request,
+    credential_name,
+)
 from hidlog_conformance.ctap_cbor import encode
 from hidlog_conformance.quantity import quantity
 
@@ -57,7 +66,15 @@ GET_ORDER = [
     Check("rk", "2b", set_parameter(5, {"rk": True})),
     Check("credential", "2e", set_parameter(3, [descriptor(9)])),
 ]
-WRONG_VALUES: Dict[str, Any] = {"integer": 1, "text": "x", "bytes": b"x", "array": [], "map": {}, "true": True, "null": None}
+WRONG_VALUES: Dict[str, Any] = {
+    "integer": 1,
+    "text": "x",
+    "bytes": b"x",
+    "array": [],
+    "map": {},
+    "true": True,
+    "null": None,
+}
 
 
 def list_wrong_types(known: Dict[int, Tuple[str, str]]) -> List[Tuple[int, str, str, Any]]:

@@ -29,7 +29,11 @@ def descriptor(number: int, kind: str = KIND) -> Dict[str, Any]:
 def similar_name(number: int, kind: str) -> bytes:
     """Returns the ID that sessions use for one similar to credential `number`: with a changed bit, longer or
     shorter."""
-    return credential_name(number)[:-2] + {"changed": b"\xc0", "longer": b"\xc1", "shorter": b"\xc2"}[kind] + bytes([number])
+    return (
+        credential_name(number)[:-2]
+        + {"changed": b"\xc0", "longer": b"\xc1", "shorter": b"\xc2"}[kind]
+        + bytes([number])
+    )
 
 
 def make_request(**changes: Any) -> Dict[Any, Any]:
@@ -100,11 +104,11 @@ class Case:
 
     def send(self, channel: int, command: int, data: bytes = b"", length: Optional[int] = None) -> Self:
         """Adds the packets of a message."""
-        return self.packets(hid.packets_of(channel, command, data, length))
+        return self.packets(hid.fragment_message(channel, command, data, length))
 
     def begin(self, channel: int, length: int = 100, command: int = hid.PING) -> Self:
         """Adds the first packet of a longer message."""
-        return self.packets(hid.packets_of(channel, command, count_bytes(length))[:1])
+        return self.packets(hid.fragment_message(channel, command, count_bytes(length))[:1])
 
     def go_on(self, channel: int, sequence: int = 0, length: int = 100) -> Self:
         """Adds a continuation packet of the message that `begin` began, with any sequence number."""

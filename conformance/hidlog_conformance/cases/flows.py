@@ -205,7 +205,11 @@ def allow_several_cases() -> List[Case]:
         **TOUCH,
     )
     cases.append(
-        case.greet().register(1).register(2).get(p3=[descriptor(2), descriptor(1)]).asserted(COUNTER_INCREASES + " no-number")
+        case.greet()
+        .register(1)
+        .register(2)
+        .get(p3=[descriptor(2), descriptor(1)])
+        .asserted(COUNTER_INCREASES + " no-number")
     )
     case = Case(
         "lists/allow_two_first",
@@ -259,10 +263,16 @@ def sign_in_cases() -> List[Case]:
     )
     case = Case("get/up_true", "get", "With up true a touch is requested.", **TOUCH)
     cases.append(
-        case.greet().register(1).get(p3=[descriptor(1)], p5={"up": True}).expect("keepalive 02").asserted(COUNTER_INCREASES)
+        case.greet()
+        .register(1)
+        .get(p3=[descriptor(1)], p5={"up": True})
+        .expect("keepalive 02")
+        .asserted(COUNTER_INCREASES)
     )
     case = Case("get/up_true_uv_false", "get", "The option uv false has no effect.", **TOUCH)
-    cases.append(case.greet().register(1).get(p3=[descriptor(1)], p5={"uv": False}).asserted(COUNTER_INCREASES + " no-uv"))
+    cases.append(
+        case.greet().register(1).get(p3=[descriptor(1)], p5={"uv": False}).asserted(COUNTER_INCREASES + " no-uv")
+    )
     return cases
 
 
@@ -291,7 +301,9 @@ def refused_sign_in_cases() -> List[Case]:
         "A discoverable credential is found by an allow list, with its user.",
         **EMPTY,
     )
-    cases.append(case.greet().register(1, rk=True).get(p3=[descriptor(1)]).asserted(COUNTER_INCREASES + " user 01 no-name"))
+    cases.append(
+        case.greet().register(1, rk=True).get(p3=[descriptor(1)]).asserted(COUNTER_INCREASES + " user 01 no-name")
+    )
     return cases
 
 
@@ -329,7 +341,9 @@ def register_three_users(case: Case) -> Case:
 def next_assertion_cases() -> List[Case]:
     """authenticatorGetNextAssertion."""
     cases = []
-    case = register_three_users(Case("next/newest_first", "next", "The other assertions follow, each once, newest first.", **EMPTY))
+    case = register_three_users(
+        Case("next/newest_first", "next", "The other assertions follow, each once, newest first.", **EMPTY)
+    )
     for number in (2, 1):
         case.cbor(NEXT).asserted(f"{COUNTER_INCREASES} user 0{number} no-number", presence=False)
     cases.append(case.cbor(NEXT).expect("status 30"))
@@ -368,7 +382,9 @@ def pending_time_cases() -> List[Case]:
         )
         case.comment("profile: other authenticators have no such exact clock")
         register_three_users(case).wait(wait).cbor(NEXT)
-        cases.append(case.expect("status 30") if late else case.asserted(f"{COUNTER_INCREASES} user 02", presence=False))
+        cases.append(
+            case.expect("status 30") if late else case.asserted(f"{COUNTER_INCREASES} user 02", presence=False)
+        )
     return cases
 
 
@@ -377,9 +393,14 @@ def interleaved_cases() -> List[Case]:
     cases = []
     case = register_three_users(Case("next/ping_between", "next", "A PING in between has no effect.", **EMPTY))
     cases.append(case.alive().cbor(NEXT).asserted(f"{COUNTER_INCREASES} user 02", presence=False))
-    case = register_three_users(Case("next/refused_packet_between", "next", "A refused packet in between has no effect.", **EMPTY))
+    case = register_three_users(
+        Case("next/refused_packet_between", "next", "A refused packet in between has no effect.", **EMPTY)
+    )
     cases.append(
-        case.send(9, hid.PING, b"a").expect("error 0b on 9").cbor(NEXT).asserted(f"{COUNTER_INCREASES} user 02", presence=False)
+        case.send(9, hid.PING, b"a")
+        .expect("error 0b on 9")
+        .cbor(NEXT)
+        .asserted(f"{COUNTER_INCREASES} user 02", presence=False)
     )
     case = register_three_users(
         Case(
@@ -412,8 +433,12 @@ def interleaved_cases() -> List[Case]:
 def new_sign_in_cases() -> List[Case]:
     """New sign-ins, and the flags of the first assertion."""
     cases = []
-    case = register_three_users(Case("next/new_sign_in", "next", "A new sign-in starts over with the newest credential.", **EMPTY))
-    case.cbor(NEXT).asserted(f"{COUNTER_INCREASES} user 02", presence=False).get().asserted(f"{COUNTER_INCREASES} user 03 number 3")
+    case = register_three_users(
+        Case("next/new_sign_in", "next", "A new sign-in starts over with the newest credential.", **EMPTY)
+    )
+    case.cbor(NEXT).asserted(f"{COUNTER_INCREASES} user 02", presence=False).get().asserted(
+        f"{COUNTER_INCREASES} user 03 number 3"
+    )
     cases.append(case.cbor(NEXT).asserted(f"{COUNTER_INCREASES} user 02", presence=False))
     case = Case("next/without_presence", "next", "The flags are those of the first assertion: UP is not set.", **EMPTY)
     case.greet().register(1, rk=True, p3=user(1)).register(2, rk=True, p3=user(2))
@@ -437,7 +462,13 @@ def reset_cases() -> List[Case]:
     cases.append(case.get(p3=[descriptor(1)]).expect("status 2e").get().expect("status 2e"))
     case = Case("reset/serves_again", "reset", "After a reset credentials can be registered.", **NEW_TOUCH)
     cases.append(
-        case.greet().cbor(RESET).presence().expect("status 00").register(1).get(p3=[descriptor(1)]).asserted(COUNTER_INCREASES)
+        case.greet()
+        .cbor(RESET)
+        .presence()
+        .expect("status 00")
+        .register(1)
+        .get(p3=[descriptor(1)])
+        .asserted(COUNTER_INCREASES)
     )
     case = Case("reset/asks_for_the_user", "reset", "A reset requests a touch.", **NEW_TOUCH)
     cases.append(
@@ -499,6 +530,24 @@ def selection_cases() -> List[Case]:
 def cases() -> List[Case]:
     """Returns the cases of this file."""
     assert KIND == "public-key"
-    found = info_cases() + registration_cases() + missing_key_cases() + exclude_list_cases() + exclude_without_match_cases()
-    found += allow_list_cases() + allow_without_match_cases() + allow_several_cases() + sign_in_cases() + refused_sign_in_cases() + same_user_cases()
-    return found + next_assertion_cases() + pending_time_cases() + interleaved_cases() + new_sign_in_cases() + reset_cases() + late_reset_cases() + selection_cases()
+    found = (
+        info_cases() + registration_cases() + missing_key_cases() + exclude_list_cases() + exclude_without_match_cases()
+    )
+    found += (
+        allow_list_cases()
+        + allow_without_match_cases()
+        + allow_several_cases()
+        + sign_in_cases()
+        + refused_sign_in_cases()
+        + same_user_cases()
+    )
+    return (
+        found
+        + next_assertion_cases()
+        + pending_time_cases()
+        + interleaved_cases()
+        + new_sign_in_cases()
+        + reset_cases()
+        + late_reset_cases()
+        + selection_cases()
+    )

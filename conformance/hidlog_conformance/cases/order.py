@@ -123,7 +123,10 @@ def cases() -> List[Case]:
     for state, what, answer, goes_on, fixed, section in ROWS:
         says = f"answered with {answer}" if answer else "ignored"
         requirement = f"In the state {state}, {what} is {says}; then {goes_on or 'nothing'} continues."
-        more: Dict[str, Any] = {"needs": ["touch"] if state.endswith("work") else [], "profile": "" if fixed else PROFILE_CHOICE}
+        more: Dict[str, Any] = {
+            "needs": ["touch"] if state.endswith("work") else [],
+            "profile": "" if fixed else PROFILE_CHOICE,
+        }
         case = Case(f"order/{state}_and_{what}", section, requirement.replace("_", " "), **more)
         STATES[state](case.greet(2))
         add_packet(case, what)

@@ -219,5 +219,7 @@ def cases() -> List[Case]:
     """Returns the cases of this file."""
     found = extension_cases()
     for protocol in (1, 2):
-        found += set_pin_cases(protocol) + wrong_pin_cases(protocol) + token_cases(protocol) + hmac_secret_cases(protocol)
+        found += (
+            set_pin_cases(protocol) + wrong_pin_cases(protocol) + token_cases(protocol) + hmac_secret_cases(protocol)
+        )
     return found

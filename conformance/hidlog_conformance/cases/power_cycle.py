@@ -20,10 +20,15 @@ def kept_cases() -> List[Case]:
     case = Case("power/counter_goes_on", "get", "The counter rises across a power cycle.", **POWER_CYCLE_RULE)
     case.greet().register(1)
     for _ in range(2):
-        case.get(p3=[descriptor(1)]).asserted(COUNTER_INCREASES).get(p3=[descriptor(1)]).asserted(COUNTER_INCREASES).power_cycle().greet()
+        case.get(p3=[descriptor(1)]).asserted(COUNTER_INCREASES).get(p3=[descriptor(1)]).asserted(
+            COUNTER_INCREASES
+        ).power_cycle().greet()
     cases.append(case.get(p3=[descriptor(1)]).asserted(COUNTER_INCREASES))
     case = Case(
-        "power/counters_of_two_go_on", "get", "The counters of two credentials rise across a power cycle.", **POWER_CYCLE_RULE
+        "power/counters_of_two_go_on",
+        "get",
+        "The counters of two credentials rise across a power cycle.",
+        **POWER_CYCLE_RULE,
     )
     case.greet().register(1).register(2)
     for number in (1, 2, 1, 2, 2):
@@ -78,7 +83,9 @@ def not_kept_cases() -> List[Case]:
 def forgotten_cases() -> List[Case]:
     """Pending assertions, channels, messages and requests."""
     cases = []
-    case = register_three_users(Case("power/pending_is_gone", "next", "Pending assertions are lost at a power cycle.", **FOUND))
+    case = register_three_users(
+        Case("power/pending_is_gone", "next", "Pending assertions are lost at a power cycle.", **FOUND)
+    )
     cases.append(case.power_cycle().greet().cbor(NEXT).expect("status 30").alive())
     case = register_three_users(
         Case(
@@ -104,7 +111,10 @@ def forgotten_cases() -> List[Case]:
     case.comment("needs: power cycle")
     cases.append(case.greet().begin(1).power_cycle().greet(2).alive(2).alive(1))
     case = Case(
-        "power/request_is_gone", "keepalive", "After a power cycle no KEEPALIVE of an earlier request comes.", **POWER_CYCLE_RULE
+        "power/request_is_gone",
+        "keepalive",
+        "After a power cycle no KEEPALIVE of an earlier request comes.",
+        **POWER_CYCLE_RULE,
     )
     case.greet().make().expect("keepalive 02").power_cycle().greet().tick(250).expect("silence")
     cases.append(case.presence().expect("silence").alive())

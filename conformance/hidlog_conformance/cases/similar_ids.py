@@ -74,7 +74,9 @@ def state_cases() -> List[Case]:
     case.greet().register(1).presence().expect("silence").tick(100).get(p3=[descriptor(1)]).expect("keepalive 02")
     cases.append(case.tick(100).expect("nothing").send(1, hid.CANCEL).expect("status 2d"))
     case = Case("get/touch_counts_once", "get", "The touch of one request does not count for the next.", **TOUCH)
-    case.greet().register(1).get(p3=[descriptor(1)]).asserted(COUNTER_INCREASES).get(p3=[descriptor(1)]).expect("keepalive 02")
+    case.greet().register(1).get(p3=[descriptor(1)]).asserted(COUNTER_INCREASES).get(p3=[descriptor(1)]).expect(
+        "keepalive 02"
+    )
     cases.append(case.tick(100).expect("nothing").send(1, hid.CANCEL).expect("status 2d"))
     return cases
 
@@ -85,7 +87,9 @@ def counter_cases() -> List[Case]:
     case = Case("next/counter_rises", "next", "The counters of further assertions rise, too.", **EMPTY)
     case.greet().register(1, rk=True, p3=user(1)).register(2, rk=True, p3=user(2))
     for _ in range(3):
-        case.get().asserted(f"{COUNTER_INCREASES} user 02 number 2").cbor(NEXT).asserted(f"{COUNTER_INCREASES} user 01", presence=False)
+        case.get().asserted(f"{COUNTER_INCREASES} user 02 number 2").cbor(NEXT).asserted(
+            f"{COUNTER_INCREASES} user 01", presence=False
+        )
     cases.append(case)
     case = Case("get/counters_of_two", "get", "Each credential's counter rises.", **TOUCH)
     case.greet().register(1).register(2)
@@ -144,10 +148,14 @@ def long_request_cases() -> List[Case]:
         cases.append(case.greet().register(1, rk=rk).get(p3=[descriptor(1)]).asserted(COUNTER_INCREASES + more))
     case = Case("get/discoverable_replaces_no_hidden", "get", "A non-discoverable credential is not replaced.", **EMPTY)
     case.greet().register(1).register(2, rk=True)
-    cases.append(case.get(p3=[descriptor(1)]).asserted(COUNTER_INCREASES).get(p3=[descriptor(2)]).asserted(COUNTER_INCREASES))
+    cases.append(
+        case.get(p3=[descriptor(1)]).asserted(COUNTER_INCREASES).get(p3=[descriptor(2)]).asserted(COUNTER_INCREASES)
+    )
     case = Case("get/other_user_replaces_nothing", "get", "A credential of another user is not replaced.", **EMPTY)
     case.greet().register(1, rk=True, p3=user(1)).register(2, rk=True, p3=user(2))
-    cases.append(case.get(p3=[descriptor(1)]).asserted(COUNTER_INCREASES).get(p3=[descriptor(2)]).asserted(COUNTER_INCREASES))
+    cases.append(
+        case.get(p3=[descriptor(1)]).asserted(COUNTER_INCREASES).get(p3=[descriptor(2)]).asserted(COUNTER_INCREASES)
+    )
     case = Case("make/many_stay", "make", "If the device is full, the status is 28, and no credential is lost.")
     case.comment("needs: reset")
     case.comment("needs: capacity 64")
@@ -178,7 +186,9 @@ def algorithm_cases() -> List[Case]:
     case = Case("make/eddsa", "make", "EdDSA works if getInfo has it.", **EDDSA)
     cases.append(case.greet().register(1, p4=[eddsa]).get(p3=[descriptor(1)]).asserted(COUNTER_INCREASES))
     case = Case("make/eddsa_twice", "make", "Each EdDSA credential has a new key pair.", **EDDSA)
-    cases.append(case.greet().register(1, p4=[eddsa]).register(2, p4=[eddsa]).get(p3=[descriptor(2)]).asserted(COUNTER_INCREASES))
+    cases.append(
+        case.greet().register(1, p4=[eddsa]).register(2, p4=[eddsa]).get(p3=[descriptor(2)]).asserted(COUNTER_INCREASES)
+    )
     for name, listed in (("es256", [es256, eddsa]), ("eddsa", [eddsa, es256])):
         case = Case(f"make/first_is_{name}", "make", "The first supported algorithm of the request is chosen.", **BOTH)
         cases.append(case.greet().register(1, p4=listed).get(p3=[descriptor(1)]).asserted(COUNTER_INCREASES))
@@ -227,4 +237,11 @@ def capability_cases() -> List[Case]:
 
 def cases() -> List[Case]:
     """Returns the cases of this file."""
-    return similar_id_cases() + state_cases() + counter_cases() + long_request_cases() + algorithm_cases() + capability_cases()
+    return (
+        similar_id_cases()
+        + state_cases()
+        + counter_cases()
+        + long_request_cases()
+        + algorithm_cases()
+        + capability_cases()
+    )

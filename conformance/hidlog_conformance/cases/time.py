@@ -169,7 +169,7 @@ def host_cases() -> List[Case]:
     for name, length, command in (("ping", 1, hid.PING), ("long_ping", 100, hid.PING), ("cbor", 1, hid.CBOR)):
         data = INFO if command == hid.CBOR else count_bytes(length)
         case = Case(f"hosts/{name}_into_a_message", "busy", "During a host's message the device is busy for others.")
-        case.greet(2).begin(1).packets(hid.packets_of(2, command, data)[:1]).expect("error 06 on 2")
+        case.greet(2).begin(1).packets(hid.fragment_message(2, command, data)[:1]).expect("error 06 on 2")
         cases.append(case.go_on(1).expect("echo"))
         case = Case(
             f"hosts/{name}_into_a_request",
@@ -177,7 +177,7 @@ def host_cases() -> List[Case]:
             "During a host's request the device is busy for others.",
             needs=["touch"],
         )
-        case.greet(2).make().expect("keepalive 02").packets(hid.packets_of(2, command, data)[:1]).expect(
+        case.greet(2).make().expect("keepalive 02").packets(hid.fragment_message(2, command, data)[:1]).expect(
             "error 06 on 2"
         )
         cases.append(case.made(1))
@@ -196,7 +196,7 @@ def later_host_cases() -> List[Case]:
     case.greet(2).make().expect("keepalive 02").send(1, hid.CANCEL).expect("status 2d")
     cases.append(case.cbor(INFO, 2).expect("info on 2"))
     case = Case("hosts/refused_message_leaves_nothing", "busy", "The packets of a refused message are ignored.")
-    packets = hid.packets_of(2, hid.PING, count_bytes(150))
+    packets = hid.fragment_message(2, hid.PING, count_bytes(150))
     case.greet(2).begin(1).packets(packets[:1]).expect("error 06 on 2").packets(packets[1:]).expect("silence")
     cases.append(case.go_on(1).expect("echo"))
     case = Case(

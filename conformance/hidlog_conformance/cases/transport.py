@@ -25,12 +25,12 @@ def ping_cases() -> List[Case]:
             case.comment("why: The first packet has 57 bytes of data, the others 59.")
         cases.append(case.greet().send(1, hid.PING, count_bytes(size)).expect("echo"))
     case = Case("ping/padding_is_ignored", "packets", "Padding is ignored.")
-    packet = hid.packets_of(1, hid.PING, b"abc")[0]
+    packet = hid.fragment_message(1, hid.PING, b"abc")[0]
     cases.append(case.greet().packets([packet[:10] + b"\xff" * 54]).expect("ping 616263"))
     case = Case("ping/zeros_behind", "packets", "Unused bytes of a packet should be zero.", level="should")
     cases.append(case.greet().packets([packet[:10] + b"\xff" * 54]).expect("ping 616263", "zeros"))
     case = Case("ping/padding_of_a_continuation", "packets", "Padding in a continuation packet is ignored.")
-    first, last = hid.packets_of(1, hid.PING, count_bytes(60))
+    first, last = hid.fragment_message(1, hid.PING, count_bytes(60))
     cases.append(case.greet().packets([first, last[:8] + b"\xff" * 56]).expect("echo"))
     case = Case("ping/many_in_a_row", "ping", "Several PINGs in a row get their responses.")
     case.greet()
@@ -56,7 +56,7 @@ def init_cases() -> List[Case]:
         case.alive(number)
     cases.append(case)
     case = Case("init/padding_is_ignored", "init", "Padding after the nonce is ignored.")
-    packet = hid.packets_of(hid.BROADCAST, hid.INIT, NONCE)[0]
+    packet = hid.fragment_message(hid.BROADCAST, hid.INIT, NONCE)[0]
     cases.append(case.packets([packet[:15] + b"\xee" * 49]).expect(f"init nonce {NONCE.hex()}"))
     case = Case("init/on_its_own_channel", "init", "INIT on an allocated channel returns this channel.")
     case.greet().send(1, hid.INIT, b"\x08" * 8).expect("init nonce 0808080808080808 on 1")
@@ -174,7 +174,7 @@ def sequence_cases() -> List[Case]:
     case = Case("sequence/after_the_last", "sequence", "A continuation packet after a complete message is ignored.")
     cases.append(case.greet().send(1, hid.PING, count_bytes(100)).expect("echo").go_on(1, 1).expect("silence").alive())
     case = Case("sequence/cbor_message", "sequence", "A CBOR message out of order is refused, and not processed.")
-    packets = hid.packets_of(1, hid.CBOR, MAKE + encode(make_request()))
+    packets = hid.fragment_message(1, hid.CBOR, MAKE + encode(make_request()))
     cases.append(case.greet().packets([packets[0], packets[2]]).expect("error 04").tick(150).expect("silence").alive())
     case = Case("sequence/init_packet_inside", "sequence", "An initialization packet within a message aborts it.")
     case.comment("profile: the standard does not say how a host that starts over without INIT is answered")

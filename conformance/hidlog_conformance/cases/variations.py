@@ -61,7 +61,9 @@ def replaced_value_cases() -> List[Case]:
     cases = []
     case = Case("get/two_hidden_stay", "get", "Non-discoverable credentials are not replaced.", **EMPTY)
     case.greet().register(1).register(2).register(3, rk=True)
-    cases.append(case.get(p3=[descriptor(1)]).asserted(COUNTER_INCREASES).get(p3=[descriptor(2)]).asserted(COUNTER_INCREASES))
+    cases.append(
+        case.get(p3=[descriptor(1)]).asserted(COUNTER_INCREASES).get(p3=[descriptor(2)]).asserted(COUNTER_INCREASES)
+    )
     case = Case("get/two_hidden_replace_nothing", "get", "Non-discoverable credentials replace none.", **EMPTY)
     case.greet().register(1, rk=True).register(2).register(3)
     cases.append(case.get().asserted(f"{COUNTER_INCREASES} no-number id {descriptor(1)['id'].hex()}"))
@@ -79,7 +81,9 @@ def pending_cases() -> List[Case]:
     cases = []
     case = Case("next/none_after_two", "next", "After the second of two assertions none is pending.", **EMPTY)
     case.greet().register(1, rk=True, p3=user(1)).register(2, rk=True, p3=user(2))
-    case.get().asserted(f"{COUNTER_INCREASES} user 02 number 2").cbor(NEXT).asserted(f"{COUNTER_INCREASES} user 01", presence=False)
+    case.get().asserted(f"{COUNTER_INCREASES} user 02 number 2").cbor(NEXT).asserted(
+        f"{COUNTER_INCREASES} user 01", presence=False
+    )
     cases.append(case.cbor(NEXT).expect("status 30").cbor(NEXT).expect("status 30"))
     case = register_three_users(
         Case("next/after_reset_in_between", "next", "After a reset between two assertions none is pending.", **EMPTY)
@@ -123,7 +127,9 @@ def pending_cases() -> List[Case]:
     case = Case("next/two_rps_newer", "next", "Newer credentials of other RPs are not counted.", **EMPTY)
     case.greet().register(1, rk=True, p3=user(1)).register(2, rk=True, p3=user(2))
     case.register(3, rk=True, p3=user(3), **ORG).register(4, rk=True, p3=user(4), **ORG)
-    case.get().asserted(f"{COUNTER_INCREASES} user 02 number 2").cbor(NEXT).asserted(f"{COUNTER_INCREASES} user 01", presence=False)
+    case.get().asserted(f"{COUNTER_INCREASES} user 02 number 2").cbor(NEXT).asserted(
+        f"{COUNTER_INCREASES} user 01", presence=False
+    )
     cases.append(case.cbor(NEXT).expect("status 30"))
     case = Case(
         "get/one_among_other_rps",
@@ -231,4 +237,11 @@ def other_cases() -> List[Case]:
 
 def cases() -> List[Case]:
     """Returns the cases of this file."""
-    return list_cases() + replaced_value_cases() + pending_cases() + registration_cases() + transport_cases() + other_cases()
+    return (
+        list_cases()
+        + replaced_value_cases()
+        + pending_cases()
+        + registration_cases()
+        + transport_cases()
+        + other_cases()
+    )

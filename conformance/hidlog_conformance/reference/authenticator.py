@@ -346,9 +346,9 @@ class Authenticator:
     def start_counter(self, new: Credential) -> int:
         """Returns the counter of a new credential."""
         new.counter = self.traits.first_counter
-        return self.raised(new) if self.traits.counter in ("all", "steps") else new.counter
+        return self.increment_counter(new) if self.traits.counter in ("all", "steps") else new.counter
 
-    def raised(self, one: Credential) -> int:
+    def increment_counter(self, one: Credential) -> int:
         """Increments the counter of a credential, or the common one, and returns it."""
         if self.traits.counter == "none":
             return 0
@@ -396,7 +396,7 @@ class Authenticator:
         """Returns whether a list has a credential."""
         return any(entry["type"] == "public-key" and entry["id"] == one.id for entry in listed)
 
-    def of_rp(self, rp: str) -> List[Credential]:
+    def list_of_rp(self, rp: str) -> List[Credential]:
         """Returns the credentials of an RP, newest first."""
         found = [one for one in self.credentials if one.rp == rp]
         return found if self.traits.oldest_first else found[::-1]
@@ -404,7 +404,7 @@ class Authenticator:
     def applicable(self, asked: Asked) -> List[Credential]:
         """Returns the credentials that may sign: those of the list, or the discoverable ones."""
         listed = asked.item.get(3)
-        found = self.of_rp(asked.item[1])
+        found = self.list_of_rp(asked.item[1])
         if listed:
             found = [one for one in found if self.named(listed, one)]
         else:
@@ -438,7 +438,7 @@ class Authenticator:
     def assertion(self, asked: Asked, one: Credential, listed: bool) -> Dict[int, Any]:
         """Returns an assertion."""
         outputs = self.extensions.of_get(asked, one)
-        auth = self.data(asked, one, self.raised(one), b"", outputs)
+        auth = self.data(asked, one, self.increment_counter(one), b"", outputs)
         answer: Dict[int, Any] = {1: {"id": one.id, "type": "public-key"}, 2: auth}
         answer[3] = self.sign(one, auth + asked.item[2])
         if one.discoverable or self.traits.user_with_any:

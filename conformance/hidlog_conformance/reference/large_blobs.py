@@ -17,12 +17,12 @@ FRONT, AROUND = b"\xff" * 32 + b"\x0c\0", 64
 HASH = 16
 
 
-def hashed(data: bytes) -> bytes:
+def append_hash(data: bytes) -> bytes:
     """Returns an array followed by its hash."""
     return data + hashlib.sha256(data).digest()[:HASH]
 
 
-EMPTY = hashed(b"\x80")
+EMPTY_ARRAY = append_hash(b"\x80")
 
 
 class LargeBlobs:
@@ -30,7 +30,7 @@ class LargeBlobs:
 
     def __init__(self, authenticator: Authenticator) -> None:
         self.authenticator = authenticator
-        self.stored = EMPTY
+        self.stored = EMPTY_ARRAY
         self.coming = b""
         self.expected = 0
 
@@ -83,7 +83,7 @@ class LargeBlobs:
             raise RequestError(INVALID_PARAMETER)
         if asked[LENGTH] > max(1024, self.authenticator.traits.largest_array):
             raise RequestError(FULL)
-        if asked[LENGTH] < len(EMPTY):
+        if asked[LENGTH] < len(EMPTY_ARRAY):
             raise RequestError(INVALID_PARAMETER)
         self.coming, self.expected = b"", asked[LENGTH]
 
@@ -109,8 +109,8 @@ class LargeBlobs:
 
     def whole(self, array: bytes) -> bool:
         """Returns whether an array ends with its hash."""
-        return hashed(array[:-HASH]) == array
+        return append_hash(array[:-HASH]) == array
 
     def forget(self) -> None:
         """Resets to an empty array."""
-        self.stored, self.coming, self.expected = EMPTY, b"", 0
+        self.stored, self.coming, self.expected = EMPTY_ARRAY, b"", 0

@@ -37,7 +37,7 @@ def cipher(key: bytes, vector: bytes) -> Any:
     return Cipher(algorithms.AES(key), modes.CBC(vector))
 
 
-def cose_of(private: Any) -> Dict[int, Any]:
+def to_cose_key(private: Any) -> Dict[int, Any]:
     """Returns the public key agreement key."""
     public = private.public_key().public_numbers()
     return {1: 2, 3: -25, -1: 1, -2: public.x.to_bytes(32, "big"), -3: public.y.to_bytes(32, "big")}
@@ -137,7 +137,7 @@ class Pin:
 
     def agree(self, asked: Dict[int, Any]) -> Dict[int, Any]:
         """Returns the key agreement key."""
-        return {1: cose_of(self.protocol(asked, 1).private)}
+        return {1: to_cose_key(self.protocol(asked, 1).private)}
 
     def new_pin(self, protocol: Protocol, key: bytes, encrypted: bytes) -> None:
         """Sets a new PIN, of at least minPINLength characters and at most 63 bytes."""
@@ -145,12 +145,12 @@ class Pin:
         if len(padded) != 64:
             raise RequestError(INVALID_PARAMETER)
         pin = padded.rstrip(b"\0")
-        if not self.long_enough(pin):
+        if not self.is_long_enough(pin):
             raise RequestError(POLICY)
         self.hash = hashlib.sha256(pin).digest()[:16]
         self.retries, self.in_a_row = RETRIES, 0
 
-    def long_enough(self, pin: bytes) -> bool:
+    def is_long_enough(self, pin: bytes) -> bool:
         """Returns whether a PIN has a valid length."""
         return len(pin.decode("utf-8", "replace")) >= self.shortest and len(pin) <= 63
 
@@ -170,7 +170,7 @@ class Pin:
         """Changes the PIN."""
         protocol = self.protocol(asked, 1)
         self.needed(asked, 3, 4, 5, 6)
-        self.unblocked()
+        self.check_not_blocked()
         key = protocol.shared(asked[3])
         if not protocol.verify(key, asked[5] + asked[6], asked[4]):
             raise RequestError(AUTH_INVALID)
@@ -179,7 +179,7 @@ class Pin:
         self.token = os.urandom(32)
         return {}
 
-    def unblocked(self) -> None:
+    def check_not_blocked(self) -> None:
         """Refuses if no PIN is set, or the PIN is blocked."""
         if not self.hash:
             raise RequestError(NOT_SET)
@@ -215,7 +215,7 @@ class Pin:
         self.needed(asked, 3, 6)
         if 9 in asked or 10 in asked:
             raise RequestError(INVALID_PARAMETER)
-        self.unblocked()
+        self.check_not_blocked()
         key = protocol.shared(asked[3])
         self.compare(protocol, key, asked[6])
         return self.grant(protocol, key, MAKE | GET, "")
@@ -225,7 +225,7 @@ class Pin:
         protocol = self.protocol(asked, 1)
         self.needed(asked, 3, 6, 9)
         self.permissible(asked)
-        self.unblocked()
+        self.check_not_blocked()
         key = protocol.shared(asked[3])
         self.compare(protocol, key, asked[6])
         return self.grant(protocol, key, asked[9], asked.get(10, ""))

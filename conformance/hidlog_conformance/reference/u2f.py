@@ -76,5 +76,5 @@ class U2f:
             return WRONG_DATA
         if control == 7 or not self.present(at):
             return NOT_SATISFIED
-        start = b"\1" + self.authenticator.raised(one).to_bytes(4, "big")
+        start = b"\1" + self.authenticator.increment_counter(one).to_bytes(4, "big")
         return start + signed(one.private, ES256, data[32:64] + start + data[:32]) + OK
