@@ -4,8 +4,8 @@
 #     hidlog-portable-VERSION.tar.gz        its sources, for every system
 #     hidlog-VERSION-windows-x86_64.zip     hidlog.exe and hidlog.dll
 #
-# Builds are reproducible. Needs wabt (ends with 3 if it is missing), and for Windows gcc-mingw-w64-x86-64; without that,
-# the zip is skipped.
+# Builds are reproducible. Needs wabt (ends with 3 if it is missing), and for Windows gcc-mingw-w64-x86-64; without
+# that, the zip is skipped.
 set -euo pipefail
 [ $# = 1 ] || { echo "usage: portable/build.sh DIR" >&2; exit 2; }
 top=$(cd "$(dirname "${BASH_SOURCE[0]}")/.." && pwd)
@@ -31,7 +31,7 @@ build_windows() {
     x86_64-w64-mingw32-gcc -std=c11 -O2 -c hidlog.c
     x86_64-w64-mingw32-gcc "${flags[@]}" -shared -o "$folder/hidlog.dll" hidlog.o hidlog.def
     x86_64-w64-mingw32-gcc "${flags[@]}" -o "$folder/hidlog.exe" program.c hidlog.o
-    for file in README.md LICENSE-APACHE LICENSE-MIT hidlog.def hidlog.h hidlog_recording.h hidlog_standard.h sign_in.log; do
+    for file in README.md LICENSE-{APACHE,MIT} hidlog.def hidlog{,_recording,_standard}.h sign_in.log; do
         cp "$file" "$folder"
     done
     python3 "$top/packages/zip.py" "$work/windows" "$to/hidlog-$version-windows-x86_64.zip"

@@ -29,8 +29,13 @@ _PREFACE = """\
 #ifndef HIDLOG_MODULE_H
 #define HIDLOG_MODULE_H
 
-// The module's memory in pages, the place of its data there, and what hidlog_key_size and hidlog_key_capacity return.
-enum {{ MODULE_PAGES = {pages}, MODULE_DATA_AT = {data_at}, MODULE_KEY_SIZE = {key_size}, MODULE_CAPACITY = {capacity} }};
+// The module's memory in pages, the offset of its data, and what hidlog_key_size and hidlog_key_capacity return.
+enum {{
+    MODULE_PAGES = {pages},
+    MODULE_DATA_AT = {data_at},
+    MODULE_KEY_SIZE = {key_size},
+    MODULE_CAPACITY = {capacity}
+}};
 
 #include "machine.h"
 

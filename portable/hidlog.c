@@ -1,7 +1,7 @@
 // hidlog.h over the WebAssembly module as C, for every little-endian machine with a C11 compiler. A call borrows an
 // instance of the module from a pool and lends it the caller's buffers, so a key is wholly in its caller's memory, and
-// calls from several threads need no lock. The first instance is static; a further one is allocated only while calls run
-// at the same time. If that fails, the call returns the error for a buffer that is too small.
+// calls from several threads need no lock. The first instance is static; a further one is allocated only while calls
+// run at the same time. If that fails, the call returns the error for a buffer that is too small.
 #include "hidlog.h"
 #include "hidlog_module.h"
 
@@ -271,7 +271,8 @@ int32_t hidlog_key_init(struct hidlog_key *key, const uint8_t aaguid[16], uint64
     if (call.is_too_long) {
         return end_key_call(&call, key, (u32)HIDLOG_KEY_ERR_NOT_A_SNAPSHOT);
     }
-    return end_key_call(&call, key, w2c_hidlog_key_init(call.module, KEY, aaguid_at, now_ms, snapshot_at, snapshot_len));
+    u32 returned = w2c_hidlog_key_init(call.module, KEY, aaguid_at, now_ms, snapshot_at, snapshot_len);
+    return end_key_call(&call, key, returned);
 }
 
 int32_t hidlog_key_destroy(struct hidlog_key *key) {

@@ -1,6 +1,6 @@
-// The WebAssembly memory and operations that hidlog_module.h uses. Addresses have 32 bits and select one of 16 windows of
-// 256 MiB. The first is the module's own memory; the others are opened onto buffers of the caller, so that the module
-// works on these in place. An access outside its window ends the process, as does a division by zero; the proof
+// The WebAssembly memory and operations that hidlog_module.h uses. Addresses have 32 bits and select one of 16 windows
+// of 256 MiB. The first is the module's own memory; the others are opened onto buffers of the caller, so that the
+// module works on these in place. An access outside its window ends the process, as does a division by zero; the proof
 // excludes both.
 #ifndef HIDLOG_MACHINE_H
 #define HIDLOG_MACHINE_H

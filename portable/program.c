@@ -117,7 +117,8 @@ static int read_snapshot(const char *path, struct bytes *snapshot) {
     free(sums_path);
     if (sums != NULL) {
         fclose(sums);
-        print_error("cannot read snapshot\n  this program does not check its .hidlog-sum: remove that file", EXIT_FAILED);
+        print_error("cannot read snapshot\n  this program does not check its .hidlog-sum: remove that file",
+                    EXIT_FAILED);
         return 0;
     }
     file = fopen(path, "rb");
@@ -139,7 +140,8 @@ static int print_result(const struct hidlog_result *result, const char *file_nam
     size_t len = hidlog_result_message(result, message, sizeof message);
     fflush(stdout);
     if (len > sizeof front - 1 && file_name != NULL) {
-        fprintf(stderr, "%s: %.*s", file_name, (int)(len - (sizeof front - 1)), (const char *)message + sizeof front - 1);
+        fprintf(stderr, "%s: %.*s", file_name, (int)(len - (sizeof front - 1)),
+                (const char *)message + sizeof front - 1);
     } else {
         fwrite(message, 1, len, stderr);
     }

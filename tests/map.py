@@ -34,7 +34,15 @@ CRATES = (
 # Folders in the order of the page; a file is listed in the first folder that contains it.
 FOLDERS = (
     *(f"crates/{name}/{part}" for name in CRATES for part in ("specs", "src")),
-    *("crates/hidlog_c", "crates/hello_key/src", "crates/page_tests/src", "standard", "release", "portable", "packages"),
+    *(
+        "crates/hidlog_c",
+        "crates/hello_key/src",
+        "crates/page_tests/src",
+        "standard",
+        "release",
+        "portable",
+        "packages",
+    ),
     *("python/src/hidlog", "python", "web/key", "web/rules", "web", "go", "rust/hidlog", "rust/hidlog-sys"),
     *("conformance/hidlog_conformance", "conformance", "examples", "tests", "bench", "."),
 )

@@ -4,6 +4,10 @@
 # worked log their output must equal the program's. Uses the static and the shared library of release/, gcc's
 # sanitizers, and if installed musl and aarch64 with qemu. Also checks that the libraries call nothing but memcpy, memmove
 # and memset, and that C++ accepts the header. Ends with 3 if gcc is missing.
+#
+#     tests/c/run.sh                                      the libraries of release/
+#     tests/c/run.sh LIBRARY COMPILER LINKED [WORD ..]    another library: the compiler and the options for linking, each
+#                                                         with its words in one argument, and what runs a program
 set -euo pipefail
 top=$(cd "$(dirname "${BASH_SOURCE[0]}")/../.." && pwd)
 command -v gcc >/dev/null ||
@@ -128,14 +132,22 @@ run_programs() {
     compare_shows "${@:2}"
 }
 
-# Builds the programs: build_programs COMPILER ARGUMENT ..
+# Builds the programs: build_programs COMPILER ARGUMENT .., where the compiler may have options
 build_programs() {
     local name
+    # shellcheck disable=SC2086 # words of one argument
     for name in commands show key causes cause_codes credentials capacity; do
-        "$1" "${options[@]}" -o "$work/$name" "$top/tests/c/$name.c" "${@:2}"
+        $1 "${options[@]}" -o "$work/$name" "$top/tests/c/$name.c" "${@:2}"
     done
 }
 
+if [ $# -ge 3 ]; then
+    write_malformed_logs
+    # shellcheck disable=SC2086 # words of one argument
+    build_programs "$2" "$1" $3
+    run_programs "$1" "${@:4}"
+    exit
+fi
 for library in libhidlog.a libhidlog-256.a aarch64/libhidlog.a; do
     calls=$(nm --undefined-only --format=just-symbols "$top/release/$library" | grep -v ':$' | sort -u | xargs)
     [ "$calls" = "memcpy memmove memset" ] || fail "$library calls $calls; expected only memcpy, memmove and memset"

@@ -1,0 +1,116 @@
+// Includes the portable library, to test what happens if an instance of the module cannot be allocated, that instances
+// above the pool's size are freed, and that a key may be copied: allocation LOG
+#include <stddef.h>
+#include <stdlib.h>
+
+static int is_refused;
+static int live_count;
+
+static void *counted_calloc(size_t count, size_t size) {
+    void *memory = is_refused ? NULL : calloc(count, size);
+    live_count += memory != NULL;
+    return memory;
+}
+
+static void counted_free(void *memory) {
+    live_count -= memory != NULL;
+    free(memory);
+}
+
+#define calloc counted_calloc
+#define free counted_free
+#include "hidlog.c"
+#undef calloc
+#undef free
+
+static void expect(long long actual, long long expected, const char *what) {
+    if (actual != expected) {
+        fprintf(stderr, "allocation: %s is %lld, expected %lld\n", what, actual, expected);
+        exit(1);
+    }
+}
+
+// Takes all instances out of the pool, as calls in other threads do.
+static void empty_pool(struct instance **taken) {
+    for (u32 i = 0; i < POOL_SLOTS; i++) {
+        taken[i] = EXCHANGE(&pool[i], NULL);
+    }
+}
+
+static void test_refused(struct hidlog_key *key) {
+    static const uint8_t packet[64] = {0xff, 0xff, 0xff, 0xff, 0x86, 0, 8};
+    static const uint8_t log[] = "t 1\n";
+    struct instance *taken[POOL_SLOTS];
+    struct hidlog_result result;
+    struct hidlog_client_report report;
+    uint8_t out[200];
+    empty_pool(taken);
+    is_refused = 1;
+    expect(hidlog_key_write_packet(key, 1, packet), HIDLOG_KEY_ERR_BUFFER_TOO_SMALL, "a refused packet");
+    hidlog_check(log, sizeof log - 1, log, 0, out, sizeof out, &result);
+    expect(result.status, HIDLOG_LOG_ERROR, "a refused check's status");
+    expect(result.error, HIDLOG_ERR_BUFFER_TOO_SMALL, "a refused check's error");
+    expect((long long)result.written, 0, "a refused check's output");
+    expect(hidlog_client_request(0, log, 0, log, 0, log, 0, log, 0, 0, &report, out, sizeof out),
+           HIDLOG_CLIENT_TOO_SMALL, "a refused request");
+    is_refused = 0;
+    return_instance(taken[0]);
+    expect(hidlog_key_queued_packets(key), 0, "packets after a refused one");
+    expect(hidlog_key_write_packet(key, 1, packet), 1, "packets after one");
+    hidlog_check(log, sizeof log - 1, log, 0, out, sizeof out, &result);
+    expect(result.status, HIDLOG_OK, "a check's status");
+}
+
+static void test_freed(void) {
+    struct instance *borrowed[POOL_SLOTS + 5];
+    for (int i = 0; i < POOL_SLOTS + 5; i++) {
+        borrowed[i] = borrow_instance();
+    }
+    expect(live_count, POOL_SLOTS + 4, "allocated instances in use");
+    for (int i = 0; i < POOL_SLOTS + 5; i++) {
+        return_instance(borrowed[i]);
+    }
+    expect(live_count < POOL_SLOTS + 1, 1, "whether the pool keeps no more than its slots");
+}
+
+// A copy of a key and its memory is a key of its own.
+static void test_copied(const struct hidlog_key *key) {
+    uint8_t packet[64];
+    struct hidlog_key copy = *key;
+    copy.memory = malloc(hidlog_key_size());
+    memcpy(copy.memory, key->memory, hidlog_key_size());
+    struct hidlog_key original = *key;
+    expect(hidlog_key_queued_packets(&copy), 1, "packets of the copy");
+    expect(hidlog_key_read_packet(&copy, packet), 0, "packets left of the copy");
+    expect(hidlog_key_queued_packets(&original), 1, "packets of the original");
+    free(copy.memory);
+}
+
+// Buffers of several windows are contiguous in the module, up to the last window's end.
+static void test_windows(void) {
+    static uint8_t bytes[1];
+    struct call call;
+    begin_call(&call);
+    u64 first = lend(&call, bytes, 3ull << WINDOW_BITS), second = lend(&call, bytes, 16);
+    expect((long long)first, (long long)ADDRESS_OF(FIRST_BUFFER), "the first buffer's address");
+    expect((long long)second, (long long)ADDRESS_OF(FIRST_BUFFER + 3), "the second buffer's address");
+    expect(bytes_at(&call.module->w2c_memory, first + (1u << WINDOW_BITS) - 4, 8) == bytes + (1u << WINDOW_BITS) - 4, 1,
+           "whether an access may cross windows");
+    lend(&call, bytes, 9ull << WINDOW_BITS);
+    expect(call.is_too_long, 1, "whether a buffer beyond the last window is refused");
+    end_call(&call);
+    expect(call.module->w2c_memory.windows[FIRST_BUFFER].size, 0, "a window's size after the call");
+}
+
+int main(void) {
+    static const uint8_t aaguid[16];
+    struct hidlog_key key = {malloc(hidlog_key_size()), 0};
+    expect(hidlog_key_init(&key, aaguid, 0, aaguid, 0), 0, "hidlog_key_init");
+    expect(live_count, 0, "allocations of a single thread");
+    test_refused(&key);
+    test_copied(&key);
+    test_windows();
+    test_freed();
+    free(key.memory);
+    return 0;
+}
