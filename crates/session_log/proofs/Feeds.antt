@@ -7,7 +7,7 @@ use Rattle.std.specs.{Char.digit_value, Str.Parse.AllDigits, List.AllPass, List.
 use Rattle.hex.specs.Hex.{is_hex_digit}
 use Rattle.session_log.proofs.{Cases.no_some, Through.played_faulty, Cutting.pieces_some, Cutting.lines_beyond}
 use Rattle.session_log.specs.Lines.{is_line_feed, pieces, lines_of_pieces, lines}
-use Rattle.session_log.specs.{Log.played, Log.fault_at, Text.ended, Parsed.parsed, World.LineSemantics}
+use Rattle.session_log.specs.{Log.played, Log.fault_at, Text.with_line_feed, Parsed.parsed, World.LineSemantics}
 
 abbrev pub feedless : List ℕ → Bool
 feedless [] = true

@@ -12,7 +12,7 @@ use Rattle.session_log.{specs.declared.fault.LogFault.LogFault, specs.declared.l
 use Rattle.session_log.specs.{Command.PlaysLog, Command.PlaysThrough, Ending.Ending, Ending.ending_of}
 use Rattle.session_log.specs.declared.command.ReplayMode.TheVariants.{Check, Quiet}
 use Rattle.session_log.specs.Check.{Compared, compared, first_comparison, missing, comparison_fault, comparison_after, check_machine}
-use Rattle.session_log.specs.{Check.check_history, Streams.ReadsAndWrites, Text.ended, World.LineSemantics, World.replay_text}
+use Rattle.session_log.specs.{Check.check_history, Streams.ReadsAndWrites, Text.with_line_feed, World.LineSemantics, World.replay_text}
 use Rattle.session_log.specs.Replay.{Logs, PlaysWholeLog, Plays, ReadsTo, Writes}
 use Rattle.session_log.specs.Session.{session_course, history_course, exchange_histories, exchange_history, machine, history, quiet_machine, quiet_history, live_machine}
 use Rattle.session_log.specs.Session.{live_history, session_needs, history_needs}

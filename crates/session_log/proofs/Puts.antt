@@ -5,7 +5,7 @@ use Rattle.std.proofs.KnownBytes.{Appends-nil, Keeps-refl}
 use Rattle.hid_packet.specs.declared.packet.Packet.{Packet}
 use Rattle.session_log.specs.declared.fault.LogFault.{LogFault, TheVariants.Differs}
 use Rattle.session_log.specs.declared.line.Line.{Line, TheVariants.Sent, TheVariants.Count}
-use Rattle.session_log.specs.{Ending.ending_of, Log.fault_by, Parsed.parsed, Streams.PutsLine, Text.ended, World.LineSemantics}
+use Rattle.session_log.specs.{Ending.ending_of, Log.fault_by, Parsed.parsed, Streams.PutsLine, Text.with_line_feed, World.LineSemantics}
 use Rattle.session_log.specs.Replay.{Closes, IsEndFault, IsLineFault, PlaysLine}
 use Rattle.session_log.proofs.Failures.{on_any}
 

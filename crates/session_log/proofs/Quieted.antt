@@ -10,7 +10,7 @@ use Rattle.token_session.specs.Noise.{HasTicksForNoise, IsSameOrTick, is_noise_a
 use Rattle.token_session.proofs.Noise.{noise_is_named, quiet_alike}
 use Rattle.session_log.specs.declared.line.Line.{Line, TheVariants.Input, TheVariants.Comment}
 use Rattle.session_log.specs.{Inputs.inputs, Inputs.inputs_by, Session.history_course, Session.quiet_history}
-use Rattle.session_log.specs.{Lines.lines, Parsed.parsed, Text.ended, Text.tick_text, Sent.AllSend, Sent.SendsPackets}
+use Rattle.session_log.specs.{Lines.lines, Parsed.parsed, Text.with_line_feed, Text.tick_text, Sent.AllSend, Sent.SendsPackets}
 use Rattle.session_log.specs.Log.{played, play_all, text_by, state_after, state_after_parsed, fault_by, fault_at}
 use Rattle.session_log.specs.World.{InputSemantics, LineSemantics, quiet_world}
 use Rattle.session_log.proofs.Again.{WritesLines, written, written_are, written_text}

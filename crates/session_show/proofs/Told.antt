@@ -7,7 +7,7 @@ use Rattle.std.specs.Io.KnownBytes.{Consumes, Appends, Keeps}
 use Rattle.std.proofs.KnownBytes.{Appends-trans, Appends-kept}
 use Rattle.session_log.specs.Ending.{Done, Ending, Refused, Unread, Unwritten, ended_by, ending_of, read_fails}
 use Rattle.session_log.specs.{Ending.write_fails, Replay.ReadsTo}
-use Rattle.session_log.specs.{Lines.lines, Parsed.parsed, Sent.SendsPackets, Text.ended, declared.line.Line.Line}
+use Rattle.session_log.specs.{Lines.lines, Parsed.parsed, Sent.SendsPackets, Text.with_line_feed, declared.line.Line.Line}
 use Rattle.session_log.specs.{Replay.IsRefused, Replay.IsUnread, Replay.IsPlayed, Replay.IsUnwritten}
 use Rattle.session_log.specs.Log.{Played, fault_at, fault_by, log_of, played, with_text_before, text_by, line_text}
 use Rattle.session_log.specs.Window.{HasLine, IsUnfinished, Stops}

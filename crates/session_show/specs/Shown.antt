@@ -4,7 +4,7 @@ use Rattle.std.specs.Prelude.{Option, Some, None, ◌⊎◌}
 use Rattle.std.specs.{Bool.MatchBool, Io.KnownBytes.Appends, Io.KnownBytes.Keeps}
 use Rattle.session_log.specs.Ending.{Done, Ending, Refused, Unread, Unwritten}
 use Rattle.session_log.specs.Replay.{Plays, PlaysLine}
-use Rattle.session_log.specs.{Parsed.parsed, Text.ended, World.LineSemantics, declared.line.Line.Line}
+use Rattle.session_log.specs.{Parsed.parsed, Text.with_line_feed, World.LineSemantics, declared.line.Line.Line}
 use Rattle.session_log.specs.Streams.{OnlyAppends, WritesAll, ReadsAndWrites}
 use Rattle.session_log.specs.declared.line.Line.TheVariants.{Input, Sent, Comment, Count}
 use Rattle.session_show.specs.declared.detail.Detail.{Detail, TheVariants.Fixed, TheVariants.Explained}

@@ -1,5 +1,5 @@
 use Rattle.std.proofs.Common.{◌≡◌, Bool, cond, Some, refl, sym, ◌∙◌, ap}
-use Rattle.session_log.specs.{Session.quiet_machine, Parsed.parsed, Text.ended, Text.tick_text}
+use Rattle.session_log.specs.{Session.quiet_machine, Parsed.parsed, Text.with_line_feed, Text.tick_text}
 use Rattle.session_log.specs.declared.line.Line.TheVariants.{Comment, Input}
 use Rattle.session_log.proofs.Puts.{drops, writes_for}
 use Rattle.session_log.proofs.quiet_player.QuietPlayerPlayer.play.Goals as goal
