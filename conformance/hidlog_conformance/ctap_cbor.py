@@ -78,7 +78,7 @@ class Reader:
         start = self.place
         major, info, argument = self.read_any_head()
         if major != 7 and info in MIN_ARGUMENT and argument < MIN_ARGUMENT[info]:
-            raise CborError(f"not the shortest head at {start}")
+            raise CborError(f"head not in its shortest form at {start}")
         return major, info, argument
 
     def read(self, level: int = 1) -> Any:

@@ -263,7 +263,7 @@ def test_a_platform_authenticator(make: Make) -> None:
     assert (made["authenticatorAttachment"], made["response"]["transports"]) == ("platform", ["internal"])
     found = browser.get({**REQUEST_OPTIONS, "userVerification": "required"})
     assert (found["authenticatorAttachment"], read_flags(found)) == ("platform", 0x05)
-    with pytest.raises(hidlog.NotAllowedError, match="authenticatorAttachment names another kind of key"):
+    with pytest.raises(hidlog.NotAllowedError, match="authenticatorAttachment doesn't match this key"):
         browser.create(make_creation_options(authenticatorSelection={"authenticatorAttachment": "cross-platform"}))
 
 

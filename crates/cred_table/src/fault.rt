@@ -15,7 +15,7 @@ pub enum SnapshotFault {
     #[error("too many rows")]
     TooMany,
     /// 3: the row at this index, counted from 0, is the first that is invalid or conflicts with an earlier row.
-    #[error("row {0} is broken")]
+    #[error("row {0} is invalid")]
     RowBroken(usize),
     /// 4: an allocation failed.
     #[error("no memory")]

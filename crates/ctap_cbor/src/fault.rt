@@ -9,19 +9,19 @@ use thiserror::Error;
 #[derive(Clone, Copy, Debug, PartialEq, Eq, Error)]
 pub enum Kind {
     /// The input ends before or within an item.
-    #[error("the text ends early")]
+    #[error("the input ends early")]
     Truncated = 1,
     /// Additional information 28 to 31: reserved, or an indefinite length.
     #[error("reserved or indefinite length")]
     Reserved = 2,
     /// A head that isn't in its shortest form.
-    #[error("not the shortest head")]
+    #[error("head not in its shortest form")]
     NotShortest = 3,
     /// An array or map inside four others.
     #[error("more than four levels deep")]
     TooDeep = 4,
     /// A map key that isn't an integer, a byte string or a text string.
-    #[error("not the type of a map key")]
+    #[error("invalid type of a map key")]
     KeyType = 5,
     /// A map key out of order, or a duplicate key.
     #[error("map keys out of order")]
@@ -30,7 +30,7 @@ pub enum Kind {
     #[error("not UTF-8")]
     NotUtf8 = 7,
     /// A tag, a float, or a simple value other than false, true and null.
-    #[error("not a type of this profile")]
+    #[error("unsupported type")]
     Unsupported = 8,
     /// Trailing bytes after the item.
     #[error("bytes after the item")]

@@ -7,7 +7,7 @@ pub mod FaultExamples
 pub mod Pushes
 pub mod Collecting
 pub mod Growing
-pub mod ListSummary
+pub mod Listing
 pub mod Naming
 pub mod Asking
 pub mod Refusing

@@ -19,7 +19,7 @@ fn documented_example(rt: HostRuntime) {
                 assert!(rt; (cid, cmd, len) == (1, command::PING, 5));
                 assert!(rt; part.starts_with(b"hello"));
             }
-            View::More { .. } => panic!(rt; "it fits one packet"),
+            View::More { .. } => panic!(rt; "the message fits in one packet"),
         }
     }
 }

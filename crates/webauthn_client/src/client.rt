@@ -62,12 +62,12 @@ impl<'a> Client<'a> {
     ) -> Result<Client<'a>, Rejection> {
         let is_conditional = is_conditional(mediation)?;
         if !is_json(options) {
-            return Err(type_error("", "the options are no JSON"));
+            return Err(type_error("", "the options are not valid JSON"));
         }
         let trimmed = options.trim_ascii();
         let options = public_key(trimmed)?;
         let Some(origin) = parse_origin(origin) else {
-            return Err(type_error("origin", "it is not an origin, such as https://example.com"));
+            return Err(type_error("origin", "must be an origin, such as https://example.com"));
         };
         match ceremony {
             Ceremony::Create => registration::check_types(options)?,
@@ -160,7 +160,7 @@ impl<'a> Client<'a> {
         match answer.split_first() {
             Some((0, map)) => self.response(map, out),
             Some((status, _)) => Err(rejection_of(*status)),
-            None => Err(not_allowed("the key's answer is empty")),
+            None => Err(not_allowed("the key's response is empty")),
         }
     }
 }

@@ -130,7 +130,7 @@ fn check_protection(
         && !is_required
         && !is_word(policy, "userVerificationOptionalWithCredentialIDList")
     {
-        return Err(unsupported("credentialProtectionPolicy", "it is none of the policies"));
+        return Err(unsupported("credentialProtectionPolicy", "must be one of the three credential protection policies"));
     }
     if is_required && !is_word(verification.unwrap_or(b"null"), "required") {
         return Err(unsupported(
@@ -244,7 +244,7 @@ pub fn check_request(
         b"",
     ));
     if has_any && !has_list {
-        return Err(unsupported("prf", "evalByCredential with an empty allow list"));
+        return Err(unsupported("prf", "evalByCredential needs a non-empty allowCredentials"));
     }
     if !are_ids {
         return Err(Rejection {

@@ -207,7 +207,7 @@ pub fn is_verified(
 /// Returns the public key options: the given ones, or their member `publicKey`.
 pub fn public_key(given: &[u8]) -> Result<&[u8], Rejection> {
     if kind_of(given) != Kind::Object {
-        return Err(type_error("publicKey", "the options are no object"));
+        return Err(type_error("publicKey", "the options must be an object"));
     }
     if count(given) == 0 {
         return Err(Rejection {

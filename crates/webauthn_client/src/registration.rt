@@ -104,7 +104,7 @@ fn check_abilities(options: &[u8], abilities: Abilities) -> Result<(), Rejection
                 "platform"
             },
         ) {
-            return Err(not_allowed("authenticatorAttachment names another kind of key"));
+            return Err(not_allowed("authenticatorAttachment doesn't match this key"));
         }
     }
     Ok(())

@@ -115,7 +115,7 @@ fn check_context(origin: &Origin) -> Result<(), Rejection> {
     let is_local = origin.host == b"localhost".as_slice() || origin.host.ends_with(b".localhost");
     if !origin.is_secure_scheme && !is_local {
         return Err(security_error(
-            "the page is in no secure context: browsers have WebAuthn on https:// and http://localhost",
+            "the page is not in a secure context: browsers offer WebAuthn only on https:// and http://localhost",
         ));
     }
     Ok(())
@@ -171,7 +171,7 @@ pub fn check_site(url: &[u8], origin: &Origin) -> Result<(), Rejection> {
     let is_near = may_use(site, origin.host, last_label(origin.host))
         || may_use(origin.host, site, last_label(site));
     if !is_near || !origin.is_secure_scheme {
-        return Err(security_error("the extension's URL is of another site"));
+        return Err(security_error("the extension's URL belongs to another site"));
     }
     Ok(())
 }

@@ -124,7 +124,7 @@ pub fn request_of(
     };
     requests_verification(options, abilities)?;
     if !is_any_usable_over(allowed, abilities.transport()) {
-        return Err(not_allowed("allowCredentials names other transports than the key's"));
+        return Err(not_allowed("allowCredentials has no credential with the key's transport"));
     }
     put(message, b"\x02")?;
     put_head(message, 5, 2 + u64::from(has_list))?;
