@@ -12,7 +12,7 @@ use Rattle.ctap_message.specs.Asked.{RequestParameters}
 use Rattle.authn_core.specs.State.{Setup, AwaitAssertSignature, PendingTask, State, Event}
 use Rattle.authn_core.specs.Turn.{CoreState, core_after, request_turn, turn}
 use Rattle.authn_core.specs.{Ready.Ready, Ready.PendingReady, Views.needs, Views.sign}
-use Rattle.authn_core.specs.Marks.{CredentialChange, change_by, apply_change, is_replaced_by, is_incremented, is_kept, row_if_kept, rows_among, TimedEvent, MayComeNow}
+use Rattle.authn_core.specs.Marks.{CredentialChange, event_change, apply_change, is_replaced_by, is_incremented, is_kept, row_if_kept, rows_among, TimedEvent, MayFollow}
 use Rattle.authn_core.specs.Marks.{Orderly, SignedAssertion, core_at, changes, creates_id, creation_count, incremented_by, signs_by, signed_after_change}
 use Rattle.authn_core.specs.Marks.{signed_assertions, is_same_assertion, all_differ}
 use Rattle.authn_core.specs.Rising.{exceeds_all, counters_increase, IsPendingSignature, IsNewest}
@@ -43,8 +43,8 @@ pub raises_none : (w : Option PendingTask) → incremented_by w w ≡ None
 raises_none w = grind (arith, same_bytes)
 
 -- Every turn does to the rows what its mark says.
-pub turn_marked : (u : Setup) (s : State) (t : ℕ) (e : Event) → MayComeNow s.work e
-    → (turn u s t e).state.rows ≡ apply_change (change_by s.work e (turn u s t e).state.work) s.rows
+pub turn_marked : (u : Setup) (s : State) (t : ℕ) (e : Event) → MayFollow s.work e
+    → (turn u s t e).state.rows ≡ apply_change (event_change s.work e (turn u s t e).state.work) s.rows
 unfolding turn
 turn_marked u s t e c = grind (arith, mark_keeps, mark_resets, mark_raises, mark_makes, raises_none)
 
@@ -109,7 +109,7 @@ requested_adds : (h : List CredentialChange) (u : Setup) (s : State) (t cid : �
     Adds h (record s { work = None }) x (signed_after_change h (incremented_by None x.work) x.work)
 requested_adds h u s t cid read p = search (rules, arith, applicable_there)
 
-pub turn_adds : (h : List CredentialChange) (u : Setup) (s : State) (t : ℕ) (e : Event) → MayComeNow s.work e → Ready u.capacity s
+pub turn_adds : (h : List CredentialChange) (u : Setup) (s : State) (t : ℕ) (e : Event) → MayFollow s.work e → Ready u.capacity s
     → let x = (turn u s t e).state in Adds h s x (signed_after_change h (incremented_by s.work x.work) x.work)
 unfolding turn
 turn_adds h u s t e c r = grind (arith, raises_none, requested_adds)

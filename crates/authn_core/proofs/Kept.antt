@@ -6,8 +6,8 @@ use Rattle.ctap_message.specs.{Asked.RequestParameters, Requests.read_of}
 use Rattle.authn_core.specs.State.{PendingTask, State, Event, Request, PresenceIs, KeyIs, SignatureIs, Cancel, Drop}
 use Rattle.authn_core.specs.State.{Answer, Answered, Waits, TurnResult, status, await_reply}
 use Rattle.authn_core.specs.Turn.{Start, first_state, request_turn, reply_turn, turn}
-use Rattle.authn_core.specs.Marks.{CredentialChange, apply_change, rows_among, TimedEvent, MayComeNow, Orderly, core_at}
-use Rattle.authn_core.specs.{Ready.WorkReady, Views.as_work}
+use Rattle.authn_core.specs.Marks.{CredentialChange, apply_change, rows_among, TimedEvent, MayFollow, Orderly, core_at}
+use Rattle.authn_core.specs.{Ready.WorkReady, Views.pending_work}
 use Rattle.authn_core.specs.Exchanges.{work_of_request, Exchange, PendingRequest, begin_pending_request, rows_after, pending_request, pending_after}
 use Rattle.authn_core.specs.Assertions.{AssertionSeries, continues_series, latest_series, begins_series}
 use Rattle.authn_core.specs.Answers.{request_answer, requested_assertion, created_credential, resets_credentials, pending_reply_answer, incremented_credential}
@@ -136,7 +136,7 @@ request_kept start past s at cid bytes w r p d =
           (goes_so cid bytes t.answer i));
     }
 
-pub turn_kept : (start : Start) (past : List Exchange) (s : State) (at : ℕ) (e : Event) → MayComeNow s.work e
+pub turn_kept : (start : Start) (past : List Exchange) (s : State) (at : ℕ) (e : Event) → MayFollow s.work e
     → s.rows ≡ rows_after start past → WorkTold start s.rows s.work (pending_request past) →
     PendingTold start s (latest_series past)
     → WorkReady start.capacity s.rows s.work → no_two same_id s.rows ≡ true →
@@ -187,5 +187,5 @@ told_at start (x ∷ past) l o = grind (arith, one_told, turn_at, told_at start 
 -- what waits, to the transport
 pub waits_told : (start : Start) (past : List Exchange) (s : State) (o : Option PendingRequest) →
     WorkTold start s.rows s.work o
-    → option_map as_work s.work ≡ work_of_request o
+    → option_map pending_work s.work ≡ work_of_request o
 waits_told start past s o h = search (rules, arith)

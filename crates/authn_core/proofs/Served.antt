@@ -3,7 +3,7 @@ use Rattle.std.proofs.Common.{rules, ◌≡◌, ◌==◌, nat_le, if◌then◌el
 use Rattle.std.proofs.Common.{slice_get, length, Bool, true, false, ◌&&◌, cond, Option, Some, None, option_map, Result}
 use Rattle.std.proofs.Common.{Ok, Err, refl, sym, ap, ◌∙◌, arith}
 use Rattle.std.{proofs.lemmas.Slice.Eq.bytes_eq-Decides, specs.List.find, specs.Option.option_or}
-use Rattle.cred_table.specs.{declared.row.Row.Row, Waiting.pending_of, Rows.has_id, Rows.same_id, Rows.no_two}
+use Rattle.cred_table.specs.{declared.row.Row.Row, Waiting.new_pending, Rows.has_id, Rows.same_id, Rows.no_two}
 use Rattle.cred_table.proofs.Basics.{same_bytes}
 use Rattle.ctap_message.specs.Asked.{RequestParameters, MakeCredential, GetAssertion, GetInfo, Reset, GetNextAssertion, Selection}
 use Rattle.ctap_message.specs.{Members.has_entries, Descriptors.ids_of}
@@ -64,20 +64,20 @@ begins_waits rows at cid asked hash rp presence given ids k h = grind (arith, fi
 
 pub next_answers : (rows : List Row) (at on cid moment : ℕ) (hash rp : List ℕ) (presence : Bool) (ids : List (List ℕ)) →
     AreRpCredentials rp rows ids
-    → (next_assertion_turn rows (pending_of on hash presence moment ids) at cid).answer
+    → (next_assertion_turn rows (new_pending on hash presence moment ids) at cid).answer
     ≡ cond (on == cid && nat_le at (moment + 30000)) (begin_assertion_answer rows (status_response 0x30) still_processing
     (assertion_by hash rp presence None (slice_get ids 0))) (status_response 0x30)
 next_answers rows at on cid moment hash rp presence ids h = grind arith
 
 pub next_rows : (rows : List Row) (at on cid moment : ℕ) (hash rp : List ℕ) (presence : Bool) (ids : List (List ℕ))
-    → let t = next_assertion_turn rows (pending_of on hash presence moment ids) at cid in
+    → let t = next_assertion_turn rows (new_pending on hash presence moment ids) at cid in
     t.state.rows ≡ apply_change
     (record { made = None; raises = incremented_credential (assertion_by hash rp presence None (slice_get ids 0)) t.answer; resets = false }) rows
 next_rows rows at on cid moment hash rp presence ids = grind (arith, mark_keeps, mark_raises)
 
 pub next_waits : (rows : List Row) (at on cid moment : ℕ) (hash rp : List ℕ) (presence : Bool) (ids : List (List ℕ)) →
     AreRpCredentials rp rows ids
-    → let t = next_assertion_turn rows (pending_of on hash presence moment ids) at cid in
+    → let t = next_assertion_turn rows (new_pending on hash presence moment ids) at cid in
     BeginsTold t.state.rows t.state.work cid (Ok GetNextAssertion) (assertion_by hash rp presence None (slice_get ids 0))
     t.answer
 next_waits rows at on cid moment hash rp presence ids h = grind (arith, find_raised, same_bytes)
@@ -124,7 +124,7 @@ GoesIfBegun cid hash rp presence ids s answer = s.pending ≡ None
 
 pub begins_if : (why : Refusal) (b up : Bool) (rows : List Row) (at cid : ℕ) (hash rp : List ℕ) (presence : Bool) (a : AssertState)
     (id : List ℕ) (ids : List (List ℕ)) → AreRpCredentials rp rows ids
-    → let p = pending_of cid hash presence at ids in
+    → let p = new_pending cid hash presence at ids in
     let t = if b then (if up then await_reply rows p cid (AwaitAssertPresence a) else await_signature rows p cid a) else respond_refusal rows None why
     in
     GoesIfBegun cid hash rp presence (id ∷ ids) t.state t.answer
@@ -162,33 +162,33 @@ IsAsserting (Some work) = is_assertion work.task ≡ true
 -- the ids that follow, where one is signed for, else nothing
 abbrev pub NextLeft : Bool → (on : ℕ) (hash rp : List ℕ) (presence : Bool) (moment : ℕ) → List (List ℕ) → State → Type 0
 NextLeft true on hash rp presence moment ids s =
-    (s.pending ≡ pending_of on hash presence moment ids) × AreRpCredentials rp s.rows ids × IsAsserting s.work
+    (s.pending ≡ new_pending on hash presence moment ids) × AreRpCredentials rp s.rows ids × IsAsserting s.work
 NextLeft false on hash rp presence moment ids s = s.pending ≡ None
 
 pub row_if : (why : Refusal) (b : Bool) (rows : List Row) (on cid moment : ℕ) (hash rp : List ℕ) (presence : Bool) (a : AssertState)
     (ids : List (List ℕ)) → AreRpCredentials rp rows ids
-    → let t = if b then await_signature rows (pending_of on hash presence moment ids) cid a else respond_refusal rows None why in
+    → let t = if b then await_signature rows (new_pending on hash presence moment ids) cid a else respond_refusal rows None why in
     NextLeft (waits_on t.answer) on hash rp presence moment ids t.state
 row_if why true rows on cid moment hash rp presence a ids h = (refl, all_raised rp a.id rows ids h, refl)
 row_if why false rows on cid moment hash rp presence a ids h = refl
 
 pub row_left : (o : Option Row) (rows : List Row) (on cid moment : ℕ) (hash rp : List ℕ) (presence : Bool) (id : List ℕ)
     (ids : List (List ℕ)) → AreRpCredentials rp rows ids
-    → let t = sign_pending_row rows (pending_of on hash presence moment ids) cid hash presence id o in
+    → let t = sign_pending_row rows (new_pending on hash presence moment ids) cid hash presence id o in
     NextLeft (waits_on t.answer) on hash rp presence moment ids t.state
 row_left None rows on cid moment hash rp presence id ids h = refl
 row_left (Some row) rows on cid moment hash rp presence id ids h = search (rules, arith, row_if)
 
 pub next_if : (why : Refusal) (b : Bool) (rows : List Row) (on cid moment : ℕ) (hash rp : List ℕ) (presence : Bool) (id : List ℕ)
     (ids : List (List ℕ)) → AreRpCredentials rp rows ids
-    → let t = if b then sign_pending_row rows (pending_of on hash presence moment ids) cid hash presence id
+    → let t = if b then sign_pending_row rows (new_pending on hash presence moment ids) cid hash presence id
     (find (has_id id) rows) else respond_refusal rows None why in
     NextLeft (waits_on t.answer) on hash rp presence moment ids t.state
 next_if why b rows on cid moment hash rp presence id ids h = search (rules, arith, row_left)
 
 pub next_left : (rows : List Row) (at on cid moment : ℕ) (hash rp : List ℕ) (presence : Bool) (ids : List (List ℕ)) →
     AreRpCredentials rp rows ids
-    → let t = next_assertion_turn rows (pending_of on hash presence moment ids) at cid in
+    → let t = next_assertion_turn rows (new_pending on hash presence moment ids) at cid in
     NextLeft (waits_on t.answer) on hash rp presence moment (drop 1 ids) t.state
 next_left rows at on cid moment hash rp presence ids h = search (rules, arith, next_if)
 

@@ -11,9 +11,9 @@ use Rattle.sha2.specs.Sha256.{sha256}
 use Rattle.authn_core.specs.State.{Setup, Task, AwaitMakeSignature, AwaitAssertSignature, PendingTask, State, Event, SignatureIs}
 use Rattle.authn_core.specs.GetAssertion.{assertion_turn, user_handle_in}
 use Rattle.authn_core.specs.Turn.{Start, first_state, request_turn, task_reply_turn, reply_turn, turn}
-use Rattle.authn_core.specs.Marks.{TimedEvent, MayComeNow, Orderly, core_at}
-use Rattle.authn_core.specs.Signed.{LatestRequests, with_request, with_event, requests_of, rp_of, IsSigned, assertion_asked, TaskSigns, WorkSigns}
-use Rattle.authn_core.specs.Signed.{AreRpCredentials, PendingFor, IsGranted, Signs}
+use Rattle.authn_core.specs.Marks.{TimedEvent, MayFollow, Orderly, core_at}
+use Rattle.authn_core.specs.Signed.{LatestRequests, with_request, with_event, requests_of, rp_of, IsSigned, assertion_asked, TaskSignsFor, WorkSignsFor}
+use Rattle.authn_core.specs.Signed.{AreRpCredentials, PendingFor, IsGranted, IsSigningFor}
 use Rattle.authn_core.proofs.Readiness.{all_along, applicable_all, all_found, core_sound, find_raised}
 
 -- ---- turns
@@ -25,13 +25,13 @@ pending_raised asked id rows p h = grind (arith, all_along, find_raised)
 begins_signs : (aaguid : List ℕ) (h : LatestRequests) (rows : List Row) (t cid : ℕ) (hash rp : List ℕ) (up given : Bool)
     (l : List (List ℕ))
     → assertion_asked h.asked ≡ Some (record { rp = rp; presence = up; hash = hash }) → AreRpCredentials rp rows l
-    → Signs aaguid h (assertion_turn rows t cid hash rp up given l).state
+    → IsSigningFor aaguid h (assertion_turn rows t cid hash rp up given l).state
 begins_signs aaguid h rows t cid hash rp up given l c a =
     grind (arith, nat_tests, find_raised, pending_raised, same_bytes)
 
 requested_signs : (u : Setup) (h : LatestRequests) (rows : List Row) (p : Option PendingAssertions) (t cid : ℕ) (read : Result RequestParameters ℕ)
     → no_two same_id rows ≡ true → PendingFor h.asked rows p → IsGranted h.granted p
-    → Signs u.aaguid (with_request h read) (request_turn u rows p t cid read).state
+    → IsSigningFor u.aaguid (with_request h read) (request_turn u rows p t cid read).state
 requested_signs u h rows p t cid (Ok (GetAssertion hash rp_id allow up)) d f k =
     let rp = sha256 rp_id in
     let all = applicable_all (λ id. rp_of id rows ≡ Some rp) rows rp (has_entries allow) (ids_of allow)
@@ -40,15 +40,15 @@ requested_signs u h rows p t cid (Ok (GetAssertion hash rp_id allow up)) d f k =
 requested_signs u h rows p t cid read d f k = grind (arith, find_raised, same_bytes, pending_raised)
 
 -- Every turn keeps the invariant, where a request comes only while no work waits.
-pub turn_signs : (u : Setup) (s : State) (t : ℕ) (e : Event) (h : LatestRequests) → MayComeNow s.work e → ValidRows u.capacity s.rows
-    → Signs u.aaguid h s → Signs u.aaguid (with_event e h) (turn u s t e).state
+pub turn_signs : (u : Setup) (s : State) (t : ℕ) (e : Event) (h : LatestRequests) → MayFollow s.work e → ValidRows u.capacity s.rows
+    → IsSigningFor u.aaguid h s → IsSigningFor u.aaguid (with_event e h) (turn u s t e).state
 unfolding turn
 turn_signs u s t e h c l g = grind (arith, find_raised, pending_raised, requested_signs, same_bytes)
 
 -- ---- histories
 
 pub signs_at : (start : Start) (h : List TimedEvent) → ValidRows start.capacity start.rows → Orderly (first_state start) h
-    → Signs start.aaguid (requests_of h) (core_at (first_state start) h).state
+    → IsSigningFor start.aaguid (requests_of h) (core_at (first_state start) h).state
 unfolding core_at requests_of Orderly
 signs_at start [] l o = record { pending = tt; granted = tt; work = tt }
 signs_at start (x ∷ past) l o =
@@ -60,7 +60,7 @@ signs_at start (x ∷ past) l o =
 -- A signature is answered with what was to be signed, by what was asked and what waits.
 task_answers : (u : Setup) (s : State) (t : ℕ) (asked : Option RequestParameters) (granted : Bool) (keys : List NewKey) (cid : ℕ)
     (k : Task)
-    (id signed sig : List ℕ) → TaskSigns u.aaguid (record { asked = asked; granted = granted; keys = keys }) s.rows k
+    (id signed sig : List ℕ) → TaskSignsFor u.aaguid (record { asked = asked; granted = granted; keys = keys }) s.rows k
     → needs (Some (record { cid = cid; task = k })) ≡ sign id signed
     → IsSigned u.aaguid (Some (record { cid = cid; task = k })) id signed sig
     (task_reply_turn u s t cid k (SignatureIs (Some sig))).answer asked
@@ -72,7 +72,7 @@ task_answers u s t (Some (MakeCredential hash rp_id user_id user_name discoverab
 task_answers u s t asked granted keys cid k id signed sig w e = grind arith
 
 pub work_answers : (u : Setup) (s : State) (t : ℕ) (h : LatestRequests) (v : Option PendingTask) (id signed sig : List ℕ)
-    → WorkSigns u.aaguid h s.rows v
+    → WorkSignsFor u.aaguid h s.rows v
     → needs v ≡ sign id signed → IsSigned u.aaguid v id signed sig (reply_turn u s t v (SignatureIs (Some sig))).answer
     h.asked
 work_answers u s t h None id signed sig w e = cc

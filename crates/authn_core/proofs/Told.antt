@@ -2,7 +2,7 @@
 -- happened names.
 use Rattle.std.proofs.Common.{◌≡◌, ℕ, ◌+◌, List, [], ◌∷◌, drop, length, Bool, true, false, ◌&&◌, cond, Option, Some}
 use Rattle.std.{proofs.Common.None, proofs.Common.refl, proofs.Common.arith, specs.List.list_all}
-use Rattle.cred_table.specs.{declared.row.Row.Row, Waiting.pending_of, Rows.counter_of, Rows.rows_incremented}
+use Rattle.cred_table.specs.{declared.row.Row.Row, Waiting.new_pending, Rows.counter_of, Rows.rows_incremented}
 use Rattle.cred_table.proofs.Basics.{same_bytes}
 use Rattle.ctap_message.specs.Asked.{RequestParameters, MakeCredential, GetAssertion, Reset, GetNextAssertion, Selection}
 use Rattle.ctap_message.specs.Descriptors.{ids_of}
@@ -116,7 +116,7 @@ Asserts (Some work) = is_assertion work.task ≡ true
 pub record Going (cid : ℕ) (hash rp : List ℕ) (presence : Bool) (all : List (List ℕ)) (done : List Exchange)
     (s : State) : Type 0 where
   pub moment : ℕ
-  pub ids : s.pending ≡ pending_of cid hash presence moment (drop (length done + busy s.work) all)
+  pub ids : s.pending ≡ new_pending cid hash presence moment (drop (length done + busy s.work) all)
   pub each : AreRpCredentials rp s.rows (drop (length done + busy s.work) all)
   pub latest : IsLatest s.work moment done
   pub work : Asserts s.work

@@ -2,7 +2,7 @@
 use Rattle.std.specs.Prelude.{ℕ, ◌+◌, ◌==◌, nat_lt, nat_le, List, [], ◌∷◌, length, Bool, ◌&&◌, Option, Some, None}
 use Rattle.std.specs.{Prelude.option_to_list, Prelude.if◌then◌else◌, List.find, Option.option_or}
 use Rattle.cred_table.specs.{declared.row.Row.Row, Rows.has_id, Rows.is_named, Rows.discoverable_rows, Rows.counter_of}
-use Rattle.cred_table.specs.Waiting.{PendingAssertions, pending_of, with_time}
+use Rattle.cred_table.specs.Waiting.{PendingAssertions, new_pending, with_time}
 use Rattle.fido_authdata.specs.AuthData.{assertion_bytes}
 use Rattle.ctap_message.specs.Answers.{assertion_answer}
 use Rattle.authn_core.specs.declared.replies.Presence.{Presence, TheVariants.Granted}
@@ -37,7 +37,7 @@ abbrev pub assertion_turn : List Row → (now cid : ℕ) (hash rp : List ℕ) (p
 assertion_turn rows now cid hash rp presence given [] = respond_refusal rows None (because.NoCredential given)
 assertion_turn rows now cid hash rp presence given (id ∷ others) =
     if nat_lt (counter_of id rows) MAX_SIGN_COUNT
-    then await_presence_or_sign rows (pending_of cid hash presence now others) cid
+    then await_presence_or_sign rows (new_pending cid hash presence now others) cid
     (record { hash = hash; rp = rp; id = id; presence = presence; number = number_of_credentials given (length others + 1) })
     else respond_refusal rows None because.CounterSpent
 
@@ -76,7 +76,7 @@ sign_pending_row rows pending cid hash presence id (Some row) =
 -- The first pending credential signs.
 abbrev pub sign_next_pending : List Row → PendingAssertions → (cid : ℕ) → List (List ℕ) → TurnResult
 sign_next_pending rows w cid [] = respond_refusal rows None because.NothingPending
-sign_next_pending rows w cid (id ∷ others) = sign_pending_row rows (pending_of w.cid w.hash w.presence w.moment others) cid
+sign_next_pending rows w cid (id ∷ others) = sign_pending_row rows (new_pending w.cid w.hash w.presence w.moment others) cid
     w.hash w.presence id (find (has_id id) rows)
 
 -- Why a getNextAssertion isn't allowed.

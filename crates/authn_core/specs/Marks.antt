@@ -82,9 +82,9 @@ incremented_by_task before (AwaitAssertSignature a counter signed) = if signs_by
 incremented_by_task before task = None
 
 -- The credential that an event creates, from the pending task before it.
-abbrev pub row_created_by : Option PendingTask → Event → Option Row
-row_created_by (Some w) (SignatureIs (Some sig)) = created_row w.task
-row_created_by work e = None
+abbrev pub created_by_event : Option PendingTask → Event → Option Row
+created_by_event (Some w) (SignatureIs (Some sig)) = created_row w.task
+created_by_event work e = None
 
 -- The event grants the pending reset.
 abbrev pub is_reset : Option PendingTask → Event → Bool
@@ -98,8 +98,8 @@ incremented_by before None = None
 incremented_by before (Some w) = incremented_by_task before w.task
 
 -- How an event changes the credentials, from the pending tasks before and after it.
-abbrev pub change_by : Option PendingTask → Event → Option PendingTask → CredentialChange
-change_by before e now = record { made = row_created_by before e; raises = incremented_by before now; resets = is_reset before e }
+abbrev pub event_change : Option PendingTask → Event → Option PendingTask → CredentialChange
+event_change before e now = record { made = created_by_event before e; raises = incremented_by before now; resets = is_reset before e }
 
 -- An event and its time.
 pub record TimedEvent : Type 0 where
@@ -115,17 +115,17 @@ core_at start (x ∷ past) = core_after (core_at start past) x.at x.event
 unfoldable pub changes : CoreState → List TimedEvent → List CredentialChange
 changes start [] = []
 changes start (x ∷ past) =
-    change_by (core_at start past).state.work x.event (core_at start (x ∷ past)).state.work ∷ changes start past
+    event_change (core_at start past).state.work x.event (core_at start (x ∷ past)).state.work ∷ changes start past
 
 -- If the event is a request, no other request is pending.
-abbrev pub MayComeNow : Option PendingTask → Event → Type 0
-MayComeNow work (Request cid bytes) = work ≡ None
-MayComeNow work e = Unit {0}
+abbrev pub MayFollow : Option PendingTask → Event → Type 0
+MayFollow work (Request cid bytes) = work ≡ None
+MayFollow work e = Unit {0}
 
 -- In the history each request arrives while no other request is pending.
 unfoldable pub Orderly : CoreState → List TimedEvent → Type 0
 Orderly start [] = Unit {0}
-Orderly start (x ∷ past) = MayComeNow (core_at start past).state.work x.event × Orderly start past
+Orderly start (x ∷ past) = MayFollow (core_at start past).state.work x.event × Orderly start past
 
 -- The row, if any, has this ID.
 abbrev pub row_has_id : List ℕ → Option Row → Bool

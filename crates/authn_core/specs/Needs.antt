@@ -3,8 +3,8 @@ use Rattle.std.specs.Prelude.{◌≡◌, ◌≤◌, length}
 use Rattle.authn_core.specs.Views.{Needed, nothing, presence, key, sign}
 
 -- The need is well-formed: for a signature, the credential ID has 32 bytes, and at most 196 bytes are to be signed.
-abbrev pub IsNeed : Needed → Type 0
-IsNeed nothing = Unit {0}
-IsNeed presence = Unit {0}
-IsNeed key = Unit {0}
-IsNeed (sign id signed) = (length id ≡ 32) × (length signed ≤ 196)
+abbrev pub IsValidNeed : Needed → Type 0
+IsValidNeed nothing = Unit {0}
+IsValidNeed presence = Unit {0}
+IsValidNeed key = Unit {0}
+IsValidNeed (sign id signed) = (length id ≡ 32) × (length signed ≤ 196)

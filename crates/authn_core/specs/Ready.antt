@@ -1,7 +1,7 @@
 -- Invariants of the pending request and the pending assertions between events.
 use Rattle.std.specs.Prelude.{ℕ, ◌≡◌, ◌<◌, ◌-◌, ◌^◌, List, ◌++◌, length, Bool, true, false, Option, Some, None, is_some}
 use Rattle.std.specs.List.{AllByRecursion, find}
-use Rattle.cred_table.specs.{declared.row.Row.Row, Rows.has_id, Rows.counter_of, Waiting.PendingAssertions, Waiting.pending_of}
+use Rattle.cred_table.specs.{declared.row.Row.Row, Rows.has_id, Rows.counter_of, Waiting.PendingAssertions, Waiting.new_pending}
 use Rattle.fido_authdata.specs.AuthData.{assertion_bytes, created_bytes}
 use Rattle.authn_core.specs.State.{Task, AwaitKeyPair, AwaitMakeSignature, AwaitAssertPresence, AwaitAssertSignature, PendingTask, State}
 use Rattle.authn_core.specs.MakeCredential.{has_capacity}
@@ -51,7 +51,7 @@ PendingReady rows (Some w) = AllHaveRows rows w.ids
 -- Exactly these IDs are pending.
 pub record IsPendingAlone (p : Option PendingAssertions) (cid : ℕ) (hash : List ℕ) (presence : Bool) (now : ℕ)
     (ids : List (List ℕ)) (count : ℕ) : Type 0 where
-  pub are : p ≡ pending_of cid hash presence now ids
+  pub are : p ≡ new_pending cid hash presence now ids
   pub counted : length ids ≡ count
   pub few : count < 2 ^ 16
 

@@ -9,7 +9,7 @@ use Rattle.ctap_message.specs.Asked.{RequestParameters, MakeCredential, GetAsser
 use Rattle.ctap_message.specs.{Answers.created_answer, Answers.assertion_answer, Requests.read_of}
 use Rattle.authn_core.specs.declared.replies.{Presence.TheVariants.Granted, NewKey.NewKey}
 use Rattle.sha2.specs.Sha256.{sha256}
-use Rattle.authn_core.specs.{Marks.TimedEvent, Marks.row_created_by, Views.Needed, Views.sign}
+use Rattle.authn_core.specs.{Marks.TimedEvent, Marks.created_by_event, Views.Needed, Views.sign}
 use Rattle.authn_core.specs.State.{MakeState, AssertState, Task, AwaitMakePresence, AwaitKeyPair, AwaitMakeSignature, AwaitAssertPresence, AwaitAssertSignature}
 use Rattle.authn_core.specs.State.{PendingTask, State, Event, Request, PresenceIs, KeyIs, SignatureIs, Answer, Answered}
 
@@ -78,7 +78,7 @@ IsSigned aaguid work id signed sig answer (Some (GetAssertion hash rp_id allow p
     (data_signed : List ℕ) × (user : Option (List ℕ)) × (number : Option ℕ)
     × (answer ≡ Answered (assertion_answer id data_signed sig user number)) × (data_signed ++ hash ≡ signed)
 IsSigned aaguid work id signed sig answer (Some (MakeCredential hash rp_id user_id user_name discoverable exclude)) =
-    (row : Row) × (row_created_by work (SignatureIs (Some sig)) ≡ Some row) × (row.id ≡ id)
+    (row : Row) × (created_by_event work (SignatureIs (Some sig)) ≡ Some row) × (row.id ≡ id)
     × (answer ≡ Answered (created_answer (created_bytes row.rp aaguid row.id row.x row.y) sig))
     × (created_bytes row.rp aaguid row.id row.x row.y ++ hash ≡ signed)
 IsSigned aaguid work id signed sig answer asked = ⊥
@@ -112,20 +112,20 @@ abbrev pub IsCreationFor : Option RequestParameters → MakeState → Type 0
 IsCreationFor asked m = creation_asked asked ≡ Some (m.rp, m.hash)
 
 -- The bytes that the task signs are for the newest request.
-abbrev pub TaskSigns : (aaguid : List ℕ) → LatestRequests → List Row → Task → Type 0
-TaskSigns aaguid h rows (AwaitMakePresence m excluded) = IsCreationFor h.asked m
-TaskSigns aaguid h rows (AwaitKeyPair m) = IsCreationFor h.asked m × (h.granted ≡ true)
-TaskSigns aaguid h rows (AwaitMakeSignature m key signed) = IsCreationFor h.asked m × IsAmong key h.keys
+abbrev pub TaskSignsFor : (aaguid : List ℕ) → LatestRequests → List Row → Task → Type 0
+TaskSignsFor aaguid h rows (AwaitMakePresence m excluded) = IsCreationFor h.asked m
+TaskSignsFor aaguid h rows (AwaitKeyPair m) = IsCreationFor h.asked m × (h.granted ≡ true)
+TaskSignsFor aaguid h rows (AwaitMakeSignature m key signed) = IsCreationFor h.asked m × IsAmong key h.keys
     × (signed ≡ created_bytes m.rp aaguid key.id key.x key.y ++ m.hash) × (h.granted ≡ true)
-TaskSigns aaguid h rows (AwaitAssertPresence a) = IsAssertionFor h.asked rows a
-TaskSigns aaguid h rows (AwaitAssertSignature a counter signed) = IsAssertionFor h.asked rows a × (counter ≡ counter_of a.id rows)
+TaskSignsFor aaguid h rows (AwaitAssertPresence a) = IsAssertionFor h.asked rows a
+TaskSignsFor aaguid h rows (AwaitAssertSignature a counter signed) = IsAssertionFor h.asked rows a × (counter ≡ counter_of a.id rows)
     × (signed ≡ assertion_bytes a.rp a.presence counter ++ a.hash) × (a.presence ≡ true → h.granted ≡ true)
-TaskSigns aaguid h rows task = Unit {0}
+TaskSignsFor aaguid h rows task = Unit {0}
 
 -- The bytes that the pending task signs, if any, are for the newest request.
-abbrev pub WorkSigns : (aaguid : List ℕ) → LatestRequests → List Row → Option PendingTask → Type 0
-WorkSigns aaguid h rows None = Unit {0}
-WorkSigns aaguid h rows (Some work) = TaskSigns aaguid h rows work.task
+abbrev pub WorkSignsFor : (aaguid : List ℕ) → LatestRequests → List Row → Option PendingTask → Type 0
+WorkSignsFor aaguid h rows None = Unit {0}
+WorkSignsFor aaguid h rows (Some work) = TaskSignsFor aaguid h rows work.task
 
 -- Each ID is that of a credential of the RP.
 abbrev pub AreRpCredentials : (rp : List ℕ) → List Row → List (List ℕ) → Type 0
@@ -154,7 +154,7 @@ WorkGranted granted p (Some work) = TaskGranted granted p work.task
 
 -- The pending request and the pending assertions are for the newest request, the user consented if UP is set, and the
 -- bytes to sign are those of that request.
-pub record Signs (aaguid : List ℕ) (h : LatestRequests) (s : State) : Type 0 where
+pub record IsSigningFor (aaguid : List ℕ) (h : LatestRequests) (s : State) : Type 0 where
   pub pending : PendingFor h.asked s.rows s.pending
   pub granted : WorkGranted h.granted s.pending s.work
-  pub work : WorkSigns aaguid h s.rows s.work
+  pub work : WorkSignsFor aaguid h s.rows s.work

@@ -27,42 +27,42 @@ status_number Processing = 1
 status_number PresenceNeeded = 2
 
 -- Converts the code's state of a registration to that of the definitions.
-abbrev pub make_state_of : MakingKept → MakeState
-make_state_of m = record { hash = m.hash; rp = m.rp; user = m.user.items; name = m.name; discoverable = m.discoverable }
+abbrev pub to_make_state : MakingKept → MakeState
+to_make_state m = record { hash = m.hash; rp = m.rp; user = m.user.items; name = m.name; discoverable = m.discoverable }
 
 -- Converts the code's assertion to that of the definitions.
-abbrev pub assert_state_of : AssertingKept → AssertState
-assert_state_of a = record { hash = a.hash; rp = a.rp; id = a.id; presence = a.presence; number = a.number }
+abbrev pub to_assert_state : AssertingKept → AssertState
+to_assert_state a = record { hash = a.hash; rp = a.rp; id = a.id; presence = a.presence; number = a.number }
 
 -- Converts the code's task to that of the definitions.
-abbrev pub task_of : TaskKept → Task
-task_of kept.AwaitResetPresence = AwaitResetPresence
-task_of kept.AwaitSelectionPresence = AwaitSelectionPresence
-task_of (kept.AwaitMakePresence m excluded) = AwaitMakePresence (make_state_of m) excluded
-task_of (kept.AwaitKeyPair m) = AwaitKeyPair (make_state_of m)
-task_of (kept.AwaitMakeSignature m k signed) = AwaitMakeSignature (make_state_of m) k signed.items
-task_of (kept.AwaitAssertPresence a) = AwaitAssertPresence (assert_state_of a)
-task_of (kept.AwaitAssertSignature a counter signed) = AwaitAssertSignature (assert_state_of a) counter signed.items
+abbrev pub to_task : TaskKept → Task
+to_task kept.AwaitResetPresence = AwaitResetPresence
+to_task kept.AwaitSelectionPresence = AwaitSelectionPresence
+to_task (kept.AwaitMakePresence m excluded) = AwaitMakePresence (to_make_state m) excluded
+to_task (kept.AwaitKeyPair m) = AwaitKeyPair (to_make_state m)
+to_task (kept.AwaitMakeSignature m k signed) = AwaitMakeSignature (to_make_state m) k signed.items
+to_task (kept.AwaitAssertPresence a) = AwaitAssertPresence (to_assert_state a)
+to_task (kept.AwaitAssertSignature a counter signed) = AwaitAssertSignature (to_assert_state a) counter signed.items
 
 -- Converts the code's pending task, with its channel, to that of the definitions.
-abbrev pub channel_task : ChannelTaskKept → PendingTask
-channel_task w = record { cid = w.cid; task = task_of w.task }
+abbrev pub to_pending_task : ChannelTaskKept → PendingTask
+to_pending_task w = record { cid = w.cid; task = to_task w.task }
 
 -- The channel and KEEPALIVE status of a pending task, which are all that the transport needs.
-abbrev pub as_work : PendingTask → Work
-as_work work = record { cid = work.cid; status = status work.task }
+abbrev pub pending_work : PendingTask → Work
+pending_work work = record { cid = work.cid; status = status work.task }
 
 -- Converts the code's pending request to that of the definitions: its channel and KEEPALIVE status.
-abbrev pub work_of : WaitingWork → Work
-work_of w = record { cid = w.cid; status = status_number w.status }
+abbrev pub to_work : WaitingWork → Work
+to_work w = record { cid = w.cid; status = status_number w.status }
 
 -- Converts the code's `Turn`, with the bytes of the response, to an answer of the definitions.
-abbrev pub answer_of : Turn → List ℕ → Answer
-answer_of turns.Answer bytes = Answered bytes
-answer_of (turns.Refuses why) bytes = Answered bytes
-answer_of (turns.Waits status) bytes = Waits (status_number status)
-answer_of turns.Ignored bytes = Ignored
-answer_of turns.Nothing bytes = Nothing
+abbrev pub to_answer : Turn → List ℕ → Answer
+to_answer turns.Answer bytes = Answered bytes
+to_answer (turns.Refuses why) bytes = Answered bytes
+to_answer (turns.Waits status) bytes = Waits (status_number status)
+to_answer turns.Ignored bytes = Ignored
+to_answer turns.Nothing bytes = Nothing
 
 -- The error of the code's `Turn`, if any.
 abbrev pub refusal_of : Turn → Option Refusal
@@ -70,13 +70,13 @@ refusal_of (turns.Refuses why) = Some why
 refusal_of turn = None
 
 -- Converts the code's event to that of the definitions.
-abbrev pub event_of : Happening → Event
-event_of (happening.Request cid message) = Request cid message.now
-event_of (happening.Presence reply) = PresenceIs reply
-event_of (happening.Key key) = KeyIs key.now
-event_of (happening.Signature signature) = SignatureIs signature.now
-event_of happening.Cancel = Cancel
-event_of happening.Drop = Drop
+abbrev pub to_event : Happening → Event
+to_event (happening.Request cid message) = Request cid message.now
+to_event (happening.Presence reply) = PresenceIs reply
+to_event (happening.Key key) = KeyIs key.now
+to_event (happening.Signature signature) = SignatureIs signature.now
+to_event happening.Cancel = Cancel
+to_event happening.Drop = Drop
 
 -- The steps of parsing the last request, after an event.
 abbrev pub steps_after : ℕ → Event → ℕ
@@ -108,7 +108,7 @@ with_turn v t = record {
 
 -- The code's state and answer are those of this result, and all else is unchanged.
 abbrev pub TakesTurn : (old new : CoreContents) → Turn → List ℕ → TurnResult → Type 0
-TakesTurn old new result bytes t = (new ≡ with_turn old t) × (answer_of result bytes ≡ t.answer) × (refusal_of result ≡ t.why)
+TakesTurn old new result bytes t = (new ≡ with_turn old t) × (to_answer result bytes ≡ t.answer) × (refusal_of result ≡ t.why)
 
 -- The code's state is that of this result, whose request is pending with this KEEPALIVE status.
 abbrev pub TakesWork : (old new : CoreContents) → KeepaliveStatus → TurnResult → Type 0
@@ -138,11 +138,11 @@ needs None = nothing
 needs (Some work) = task_needs work.task
 
 -- Converts the code's need to that of the definitions.
-abbrev pub needed_reply : Need → Needed
-needed_reply need.None = nothing
-needed_reply need.Presence = presence
-needed_reply need.Key = key
-needed_reply (need.Sign id signed) = sign id.now signed.now
+abbrev pub to_needed : Need → Needed
+to_needed need.None = nothing
+to_needed need.Presence = presence
+to_needed need.Key = key
+to_needed (need.Sign id signed) = sign id.now signed.now
 
 -- User presence is needed.
 abbrev pub is_presence : Needed → Bool

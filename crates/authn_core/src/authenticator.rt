@@ -6,8 +6,8 @@ ghost use Rattle.cred_table.specs.Snapshots.{Loads, Refuses};
 ghost use Rattle.cred_table.specs.Waiting.{pending_count};
 ghost use Rattle.authn_core.specs.State.{Request as Asks, PresenceIs, KeyIs, SignatureIs, Cancel, Drop as DropWork, Nothing};
 ghost use Rattle.authn_core.specs.Turn.{waiting, core_refusal};
-ghost use Rattle.authn_core.specs.Needs.{IsNeed};
-ghost use Rattle.authn_core.specs.Views.{IsTurn, answer_of, refusal_of, first_contents, event_of, needs, needed_reply, is_presence, is_key, is_sign, sign as needs_sign, work_of};
+ghost use Rattle.authn_core.specs.Needs.{IsValidNeed};
+ghost use Rattle.authn_core.specs.Views.{IsTurn, to_answer, refusal_of, first_contents, to_event, needs, to_needed, is_presence, is_key, is_sign, sign as needs_sign, to_work};
 
 use crate::event::Event;
 use crate::refusal::Refusal;
@@ -55,21 +55,21 @@ pub enum Need<'a> {
 impl Need<'_> {
     /// Returns whether user presence is needed.
     pub fn is_presence(&self) -> bool
-        ensures { result ≡ is_presence (needed_reply self.now) }
+        ensures { result ≡ is_presence (to_needed self.now) }
     {
         matches!(self, Need::Presence)
     }
 
     /// Returns whether a new key pair is needed.
     pub fn is_key(&self) -> bool
-        ensures { result ≡ is_key (needed_reply self.now) }
+        ensures { result ≡ is_key (to_needed self.now) }
     {
         matches!(self, Need::Key)
     }
 
     /// Returns whether a signature is needed.
     pub fn is_sign(&self) -> bool
-        ensures { result ≡ is_sign (needed_reply self.now) }
+        ensures { result ≡ is_sign (to_needed self.now) }
     {
         matches!(self, Need::Sign { .. })
     }
@@ -77,8 +77,8 @@ impl Need<'_> {
 
 /// Returns the need for a signature of these bytes by the credential's key.
 fn signature_need<'a>(id: &'a [u8; 32], signed: &'a ArrayVec<u8, 196>) -> Need<'a>
-    ensures value { needed_reply result ≡ needs_sign id.now signed.now.items }
-    ensures sized { IsNeed (needed_reply result) }
+    ensures value { to_needed result ≡ needs_sign id.now signed.now.items }
+    ensures sized { IsValidNeed (to_needed result) }
 {
     Need::Sign {
         id,
@@ -114,21 +114,21 @@ impl<T: Table<C>, const C: usize> Model for Core<T, C> {
     ghost use Rattle.std.specs.Prelude.{◌≤◌, option_map};
     ghost use Rattle.authn_core.specs.Turn.{CoreContents};
     ghost use Rattle.authn_core.specs.Ready.{Ready, WorkSignsItsResponse};
-    ghost use Rattle.authn_core.specs.Views.{channel_task};
+    ghost use Rattle.authn_core.specs.Views.{to_pending_task};
 
     ghost Value = { CoreContents };
 
     ghost view = { λ s. record {
       core = record {
         setup = record { aaguid = s.config.aaguid; began = s.began; capacity = C };
-        state = record { rows = T.rows s.table; pending = s.pending; work = option_map channel_task s.work };
+        state = record { rows = T.rows s.table; pending = s.pending; work = option_map to_pending_task s.work };
       };
       latest = s.latest;
       last_steps = s.last_steps;
     } };
 
-    ghost invariant = { λ s. (s.began ≤ s.latest) × Ready C (record { rows = T.rows s.table; pending = s.pending; work = option_map channel_task s.work })
-        × WorkSignsItsResponse s.config.aaguid (option_map channel_task s.work) };
+    ghost invariant = { λ s. (s.began ≤ s.latest) × Ready C (record { rows = T.rows s.table; pending = s.pending; work = option_map to_pending_task s.work })
+        × WorkSignsItsResponse s.config.aaguid (option_map to_pending_task s.work) };
 }
 
 impl<T: Table<C>, const C: usize> Core<T, C> {
@@ -170,35 +170,35 @@ impl<T: Table<C>, const C: usize> Core<T, C> {
     /// Handles a request at time `at` on the channel `cid`: `message` is its command byte and parameters. A pending
     /// request ends without a response.
     pub fn request(&mut self, at: u64, cid: u32, message: &[u8], answer: &mut Answer) -> Turn
-        ensures { IsTurn self.old self.new (answer_of result answer.new.items) at (Asks cid message.now) }
+        ensures { IsTurn self.old self.new (to_answer result answer.new.items) at (Asks cid message.now) }
     {
         self.take(at, &Event::Request { cid, message }, answer)
     }
 
     /// Handles a user presence reply.
     pub fn presence(&mut self, at: u64, reply: Presence, answer: &mut Answer) -> Turn
-        ensures { IsTurn self.old self.new (answer_of result answer.new.items) at (PresenceIs reply) }
+        ensures { IsTurn self.old self.new (to_answer result answer.new.items) at (PresenceIs reply) }
     {
         self.take(at, &Event::Presence(reply), answer)
     }
 
     /// Handles the reply to a key request: a new key pair, or `None` if the caller refuses.
     pub fn key(&mut self, at: u64, key: Option<NewKey>, answer: &mut Answer) -> Turn
-        ensures { IsTurn self.old self.new (answer_of result answer.new.items) at (KeyIs key) }
+        ensures { IsTurn self.old self.new (to_answer result answer.new.items) at (KeyIs key) }
     {
         self.take(at, &Event::Key(&key), answer)
     }
 
     /// Handles the reply to a signature request: a signature, or `None` if the caller refuses.
     pub fn signature(&mut self, at: u64, signature: Option<Signature>, answer: &mut Answer) -> Turn
-        ensures { IsTurn self.old self.new (answer_of result answer.new.items) at (SignatureIs signature) }
+        ensures { IsTurn self.old self.new (to_answer result answer.new.items) at (SignatureIs signature) }
     {
         self.take(at, &Event::Signature(&signature), answer)
     }
 
     /// Handles a CANCEL of the pending request.
     pub fn cancel(&mut self, answer: &mut Answer) -> Turn
-        ensures { IsTurn self.old self.new (answer_of result answer.new.items) 0 Cancel }
+        ensures { IsTurn self.old self.new (to_answer result answer.new.items) 0 Cancel }
     {
         self.take(0, &Event::Cancel, answer)
     }
@@ -216,8 +216,8 @@ impl<T: Table<C>, const C: usize> Core<T, C> {
     #[inline(never)]
     #[tactic(auto, unfolding(crate::specs::Turn::turn))]
     pub fn take(&mut self, at: u64, event: &Event<'_>, answer: &mut Answer) -> Turn
-        ensures turn { IsTurn self.old self.new (answer_of result answer.new.items) at (event_of event.now) }
-        ensures why { refusal_of result ≡ core_refusal self.old.core (max self.old.latest at) (event_of event.now) }
+        ensures turn { IsTurn self.old self.new (to_answer result answer.new.items) at (to_event event.now) }
+        ensures why { refusal_of result ≡ core_refusal self.old.core (max self.old.latest at) (to_event event.now) }
     {
         self.latest = self.latest.max(at);
         match event {
@@ -238,8 +238,8 @@ impl<T: Table<C>, const C: usize> Core<T, C> {
 
     /// Returns what the pending request needs, or [`Need::None`]. A signature is over at most 196 bytes.
     pub fn need(&self) -> Need<'_>
-        ensures value { needed_reply result ≡ needs self.now.core.state.work }
-        ensures sized { IsNeed (needed_reply result) }
+        ensures value { to_needed result ≡ needs self.now.core.state.work }
+        ensures sized { IsValidNeed (to_needed result) }
     {
         let Some(PendingTask { task, .. }) = &self.work else {
             return Need::None;
@@ -257,7 +257,7 @@ impl<T: Table<C>, const C: usize> Core<T, C> {
 
     /// Returns the pending request, if any.
     pub fn work(&self) -> Option<Work>
-        ensures { waiting self.now.core ≡ option_map work_of result }
+        ensures { waiting self.now.core ≡ option_map to_work result }
     {
         let Some(PendingTask { cid, task }) = &self.work else {
             return None;

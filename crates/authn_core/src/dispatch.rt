@@ -1,11 +1,11 @@
 //! Dispatches events by the pending request.
 
 ghost use Rattle.std.specs.Prelude.{None};
-ghost use Rattle.ctap_message.specs.Shown.{examined_result, IsFresh, HasLengths};
+ghost use Rattle.ctap_message.specs.Shown.{parsed_result, IsFresh, HasLengths};
 ghost use Rattle.authn_core.specs.State.{respond_refusal, await_reply};
 ghost use Rattle.authn_core.specs.Ready.{TaskReady, SignsItsResponse};
 ghost use Rattle.authn_core.specs.Turn.{request_turn, reply_turn};
-ghost use Rattle.authn_core.specs.Views.{TakesTurn, TakesWork, event_of, task_of};
+ghost use Rattle.authn_core.specs.Views.{TakesTurn, TakesWork, to_event, to_task};
 
 use crate::authenticator::{Core, Turn};
 use crate::event::Event;
@@ -27,7 +27,7 @@ impl<T: Table<C>, const C: usize> Core<T, C> {
         requires lens { HasLengths read }
         ensures { TakesTurn self.old self.new result answer.new.items
             (request_turn self.old.core.setup self.old.core.state.rows
-            self.old.core.state.pending self.old.latest cid (examined_result read.entry)) }
+            self.old.core.state.pending self.old.latest cid (parsed_result read.entry)) }
     {
         match read {
             Err(fault) => {
@@ -63,10 +63,10 @@ impl<T: Table<C>, const C: usize> Core<T, C> {
 
     /// Begins or continues a request, and returns its KEEPALIVE status.
     pub(crate) fn wait(&mut self, cid: u32, task: Task) -> KeepaliveStatus
-        requires ready { TaskReady self.old.core.setup.capacity self.old.core.state.rows (task_of task) }
-        requires signs { SignsItsResponse self.old.core.setup.aaguid (task_of task) }
+        requires ready { TaskReady self.old.core.setup.capacity self.old.core.state.rows (to_task task) }
+        requires signs { SignsItsResponse self.old.core.setup.aaguid (to_task task) }
         ensures { TakesWork self.old self.new result (await_reply self.old.core.state.rows self.old.core.state.pending cid
-            (task_of task)) }
+            (to_task task)) }
     {
         let status = task.status();
         self.work = Some(PendingTask { cid, task });
@@ -77,7 +77,7 @@ impl<T: Table<C>, const C: usize> Core<T, C> {
     pub(crate) fn reply(&mut self, reply: &Event<'_>, answer: &mut Answer) -> Turn
         ensures { TakesTurn self.old self.new result answer.new.items
             (reply_turn self.old.core.setup self.old.core.state self.old.latest
-            self.old.core.state.work (event_of reply.now)) }
+            self.old.core.state.work (to_event reply.now)) }
     {
         let Some(PendingTask { cid, task }) = self.work.take() else {
             return Turn::Ignored;

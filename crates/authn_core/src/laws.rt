@@ -11,11 +11,11 @@ ghost use Rattle.authn_core.specs.State.{Setup, State, Event as AnyEvent, Signat
 ghost use Rattle.authn_core.specs.Turn.{CoreState, Start, core_answer, first_state, turn, waiting};
 ghost use Rattle.authn_core.specs.Ready.{Ready};
 ghost use Rattle.authn_core.specs.Rising.{counters_increase, IsPendingSignature, IsNewest};
-ghost use Rattle.authn_core.specs.Signed.{LatestRequests, Signs as SignsFor, IsNeeded, IsSigned, with_event, requests_of};
+ghost use Rattle.authn_core.specs.Signed.{LatestRequests, IsSigningFor as SignsFor, IsNeeded, IsSigned, with_event, requests_of};
 ghost use Rattle.authn_core.specs.Views.{needs, sign};
 ghost use Rattle.authn_core.specs.Exchanges.{rows_after, pending_request, work_of_request};
 ghost use Rattle.authn_core.specs.Answers.{answer_to, exchanges};
-ghost use Rattle.authn_core.specs.Marks.{TimedEvent, MayComeNow, Orderly, core_at, changes, rows_after_changes, signs_by, signed_assertions, all_differ, SignedAssertion};
+ghost use Rattle.authn_core.specs.Marks.{TimedEvent, MayFollow, Orderly, core_at, changes, rows_after_changes, signs_by, signed_assertions, all_differ, SignedAssertion};
 
 /// States that every event keeps the state valid: every pending ID has a credential, and the pending request can
 /// continue.
@@ -60,7 +60,7 @@ pub fn signed_bytes_differ()
 /// for a registration they have the ID and public key that the caller supplied. If UP is set, the user consented since
 /// that request. The response to a signature has exactly the authenticator data that were signed.
 pub fn signed_bytes_are_in_the_response()
-    ensures kept { (u : Setup) (s : State) (now : ℕ) (e : AnyEvent) (h : LatestRequests) → MayComeNow s.work e
+    ensures kept { (u : Setup) (s : State) (now : ℕ) (e : AnyEvent) (h : LatestRequests) → MayFollow s.work e
         → ValidRows u.capacity s.rows → SignsFor u.aaguid h s → SignsFor u.aaguid (with_event e h) (turn u s now e).state }
     ensures signed { (start : Start) (h : List TimedEvent) → ValidRows start.capacity start.rows → Orderly (first_state start) h
         → IsNeeded start.aaguid (requests_of h) (core_at (first_state start) h).state.rows

@@ -51,7 +51,7 @@ impl Model for Signature {
 }
 
 /// Copies the bytes to the beginning of the buffer.
-fn put_front(out: &mut [u8], bytes: &[u8])
+fn copy_to_front(out: &mut [u8], bytes: &[u8])
     requires { length bytes.now ≤ length out.old }
     ensures { out.new ≡ bytes.now ++ drop (length bytes.now) out.old }
 {
@@ -68,7 +68,7 @@ impl Signature {
             return None;
         }
         let mut kept = [0; 72];
-        put_front(&mut kept, bytes);
+        copy_to_front(&mut kept, bytes);
         Some(Signature {
             bytes: kept,
             len: bytes.len(),

@@ -2,7 +2,7 @@
 
 ghost use Rattle.std.specs.Prelude.{◌≡◌};
 ghost use Rattle.authn_core.specs.State.{status};
-ghost use Rattle.authn_core.specs.Views.{status_number, task_of};
+ghost use Rattle.authn_core.specs.Views.{status_number, to_task};
 
 use crate::work::KeepaliveStatus;
 use arrayvec::ArrayVec;
@@ -43,7 +43,7 @@ pub(crate) enum Task {
 impl Task {
     /// Returns the KEEPALIVE status of this state.
     pub(crate) fn status(&self) -> KeepaliveStatus
-        ensures { status_number result ≡ status (task_of self.now) }
+        ensures { status_number result ≡ status (to_task self.now) }
     {
         match self {
             Task::AwaitKeyPair(_) | Task::AwaitMakeSignature(..) | Task::AwaitAssertSignature(..) =>

@@ -7,7 +7,7 @@ use Rattle.std.specs.List.{IsDistinct, AllByRecursion}
 use Rattle.std.proofs.lemmas.List.{length-set, get_or-set_same, get_or-set_other, get_or-map, get_or_default}
 use Rattle.std.proofs.lemmas.List.{length-map, map-set, set-get_or, reverse-append, reverse-reverse}
 use Rattle.std.proofs.lemmas.Bool.{and_parts, or_parts, not-true}
-use Rattle.cred_table.specs.Slots.{walk, ends, chain, is_chain, is_among, without_slot, distinct, first_link, links, link_of, with_link}
+use Rattle.cred_table.specs.Slots.{walk, terminates, chain, is_chain, is_among, without_slot, distinct, first_link, links, link_of, with_link}
 use Rattle.cred_table.specs.Slots.{relinked, slot_at, blank, within, bucket, numbered}
 use Rattle.cred_table.proofs.Basics.{all_stay}
 use Rattle.cred_table.specs.declared.{slot.Slot.Slot, slot.ChainKind.ChainKind, chains.Chains.Chains}
@@ -74,7 +74,7 @@ Leads to at [] end = at ≡ end
 Leads to at (k ∷ ks) end = (at ≡ Some k) × (k < length to) × Leads to (get_or to k None) ks end
 
 -- A walk that ends leads through the slots that it visits.
-pub walked : (n : ℕ) (to : List (Option ℕ)) (at : Option ℕ) → ends n to at ≡ true → Leads to at (walk n to at) None
+pub walked : (n : ℕ) (to : List (Option ℕ)) (at : Option ℕ) → terminates n to at ≡ true → Leads to at (walk n to at) None
 walked zero to None h = refl
 walked zero to (Some k) h = cc
 walked (suc n) to None h = refl
@@ -82,7 +82,7 @@ walked (suc n) to (Some k) h = grind (arith, walked n to (get_or to k None))
 
 -- And the slots that links lead through are those that a walk visits.
 pub walk_is : (n : ℕ) (to : List (Option ℕ)) (at : Option ℕ) (ks : List ℕ) → Leads to at ks None → length ks ≤ n →
-    (walk n to at ≡ ks) × (ends n to at ≡ true)
+    (walk n to at ≡ ks) × (terminates n to at ≡ true)
 walk_is zero to at [] h l = rw h (refl, refl)
 walk_is (suc n) to at [] h l = rw h (refl, refl)
 walk_is zero to at (k ∷ ks) h l = absurd (omega arith)

@@ -9,9 +9,9 @@ use Rattle.ctap_cbor.specs.Parts.{One, OpensArray, OpensMap}
 use Rattle.ctap_cbor.specs.Laws.{NoEncodingIsAPrefix, NoHeadIsAPrefix}
 use Rattle.cred_table.specs.{declared.row.Row.Row, declared.fault.SnapshotFault.SnapshotFault, Rows.ValidRows}
 use Rattle.cred_table.specs.declared.fault.SnapshotFault.TheVariants.{NotSnapshot, TooMany, RowBroken, Memory}
-use Rattle.cred_table.specs.Snapshots.{number, version, IsRow, row_tree, rows_then, snapshot_of, IsSnapshot, Holds}
+use Rattle.cred_table.specs.Snapshots.{number, version, IsRow, row_tree, rows_then, snapshot_of, IsSnapshot, HasEntriesOf}
 use Rattle.cred_table.specs.Snapshots.{Refuses, Loads}
-use Rattle.cred_table.specs.Parsing.{Reads, header_text, row_text, rows_text, TakesRows, StopsAtRow, ReadsRows}
+use Rattle.cred_table.specs.Parsing.{Reads, header_text, row_text, rows_text, ReadsFirstRows, FailsAtRow, ReadsRows}
 use Rattle.cred_table.proofs.{Entries.IsHeads, RowTrees.row_lawful}
 
 -- No tree's encoding begins another's, and no item's head does.
@@ -74,7 +74,7 @@ opened_map apart n (Map ps) x rest fits lawful e =
 
 record HasEntries (named : Bool) (n : ℕ) (b rest : List ℕ) : Type 0 where
   entries : Trees
-  holds : Holds named entries b
+  holds : HasEntriesOf named entries b
   lawful : AreLawful entries
   number : count entries ≡ n
   spelled : rest ≡ texts entries
@@ -192,7 +192,7 @@ one_left no_trees lt = absurd (omega arith)
 one_left (tree t ts) lt = record { entry = t; after = ts; is = refl }
 
 all_load : (apart : Apart) → (named : Bool) (capacity n : ℕ) (b : List ℕ) (a c : Reading) (rows : List Row) →
-    ValidRows capacity rows → HasEntries named n b (rest_of a) → TakesRows named n a c rows →
+    ValidRows capacity rows → HasEntries named n b (rest_of a) → ReadsFirstRows named n a c rows →
     IsSnapshot named capacity rows b
 all_load apart named capacity n b a c rows lawful h k =
     let d = after_rows apart named rows h.entries (rest_of c) k.typed h.lawful (omega (arith, h.number, k.number))
@@ -201,11 +201,11 @@ all_load apart named capacity n b a c rows lawful h k =
     record {
       typed = k.typed;
       lawful = lawful;
-      canonical = subst (λ x. Holds named x b) (d.is ∙ ap (rows_then named rows) none) h.holds;
+      canonical = subst (λ x. HasEntriesOf named x b) (d.is ∙ ap (rows_then named rows) none) h.holds;
     }
 
 broken_at : (apart : Apart) → (named : Bool) (capacity n place : ℕ) (b : List ℕ) (a : Reading) →
-    HasEntries named n b (rest_of a) → n ≤ capacity → StopsAtRow named capacity n place a →
+    HasEntries named n b (rest_of a) → n ≤ capacity → FailsAtRow named capacity n place a →
     Refuses capacity b (RowBroken place)
 broken_at apart named capacity n place b a h few k =
     let d = after_rows apart named k.rows h.entries (rest_of k.between) k.takes.typed h.lawful

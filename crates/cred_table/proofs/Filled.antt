@@ -8,7 +8,7 @@ use Rattle.cred_table.specs.declared.{slot.Slot.Slot, slot.ChainKind.ChainKind, 
 use Rattle.cred_table.specs.declared.slot.ChainKind.TheVariants.{Next, Newer, Older}
 use Rattle.cred_table.specs.Slots.{links, slot_at, is_among, next_free, chain, is_chain, distinct, relinked, first_link, within}
 use Rattle.cred_table.specs.Slots.{bucket, link_of, slot_incremented}
-use Rattle.cred_table.specs.Linked.{Linked, slots_by_age, free_slots, id_slots, head, row_at, rows_in, raised_at}
+use Rattle.cred_table.specs.Linked.{Linked, slots_by_age, free_slots, id_slots, head, row_at, rows_in, incremented_at}
 use Rattle.cred_table.proofs.Chain.{Leads, lt_is, link_at, length-links, closed, Leads-once, eq_is, chain_step}
 use Rattle.cred_table.proofs.Chain.{slot_read, Holds, opened, Leads-first, Leads-set, Leads-push, Leads-distinct}
 use Rattle.cred_table.proofs.Chain.{EndsWith, led, links-set, links-led_other, length-led, row-set_same, row-set_other}
@@ -288,5 +288,5 @@ links_same along slots k l =
 pub raise : {C : ℕ} (chains : Chains C) (k : ℕ) (slots : List Slot) → Linked [] chains → is_among k (slots_by_age chains) ≡ true →
     slots ≡ set chains.slots k (slot_incremented (slot_at chains.slots k)) →
     Linked [] (record chains { slots = slots })
-    × (rows_in (record chains { slots = slots }) ≡ map (raised_at k chains.slots) (slots_by_age chains))
+    × (rows_in (record chains { slots = slots }) ≡ map (incremented_at k chains.slots) (slots_by_age chains))
 raise {C = C} chains k slots l is_held is = grind (arith, length-set, links_same, row-set_other, row-set_same)

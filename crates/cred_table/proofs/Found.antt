@@ -6,7 +6,7 @@ use Rattle.std.specs.List.{find, list_any, filter}
 use Rattle.cred_table.specs.declared.{row.Row.Row, slot.Slot.Slot, chains.Chains.Chains}
 use Rattle.cred_table.specs.Rows.{has_id, same_id, no_two, without, rows_incremented, row_incremented, counter_in, counter_of}
 use Rattle.cred_table.specs.Slots.{slot_at, numbered, is_among, bucket, without_slot}
-use Rattle.cred_table.specs.Linked.{Linked, slots_by_age, id_slots, row_at, rows_in, raised_at}
+use Rattle.cred_table.specs.Linked.{Linked, slots_by_age, id_slots, row_at, rows_in, incremented_at}
 use Rattle.cred_table.proofs.{Basics.bytes_from, Chain.eq_is, Chain.map_same}
 
 -- An item of a walk as clauses see it.
@@ -180,9 +180,9 @@ but_without row id ks k d hk rk = filter_rows row (has_id id) (nat_eq k) ks (has
 -- raising the counter in the slot raises that of the row with its id
 pub raised_is : (slots : List Slot) (id : List ℕ) (ks : List ℕ) (k : ℕ) →
     no_two same_id (map (row_at slots) ks) ≡ true → is_among k ks ≡ true → has_id id (row_at slots k) ≡ true →
-    map (raised_at k slots) ks ≡ rows_incremented id (map (row_at slots) ks)
+    map (incremented_at k slots) ks ≡ rows_incremented id (map (row_at slots) ks)
 raised_is slots id ks k d hk rk =
-    map_same (raised_at k slots) (λ j. row_incremented id (row_at slots j)) ks
+    map_same (incremented_at k slots) (λ j. row_incremented id (row_at slots j)) ks
     (λ j i. ap (λ (b : Bool). cond b (record (row_at slots j) { counter = (row_at slots j).counter + 1 })
     (row_at slots j)) (sym (has_slot (row_at slots) id ks k d hk rk j i)))
     ∙ twice ks

@@ -6,7 +6,7 @@ use Rattle.ctap_cbor.specs.Tree.{Int, Null, Tree, Plain, Array, Trees, no_trees,
 use Rattle.cred_table.{specs.declared.row.Row.Row, proofs.Copied.free_before}
 use Rattle.cred_table.specs.declared.fault.SnapshotFault.TheVariants.{NotSnapshot, TooMany, RowBroken, Memory}
 use Rattle.cred_table.specs.Rows.{has_id, replaces, ValidRows}
-use Rattle.cred_table.specs.Snapshots.{version, IsRow, row_tree, rows_then, snapshot_of, Holds, clashes, FirstInvalid}
+use Rattle.cred_table.specs.Snapshots.{version, IsRow, row_tree, rows_then, snapshot_of, HasEntriesOf, clashes, FirstInvalid}
 use Rattle.cred_table.specs.Laws.{SameRows, SnapshotsAreUnique, RejectedIsNoSnapshot, OneSnapshotError}
 use Rattle.cred_table.proofs.RowTrees.{pairs_in, first_of_pairs, beyond_first, bytes_in, flag_in}
 use Rattle.ctap_cbor.specs.Laws.{NoEncodingIsAPrefix}
@@ -25,7 +25,7 @@ version_same named other e = search (rules, arith)
 
 -- one text holds entries of one version
 pub holds_same : (none : NoEncodingIsAPrefix) → (named other : Bool) (es fs : Trees) (text : List ℕ) →
-    Holds named es text → Holds other fs text → (named ≡ other) × (es ≡ fs)
+    HasEntriesOf named es text → HasEntriesOf other fs text → (named ≡ other) × (es ≡ fs)
 holds_same none named other es fs text p q =
     let same = (trees_same none (snapshot_of named es) (snapshot_of other fs) [] [] p.enc.lawful q.enc.lawful
     (ap (λ x. x ++ []) (sym p.enc.spelled ∙ q.enc.spelled))).0 in (

@@ -4,9 +4,9 @@ use Rattle.std.proofs.Common.{rules, ◌≡◌, ℕ, ◌+◌, Bool, List, [], �
 use Rattle.std.proofs.Common.{length-append, ◌≤◌, true, length, subst, Result, ◌*◌, take, drop, take-append-drop}
 use Rattle.std.specs.{List.AllByRecursion, Prelude.OnErr}
 use Rattle.ctap_cbor.specs.{Reading.Reading, declared.sink.Sink.Sink, Writing.Appends, Head.head, Head.head_len}
-use Rattle.cred_table.specs.{declared.row.Row.Row, Rows.ValidRows, Saving.AppendsUpTo, Saving.SavesInto, Saving.longest}
+use Rattle.cred_table.specs.{declared.row.Row.Row, Rows.ValidRows, Saving.AppendsUpTo, Saving.SavesInto, Saving.max_snapshot_len}
 use Rattle.cred_table.specs.Snapshots.{IsRow, rows_then, snapshot, IsSnapshot, Saves, saved_len}
-use Rattle.cred_table.specs.Parsing.{row_text, rows_text, TakesRow, TakesRows, header_text}
+use Rattle.cred_table.specs.Parsing.{row_text, rows_text, ReadsNextRow, ReadsFirstRows, header_text}
 use Rattle.ctap_cbor.specs.{Tree.no_trees, Tree.depth_all, Tree.count, Grammar.text, Grammar.AreLawful}
 use Rattle.cred_table.proofs.{RowTrees.row_lawful, RowTrees.row_flat, Contents.count_then}
 use Rattle.ctap_cbor.specs.Composing.{done, then}
@@ -22,8 +22,8 @@ pub all_more : (P : Row → Type 0) (rows : List Row) (row : Row) → AllByRecur
 all_more P [] row all is = (is, tt)
 all_more P (r ∷ rows) row all is = (all.0, all_more P rows row all.1 is)
 
-pub rows_more : (named : Bool) (n : ℕ) (a b c : Reading) (rows more : List Row) → TakesRows named n a b rows →
-    TakesRow named b c rows more → TakesRows named (n + 1) a c more
+pub rows_more : (named : Bool) (n : ℕ) (a b c : Reading) (rows more : List Row) → ReadsFirstRows named n a b rows →
+    ReadsNextRow named b c rows more → ReadsFirstRows named (n + 1) a c more
 rows_more named n a b c rows more h k = grind (arith, all_more, append_assoc, length-append, rows_text_more)
 
 -- Rows that are written one after another, and their snapshot.
@@ -151,12 +151,12 @@ whole : (rows left : List Row) (old new : Sink) → left ≡ [] → (w : Put row
 whole rows left old new end w = sym (append-nil w.done) ∙ ap (λ l. w.done ++ l) (sym end) ∙ w.all
 
 pub all_put : (capacity : ℕ) (rows left : List Row) (old new : Sink) → ValidRows capacity rows → left ≡ [] →
-    Put rows left old new → AppendsUpTo old new (text (snapshot true rows)) (longest capacity)
+    Put rows left old new → AppendsUpTo old new (text (snapshot true rows)) (max_snapshot_len capacity)
 all_put capacity rows left old new lawful end w = search (rules, arith, whole_is)
 
 -- the buffer then
 pub saved_into : (capacity : ℕ) (rows : List Row) (old new : List ℕ) (len : ℕ) → capacity ≤ 256 → ValidRows capacity rows →
-    AllByRecursion (IsRow true) rows → longest capacity ≤ length old → take len new ≡ text (snapshot true rows) →
+    AllByRecursion (IsRow true) rows → max_snapshot_len capacity ≤ length old → take len new ≡ text (snapshot true rows) →
     drop len new ≡ drop len old → len ≤ length new → SavesInto capacity rows old new (Some len)
 saved_into capacity rows old new len small lawful typed space front rest within =
     grind (arith, length-take-le, snapshot_is, take-append-drop)

@@ -4,12 +4,12 @@ use Rattle.std.proofs.Common.{Bool, true, cond, arith}
 use Rattle.std.specs.Prelude.{pos, is_some, ⊤, nat_eq, nat_lt}
 use Rattle.ctap_cbor.specs.Tree.{Int, Bytes, Text, Flag}
 use Rattle.ctap_cbor.specs.{Grammar.scalar_text, Faults.AnItem, Head.head, Reading.Reading, Reading.rest_of}
-use Rattle.ctap_cbor.specs.Parts.{Part, item_text, Suits, One, OpensArray, OpensMap}
-use Rattle.cred_table.specs.Parsing.{Given, and_then, Reads, ReadsPart, member_text, ReadsMember, map_in, key_in}
+use Rattle.ctap_cbor.specs.Parts.{Part, item_text, IsAllowed, One, OpensArray, OpensMap}
+use Rattle.cred_table.specs.Parsing.{HoldsIfSome, and_then, Reads, ReadsPart, member_text, ReadsMember, map_in, key_in}
 use Rattle.cred_table.specs.Parsing.{hash_in, handle_in, flag_in, counter_in, name_in, count_in, has_names_in}
 use Rattle.cred_table.specs.Snapshots.{IsHash, IsUserHandle, IsName, version}
 
-pub item_missed : (capacity : ℕ) (old new : Reading) → ((k : Part) (rest : List ℕ) → Suits capacity AnItem k →
+pub item_missed : (capacity : ℕ) (old new : Reading) → ((k : Part) (rest : List ℕ) → IsAllowed capacity AnItem k →
     rest_of old ≡ item_text k ++ rest → ⊥) → ReadsPart capacity item_text old new None
 item_missed capacity old new none = search (rules, arith)
 
@@ -36,14 +36,14 @@ key_then capacity key n old middle new first second = record {
 }
   where
     go : (n : Option Part) → ReadsPart capacity item_text middle new n →
-        Given n (λ i. Suits capacity AnItem i × (rest_of old ≡ member_text key i ++ rest_of new))
+        HoldsIfSome n (λ i. IsAllowed capacity AnItem i × (rest_of old ≡ member_text key i ++ rest_of new))
     go n r = search (rules, arith, append_assoc)
 
 -- what a value is by its head, or that it is none of its kind
 pub value_reads : {W : Type 0} (Is : W → Type 0) (shown : W → Part) (f : Part → Option W) (capacity : ℕ) (spell : Part →
     List ℕ) (old new : Reading) (m : Option Part) →
-    ((i : Part) (w : W) → Suits capacity AnItem i → f i ≡ Some w → (i ≡ shown w) × Is w) →
-    ((w : W) → Is w → Suits capacity AnItem (shown w) × (f (shown w) ≡ Some w)) →
+    ((i : Part) (w : W) → IsAllowed capacity AnItem i → f i ≡ Some w → (i ≡ shown w) × Is w) →
+    ((w : W) → Is w → IsAllowed capacity AnItem (shown w) × (f (shown w) ≡ Some w)) →
     ReadsPart capacity spell old new m → Reads Is (λ w. spell (shown w)) old new (and_then f m)
 value_reads {W} Is shown f capacity spell old new None sound complete r = search (rules, arith)
 value_reads {W} Is shown f capacity spell old new (Some i) sound complete r = record {
@@ -57,7 +57,7 @@ value_reads {W} Is shown f capacity spell old new (Some i) sound complete r = re
     some_same : (a b : Part) → Some a ≡ Some b → a ≡ b
     some_same a b e = cc
 
-    go : (o : Option W) → f i ≡ o → Given o (λ w. Is w × (rest_of old ≡ spell (shown w) ++ rest_of new))
+    go : (o : Option W) → f i ≡ o → HoldsIfSome o (λ w. Is w × (rest_of old ≡ spell (shown w) ++ rest_of new))
     go None e = tt
     go (Some w) e = let s = sound i w r.took.0 e in (s.1, r.took.1 ∙ ap (λ x. spell x ++ rest_of new) s.0)
 
@@ -72,80 +72,80 @@ eq_is n m e = grind arith
 lt_is : (n m : ℕ) → n < m → nat_lt n m ≡ true
 lt_is n m e = grind arith
 
-pub map_sound : (capacity n : ℕ) (i : Part) (w : Unit {0}) → Suits capacity AnItem i → map_in n i ≡ Some w →
+pub map_sound : (capacity n : ℕ) (i : Part) (w : Unit {0}) → IsAllowed capacity AnItem i → map_in n i ≡ Some w →
     (i ≡ OpensMap n)
     × ⊤
 map_sound capacity n i w suits e = grind arith
 
 pub map_complete : (capacity n : ℕ) → 0 < capacity → n < 2 ^ 64 → (w : Unit {0}) → ⊤ →
-    Suits capacity AnItem (OpensMap n)
+    IsAllowed capacity AnItem (OpensMap n)
     × (map_in n (OpensMap n) ≡ Some w)
 map_complete capacity n deep fits w is = ((deep, fits), ap (λ b. cond b (Some w) None) (eq_is n n refl))
 
-pub key_sound : (capacity n : ℕ) (i : Part) (w : Unit {0}) → Suits capacity AnItem i → key_in n i ≡ Some w →
+pub key_sound : (capacity n : ℕ) (i : Part) (w : Unit {0}) → IsAllowed capacity AnItem i → key_in n i ≡ Some w →
     (i ≡ One (Int (pos n))) × ⊤
 key_sound capacity n i w suits e = grind arith
 
-pub key_complete : (capacity n : ℕ) → n < 2 ^ 64 → (w : Unit {0}) → ⊤ → Suits capacity AnItem (One (Int (pos n)))
+pub key_complete : (capacity n : ℕ) → n < 2 ^ 64 → (w : Unit {0}) → ⊤ → IsAllowed capacity AnItem (One (Int (pos n)))
     × (key_in n (One (Int (pos n))) ≡ Some w)
 key_complete capacity n fits w is = (fits, ap (λ b. cond b (Some w) None) (eq_is n n refl))
 
-pub hash_sound : (capacity : ℕ) (i : Part) (w : List ℕ) → Suits capacity AnItem i → hash_in i ≡ Some w →
+pub hash_sound : (capacity : ℕ) (i : Part) (w : List ℕ) → IsAllowed capacity AnItem i → hash_in i ≡ Some w →
     (i ≡ One (Bytes w))
     × IsHash w
 hash_sound capacity i w suits e = grind arith
 
-pub hash_complete : (capacity : ℕ) (w : List ℕ) → IsHash w → Suits capacity AnItem (One (Bytes w))
+pub hash_complete : (capacity : ℕ) (w : List ℕ) → IsHash w → IsAllowed capacity AnItem (One (Bytes w))
     × (hash_in (One (Bytes w)) ≡ Some w)
 hash_complete capacity w is = grind arith
 
-pub short_sound : (capacity : ℕ) (i : Part) (w : List ℕ) → Suits capacity AnItem i → handle_in i ≡ Some w →
+pub short_sound : (capacity : ℕ) (i : Part) (w : List ℕ) → IsAllowed capacity AnItem i → handle_in i ≡ Some w →
     (i ≡ One (Bytes w))
     × IsUserHandle w
 short_sound capacity i w suits e = grind arith
 
-pub short_complete : (capacity : ℕ) (w : List ℕ) → IsUserHandle w → Suits capacity AnItem (One (Bytes w))
+pub short_complete : (capacity : ℕ) (w : List ℕ) → IsUserHandle w → IsAllowed capacity AnItem (One (Bytes w))
     × (handle_in (One (Bytes w)) ≡ Some w)
 short_complete capacity w is = grind arith
 
-pub name_sound : (capacity : ℕ) (i : Part) (w : List ℕ) → Suits capacity AnItem i → name_in i ≡ Some w →
+pub name_sound : (capacity : ℕ) (i : Part) (w : List ℕ) → IsAllowed capacity AnItem i → name_in i ≡ Some w →
     (i ≡ One (Text w))
     × IsName true w
 name_sound capacity i w suits e = grind arith
 
-pub name_complete : (capacity : ℕ) (w : List ℕ) → IsName true w → Suits capacity AnItem (One (Text w))
+pub name_complete : (capacity : ℕ) (w : List ℕ) → IsName true w → IsAllowed capacity AnItem (One (Text w))
     × (name_in (One (Text w)) ≡ Some w)
 name_complete capacity w is = grind arith
 
-pub flag_sound : (capacity : ℕ) (i : Part) (w : Bool) → Suits capacity AnItem i → flag_in i ≡ Some w →
+pub flag_sound : (capacity : ℕ) (i : Part) (w : Bool) → IsAllowed capacity AnItem i → flag_in i ≡ Some w →
     (i ≡ One (Flag w)) × ⊤
 flag_sound capacity i w suits e = grind arith
 
-pub flag_complete : (capacity : ℕ) (w : Bool) → ⊤ → Suits capacity AnItem (One (Flag w))
+pub flag_complete : (capacity : ℕ) (w : Bool) → ⊤ → IsAllowed capacity AnItem (One (Flag w))
     × (flag_in (One (Flag w)) ≡ Some w)
 flag_complete capacity w is = (tt, refl)
 
-pub counter_sound : (capacity : ℕ) (i : Part) (w : ℕ) → Suits capacity AnItem i → counter_in i ≡ Some w →
+pub counter_sound : (capacity : ℕ) (i : Part) (w : ℕ) → IsAllowed capacity AnItem i → counter_in i ≡ Some w →
     (i ≡ One (Int (pos w))) × (w < 2 ^ 32)
 counter_sound capacity i w suits e = grind arith
 
-pub counter_complete : (capacity : ℕ) (w : ℕ) → w < 2 ^ 32 → Suits capacity AnItem (One (Int (pos w)))
+pub counter_complete : (capacity : ℕ) (w : ℕ) → w < 2 ^ 32 → IsAllowed capacity AnItem (One (Int (pos w)))
     × (counter_in (One (Int (pos w))) ≡ Some w)
 counter_complete capacity w is = (omega arith, ap (λ b. cond b (Some w) None) (lt_is w (2 ^ 32) is))
 
-pub named_sound : (capacity : ℕ) (i : Part) (w : Bool) → Suits capacity AnItem i → has_names_in i ≡ Some w →
+pub named_sound : (capacity : ℕ) (i : Part) (w : Bool) → IsAllowed capacity AnItem i → has_names_in i ≡ Some w →
     (i ≡ One (Int (pos (version w)))) × ⊤
 named_sound capacity i w suits e = grind arith
 
-pub named_complete : (capacity : ℕ) (w : Bool) → ⊤ → Suits capacity AnItem (One (Int (pos (version w))))
+pub named_complete : (capacity : ℕ) (w : Bool) → ⊤ → IsAllowed capacity AnItem (One (Int (pos (version w))))
     × (has_names_in (One (Int (pos (version w)))) ≡ Some w)
 named_complete capacity w is = search (rules, arith)
 
-pub count_sound : (capacity : ℕ) (i : Part) (w : ℕ) → Suits capacity AnItem i → count_in i ≡ Some w → (i ≡ OpensArray w)
+pub count_sound : (capacity : ℕ) (i : Part) (w : ℕ) → IsAllowed capacity AnItem i → count_in i ≡ Some w → (i ≡ OpensArray w)
     × (w < 2 ^ 64)
 count_sound capacity i w suits e = grind arith
 
-pub count_complete : (capacity : ℕ) (w : ℕ) → 0 < capacity → w < 2 ^ 64 → Suits capacity AnItem (OpensArray w)
+pub count_complete : (capacity : ℕ) (w : ℕ) → 0 < capacity → w < 2 ^ 64 → IsAllowed capacity AnItem (OpensArray w)
     × (count_in (OpensArray w) ≡ Some w)
 count_complete capacity w deep is = ((deep, is), refl)
 

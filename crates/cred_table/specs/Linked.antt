@@ -46,5 +46,5 @@ pub record Linked {C : ℕ} (away : List ℕ) (chains : Chains C) : Type 0 where
   pub all : length (away ++ slots_by_age chains) + length (free_slots chains) ≡ length chains.slots
 
 -- The row in a slot, after the counter of one slot's row was incremented.
-abbrev pub raised_at : ℕ → List Slot → ℕ → Row
-raised_at number slots k = if nat_eq number k then row_plus_one (row_at slots k) else row_at slots k
+abbrev pub incremented_at : ℕ → List Slot → ℕ → Row
+incremented_at number slots k = if nat_eq number k then row_plus_one (row_at slots k) else row_at slots k

@@ -5,27 +5,27 @@ use Rattle.std.specs.List.{AllByRecursion}
 use Rattle.ctap_cbor.specs.Tree.{Int, Bytes, Text, Flag, no_trees}
 use Rattle.ctap_cbor.specs.{Head.head, Faults.AnItem, Reading.Reading, Reading.rest_of}
 use Rattle.ctap_cbor.specs.Grammar.{text, texts, scalar_text}
-use Rattle.ctap_cbor.specs.Parts.{Part, One, OpensArray, OpensMap, item_text, Suits}
+use Rattle.ctap_cbor.specs.Parts.{Part, One, OpensArray, OpensMap, item_text, IsAllowed}
 use Rattle.cred_table.specs.{declared.row.Row.Row, Rows.ValidRows}
 use Rattle.cred_table.specs.declared.fault.SnapshotFault.{SnapshotFault, TheVariants.RowBroken}
 use Rattle.cred_table.specs.Snapshots.{version, row_tree, rows_then, IsRow, clashes}
 
 -- The property holds of the value, if any.
-abbrev pub Given : {V : Type 0} → Option V → (V → Type 0) → Type 0
-Given None P = Unit {0}
-Given (Some v) P = P v
+abbrev pub HoldsIfSome : {V : Type 0} → Option V → (V → Type 0) → Type 0
+HoldsIfSome None P = Unit {0}
+HoldsIfSome (Some v) P = P v
 
 -- A reader returned a value if and only if the value's encoding is at the cursor, and then read it.
 pub record Reads {V : Type 0} (Is : V → Type 0) (spell : V → List ℕ) (old new : Reading)
     (result : Option V) : Type 0 where
-  pub took : Given result (λ v. Is v × (rest_of old ≡ spell v ++ rest_of new))
+  pub took : HoldsIfSome result (λ v. Is v × (rest_of old ≡ spell v ++ rest_of new))
   pub found : (v : V) (rest : List ℕ) → Is v → rest_of old ≡ spell v ++ rest → IsSome result × (rest_of new ≡ rest)
 
 -- A reader returned an item if and only if its encoding is at the cursor, and then read it: its head, and the content
 -- of a string.
 pub record ReadsPart (capacity : ℕ) (spell : Part → List ℕ) (old new : Reading) (result : Option Part) : Type 0 where
-  pub took : Given result (λ i. Suits capacity AnItem i × (rest_of old ≡ spell i ++ rest_of new))
-  pub found : (i : Part) (rest : List ℕ) → Suits capacity AnItem i → rest_of old ≡ spell i ++ rest
+  pub took : HoldsIfSome result (λ i. IsAllowed capacity AnItem i × (rest_of old ≡ spell i ++ rest_of new))
+  pub found : (i : Part) (rest : List ℕ) → IsAllowed capacity AnItem i → rest_of old ≡ spell i ++ rest
       → (result ≡ Some i) × (rest_of new ≡ rest)
 
 -- The encoding of a map member: its key, and the head of its value or a whole string.
@@ -114,7 +114,7 @@ NoRowFollows named rows here = (row : Row) (rest : List ℕ) → IsRow named row
     → IsTrue (clashes row rows)
 
 -- A row was read and appended to these.
-pub record TakesRow (named : Bool) (old new : Reading) (rows more : List Row) : Type 0 where
+pub record ReadsNextRow (named : Bool) (old new : Reading) (rows more : List Row) : Type 0 where
   pub row : Row
   pub typed : IsRow named row
   pub spelled : rest_of old ≡ row_text named row ++ rest_of new
@@ -122,20 +122,20 @@ pub record TakesRow (named : Bool) (old new : Reading) (rows more : List Row) : 
 
 -- The result of reading an entry.
 abbrev pub ReadsEntry : (named : Bool) → Reading → Reading → List Row → List Row → Bool → Type 0
-ReadsEntry named old new rows more true = TakesRow named old new rows more
+ReadsEntry named old new rows more true = ReadsNextRow named old new rows more
 ReadsEntry named old new rows more false = NoRowFollows named rows (rest_of old)
 
 -- These rows were read, from the first on.
-pub record TakesRows (named : Bool) (n : ℕ) (old new : Reading) (rows : List Row) : Type 0 where
+pub record ReadsFirstRows (named : Bool) (n : ℕ) (old new : Reading) (rows : List Row) : Type 0 where
   pub typed : AllByRecursion (IsRow named) rows
   pub number : length rows ≡ n
   pub spelled : rest_of old ≡ rows_text named rows ++ rest_of new
 
 -- Some rows were read, fewer than the number of entries, and then an invalid one.
-pub record StopsAtRow (named : Bool) (capacity n place : ℕ) (old : Reading) : Type 0 where
+pub record FailsAtRow (named : Bool) (capacity n place : ℕ) (old : Reading) : Type 0 where
   pub rows : List Row
   pub between : Reading
-  pub takes : TakesRows named place old between rows
+  pub takes : ReadsFirstRows named place old between rows
   pub lawful : ValidRows capacity rows
   pub fewer : place < n
   pub none : NoRowFollows named rows (rest_of between)
@@ -143,6 +143,6 @@ pub record StopsAtRow (named : Bool) (capacity n place : ℕ) (old : Reading) : 
 -- The result of reading this number of entries.
 abbrev pub ReadsRows : (named : Bool) (capacity n : ℕ) → Reading → Reading → List Row → Result (Unit {0}) SnapshotFault
     → Type 0
-ReadsRows named capacity n old new rows (Ok _) = TakesRows named n old new rows
-ReadsRows named capacity n old new rows (Err (RowBroken place)) = StopsAtRow named capacity n place old
+ReadsRows named capacity n old new rows (Ok _) = ReadsFirstRows named n old new rows
+ReadsRows named capacity n old new rows (Err (RowBroken place)) = FailsAtRow named capacity n place old
 ReadsRows named capacity n old new rows (Err _) = ⊥

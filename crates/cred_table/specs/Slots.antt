@@ -44,11 +44,11 @@ walk (suc n) to None = []
 walk (suc n) to (Some k) = k ∷ walk n to (slice_index_or to k None)
 
 -- Following the links ends within `n` slots.
-abbrev pub ends : ℕ → List (Option ℕ) → Option ℕ → Bool
-ends zero to None = true
-ends zero to (Some k) = false
-ends (suc n) to None = true
-ends (suc n) to (Some k) = nat_lt k (length to) && ends n to (slice_index_or to k None)
+abbrev pub terminates : ℕ → List (Option ℕ) → Option ℕ → Bool
+terminates zero to None = true
+terminates zero to (Some k) = false
+terminates (suc n) to None = true
+terminates (suc n) to (Some k) = nat_lt k (length to) && terminates n to (slice_index_or to k None)
 
 -- The slots of a chain. It has at most as many as there are slots.
 abbrev pub chain : List (Option ℕ) → Option ℕ → List ℕ
@@ -56,7 +56,7 @@ chain to at = walk (length to) to at
 
 -- The links form a chain without a cycle.
 abbrev pub is_chain : List (Option ℕ) → Option ℕ → Bool
-is_chain to at = ends (length to) to at
+is_chain to at = terminates (length to) to at
 
 -- The slots of a chain with their indices.
 abbrev pub numbered : List Slot → List ℕ → List (ℕ × Slot)
@@ -108,13 +108,13 @@ before k (i ∷ []) = None
 before k (i ∷ j ∷ ks) = if nat_eq j k then Some i else before k (j ∷ ks)
 
 -- The link points to this slot.
-abbrev pub is_to : ℕ → Option ℕ → Bool
-is_to k None = false
-is_to k (Some j) = nat_eq j k
+abbrev pub links_to : ℕ → Option ℕ → Bool
+links_to k None = false
+links_to k (Some j) = nat_eq j k
 
 -- The chain link of the slot points to this slot.
 abbrev pub points_to : ℕ → (ℕ × Slot) → Bool
-points_to k slot = is_to k slot.1.next
+points_to k slot = links_to k slot.1.next
 
 -- The link of a slot if all slots are free, in order.
 abbrev pub next_free : (capacity k : ℕ) → Option ℕ

@@ -99,8 +99,8 @@ saved_len rows = length (text (snapshot true rows))
 -- ---- loading
 
 -- The bytes are the canonical encoding of a snapshot's map with these entries, which need not be valid rows.
-abbrev pub Holds : (named : Bool) → Trees → List ℕ → Type 0
-Holds named entries text = IsCanonical (snapshot_of named entries) text
+abbrev pub HasEntriesOf : (named : Bool) → Trees → List ℕ → Type 0
+HasEntriesOf named entries text = IsCanonical (snapshot_of named entries) text
 
 -- The row conflicts with one of these rows: both have the same ID, or both are discoverable with the same RP and user
 -- handle.
@@ -122,10 +122,10 @@ pub record FirstInvalid (named : Bool) (capacity : ℕ) (entries : Trees) (place
 -- The bytes are rejected with this error. The errors are checked in this order: the bytes aren't a snapshot, it has
 -- more entries than the capacity, an entry is invalid.
 abbrev pub Refuses : (capacity : ℕ) → List ℕ → SnapshotFault → Type 0
-Refuses capacity text NotSnapshot = (named : Bool) (entries : Trees) → Holds named entries text → ⊥
-Refuses capacity text TooMany = (named : Bool) × (entries : Trees) × Holds named entries text
+Refuses capacity text NotSnapshot = (named : Bool) (entries : Trees) → HasEntriesOf named entries text → ⊥
+Refuses capacity text TooMany = (named : Bool) × (entries : Trees) × HasEntriesOf named entries text
     × (capacity < count entries)
-Refuses capacity text (RowBroken place) = (named : Bool) × (entries : Trees) × Holds named entries text
+Refuses capacity text (RowBroken place) = (named : Bool) × (entries : Trees) × HasEntriesOf named entries text
     × (count entries ≤ capacity) × FirstInvalid named capacity entries place
 Refuses capacity text Memory = ⊥
 

@@ -11,9 +11,9 @@ pub record PendingAssertions : Type 0 where
   pub ids : List (List ℕ)
 
 -- Pending assertions with these IDs, or None if there are none.
-abbrev pub pending_of : (cid : ℕ) (hash : List ℕ) (presence : Bool) (moment : ℕ) → List (List ℕ) → Option PendingAssertions
-pending_of cid hash presence moment [] = None
-pending_of cid hash presence moment (id ∷ ids) =
+abbrev pub new_pending : (cid : ℕ) (hash : List ℕ) (presence : Bool) (moment : ℕ) → List (List ℕ) → Option PendingAssertions
+new_pending cid hash presence moment [] = None
+new_pending cid hash presence moment (id ∷ ids) =
     Some (record { cid = cid; hash = hash; presence = presence; moment = moment; ids = id ∷ ids })
 
 -- The number of pending IDs.
@@ -34,7 +34,7 @@ first_of (Some w) = slice_get w.ids 0
 -- The pending assertions without the first.
 abbrev pub rest_of : Option PendingAssertions → Option PendingAssertions
 rest_of None = None
-rest_of (Some w) = pending_of w.cid w.hash w.presence w.moment (drop 1 w.ids)
+rest_of (Some w) = new_pending w.cid w.hash w.presence w.moment (drop 1 w.ids)
 
 -- The channel of the request, or 0.
 abbrev pub cid_of : Option PendingAssertions → ℕ

@@ -64,14 +64,14 @@ impl<const C: usize> Table<C> for Chained<C> {
 
     fn find(&self, id: &[u8; 32]) -> Option<&Row> {
         self.chains
-            .like(id)
+            .id_chain(id)
             .find(|item| item.1.row.id == *id)
             .map(|item| &item.1.row)
     }
 
     fn named(&self, rp: &[u8; 32], id: &[u8]) -> Option<&Row> {
         self.chains
-            .like(id)
+            .id_chain(id)
             .find(|item| item.1.row.is_named(rp, id))
             .map(|item| &item.1.row)
     }

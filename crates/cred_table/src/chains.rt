@@ -4,7 +4,7 @@ ghost use Rattle.std.specs.Prelude.{◌≡◌, ◌<◌, ◌≤◌, ◌+◌, ◌-
 ghost use Rattle.std.specs.List.{find};
 ghost use Rattle.cred_table.specs.Slots.{numbered, is_among, without_slot, bucket, before};
 ghost use Rattle.cred_table.specs.Rows.{has_id};
-ghost use Rattle.cred_table.specs.Linked.{Linked, raised_at, slots_by_age, id_slots, rows_in, row_at};
+ghost use Rattle.cred_table.specs.Linked.{Linked, incremented_at, slots_by_age, id_slots, rows_in, row_at};
 
 use crate::row::Row;
 use crate::slot::{self, ChainKind, ChainWalk, Link, Slot};
@@ -72,7 +72,10 @@ impl<const C: usize> Chains<C> {
         ensures held { is_among result (slots_by_age self.now) ≡ true }
         ensures named { has_id id.now (row_at self.now.slots result) ≡ true }
     {
-        self.like(id).find(|item| item.1.row.id == *id).unwrap().0
+        self.id_chain(id)
+            .find(|item| item.1.row.id == *id)
+            .unwrap()
+            .0
     }
 
     /// Increments the signature counter of the row in a slot, and returns the new value.
@@ -81,14 +84,14 @@ impl<const C: usize> Chains<C> {
         requires held { is_among number (slots_by_age self.old) ≡ true }
         requires below { (row_at self.old.slots number).counter < 2 ^ 32 - 1 }
         ensures linked { Linked [] self.new }
-        ensures rows { rows_in self.new ≡ map (raised_at number self.old.slots) (slots_by_age self.old) }
+        ensures rows { rows_in self.new ≡ map (incremented_at number self.old.slots) (slots_by_age self.old) }
         ensures value { result ≡ (row_at self.old.slots number).counter + 1 }
     {
         slot::raise(&mut self.slots, number)
     }
 
     /// Returns the rows in the chain of an ID.
-    pub(crate) fn like(&self, id: &[u8]) -> ChainWalk<'_>
+    pub(crate) fn id_chain(&self, id: &[u8]) -> ChainWalk<'_>
         requires { Linked [] self.now }
         ensures { result ≡ numbered self.now.slots (id_slots (bucket id.now) self.now) }
     {
@@ -142,7 +145,7 @@ impl<const C: usize> Chains<C> {
         ensures { result ≡ before number (id_slots (bucket (row_at self.now.slots number).id) self.now) }
     {
         let id = &self.slots[usize::from(number)].row.id;
-        self.like(id).find_predecessor(number)
+        self.id_chain(id).find_predecessor(number)
     }
 
     /// Removes a slot from the age list and from the chain of its ID.
@@ -159,15 +162,27 @@ impl<const C: usize> Chains<C> {
         let next = slot.next;
         let newer = slot.newer;
         let older = slot.older;
-        self.heads[head] = slot::lead(
+        self.heads[head] = slot::link_after(
             &mut self.slots,
             ChainKind::Next,
             before,
             next,
             self.heads[head],
         );
-        self.oldest = slot::lead(&mut self.slots, ChainKind::Newer, older, newer, self.oldest);
-        self.newest = slot::lead(&mut self.slots, ChainKind::Older, newer, older, self.newest);
+        self.oldest = slot::link_after(
+            &mut self.slots,
+            ChainKind::Newer,
+            older,
+            newer,
+            self.oldest,
+        );
+        self.newest = slot::link_after(
+            &mut self.slots,
+            ChainKind::Older,
+            newer,
+            older,
+            self.newest,
+        );
     }
 
     /// Stores a row in an unlinked slot, as the newest.
@@ -184,7 +199,7 @@ impl<const C: usize> Chains<C> {
             older: self.newest,
         };
         self.heads[head] = Some(number);
-        self.oldest = slot::lead(
+        self.oldest = slot::link_after(
             &mut self.slots,
             ChainKind::Newer,
             self.newest,

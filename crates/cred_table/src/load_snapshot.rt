@@ -11,7 +11,7 @@ use crate::listed::Listed;
 use crate::parse::{read_header, read_row};
 use crate::row::Row;
 use crate::table::Table;
-use ctap_cbor::laws::{no_head_is_a_prefix, no_encoding_is_a_prefix};
+use ctap_cbor::laws::{no_encoding_is_a_prefix, no_head_is_a_prefix};
 use ctap_cbor::{Cursor, check};
 
 /// Returns whether a row conflicts with one of a table: both have the same ID, or both are discoverable with the same

@@ -6,7 +6,7 @@ ghost use Rattle.ctap_cbor.specs.Head.{head};
 ghost use Rattle.ctap_cbor.specs.Grammar.{scalar_text};
 ghost use Rattle.ctap_cbor.specs.Parts.{One, OpensArray, item_text};
 ghost use Rattle.cred_table.specs.Snapshots.{IsHash, IsUserHandle, IsName, IsRow, version};
-ghost use Rattle.ctap_cbor.specs.Views.{part_of};
+ghost use Rattle.ctap_cbor.specs.Views.{to_part};
 ghost use Rattle.cred_table.specs.Parsing.{Reads, ReadsPart, ReadsMember, member_text, map_in, key_in, and_then, hash_in, handle_in, flag_in, counter_in, name_in, count_in, has_names_in, name_text, header_text, row_text, members_of};
 
 use crate::name::Name;
@@ -18,7 +18,7 @@ use ctap_cbor::{Cursor, Item};
 fn take<'a>(cursor: &mut Cursor<'a>, level: u8) -> Option<Item<'a>>
     requires low { 1 ≤ level }
     requires high { level ≤ 5 }
-    ensures { ReadsPart (5 - level) item_text cursor.old cursor.new (option_map part_of result) }
+    ensures { ReadsPart (5 - level) item_text cursor.old cursor.new (option_map to_part result) }
 {
     match cursor.item(level) {
         Ok(item) => Some(item),
@@ -32,7 +32,7 @@ fn read_map(cursor: &mut Cursor, level: u8, count: u64) -> Option<()>
     requires high { level ≤ 4 }
     ensures { Reads (λ _. ⊤) (λ _. head 5 count) cursor.old cursor.new result }
 {
-    map_of(take(cursor, level), count)
+    check_map(take(cursor, level), count)
 }
 
 /// Reads a map key, which must be this unsigned integer.
@@ -41,22 +41,22 @@ fn read_key(cursor: &mut Cursor, level: u8, key: u8) -> Option<()>
     requires high { level ≤ 5 }
     ensures { Reads (λ _. ⊤) (λ _. scalar_text (Int (pos key))) cursor.old cursor.new result }
 {
-    key_of(take(cursor, level), key)
+    check_key(take(cursor, level), key)
 }
 
 /// Reads a member of a map: the key and the head of its value, or a whole string.
 fn read_member<'a>(cursor: &mut Cursor<'a>, level: u8, key: u8) -> Option<Item<'a>>
     requires low { 1 ≤ level }
     requires high { level ≤ 5 }
-    ensures { ReadsPart (5 - level) (member_text key) cursor.old cursor.new (option_map part_of result) }
+    ensures { ReadsPart (5 - level) (member_text key) cursor.old cursor.new (option_map to_part result) }
 {
     read_key(cursor, level, key)?;
     take(cursor, level)
 }
 
 /// Checks for the head of a map with this number of members.
-fn map_of(item: Option<Item>, count: u64) -> Option<()>
-    ensures { result ≡ and_then (map_in count) (option_map part_of item.entry) }
+fn check_map(item: Option<Item>, count: u64) -> Option<()>
+    ensures { result ≡ and_then (map_in count) (option_map to_part item.entry) }
 {
     match item {
         Some(Item::Map(found)) if found == count => Some(()),
@@ -65,8 +65,8 @@ fn map_of(item: Option<Item>, count: u64) -> Option<()>
 }
 
 /// Checks for this integer.
-fn key_of(item: Option<Item>, key: u8) -> Option<()>
-    ensures { result ≡ and_then (key_in key) (option_map part_of item.entry) }
+fn check_key(item: Option<Item>, key: u8) -> Option<()>
+    ensures { result ≡ and_then (key_in key) (option_map to_part item.entry) }
 {
     match item {
         Some(Item::Int(found)) if found == key as i128 => Some(()),
@@ -75,8 +75,8 @@ fn key_of(item: Option<Item>, key: u8) -> Option<()>
 }
 
 /// Checks for a byte string of 32 bytes.
-fn hash_of(item: Option<Item>) -> Option<[u8; 32]>
-    ensures { result ≡ and_then hash_in (option_map part_of item.entry) }
+fn check_hash(item: Option<Item>) -> Option<[u8; 32]>
+    ensures { result ≡ and_then hash_in (option_map to_part item.entry) }
 {
     match item {
         Some(Item::Bytes(bytes)) => bytes.try_into().ok(),
@@ -86,7 +86,7 @@ fn hash_of(item: Option<Item>) -> Option<[u8; 32]>
 
 /// Checks for a byte string of at most 64 bytes.
 fn handle_of(item: Option<Item>) -> Option<ArrayVec<u8, 64>>
-    ensures { option_map (λ v. v.items) result ≡ and_then handle_in (option_map part_of item.entry) }
+    ensures { option_map (λ v. v.items) result ≡ and_then handle_in (option_map to_part item.entry) }
 {
     match item {
         Some(Item::Bytes(bytes)) if bytes.len() <= 64 => {
@@ -99,8 +99,8 @@ fn handle_of(item: Option<Item>) -> Option<ArrayVec<u8, 64>>
 }
 
 /// Checks for a Boolean.
-fn flag_of(item: Option<Item>) -> Option<bool>
-    ensures { result ≡ and_then flag_in (option_map part_of item.entry) }
+fn check_flag(item: Option<Item>) -> Option<bool>
+    ensures { result ≡ and_then flag_in (option_map to_part item.entry) }
 {
     match item {
         Some(Item::Bool(flag)) => Some(flag),
@@ -109,8 +109,8 @@ fn flag_of(item: Option<Item>) -> Option<bool>
 }
 
 /// Checks for an integer from 0 to 2^32-1.
-fn counter_of(item: Option<Item>) -> Option<u32>
-    ensures { result ≡ and_then counter_in (option_map part_of item.entry) }
+fn check_counter(item: Option<Item>) -> Option<u32>
+    ensures { result ≡ and_then counter_in (option_map to_part item.entry) }
 {
     match item {
         Some(Item::Int(value)) if 0 <= value && value <= 0xffff_ffff => Some(value as u32),
@@ -119,8 +119,8 @@ fn counter_of(item: Option<Item>) -> Option<u32>
 }
 
 /// Checks for a text string of at most 64 bytes.
-fn name_of(item: Option<Item>) -> Option<Name>
-    ensures { result ≡ and_then name_in (option_map part_of item.entry) }
+fn check_name(item: Option<Item>) -> Option<Name>
+    ensures { result ≡ and_then name_in (option_map to_part item.entry) }
 {
     match item {
         Some(Item::Text(text)) => Name::new(text),
@@ -129,8 +129,8 @@ fn name_of(item: Option<Item>) -> Option<Name>
 }
 
 /// Checks for an array, and returns the number of its items.
-fn count_of(item: Option<Item>) -> Option<u64>
-    ensures { result ≡ and_then count_in (option_map part_of item.entry) }
+fn check_count(item: Option<Item>) -> Option<u64>
+    ensures { result ≡ and_then count_in (option_map to_part item.entry) }
 {
     match item {
         Some(Item::Array(count)) => Some(count),
@@ -139,8 +139,8 @@ fn count_of(item: Option<Item>) -> Option<u64>
 }
 
 /// Checks for a version. Returns whether its rows have user names.
-fn has_names_of(item: Option<Item>) -> Option<bool>
-    ensures { result ≡ and_then has_names_in (option_map part_of item.entry) }
+fn check_version(item: Option<Item>) -> Option<bool>
+    ensures { result ≡ and_then has_names_in (option_map to_part item.entry) }
 {
     match item {
         Some(Item::Int(1)) => Some(false),
@@ -153,7 +153,7 @@ fn has_names_of(item: Option<Item>) -> Option<bool>
 fn read_hash(cursor: &mut Cursor, key: u8) -> Option<[u8; 32]>
     ensures { ReadsMember IsHash (λ s. One (Bytes s)) key cursor.old cursor.new result }
 {
-    hash_of(read_member(cursor, 4, key))
+    check_hash(read_member(cursor, 4, key))
 }
 
 /// Reads a member of at most 64 bytes.
@@ -167,14 +167,14 @@ fn read_handle(cursor: &mut Cursor, key: u8) -> Option<ArrayVec<u8, 64>>
 fn read_flag(cursor: &mut Cursor, key: u8) -> Option<bool>
     ensures { ReadsMember (λ _. ⊤) (λ b. One (Flag b)) key cursor.old cursor.new result }
 {
-    flag_of(read_member(cursor, 4, key))
+    check_flag(read_member(cursor, 4, key))
 }
 
 /// Reads an integer member from 0 to 2^32-1.
 fn read_counter(cursor: &mut Cursor, key: u8) -> Option<u32>
     ensures { ReadsMember (λ n. n < 2 ^ 32) (λ n. One (Int (pos n))) key cursor.old cursor.new result }
 {
-    counter_of(read_member(cursor, 4, key))
+    check_counter(read_member(cursor, 4, key))
 }
 
 /// Reads the user name, or returns an empty one if the version has none.
@@ -184,21 +184,21 @@ fn read_name(cursor: &mut Cursor, named: bool) -> Option<Name>
     if !named {
         return Some(Name::default());
     }
-    name_of(read_member(cursor, 4, 8))
+    check_name(read_member(cursor, 4, 8))
 }
 
 /// Reads the version. Returns whether rows have user names.
 fn read_version(cursor: &mut Cursor) -> Option<bool>
     ensures { ReadsMember (λ _. ⊤) (λ named. One (Int (pos (version named)))) 1 cursor.old cursor.new result }
 {
-    has_names_of(read_member(cursor, 2, 1))
+    check_version(read_member(cursor, 2, 1))
 }
 
 /// Reads the head of the entries' array, and returns their number.
 fn read_count(cursor: &mut Cursor) -> Option<u64>
     ensures { ReadsMember (λ n. n < 2 ^ 64) OpensArray 2 cursor.old cursor.new result }
 {
-    count_of(read_member(cursor, 2, 2))
+    check_count(read_member(cursor, 2, 2))
 }
 
 /// Reads the beginning of a snapshot. Returns whether its rows have user names, and the number of entries.
@@ -215,7 +215,7 @@ pub(crate) fn read_header(cursor: &mut Cursor) -> Option<(bool, u64)>
 pub(crate) fn read_row(cursor: &mut Cursor, named: bool) -> Option<Row>
     ensures { Reads (IsRow named) (row_text named) cursor.old cursor.new result }
 {
-    read_map(cursor, 3, members_of(named))?;
+    read_map(cursor, 3, row_member_count(named))?;
     let rp = read_hash(cursor, 1)?;
     let id = read_hash(cursor, 2)?;
     let x = read_hash(cursor, 3)?;
@@ -237,7 +237,7 @@ pub(crate) fn read_row(cursor: &mut Cursor, named: bool) -> Option<Row>
 }
 
 /// Returns the number of members of a row.
-fn members_of(named: bool) -> u64
+fn row_member_count(named: bool) -> u64
     ensures { result ≡ members_of named }
 {
     if named { 8 } else { 7 }

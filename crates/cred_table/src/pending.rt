@@ -1,7 +1,7 @@
 //! Pending assertions.
 
 ghost use Rattle.std.specs.Prelude.{◌≡◌, ◌≤◌, None, IsSome, length};
-ghost use Rattle.cred_table.specs.Waiting.{pending_of, pending_count, with_time, first_of, rest_of, cid_of, hash_of, presence_of, moment_of};
+ghost use Rattle.cred_table.specs.Waiting.{new_pending, pending_count, with_time, first_of, rest_of, cid_of, hash_of, presence_of, moment_of};
 
 use arrayvec::ArrayVec;
 use std::marker::Model;
@@ -19,11 +19,11 @@ pub struct Pending<const C: usize> {
 
 impl<const C: usize> Model for Pending<C> {
     ghost use Rattle.std.specs.Prelude.{Option};
-    ghost use Rattle.cred_table.specs.Waiting.{PendingAssertions, pending_of};
+    ghost use Rattle.cred_table.specs.Waiting.{PendingAssertions, new_pending};
 
     ghost Value = { Option PendingAssertions };
 
-    ghost view = { λ p. pending_of p.cid p.hash p.presence p.moment p.ids.items };
+    ghost view = { λ p. new_pending p.cid p.hash p.presence p.moment p.ids.items };
 }
 
 impl<const C: usize> Pending<C> {
@@ -43,7 +43,7 @@ impl<const C: usize> Pending<C> {
     /// Stores these IDs, at most `C`, in place of the previous ones. Without IDs, no assertion is pending.
     pub fn fill(&mut self, cid: u32, hash: &[u8; 32], presence: bool, moment: u64, ids: &[[u8; 32]])
         requires { length ids.now ≤ C }
-        ensures { self.new ≡ pending_of cid hash.now presence moment ids.now }
+        ensures { self.new ≡ new_pending cid hash.now presence moment ids.now }
     {
         self.clear();
         self.cid = cid;

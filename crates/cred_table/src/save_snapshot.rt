@@ -8,7 +8,7 @@ ghost use Rattle.ctap_cbor.specs.Writing.{space_of, Appends, SameBuffer};
 ghost use Rattle.cred_table.specs.declared.fault.SnapshotFault.TheVariants.{Memory};
 ghost use Rattle.cred_table.specs.Snapshots.{IsRow, IsHash, IsUserHandle, IsName, Saves, saved_len, snapshot};
 ghost use Rattle.cred_table.specs.Parsing.{row_text, header_text};
-ghost use Rattle.cred_table.specs.Saving.{AppendsUpTo, Extends, SavesInto, longest};
+ghost use Rattle.cred_table.specs.Saving.{AppendsUpTo, Extends, SavesInto, max_snapshot_len};
 
 use crate::fault::SnapshotFault;
 use crate::name::Name;
@@ -173,8 +173,8 @@ fn header_into(buffer: &mut [u8], count: u64) -> usize
 
 /// Writes a snapshot of a table's rows.
 fn put_snapshot<T: Table<C>, const C: usize>(sink: &mut Sink<'_>, table: &T)
-    requires { longest C ≤ space_of sink.old }
-    ensures appends { AppendsUpTo sink.old sink.new (text (snapshot true (T.rows table.now))) (longest C) }
+    requires { max_snapshot_len C ≤ space_of sink.old }
+    ensures appends { AppendsUpTo sink.old sink.new (text (snapshot true (T.rows table.now))) (max_snapshot_len C) }
     ensures same { SameBuffer sink.old sink.new }
     ensures typed { AllByRecursion (IsRow true) (T.rows table.now) }
 {
@@ -188,7 +188,7 @@ fn put_snapshot<T: Table<C>, const C: usize>(sink: &mut Sink<'_>, table: &T)
 /// Writes a snapshot of a table's rows to the beginning of a buffer that has space for the longest one, and returns its
 /// length.
 fn snapshot_into<T: Table<C>, const C: usize>(buffer: &mut [u8], table: &T) -> usize
-    requires { longest C ≤ length buffer.old }
+    requires { max_snapshot_len C ≤ length buffer.old }
     ensures front { take result buffer.new ≡ text (snapshot true (T.rows table.now)) }
     ensures rest { drop result buffer.new ≡ drop result buffer.old }
     ensures within { result ≤ length buffer.new }

@@ -76,11 +76,11 @@ impl Slot {
 }
 
 impl Slot {
-    ghost use Rattle.cred_table.specs.Slots.{is_to};
+    ghost use Rattle.cred_table.specs.Slots.{links_to};
 
     /// Returns whether this slot's chain link points to the slot `number`.
     fn points_to(&self, number: u16) -> bool
-        ensures { result ≡ is_to number self.now.next }
+        ensures { result ≡ links_to number self.now.next }
     {
         match self.next {
             Some(next) => next == number,
@@ -90,7 +90,7 @@ impl Slot {
 }
 
 /// Links the slot `before` to `next`, or makes `next` the first slot. Returns the first slot of the chain.
-pub(crate) fn lead(
+pub(crate) fn link_after(
     slots: &mut [Slot],
     along: ChainKind,
     before: Link,

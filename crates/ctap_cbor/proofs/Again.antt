@@ -6,13 +6,13 @@ use Rattle.ctap_cbor.specs.Tree.{Scalar, Tree, Plain, Array, Map, Trees, no_tree
 use Rattle.ctap_cbor.specs.Tree.{depth_all, depth_pairs, count, count_pairs}
 use Rattle.ctap_cbor.specs.Grammar.{scalar_text, text, texts, pair_texts, Fits, IsKey, IsAbove, KeysAscend, IsLawful}
 use Rattle.ctap_cbor.specs.Faults.{AnItem, AKey, fault}
-use Rattle.ctap_cbor.specs.Outcome.{Enclosing, InArray, AtKey, AtValue, fronts, last_key, FailsIn}
+use Rattle.ctap_cbor.specs.Outcome.{Enclosing, InArray, AtKey, AtValue, open_encodings, last_key, FailsInside}
 use Rattle.ctap_cbor.specs.Parts.{One, OpensArray, OpensMap, read}
 use Rattle.ctap_cbor.proofs.Items.{read_again, read_fault}
-use Rattle.ctap_cbor.specs.Parse.{Parse, Done, Halt, Run, Ran, Broke, Walk, Walked, BadKey, BadValue, array_of, map_of}
-use Rattle.ctap_cbor.specs.Parse.{before, before_pair, then_items, items, then_pairs, then_value, pairs, then_inside}
+use Rattle.ctap_cbor.specs.Parse.{Parse, Done, Halt, ParsedItems, Ran, Broke, ParsedPairs, Walked, BadKey, BadValue, parsed_array, parsed_map}
+use Rattle.ctap_cbor.specs.Parse.{prepend_item, prepend_pair, then_items, items, then_pairs, then_value, pairs, then_content}
 
-pub parse_suc : (levels : ℕ) (bytes : List ℕ) → parse (suc levels) bytes ≡ then_inside (parse levels) levels bytes
+pub parse_suc : (levels : ℕ) (bytes : List ℕ) → parse (suc levels) bytes ≡ then_content (parse levels) levels bytes
     (read (suc levels) AnItem bytes)
 unfolding parse
 parse_suc levels bytes = refl
@@ -29,47 +29,47 @@ unfolding parse
 parse_fault levels bytes kind e = search (rules, arith, read_fault)
 
 pub parse_array : (levels n : ℕ) (rest : List ℕ) → n < 2 ^ 64 →
-    parse (suc levels) (head 4 n ++ rest) ≡ array_of n (items (parse levels) n rest)
+    parse (suc levels) (head 4 n ++ rest) ≡ parsed_array n (items (parse levels) n rest)
 parse_array levels n rest lt = parse_suc levels (head 4 n ++ rest)
-    ∙ ap (then_inside (parse levels) levels (head 4 n ++ rest))
+    ∙ ap (then_content (parse levels) levels (head 4 n ++ rest))
     (read_again (suc levels) AnItem (OpensArray n) rest (omega arith, lt))
 
 pub parse_map : (levels n : ℕ) (rest : List ℕ) → n < 2 ^ 64 →
-    parse (suc levels) (head 5 n ++ rest) ≡ map_of n (pairs (parse levels) levels n None rest)
+    parse (suc levels) (head 5 n ++ rest) ≡ parsed_map n (pairs (parse levels) levels n None rest)
 parse_map levels n rest lt = parse_suc levels (head 5 n ++ rest)
-    ∙ ap (then_inside (parse levels) levels (head 5 n ++ rest))
+    ∙ ap (then_content (parse levels) levels (head 5 n ++ rest))
     (read_again (suc levels) AnItem (OpensMap n) rest (omega arith, lt))
 
-abbrev pub all_before : Trees → Run → Run
+abbrev pub all_before : Trees → ParsedItems → ParsedItems
 all_before no_trees r = r
-all_before (tree t ts) r = before t (all_before ts r)
+all_before (tree t ts) r = prepend_item t (all_before ts r)
 
-abbrev pub pairs_before : Pairs → Walk → Walk
+abbrev pub pairs_before : Pairs → ParsedPairs → ParsedPairs
 pairs_before no_pairs r = r
-pairs_before (pair k v ps) r = before_pair k v (pairs_before ps r)
+pairs_before (pair k v ps) r = prepend_pair k v (pairs_before ps r)
 
 pub all_ran : (ts : Trees) (rest : List ℕ) → all_before ts (Ran no_trees rest) ≡ Ran ts rest
 all_ran no_trees rest = refl
-all_ran (tree t ts) rest = ap (before t) (all_ran ts rest)
+all_ran (tree t ts) rest = ap (prepend_item t) (all_ran ts rest)
 
 all_broke : (ts : Trees) (os : List Enclosing) (kind : Kind) (rest : List ℕ) →
     all_before ts (Broke no_trees os kind rest) ≡ Broke ts os kind rest
 all_broke no_trees os kind rest = refl
-all_broke (tree t ts) os kind rest = ap (before t) (all_broke ts os kind rest)
+all_broke (tree t ts) os kind rest = ap (prepend_item t) (all_broke ts os kind rest)
 
 all_walked : (ps : Pairs) (rest : List ℕ) → pairs_before ps (Walked no_pairs rest) ≡ Walked ps rest
 all_walked no_pairs rest = refl
-all_walked (pair k v ps) rest = ap (before_pair k v) (all_walked ps rest)
+all_walked (pair k v ps) rest = ap (prepend_pair k v) (all_walked ps rest)
 
 all_bad_key : (ps : Pairs) (kind : Kind) (rest : List ℕ) →
     pairs_before ps (BadKey no_pairs kind rest) ≡ BadKey ps kind rest
 all_bad_key no_pairs kind rest = refl
-all_bad_key (pair k v ps) kind rest = ap (before_pair k v) (all_bad_key ps kind rest)
+all_bad_key (pair k v ps) kind rest = ap (prepend_pair k v) (all_bad_key ps kind rest)
 
 all_bad_value : (ps : Pairs) (key : Tree) (os : List Enclosing) (kind : Kind) (rest : List ℕ) →
     pairs_before ps (BadValue no_pairs key os kind rest) ≡ BadValue ps key os kind rest
 all_bad_value no_pairs key os kind rest = refl
-all_bad_value (pair k v ps) key os kind rest = ap (before_pair k v) (all_bad_value ps key os kind rest)
+all_bad_value (pair k v ps) key os kind rest = ap (prepend_pair k v) (all_bad_value ps key os kind rest)
 
 -- one more pair
 pub pairs_more : (sub : List ℕ → Parse) (levels n : ℕ) (last : Option (List ℕ)) (s : Scalar) (rest : List ℕ) → Fits s →
@@ -88,7 +88,7 @@ mutual
   parse_again (Array ts) (suc levels) rest h d =
       ap (parse (suc levels)) (append_assoc (head 4 (count ts)) (texts ts) rest)
       ∙ parse_array levels (count ts) (texts ts ++ rest) h.0
-      ∙ ap (array_of (count ts)) (
+      ∙ ap (parsed_array (count ts)) (
       ap (λ n. items (parse levels) n (texts ts ++ rest)) (let e : count ts ≡ count ts + 0 = omega arith in e)
       ∙ items_again ts levels 0 rest h.1 (omega arith)
       ∙ all_ran ts rest)
@@ -96,7 +96,7 @@ mutual
   parse_again (Map ps) (suc levels) rest h d =
       ap (parse (suc levels)) (append_assoc (head 5 (count_pairs ps)) (pair_texts ps) rest)
       ∙ parse_map levels (count_pairs ps) (pair_texts ps ++ rest) h.0
-      ∙ ap (map_of (count_pairs ps)) (
+      ∙ ap (parsed_map (count_pairs ps)) (
       ap (λ n. pairs (parse levels) levels n None (pair_texts ps ++ rest))
       (let e : count_pairs ps ≡ count_pairs ps + 0 =
       omega arith in e)
@@ -112,7 +112,7 @@ mutual
       ∙ ap (items (parse levels) (suc (count ts + n))) (append_assoc (text t) (texts ts) rest)
       ∙ ap (λ p. then_items p (items (parse levels) (count ts + n))) (parse_again t levels (texts ts ++ rest) h.0
       (omega arith))
-      ∙ ap (before t) (items_again ts levels n rest h.1 (omega arith))
+      ∙ ap (prepend_item t) (items_again ts levels n rest h.1 (omega arith))
 
   pub pairs_again : (ps : Pairs) (levels n : ℕ) (last : Option (List ℕ)) (rest : List ℕ) → KeysAscend last ps →
       AreLawfulPairs ps → depth_pairs ps ≤ levels →
@@ -131,20 +131,20 @@ mutual
       ∙ pairs_more (parse levels) levels (count_pairs ps + n) last s (text v ++ (pair_texts ps ++ rest)) h.0 u.0 u.1
       ∙ ap (λ p. then_pairs (Plain s) p (pairs (parse levels) levels (count_pairs ps + n) (Some (scalar_text s))))
       (parse_again v levels (pair_texts ps ++ rest) h.1 (omega arith))
-      ∙ ap (before_pair (Plain s) v) (pairs_again ps levels n (Some (scalar_text s)) rest u.2 h.2 (omega arith))
+      ∙ ap (prepend_pair (Plain s) v) (pairs_again ps levels n (Some (scalar_text s)) rest u.2 h.2 (omega arith))
 
-pub halt_again : (os : List Enclosing) (levels : ℕ) (kind : Kind) (rest : List ℕ) → FailsIn levels AnItem os kind rest →
-    parse levels (fronts os ++ rest) ≡ Halt os kind rest
+pub halt_again : (os : List Enclosing) (levels : ℕ) (kind : Kind) (rest : List ℕ) → FailsInside levels AnItem os kind rest →
+    parse levels (open_encodings os ++ rest) ≡ Halt os kind rest
 halt_again [] levels kind rest h = parse_fault levels rest kind h
 halt_again (o ∷ os) zero kind rest h = absurd h
 halt_again (InArray total done ∷ os) (suc levels) kind rest h =
     let left : ℕ = total - count done - 1 in
     let e : total ≡ count done + suc left = omega (arith, h.0) in
-    let beyond : List ℕ = fronts os ++ rest in
-    ap (parse (suc levels)) (append_assoc (head 4 total ++ texts done) (fronts os) rest
+    let beyond : List ℕ = open_encodings os ++ rest in
+    ap (parse (suc levels)) (append_assoc (head 4 total ++ texts done) (open_encodings os) rest
     ∙ append_assoc (head 4 total) (texts done) beyond)
     ∙ parse_array levels total (texts done ++ beyond) h.0.0
-    ∙ ap (array_of total) (
+    ∙ ap (parsed_array total) (
     ap (λ n. items (parse levels) n (texts done ++ beyond)) e
     ∙ items_again done levels (suc left) beyond h.0.2 h.0.3
     ∙ ap (λ p. all_before done (then_items p (items (parse levels) left))) (halt_again os levels kind rest h.2)
@@ -155,7 +155,7 @@ halt_again (AtKey total done ∷ []) (suc levels) kind rest h =
     ap (parse (suc levels)) (append_assoc (head 5 total ++ pair_texts done) [] rest
     ∙ append_assoc (head 5 total) (pair_texts done) rest)
     ∙ parse_map levels total (pair_texts done ++ rest) h.0.0
-    ∙ ap (map_of total) (
+    ∙ ap (parsed_map total) (
     ap (λ n. pairs (parse levels) levels n None (pair_texts done ++ rest)) e
     ∙ pairs_again done levels (suc left) None rest h.0.2 h.0.3 h.0.4
     ∙ ap (λ r. pairs_before done (then_value (parse levels) rest r (λ k. pairs (parse levels) levels left (Some k))))
@@ -167,13 +167,13 @@ halt_again (AtValue total done (Map ps) ∷ os) (suc levels) kind rest h = absur
 halt_again (AtValue total done (Plain s) ∷ os) (suc levels) kind rest h =
     let left : ℕ = total - count_pairs done - 1 in
     let e : total ≡ count_pairs done + suc left = omega (arith, h.0) in
-    let beyond : List ℕ = fronts os ++ rest in
+    let beyond : List ℕ = open_encodings os ++ rest in
     ap (parse (suc levels)) (
-    append_assoc (head 5 total ++ (pair_texts done ++ scalar_text s)) (fronts os) rest
+    append_assoc (head 5 total ++ (pair_texts done ++ scalar_text s)) (open_encodings os) rest
     ∙ append_assoc (head 5 total) (pair_texts done ++ scalar_text s) beyond
     ∙ ap (λ x. head 5 total ++ x) (append_assoc (pair_texts done) (scalar_text s) beyond))
     ∙ parse_map levels total (pair_texts done ++ (scalar_text s ++ beyond)) h.0.0
-    ∙ ap (map_of total) (
+    ∙ ap (parsed_map total) (
     ap (λ n. pairs (parse levels) levels n None (pair_texts done ++ (scalar_text s ++ beyond))) e
     ∙ pairs_again done levels (suc left) None (scalar_text s ++ beyond) h.0.2 h.0.3 h.0.4
     ∙ ap (pairs_before done) (

@@ -6,7 +6,7 @@ use Rattle.std.proofs.lemmas.List.{append-nil, drop_at}
 use Rattle.ctap_cbor.specs.declared.fault.{Kind.TheVariants.Trailing, Fault.Fault}
 use Rattle.ctap_cbor.specs.{Tree.Tree, Head.AreBytes, Faults.fault_steps, Grammar.text, Grammar.IsCanonical}
 use Rattle.ctap_cbor.proofs.Uniqueness.{encodings_are_unique}
-use Rattle.ctap_cbor.specs.Outcome.{fronts, Outcome, Whole, Longer, Stopped, IsOutcome, IsCheckResult, result_of}
+use Rattle.ctap_cbor.specs.Outcome.{open_encodings, Outcome, Whole, Longer, Stopped, IsOutcome, IsCheckResult, result_of}
 use Rattle.ctap_cbor.specs.Reading.{Reading, rest_of, PassesOne, Fails, HasNoByteLeft, HasTrailingBytes}
 
 abbrev pub start : List ℕ → Reading
@@ -41,9 +41,9 @@ found_longer b middle new f p e =
 pub found_stopped : (b : List ℕ) (new : Reading) (f : Fault) → Fails 4 (start b) new f.at f.kind →
     Found b (Err f) new.steps
 found_stopped b new f h =
-    let at : length (fronts h.os) ≡ f.at = omega (arith, h.place) in
-    let tail : drop (length (fronts h.os)) b ≡ h.tail = ap (drop (length (fronts h.os))) h.spelled
-    ∙ drop_at (fronts h.os) h.tail (length (fronts h.os)) refl in (
+    let at : length (open_encodings h.os) ≡ f.at = omega (arith, h.place) in
+    let tail : drop (length (open_encodings h.os)) b ≡ h.tail = ap (drop (length (open_encodings h.os))) h.spelled
+    ∙ drop_at (open_encodings h.os) h.tail (length (open_encodings h.os)) refl in (
       Stopped h.os f.kind,
       (h.tail, h.halts, h.spelled),
       (ap (λ x. Some (x, f.kind)) at, omega (arith, ap steps_at h.moved, ap (fault_steps f.kind) tail)),

@@ -6,8 +6,8 @@ use Rattle.ctap_cbor.specs.{declared.fault.Kind.Kind, Tree.count_pairs, Head.hea
 use Rattle.ctap_cbor.specs.Tree.{Tree, Plain, Array, Map, Trees, no_trees, tree, Pairs, no_pairs, pair, count}
 use Rattle.ctap_cbor.specs.Grammar.{text, texts, pair_texts}
 use Rattle.ctap_cbor.specs.Faults.{Expected, first_faults, body_faults, fault, item_len, passed, fault_steps}
-use Rattle.ctap_cbor.specs.Outcome.{Enclosing, InArray, AtKey, AtValue, front, fronts, FailsIn, due_in, later_keys}
-use Rattle.ctap_cbor.specs.Outcome.{later_in_all, later_in_map, later_in_pairs, later_key, later_in, later_in_open}
+use Rattle.ctap_cbor.specs.Outcome.{Enclosing, InArray, AtKey, AtValue, open_encoding, open_encodings, FailsInside, expected_in, later_keys}
+use Rattle.ctap_cbor.specs.Outcome.{later_in_all, later_in_map, later_in_pairs, later_key, later_keys_in, later_keys_in_open}
 use Rattle.ctap_cbor.specs.Outcome.{Outcome, Whole, Longer, Stopped, IsOutcome, steps}
 
 mutual
@@ -34,15 +34,15 @@ later_key_le : (ps : Pairs) (k : Tree) → later_key ps k ≤ length (text k)
 later_key_le no_pairs k = omega arith
 later_key_le (pair j v ps) k = omega arith
 
-open_le : (o : Enclosing) → later_in o ≤ length (front o)
+open_le : (o : Enclosing) → later_keys_in o ≤ length (open_encoding o)
 open_le (InArray n ts) = omega (arith, later_all_le ts, length-append (head 4 n) (texts ts))
 open_le (AtKey n ps) = omega (arith, later_map_le ps, later_pairs_le ps, length-append (head 5 n) (pair_texts ps))
 open_le (AtValue n ps k) =
     omega (arith, later_map_le ps, later_pairs_le ps, later_key_le ps k, length-append (head 5 n) (pair_texts ps ++ text k), length-append (pair_texts ps) (text k))
 
-opens_le : (os : List Enclosing) → later_in_open os ≤ length (fronts os)
+opens_le : (os : List Enclosing) → later_keys_in_open os ≤ length (open_encodings os)
 opens_le [] = omega arith
-opens_le (o ∷ os) = omega (arith, open_le o, opens_le os, length-append (front o) (fronts os))
+opens_le (o ∷ os) = omega (arith, open_le o, opens_le os, length-append (open_encoding o) (open_encodings os))
 
 -- what holds of each kind, where no test before it did
 AllAfter : (Kind → Type 0) → List (Bool × Kind) → Type 0
@@ -63,10 +63,10 @@ abbrev pub Fault-at : List ℕ → Kind → Type 0
 Fault-at rest kind = (levels : ℕ) × (due : Expected) × (fault levels due rest ≡ Some kind)
 
 pub halts_fault : (os : List Enclosing) (levels : ℕ) (due : Expected) (kind : Kind) (rest : List ℕ) →
-    FailsIn levels due os kind rest → Fault-at rest kind
+    FailsInside levels due os kind rest → Fault-at rest kind
 halts_fault [] levels due kind rest h = (levels, due, h)
 halts_fault (o ∷ os) zero due kind rest h = absurd h
-halts_fault (o ∷ os) (suc levels) due kind rest h = halts_fault os levels (due_in o) kind rest h.2
+halts_fault (o ∷ os) (suc levels) due kind rest h = halts_fault os levels (expected_in o) kind rest h.2
 
 pub steps_bound : (b : List ℕ) (o : Outcome) → IsOutcome b o → steps b o ≤ 2 * length b + 1
 steps_bound b (Whole t) h = omega (arith, later_le t, ap length h.enc.spelled)

@@ -2,40 +2,40 @@
 use Rattle.std.proofs.Common.{arith, rules, ◌≡◌, ℕ, ◌<◌, Bool, true, false, List, [], ◌∷◌, ◌++◌, Some, None, Result}
 use Rattle.std.proofs.{Common.Err, Common.refl, lemmas.Bool.leb-false}
 use Rattle.ctap_cbor.specs.{declared.fault.Kind.Kind, declared.item.Item.Item, Head.info, Parts.read}
-use Rattle.ctap_cbor.specs.Faults.{Expected, first_of, first_faults, passed}
-use Rattle.ctap_cbor.specs.Views.{IsDecodedItem, IsDecodedItemRest, due_of}
+use Rattle.ctap_cbor.specs.Faults.{Expected, first_fault_of, first_faults, passed}
+use Rattle.ctap_cbor.specs.Views.{IsDecodedItem, IsDecodedItemRest, expected_of}
 
-first_some : (ts us : List (Bool × Kind)) (kind : Kind) → first_of ts ≡ Some kind → first_of (ts ++ us) ≡ Some kind
+first_some : (ts us : List (Bool × Kind)) (kind : Kind) → first_fault_of ts ≡ Some kind → first_fault_of (ts ++ us) ≡ Some kind
 first_some [] us kind e = absurd cc
 first_some ((true, k) ∷ ts) us kind e = e
 first_some ((false, k) ∷ ts) us kind e = first_some ts us kind e
 
-first_none : (ts us : List (Bool × Kind)) → first_of ts ≡ None → first_of (ts ++ us) ≡ first_of us
+first_none : (ts us : List (Bool × Kind)) → first_fault_of ts ≡ None → first_fault_of (ts ++ us) ≡ first_fault_of us
 first_none [] us e = refl
 first_none ((true, k) ∷ ts) us e = absurd cc
 first_none ((false, k) ∷ ts) us e = first_none ts us e
 
 pub fault_first : (levels : ℕ) (due : Expected) (first : ℕ) (rest : List ℕ) (kind : Kind) →
-    first_of (first_faults levels due first) ≡ Some kind → read levels due (first ∷ rest) ≡ Err kind
+    first_fault_of (first_faults levels due first) ≡ Some kind → read levels due (first ∷ rest) ≡ Err kind
 unfolding read
 fault_first levels due first rest kind e = search (rules, arith, first_some)
 
-head_false : (ts : List (Bool × Kind)) (t : Bool × Kind) (us : List (Bool × Kind)) → ts ≡ t ∷ us → first_of ts ≡ None →
+head_false : (ts : List (Bool × Kind)) (t : Bool × Kind) (us : List (Bool × Kind)) → ts ≡ t ∷ us → first_fault_of ts ≡ None →
     t.0 ≡ false
 head_false ts t us is e = search (rules, arith)
 
-pub info_known : (levels : ℕ) (due : Expected) (first : ℕ) → first_of (first_faults levels due first) ≡ None →
+pub info_known : (levels : ℕ) (due : Expected) (first : ℕ) → first_fault_of (first_faults levels due first) ≡ None →
     info first < 28
 unfolding first_faults
 info_known levels due first e = leb-false 28 (info first) (head_false (first_faults levels due first) (_, _) _ refl e)
 
 pub passed_first : (levels : ℕ) (due : Expected) (first : ℕ) (rest : List ℕ) (kind : Kind) →
-    first_of (first_faults levels due first) ≡ Some kind → 1 ≡ passed kind (first ∷ rest)
+    first_fault_of (first_faults levels due first) ≡ Some kind → 1 ≡ passed kind (first ∷ rest)
 unfolding first_faults passed
 passed_first levels due first rest kind e = grind arith
 
 pub found_rest : (levels : ℕ) (is_key : Bool) (first : ℕ) (rest : List ℕ) (r : Result (Item × ℕ) (Kind × ℕ)) →
-    first_of (first_faults levels (due_of is_key) first) ≡ None → IsDecodedItemRest first rest r →
-    IsDecodedItem (first ∷ rest) r (read levels (due_of is_key) (first ∷ rest))
+    first_fault_of (first_faults levels (expected_of is_key) first) ≡ None → IsDecodedItemRest first rest r →
+    IsDecodedItem (first ∷ rest) r (read levels (expected_of is_key) (first ∷ rest))
 unfolding read passed
 found_rest levels is_key first rest r e h = grind (arith, first_none)

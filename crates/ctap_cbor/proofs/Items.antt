@@ -12,12 +12,12 @@ use Rattle.ctap_cbor.specs.Tree.{Scalar, Int, Bytes, Text, Flag, Null, Plain}
 use Rattle.ctap_cbor.specs.Head.{AreBytes, head, major, info, argument_len, argument, least_argument}
 use Rattle.ctap_cbor.proofs.Heads.{AreBytes-take, AreBytes-drop, Begins, head_again, head_read}
 use Rattle.ctap_cbor.specs.Grammar.{scalar_text, Fits, IsKey}
-use Rattle.ctap_cbor.specs.Parts.{Part, One, OpensArray, OpensMap, item_text, string_at, item_of, read, Nests, Suits}
-use Rattle.ctap_cbor.specs.Faults.{Expected, AnItem, is_key, is_above, first_of, fault, faults, first_faults, body_faults}
+use Rattle.ctap_cbor.specs.Parts.{Part, One, OpensArray, OpensMap, item_text, string_at, item_by_major, read, MayNest, IsAllowed}
+use Rattle.ctap_cbor.specs.Faults.{Expected, AnItem, is_key, is_above, first_fault_of, fault, faults, first_faults, body_faults}
 
 pub record Reads (levels : ℕ) (due : Expected) (bytes : List ℕ) (i : Part) (rest : List ℕ) : Type 0 where
   pub parts : bytes ≡ item_text i ++ rest
-  pub suits : Suits levels due i
+  pub suits : IsAllowed levels due i
   pub bytes_beyond : AreBytes rest
 
 -- ---- tests in a row
@@ -26,11 +26,11 @@ pub record Reads (levels : ℕ) (due : Expected) (bytes : List ℕ) (i : Part) (
 abbrev NonePass : List (Bool × Kind) → Type 0
 NonePass ts = AllByRecursion (λ (t : Bool × Kind). t.0 ≡ false) ts
 
-none_from : (ts : List (Bool × Kind)) → NonePass ts → first_of ts ≡ None
+none_from : (ts : List (Bool × Kind)) → NonePass ts → first_fault_of ts ≡ None
 none_from [] h = refl
 none_from (t ∷ ts) h = rw h.0 (none_from ts h.1)
 
-none_to : (ts : List (Bool × Kind)) → first_of ts ≡ None → NonePass ts
+none_to : (ts : List (Bool × Kind)) → first_fault_of ts ≡ None → NonePass ts
 none_to [] e = tt
 none_to ((true, k) ∷ ts) e = absurd cc
 none_to ((false, k) ∷ ts) e = (refl, none_to ts e)
@@ -44,7 +44,7 @@ front_is k whole text rest e d = grind (arith, common_steps)
 -- ---- what is spelled is read
 
 accepts : (levels : ℕ) (due : Expected) (i : Part) (first : ℕ) (after rest : List ℕ) → item_text i ++ rest ≡ first ∷ after →
-    NonePass (faults levels due first after) → item_of (major first) first after ≡ i →
+    NonePass (faults levels due first after) → item_by_major (major first) first after ≡ i →
     drop (item_len first after) (first ∷ after) ≡ rest → read levels due (item_text i ++ rest) ≡ Ok (i, rest)
 unfolding read
 accepts levels due i first after rest e none item beyond = search (rules, arith, none_from)
@@ -57,7 +57,7 @@ item_again : (levels : ℕ) (due : Expected) (m n : ℕ) (i : Part) (str rest : 
     ((nat_eq m 4 || nat_eq m 5) && nat_eq levels 0) ≡ false
     → (nat_eq m 3 && not (is_utf8 str)) ≡ false → is_above due (item_text i) ≡ true
     → ((first : ℕ) (after : List ℕ) → argument first after ≡ n → drop (argument_len (info first)) after ≡ str ++ rest →
-    item_of m first after ≡ i)
+    item_by_major m first after ≡ i)
     → read levels due (item_text i ++ rest) ≡ Ok (i, rest)
 unfolding first_faults body_faults string_len item_len
 item_again levels due m n i str rest text lt counted known key deep utf8 above item =
@@ -105,7 +105,7 @@ item_again levels due m n i str rest text lt counted known key deep utf8 above i
         ),
       ),
     ) in
-    accepts levels due i first after rest e none (ap (λ k. item_of k first after) b.major_is
+    accepts levels due i first after rest e none (ap (λ k. item_by_major k first after) b.major_is
     ∙ item first after b.argument_is b.beyond_is) beyond
 
 -- integers and strings, as an item and as a key
@@ -146,7 +146,7 @@ simple_again : (levels : ℕ) (s : Scalar) (rest : List ℕ) → Fits s →
 unfolding read first_faults body_faults string_len item_len argument_len argument least_argument
 simple_again levels s rest h = grind (arith, plain_again)
 
-pub read_again : (levels : ℕ) (due : Expected) (i : Part) (rest : List ℕ) → Suits levels due i →
+pub read_again : (levels : ℕ) (due : Expected) (i : Part) (rest : List ℕ) → IsAllowed levels due i →
     read levels due (item_text i ++ rest) ≡ Ok (i, rest)
 read_again levels due i rest h = grind (arith, array_again, map_again, plain_again, simple_again)
 
@@ -177,10 +177,10 @@ item_parts m first after str i fits e known len least str-is text =
 
 -- an integer or a string where it may stand
 plain_suits : (levels : ℕ) (due : Expected) (s : Scalar) → Fits s → IsKey (Plain s) → is_above due (scalar_text s) ≡ true →
-    Suits levels due (One s)
+    IsAllowed levels due (One s)
 plain_suits levels due s h k above = grind arith
 
-nests : (levels : ℕ) (due : Expected) → (is_key due && true) ≡ false → nat_eq levels 0 ≡ false → Nests levels due
+nests : (levels : ℕ) (due : Expected) → (is_key due && true) ≡ false → nat_eq levels 0 ≡ false → MayNest levels due
 nests levels due e d = grind arith
 
 -- what the tests of a head say, apart from those on its major type
@@ -220,7 +220,7 @@ by_major : (m : ℕ) (levels : ℕ) (due : Expected) (first : ℕ) (after : List
     → string_len first after ≤ length (drop (argument_len (info first)) after)
     → (nat_eq m 3 && not (is_utf8 (take (string_len first after) (drop (argument_len (info first)) after)))) ≡ false
     → is_above due (take (item_len first after) (first ∷ after)) ≡ true
-    → Reads levels due (first ∷ after) (item_of m first after) (drop (item_len first after) (first ∷ after))
+    → Reads levels due (first ∷ after) (item_by_major m first after) (drop (item_len first after) (first ∷ after))
 unfolding string_len
 by_major zero levels due first after z e known key deep whole utf8 above =
     plain_reads 0 levels due first after [] (Int (pos (argument first after))) z e (rw e refl)
@@ -258,7 +258,7 @@ by_major (suc (suc (suc (suc (suc (suc (suc (suc m)))))))) levels due first afte
 
 by_tests : (levels : ℕ) (due : Expected) (first : ℕ) (after : List ℕ) → first < 256 → AreBytes after →
     NonePass (faults levels due first after)
-    → Reads levels due (first ∷ after) (item_of (major first) first after) (drop (item_len first after) (first ∷ after))
+    → Reads levels due (first ∷ after) (item_by_major (major first) first after) (drop (item_len first after) (first ∷ after))
 unfolding first_faults body_faults
 by_tests levels due first after small fits h = search (rules, arith, by_major, not-false)
 

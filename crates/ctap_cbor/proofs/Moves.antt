@@ -8,8 +8,8 @@ use Rattle.ctap_cbor.specs.Tree.{depth, depth_all, depth_pairs, count, count_pai
 use Rattle.ctap_cbor.specs.Grammar.{text, texts, pair_texts, scalar_text, IsKey, IsAbove, KeysAscend, IsLawful, AreLawful}
 use Rattle.ctap_cbor.specs.Faults.{AKey, first_faults, fault}
 use Rattle.ctap_cbor.specs.{Parts.OpensArray, Parts.OpensMap, Outcome.later_in_pairs, Outcome.later_key}
-use Rattle.ctap_cbor.specs.Outcome.{InArray, AtKey, AtValue, fronts, last_key, later_keys, later_in_all, later_in_map}
-use Rattle.ctap_cbor.specs.Reading.{Reading, rest_of, advance, compared, Takes, TakesKey, Passes, Fails}
+use Rattle.ctap_cbor.specs.Outcome.{InArray, AtKey, AtValue, open_encodings, last_key, later_keys, later_in_all, later_in_map}
+use Rattle.ctap_cbor.specs.Reading.{Reading, rest_of, advance, log_comparison, TakesItem, TakesKey, Passes, Fails}
 use Rattle.ctap_cbor.specs.Reading.{PassesAll, FailsInArray, PassesPairs, FailsAtKey, FailsAtValue}
 
 abbrev pub at : List ℕ → ℕ → ℕ → Reading
@@ -59,11 +59,11 @@ later_pushed no_pairs k v = omega arith
 later_pushed (pair j u ps) k v = omega (arith, (pushed_pair None ps k v).later)
 
 -- a map has a last key unless it is empty
-compared_some : (x : List ℕ) (ps : Pairs) (n : ℕ) → compared (last_key (Some x) ps) n ≡ n
+compared_some : (x : List ℕ) (ps : Pairs) (n : ℕ) → log_comparison (last_key (Some x) ps) n ≡ n
 compared_some x no_pairs n = refl
 compared_some x (pair k v ps) n = compared_some (text k) ps n
 
-compared_is : (ps : Pairs) (k : Tree) → compared (last_key None ps) (length (text k)) ≡ later_key ps k
+compared_is : (ps : Pairs) (k : Tree) → log_comparison (last_key None ps) (length (text k)) ≡ later_key ps k
 compared_is no_pairs k = refl
 compared_is (pair j u ps) k = compared_some (text j) ps (length (text k))
 
@@ -88,21 +88,21 @@ passes_more levels n ts u a b c h k =
           (omega (arith, ap length p.spelled, length-append (texts ts) (text u), p.later));
     }
 
-pub array_halts : (levels n : ℕ) (a b c : Reading) (at : ℕ) (kind : Kind) → Takes (suc levels) a b (OpensArray n) →
+pub array_halts : (levels n : ℕ) (a b c : Reading) (at : ℕ) (kind : Kind) → TakesItem (suc levels) a b (OpensArray n) →
     FailsInArray levels n b c at kind → Fails (suc levels) a c at kind
 array_halts levels n a b c at kind t h =
     let ts : Trees = h.done in
     let hh = h.halts in
-    let len : length (head 4 n ++ texts ts ++ fronts hh.os) ≡ length (head 4 n) + length (texts ts) + length
-    (fronts hh.os) = omega
-    (arith, length-append (head 4 n ++ texts ts) (fronts hh.os), length-append (head 4 n) (texts ts)) in
+    let len : length (head 4 n ++ texts ts ++ open_encodings hh.os) ≡ length (head 4 n) + length (texts ts) + length
+    (open_encodings hh.os) = omega
+    (arith, length-append (head 4 n ++ texts ts) (open_encodings hh.os), length-append (head 4 n) (texts ts)) in
     record {
       os = InArray n ts ∷ hh.os;
       tail = hh.tail;
       halts = ((t.suits.1, omega (arith, h.fewer, h.passes.number), h.passes.lawful, h.passes.flat), tt, hh.halts);
       spelled = t.spelled ∙ ap (λ x. head 4 n ++ x) (h.passes.spelled ∙ ap (λ x. texts ts ++ x) hh.spelled)
-          ∙ sym (append_assoc (head 4 n) (texts ts) (fronts hh.os ++ hh.tail))
-          ∙ sym (append_assoc (head 4 n ++ texts ts) (fronts hh.os) hh.tail);
+          ∙ sym (append_assoc (head 4 n) (texts ts) (open_encodings hh.os ++ hh.tail))
+          ∙ sym (append_assoc (head 4 n ++ texts ts) (open_encodings hh.os) hh.tail);
       place = omega
           (arith, len, hh.place, ap (λ (r : Reading). r.place) h.passes.moved, ap (λ (r : Reading). r.place) t.moved);
       moved = moves a h.between c _ _ _ _ _ _ (moves a b h.between _ _ _ _ _ _ t.moved h.passes.moved refl refl)
@@ -127,8 +127,8 @@ pairs_more levels n ps u last a b c d s h t k =
     let len : length (pair_texts (push_pair ps (Plain s) u)) ≡ length (pair_texts ps) +
     (length (scalar_text s) + length (text u)) =
     omega (arith, ap length p.spelled, length-append (pair_texts ps) (scalar_text s ++ text u), length-append (scalar_text s) (text u)) in
-    let one : compared last (length (scalar_text s)) ≡ later_key ps (Plain s) =
-    ap (λ x. compared x (length (scalar_text s))) h.last_is ∙ compared_is ps (Plain s) in
+    let one : log_comparison last (length (scalar_text s)) ≡ later_key ps (Plain s) =
+    ap (λ x. log_comparison x (length (scalar_text s))) h.last_is ∙ compared_is ps (Plain s) in
     record {
       rises = p.rises h.rises t.suits.1 (subst (λ x. IsAbove x (scalar_text s)) h.last_is t.suits.2);
       lawful = p.lawful h.lawful t.suits.0 k.lawful;
@@ -143,7 +143,7 @@ pairs_more levels n ps u last a b c d s h t k =
           (omega (arith, len, later_pushed ps (Plain s) u, one));
     }
 
-pub key_halts : (levels n : ℕ) (a b c : Reading) (at : ℕ) (kind : Kind) → Takes (suc levels) a b (OpensMap n) →
+pub key_halts : (levels n : ℕ) (a b c : Reading) (at : ℕ) (kind : Kind) → TakesItem (suc levels) a b (OpensMap n) →
     FailsAtKey levels n b c at kind → Fails (suc levels) a c at kind
 key_halts levels n a b c at kind t h =
     let ps : Pairs = h.done in
@@ -161,18 +161,18 @@ key_halts levels n a b c at kind t h =
           h.refuses.moved (omega (arith, len)) (omega (arith, len));
     }
 
-pub value_halts : (levels n : ℕ) (a b c : Reading) (at : ℕ) (kind : Kind) → Takes (suc levels) a b (OpensMap n) →
+pub value_halts : (levels n : ℕ) (a b c : Reading) (at : ℕ) (kind : Kind) → TakesItem (suc levels) a b (OpensMap n) →
     FailsAtValue levels n b c at kind → Fails (suc levels) a c at kind
 value_halts levels n a b c at kind t h =
     let ps : Pairs = h.done in
     let s : Scalar = h.key in
     let hh = h.halts in
     let k = h.takes in
-    let len : length (head 5 n ++ (pair_texts ps ++ scalar_text s) ++ fronts hh.os) ≡ length (head 5 n) + length
-    (pair_texts ps) + length (scalar_text s) + length (fronts hh.os) =
-    omega (arith, length-append (head 5 n ++ (pair_texts ps ++ scalar_text s)) (fronts hh.os), length-append (head 5 n) (pair_texts ps ++ scalar_text s), length-append (pair_texts ps) (scalar_text s)) in
-    let one : compared h.last (length (scalar_text s)) ≡ later_key ps (Plain s) =
-    ap (λ x. compared x (length (scalar_text s))) h.passes.last_is ∙ compared_is ps (Plain s) in
+    let len : length (head 5 n ++ (pair_texts ps ++ scalar_text s) ++ open_encodings hh.os) ≡ length (head 5 n) + length
+    (pair_texts ps) + length (scalar_text s) + length (open_encodings hh.os) =
+    omega (arith, length-append (head 5 n ++ (pair_texts ps ++ scalar_text s)) (open_encodings hh.os), length-append (head 5 n) (pair_texts ps ++ scalar_text s), length-append (pair_texts ps) (scalar_text s)) in
+    let one : log_comparison h.last (length (scalar_text s)) ≡ later_key ps (Plain s) =
+    ap (λ x. log_comparison x (length (scalar_text s))) h.passes.last_is ∙ compared_is ps (Plain s) in
     record {
       os = AtValue n ps (Plain s) ∷ hh.os;
       tail = hh.tail;
@@ -180,9 +180,9 @@ value_halts levels n a b c at kind t h =
       spelled = t.spelled
           ∙ ap (λ x. head 5 n ++ x) (h.passes.spelled
           ∙ ap (λ x. pair_texts ps ++ x) (k.spelled ∙ ap (λ x. scalar_text s ++ x) hh.spelled)
-          ∙ sym (append_assoc (pair_texts ps) (scalar_text s) (fronts hh.os ++ hh.tail)))
-          ∙ sym (append_assoc (head 5 n) (pair_texts ps ++ scalar_text s) (fronts hh.os ++ hh.tail))
-          ∙ sym (append_assoc (head 5 n ++ (pair_texts ps ++ scalar_text s)) (fronts hh.os) hh.tail);
+          ∙ sym (append_assoc (pair_texts ps) (scalar_text s) (open_encodings hh.os ++ hh.tail)))
+          ∙ sym (append_assoc (head 5 n) (pair_texts ps ++ scalar_text s) (open_encodings hh.os ++ hh.tail))
+          ∙ sym (append_assoc (head 5 n ++ (pair_texts ps ++ scalar_text s)) (open_encodings hh.os) hh.tail);
       place = omega (arith, len, hh.place, ap (λ (r : Reading). r.place) k.moved, ap (λ (r : Reading). r.place) h.passes.moved, ap (λ (r : Reading). r.place) t.moved);
       moved = moves a h.at_value c _ _ _ _ _ _
           (moves a h.between h.at_value _ _ _ _ _ _ (moves a b h.between _ _ _ _ _ _ t.moved h.passes.moved refl refl)

@@ -2,11 +2,11 @@
 use Rattle.std.proofs.Common.{arith, rules, ◌≡◌, ℕ, ◌+◌, List, [], ◌++◌, length, Ok, Err, Result, refl, sym, ap, ◌∙◌}
 use Rattle.std.specs.Prelude.{MatchResult}
 use Rattle.ctap_cbor.specs.declared.{fault.Fault.Fault, fault.Kind.Kind, item.Item.Item}
-use Rattle.ctap_cbor.specs.{Tree.Tree, Grammar.text, Outcome.later_keys, Views.part_of, Views.ReadsItem}
+use Rattle.ctap_cbor.specs.{Tree.Tree, Grammar.text, Outcome.later_keys, Views.to_part, Views.ReadsItem}
 use Rattle.ctap_cbor.specs.{Faults.AnItem, Parse.Done, Parse.parse}
 use Rattle.ctap_cbor.specs.Laws.{NoHeadIsAPrefix, CursorReadsOneTree, CanonicalIsAccepted}
-use Rattle.ctap_cbor.specs.Parts.{Part, item_text, Suits, read}
-use Rattle.ctap_cbor.specs.Reading.{Reading, rest_of, advance, Passes, PassesAs, Fails, IsOnlyResult}
+use Rattle.ctap_cbor.specs.Parts.{Part, item_text, IsAllowed, read}
+use Rattle.ctap_cbor.specs.Reading.{Reading, rest_of, advance, Passes, PassesHead, Fails, IsOnlyResult}
 use Rattle.ctap_cbor.proofs.{Items.read_again, Again.parse_again, Again.halt_again}
 use Rattle.ctap_cbor.proofs.Uniqueness.{tree_of, rest_from}
 
@@ -21,10 +21,10 @@ rest_in (Ok p) = p.1
 rest_in (Err k) = []
 
 pub item_only : (levels : ℕ) (old new : Reading) (item : Item) →
-    read levels AnItem (rest_of old) ≡ Ok (part_of item, rest_of new) → ReadsItem levels old new (Ok item)
+    read levels AnItem (rest_of old) ≡ Ok (to_part item, rest_of new) → ReadsItem levels old new (Ok item)
 item_only levels old new item is i rest suits e = search (rules, arith, read_again)
 
-pub item_never : (levels : ℕ) (i : Part) (rest : List ℕ) (old : Reading) (kind : Kind) → Suits levels AnItem i →
+pub item_never : (levels : ℕ) (i : Part) (rest : List ℕ) (old : Reading) (kind : Kind) → IsAllowed levels AnItem i →
     rest_of old ≡ item_text i ++ rest → read levels AnItem (rest_of old) ≡ Err kind → ⊥
 item_never levels i rest old kind suits e is = search (rules, arith, read_again)
 
@@ -81,6 +81,6 @@ only_halts levels old new f h = record {
 }
 
 pub only_matches : (levels : ℕ) (part : Part) (old new : Reading) (r : Result (Unit {0}) Fault) →
-    MatchResult r (λ _. PassesAs levels part old new) (λ f. Fails levels old new f.at f.kind) → IsOnlyResult levels old new r
+    MatchResult r (λ _. PassesHead levels part old new) (λ f. Fails levels old new f.at f.kind) → IsOnlyResult levels old new r
 only_matches levels part old new (Ok tt) h = only_passes levels old new h.0 h.1
 only_matches levels part old new (Err f) h = only_halts levels old new f h

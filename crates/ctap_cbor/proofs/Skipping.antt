@@ -4,37 +4,37 @@ use Rattle.std.proofs.Common.{rules, ◌≡◌, ℕ, suc, ◌+◌, ◌-◌, ◌<
 use Rattle.ctap_cbor.specs.declared.{fault.Kind.Kind, item.Item.Item}
 use Rattle.ctap_cbor.specs.declared.item.Item.TheVariants as item
 use Rattle.ctap_cbor.specs.Tree.{push_pair, Tree, Trees, Pairs, Array, Map, Plain, Scalar}
-use Rattle.ctap_cbor.specs.{Faults.AnItem, Faults.AKey, Views.part_of}
+use Rattle.ctap_cbor.specs.{Faults.AnItem, Faults.AKey, Views.to_part}
 use Rattle.ctap_cbor.specs.Parts.{Part, One, OpensArray, OpensMap}
-use Rattle.ctap_cbor.specs.Reading.{Reading, Takes, HasItemError, Passes, PassesAs, PassesSome, Fails, PassesAll, FailsInArray}
+use Rattle.ctap_cbor.specs.Reading.{Reading, TakesItem, HasItemError, Passes, PassesHead, PassesSome, Fails, PassesAll, FailsInArray}
 use Rattle.ctap_cbor.specs.Reading.{PassesPairs, PassesSomePairs, FailsInPairs, GivesKey}
 use Rattle.ctap_cbor.proofs.Moves.{pairs_more, array_halts, key_halts, value_halts}
 
 deeper : (level : ℕ) → 0 < 5 - level → 5 - level ≡ suc (5 - (level + 1))
 deeper level h = omega arith
 
-pub array_then : (level n : ℕ) (ts : Trees) (a b c : Reading) → Takes (5 - level) a b (OpensArray n) →
+pub array_then : (level n : ℕ) (ts : Trees) (a b c : Reading) → TakesItem (5 - level) a b (OpensArray n) →
     PassesAll (5 - (level + 1)) n ts b c → Passes (5 - level) (Array ts) a c
 array_then level n ts a b c t h = grind (arith, common_steps)
 
-pub array_stops : (level n : ℕ) (a b c : Reading) (at : ℕ) (kind : Kind) → Takes (5 - level) a b (OpensArray n) →
+pub array_stops : (level n : ℕ) (a b c : Reading) (at : ℕ) (kind : Kind) → TakesItem (5 - level) a b (OpensArray n) →
     FailsInArray (5 - (level + 1)) n b c at kind → Fails (5 - level) a c at kind
 array_stops level n a b c at kind t h = grind (arith, array_halts, deeper)
 
 pub map_then : (level n : ℕ) (ps : Pairs) (last : Option (List ℕ)) (a b c : Reading) →
-    Takes (5 - level) a b (OpensMap n) → PassesPairs (5 - (level + 1)) n ps last b c → Passes (5 - level) (Map ps) a c
+    TakesItem (5 - level) a b (OpensMap n) → PassesPairs (5 - (level + 1)) n ps last b c → Passes (5 - level) (Map ps) a c
 map_then level n ps last a b c t h = grind (arith, common_steps)
 
-pub map_stops : (level n : ℕ) (a b c : Reading) (at : ℕ) (kind : Kind) → Takes (5 - level) a b (OpensMap n) →
+pub map_stops : (level n : ℕ) (a b c : Reading) (at : ℕ) (kind : Kind) → TakesItem (5 - level) a b (OpensMap n) →
     FailsInPairs (5 - (level + 1)) n b c at kind → Fails (5 - level) a c at kind
 map_stops level n a b c at kind t h = grind (arith, deeper, key_halts, value_halts)
 
-pub one_passes : (levels : ℕ) (a b : Reading) (s : Scalar) → Takes levels a b (One s) → Passes levels (Plain s) a b
+pub one_passes : (levels : ℕ) (a b : Reading) (s : Scalar) → TakesItem levels a b (One s) → Passes levels (Plain s) a b
 one_passes levels a b s t = search (rules, arith)
 
 -- what is no array and no map was passed whole
 pub plain_passes : (levels : ℕ) (a b : Reading) (i : Item) → ((n : ℕ) → i ≡ item.Array n → ⊥) →
-    ((n : ℕ) → i ≡ item.Map n → ⊥) → Takes levels a b (part_of i) → PassesAs levels (part_of i) a b
+    ((n : ℕ) → i ≡ item.Map n → ⊥) → TakesItem levels a b (to_part i) → PassesHead levels (to_part i) a b
 plain_passes levels a b (item.Array n) no-array no-map t = absurd (no-array n refl)
 plain_passes levels a b (item.Map n) no-array no-map t = absurd (no-map n refl)
 plain_passes levels a b (item.Int i) no-array no-map t = (_, one_passes levels a b _ t, refl)
@@ -43,12 +43,12 @@ plain_passes levels a b (item.Text s) no-array no-map t = (_, one_passes levels 
 plain_passes levels a b (item.Bool f) no-array no-map t = (_, one_passes levels a b _ t, refl)
 plain_passes levels a b item.Null no-array no-map t = (_, one_passes levels a b _ t, refl)
 
-pub array_whole : (level n : ℕ) (a b c : Reading) → Takes (5 - level) a b (OpensArray n) →
-    PassesSome (5 - (level + 1)) n b c → PassesAs (5 - level) (OpensArray n) a c
+pub array_whole : (level n : ℕ) (a b c : Reading) → TakesItem (5 - level) a b (OpensArray n) →
+    PassesSome (5 - (level + 1)) n b c → PassesHead (5 - level) (OpensArray n) a c
 array_whole level n a b c t h = (Array h.0, array_then level n h.0 a b c t h.1, ap OpensArray (sym h.1.number))
 
-pub map_whole : (level n : ℕ) (a b c : Reading) → Takes (5 - level) a b (OpensMap n) →
-    PassesSomePairs (5 - (level + 1)) n b c → PassesAs (5 - level) (OpensMap n) a c
+pub map_whole : (level n : ℕ) (a b c : Reading) → TakesItem (5 - level) a b (OpensMap n) →
+    PassesSomePairs (5 - (level + 1)) n b c → PassesHead (5 - level) (OpensMap n) a c
 map_whole level n a b c t h = (Map h.0, map_then level n h.0 h.1 a b c t h.2, ap OpensMap (sym h.2.number))
 
 -- an item that is refused at once

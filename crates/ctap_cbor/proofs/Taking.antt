@@ -5,7 +5,7 @@ use Rattle.std.proofs.lemmas.List.{drop-drop, length-append, length-drop}
 use Rattle.ctap_cbor.specs.declared.fault.Kind.{Kind, TheVariants.KeyOrder}
 use Rattle.ctap_cbor.specs.{Head.AreBytes, Views.end_steps_of, Parts.Part, Parts.item_text, Parts.read}
 use Rattle.ctap_cbor.specs.Faults.{AnItem, first_faults, body_faults, fault, passed, fault_steps}
-use Rattle.ctap_cbor.specs.Reading.{Reading, rest_of, advance, Takes, HasItemError}
+use Rattle.ctap_cbor.specs.Reading.{Reading, rest_of, advance, TakesItem, HasItemError}
 use Rattle.ctap_cbor.proofs.Items.{read_sound, fault_read}
 
 pub all_bytes : (bs : List ℕ) → ((i : ℕ) → get_or bs i 0 < 256) → AreBytes bs
@@ -22,7 +22,7 @@ read_len rest text n e le = omega (arith, ap length e, length-append text (drop 
 
 item_taken_at : (levels : ℕ) (old new : Reading) (i : Part) (n : ℕ) → AreBytes (rest_of old) →
     read levels AnItem (rest_of old) ≡ Ok (i, drop n (rest_of old)) → n ≤ length (rest_of old) →
-    new ≡ advance old n (n + 0) → Takes levels old new i
+    new ≡ advance old n (n + 0) → TakesItem levels old new i
 item_taken_at levels old new i n fits e le moved =
     let h = read_sound levels AnItem (rest_of old) i (drop n (rest_of old)) fits e in
     let len : n ≡ length (item_text i) = read_len (rest_of old) (item_text i) n h.parts le in
@@ -55,7 +55,7 @@ item_refused_at levels old new at n kind e len moved place = grind (arith, fault
 -- the same, of a list that is the rest
 pub item_taken : (levels : ℕ) (old new : Reading) (rest : List ℕ) (i : Part) (n : ℕ) → rest ≡ rest_of old →
     AreBytes rest → (read levels AnItem rest ≡ Ok (i, drop n rest)) × (n ≤ length rest) × (n ≡ passed KeyOrder rest) →
-    new ≡ advance old n (n + 0) → Takes levels old new i
+    new ≡ advance old n (n + 0) → TakesItem levels old new i
 item_taken levels old new rest i n e fits h moved =
     let k = subst (λ x. (read levels AnItem x ≡ Ok (i, drop n x)) × (n ≤ length x)) e (h.0, h.1) in
     item_taken_at levels old new i n (subst AreBytes e fits) k.0 k.1 moved

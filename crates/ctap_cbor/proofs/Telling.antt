@@ -5,7 +5,7 @@ use Rattle.std.specs.Prelude.{◌&&◌, if◌then◌else◌}
 use Rattle.ctap_cbor.specs.{declared.fault.Kind.TheVariants.Reserved, Head.AreBytes, Tree.Tree, Tree.count}
 use Rattle.ctap_cbor.specs.{Grammar.texts, Grammar.IsCanonical, Faults.passed, Faults.fault_steps}
 use Rattle.ctap_cbor.specs.Outcome.{Outcome, Whole, Stopped, IsOutcome, steps}
-use Rattle.ctap_cbor.specs.Parse.{items, parse, outcome_by, parsed_items}
+use Rattle.ctap_cbor.specs.Parse.{items, parse, outcome_of_parse, parsed_items}
 use Rattle.ctap_cbor.specs.Telling.{are_bytes, outcome_of, whole_tree, items_at}
 use Rattle.ctap_cbor.specs.Laws.{BytesDetermineTree, TreesAreComputed, CheckStepsAreBounded, ItemsAreDecoded}
 use Rattle.ctap_cbor.proofs.{Accepting.below, Sound.parse_sound, Bounds.steps_bound, Again.items_again, Again.all_ran}
@@ -19,9 +19,9 @@ pub bytes_of_test : (b : List ℕ) → are_bytes b ≡ true → AreBytes b
 bytes_of_test [] e = tt
 bytes_of_test (x ∷ bs) e = grind (arith, bytes_of_test bs)
 
-outcome_parsed : (b : List ℕ) → AreBytes b → outcome_of b ≡ outcome_by (parse 4 b)
+outcome_parsed : (b : List ℕ) → AreBytes b → outcome_of b ≡ outcome_of_parse (parse 4 b)
 unfolding outcome_of
-outcome_parsed b fits = ap (λ c. if c then outcome_by (parse 4 b) else Stopped [] Reserved) (are_bytes_true b fits)
+outcome_parsed b fits = ap (λ c. if c then outcome_of_parse (parse 4 b) else Stopped [] Reserved) (are_bytes_true b fits)
 
 pub told : (b : List ℕ) → AreBytes b → IsOutcome b (outcome_of b)
 told b fits = rw (outcome_parsed b fits) (outcome_sound b (parse 4 b) (parse_sound 4 b fits))
@@ -42,7 +42,7 @@ unfolding fault_steps passed
 no_bytes b = search (rules, arith)
 
 bounded_by : (b : List ℕ) (c : Bool) → are_bytes b ≡ c →
-    steps b (if c then outcome_by (parse 4 b) else Stopped [] Reserved) ≤ 2 * length b + 1
+    steps b (if c then outcome_of_parse (parse 4 b) else Stopped [] Reserved) ≤ 2 * length b + 1
 bounded_by b c e = grind (arith, bytes_of_test, no_bytes, outcome_sound, parse_sound, steps_bound)
 
 pub check_steps_bounded : CheckStepsAreBounded

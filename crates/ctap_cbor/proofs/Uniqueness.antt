@@ -4,21 +4,21 @@ use Rattle.std.proofs.lemmas.List.{append-nil}
 use Rattle.ctap_cbor.specs.{Tree.Tree, Tree.depth, Grammar.text}
 use Rattle.ctap_cbor.specs.Outcome.{Outcome, Whole, Longer, Stopped, IsOutcome, result_of}
 use Rattle.ctap_cbor.specs.Laws.{EncodingsAreUnique, NoEncodingIsAPrefix, EncodedTreesAreDecoded, EncodedIsDecoded}
-use Rattle.ctap_cbor.specs.Parse.{Parse, Done, Halt, parse, outcome_by}
+use Rattle.ctap_cbor.specs.Parse.{Parse, Done, Halt, parse, outcome_of_parse}
 use Rattle.ctap_cbor.proofs.{Again.parse_again, Again.halt_again, Sound.IsParse, Sound.parse_sound}
 
-pub outcome_sound : (b : List ℕ) (p : Parse) → IsParse 4 b p → IsOutcome b (outcome_by p)
+pub outcome_sound : (b : List ℕ) (p : Parse) → IsParse 4 b p → IsOutcome b (outcome_of_parse p)
 outcome_sound b p h = search (rules, arith)
 
-pub outcome_only : (b : List ℕ) (o : Outcome) → IsOutcome b o → outcome_by (parse 4 b) ≡ o
-outcome_only b (Whole t) h = ap (λ x. outcome_by (parse 4 x)) (h.enc.spelled ∙ sym (append-nil (text t)))
-    ∙ ap outcome_by (parse_again t 4 [] h.enc.lawful h.flat)
+pub outcome_only : (b : List ℕ) (o : Outcome) → IsOutcome b o → outcome_of_parse (parse 4 b) ≡ o
+outcome_only b (Whole t) h = ap (λ x. outcome_of_parse (parse 4 x)) (h.enc.spelled ∙ sym (append-nil (text t)))
+    ∙ ap outcome_of_parse (parse_again t 4 [] h.enc.lawful h.flat)
 outcome_only b (Longer t) h = search (rules, arith, parse_again)
-outcome_only b (Stopped os kind) h = ap (λ x. outcome_by (parse 4 x)) h.2 ∙ ap outcome_by (halt_again os 4 kind h.0 h.1)
+outcome_only b (Stopped os kind) h = ap (λ x. outcome_of_parse (parse 4 x)) h.2 ∙ ap outcome_of_parse (halt_again os 4 kind h.0 h.1)
 
 pub encodings_are_unique : EncodingsAreUnique
 encodings_are_unique b fits =
-    (outcome_by (parse 4 b), outcome_sound b (parse 4 b) (parse_sound 4 b fits), λ p h. sym (outcome_only b p h))
+    (outcome_of_parse (parse 4 b), outcome_sound b (parse 4 b) (parse_sound 4 b fits), λ p h. sym (outcome_only b p h))
 
 pub encoded_trees_are_decoded : EncodedTreesAreDecoded
 encoded_trees_are_decoded t b c o is = sym (outcome_only b o is) ∙ outcome_only b (Whole t) c

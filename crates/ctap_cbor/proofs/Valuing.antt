@@ -4,12 +4,12 @@ use Rattle.std.proofs.{Common.subst, Common.◌∙◌, lemmas.List.map_push}
 use Rattle.ctap_cbor.specs.declared.{fault.Fault.Fault, fault.Kind.Kind, item.Item.Item}
 use Rattle.ctap_cbor.specs.declared.fault.Kind.TheVariants.{Trailing, Memory}
 use Rattle.ctap_cbor.specs.declared.item.Item.TheVariants as item
-use Rattle.ctap_cbor.specs.{declared.value.Value.Value, Parts.Part, Views.part_of}
+use Rattle.ctap_cbor.specs.{declared.value.Value.Value, Parts.Part, Views.to_part}
 use Rattle.ctap_cbor.specs.Tree.{push, push_pair, Tree, Plain}
 use Rattle.ctap_cbor.specs.Faults.{Expected, first_faults, body_faults, fault}
 use Rattle.ctap_cbor.specs.Outcome.{Outcome, IsOutcome, result_of}
-use Rattle.ctap_cbor.specs.Reading.{Reading, Takes, HasItemError, Passes, PassesAll, PassesPairs, GivesKey, Fails, HasTrailingBytes}
-use Rattle.ctap_cbor.specs.Values.{trees, pairs, tree_of, pair_of, trees_of, pairs_of, IsScalarOf, UnlessMemory}
+use Rattle.ctap_cbor.specs.Reading.{Reading, TakesItem, HasItemError, Passes, PassesAll, PassesPairs, GivesKey, Fails, HasTrailingBytes}
+use Rattle.ctap_cbor.specs.Values.{trees, pairs, to_tree, to_tree_pair, to_trees, to_pairs, IsScalarOf, UnlessMemory}
 use Rattle.ctap_cbor.proofs.Answering.{start, found_stopped, found_longer}
 use Rattle.ctap_cbor.proofs.{Moves.passes_more, Skipping.given_more, Skipping.one_passes}
 
@@ -25,25 +25,25 @@ unfolding push_pair
 pairs_push [] k v = refl
 pairs_push (p ∷ ps) k v = ap (λ x. Rattle.ctap_cbor.specs.Tree.pair p.0 p.1 x) (pairs_push ps k v)
 
-pub item_more : (levels n : ℕ) (vs : List Value) (v : Value) (a b c : Reading) → PassesAll levels n (trees_of vs) a b →
-    Passes levels (tree_of v) b c → PassesAll levels (n + 1) (trees_of (vs ++ v ∷ [])) a c
+pub item_more : (levels n : ℕ) (vs : List Value) (v : Value) (a b c : Reading) → PassesAll levels n (to_trees vs) a b →
+    Passes levels (to_tree v) b c → PassesAll levels (n + 1) (to_trees (vs ++ v ∷ [])) a c
 item_more levels n vs v a b c h k = search (rules, arith, map_push, passes_more, trees_push)
 
 pub pair_more : (levels n : ℕ) (vs : List (Value × Value)) (name value : Value) (last : Option (List ℕ))
-    (a b c d : Reading) (part : Part) (bytes : List ℕ) → PassesPairs levels n (pairs_of vs) last a b →
-    GivesKey last b c part bytes → IsScalarOf part (tree_of name) → Passes levels (tree_of value) c d →
-    PassesPairs levels (n + 1) (pairs_of (vs ++ (name, value) ∷ [])) (Some bytes) a d
+    (a b c d : Reading) (part : Part) (bytes : List ℕ) → PassesPairs levels n (to_pairs vs) last a b →
+    GivesKey last b c part bytes → IsScalarOf part (to_tree name) → Passes levels (to_tree value) c d →
+    PassesPairs levels (n + 1) (to_pairs (vs ++ (name, value) ∷ [])) (Some bytes) a d
 pair_more levels n vs name value last a b c d part bytes h k is p =
-    let key : tree_of name ≡ Plain k.key = is k.key k.part_is k.takes.suits.0 in
-    let e : pairs_of (vs ++ (name, value) ∷ []) ≡ push_pair (pairs_of vs) (Plain k.key) (tree_of value) =
-    ap pairs (map_push pair_of vs (name, value)) ∙ pairs_push (map pair_of vs) (tree_of name) (tree_of value)
-    ∙ ap (λ x. push_pair (pairs_of vs) x (tree_of value)) key in
+    let key : to_tree name ≡ Plain k.key = is k.key k.part_is k.takes.suits.0 in
+    let e : to_pairs (vs ++ (name, value) ∷ []) ≡ push_pair (to_pairs vs) (Plain k.key) (to_tree value) =
+    ap pairs (map_push to_tree_pair vs (name, value)) ∙ pairs_push (map to_tree_pair vs) (to_tree name) (to_tree value)
+    ∙ ap (λ x. push_pair (to_pairs vs) x (to_tree value)) key in
     subst (λ x. PassesPairs levels (n + 1) x (Some bytes) a d) (sym e)
-    (given_more levels n (pairs_of vs) (tree_of value) last a b c d part bytes h k p)
+    (given_more levels n (to_pairs vs) (to_tree value) last a b c d part bytes h k p)
 
 -- what opens no array or map was passed whole
 pub scalar_passes : (levels : ℕ) (a b : Reading) (i : Item) (t : Tree) → ((n : ℕ) → i ≡ item.Array n → ⊥) →
-    ((n : ℕ) → i ≡ item.Map n → ⊥) → Takes levels a b (part_of i) → IsScalarOf (part_of i) t → Passes levels t a b
+    ((n : ℕ) → i ≡ item.Map n → ⊥) → TakesItem levels a b (to_part i) → IsScalarOf (to_part i) t → Passes levels t a b
 scalar_passes levels a b (item.Array n) t no-array no-map k is = absurd (no-array n refl)
 scalar_passes levels a b (item.Map n) t no-array no-map k is = absurd (no-map n refl)
 scalar_passes levels a b (item.Int i) t no-array no-map k is =

@@ -10,7 +10,7 @@ use Rattle.ctap_cbor.specs.Tree.{Tree, Array, Map, Trees, no_trees, tree, Pairs,
 use Rattle.ctap_cbor.specs.{Tree.count_pairs, Head.head, Writes.last_text, Faults.AKey, Faults.is_above}
 use Rattle.ctap_cbor.specs.Grammar.{text, texts, pair_texts, KeysAscend, AreLawful, AreLawfulPairs}
 use Rattle.ctap_cbor.specs.Refusals.{own_refusal, refusal, refusal_all, refusal_pairs}
-use Rattle.ctap_cbor.specs.Values.{tree_of, trees_of, pairs_of}
+use Rattle.ctap_cbor.specs.Values.{to_tree, to_trees, to_pairs}
 use Rattle.ctap_cbor.specs.Writes.{Extends, Writes, WritesAll, WritesPairs, WritesKey, FailsWith, IsShort, text_at}
 
 pub goes_on : (a b c : List ℕ) → Extends a b → Extends b c → Extends a c
@@ -54,17 +54,17 @@ drop_item : {X : Type 0} (xs : List X) (i : ℕ) (x : X) → i < length xs → x
 drop_item xs i x lt is = at_drop_more (λ l. l) xs i x lt ∙ ap (λ y. y ∷ drop (i + 1) xs) (sym is)
 
 items_here : (levels : ℕ) (vs : List Value) (i : ℕ) (v : Value) (start a : List ℕ) → i < length vs → v ≡ get_or vs i v →
-    ItemsLeft levels (trees_of vs) (trees_of (drop i vs)) start a →
-    ItemsLeft levels (trees_of vs) (tree (tree_of v) (trees_of (drop (i + 1) vs))) start a
+    ItemsLeft levels (to_trees vs) (to_trees (drop i vs)) start a →
+    ItemsLeft levels (to_trees vs) (tree (to_tree v) (to_trees (drop (i + 1) vs))) start a
 items_here levels vs i v start a lt is h = search (rules, arith, drop_item)
 
 pub items_done : (levels : ℕ) (vs : List Value) (i : ℕ) (start now : List ℕ) → length vs ≤ i →
-    ItemsLeft levels (trees_of vs) (trees_of (drop i vs)) start now → WritesAll levels (trees_of vs) start now
+    ItemsLeft levels (to_trees vs) (to_trees (drop i vs)) start now → WritesAll levels (to_trees vs) start now
 items_done levels vs i start now all h = grind (arith, drop_all, items_end)
 
 pub item_stops_here : (levels : ℕ) (vs : List Value) (i : ℕ) (v : Value) (start a b : List ℕ) (kind : Kind) →
-    i < length vs → v ≡ get_or vs i v → ItemsLeft levels (trees_of vs) (trees_of (drop i vs)) start a →
-    FailsWith kind (refusal levels (tree_of v)) a b → FailsWith kind (refusal_all levels (trees_of vs)) start b
+    i < length vs → v ≡ get_or vs i v → ItemsLeft levels (to_trees vs) (to_trees (drop i vs)) start a →
+    FailsWith kind (refusal levels (to_tree v)) a b → FailsWith kind (refusal_all levels (to_trees vs)) start b
 item_stops_here levels vs i v start a b kind lt is h g = grind (arith, common_steps)
 
 -- what a span of a list shows stays as the list goes on
@@ -94,68 +94,68 @@ span_within a b c key more s e f first last = search (rules, arith, length-appen
 
 pairs_here : (levels : ℕ) (vs : List (Value × Value)) (i : ℕ) (v : Value × Value) (last : Option (List ℕ))
     (start a : List ℕ) → i < length vs → v ≡ get_or vs i v →
-    PairsLeft levels (pairs_of vs) (pairs_of (drop i vs)) last start a →
-    PairsLeft levels (pairs_of vs) (pair (tree_of v.0) (tree_of v.1) (pairs_of (drop (i + 1) vs))) last start a
+    PairsLeft levels (to_pairs vs) (to_pairs (drop i vs)) last start a →
+    PairsLeft levels (to_pairs vs) (pair (to_tree v.0) (to_tree v.1) (to_pairs (drop (i + 1) vs))) last start a
 pairs_here levels vs i v last start a lt is h = search (rules, arith, drop_item)
 
 pub pairs_done : (levels : ℕ) (vs : List (Value × Value)) (i : ℕ) (last : Option (List ℕ)) (start now : List ℕ) →
-    length vs ≤ i → PairsLeft levels (pairs_of vs) (pairs_of (drop i vs)) last start now →
-    WritesPairs levels (pairs_of vs) start now
+    length vs ≤ i → PairsLeft levels (to_pairs vs) (to_pairs (drop i vs)) last start now →
+    WritesPairs levels (to_pairs vs) start now
 pairs_done levels vs i last start now all h = search (rules, arith, drop_all)
 
 pub key_stops_here : (levels : ℕ) (vs : List (Value × Value)) (i : ℕ) (v : Value × Value) (last : Option (List ℕ))
     (start a b : List ℕ) (kind : Kind) → i < length vs → v ≡ get_or vs i v →
-    PairsLeft levels (pairs_of vs) (pairs_of (drop i vs)) last start a →
-    FailsWith kind (own_refusal (tree_of v.0)) a b →
-    FailsWith kind (refusal_pairs levels None (pairs_of vs)) start b
+    PairsLeft levels (to_pairs vs) (to_pairs (drop i vs)) last start a →
+    FailsWith kind (own_refusal (to_tree v.0)) a b →
+    FailsWith kind (refusal_pairs levels None (to_pairs vs)) start b
 key_stops_here levels vs i v last start a b kind lt is h g = grind (arith, common_steps)
 
 pub value_stops_here : (levels : ℕ) (vs : List (Value × Value)) (i : ℕ) (v : Value × Value) (last : Option (List ℕ))
     (start a b c : List ℕ) (kind : Kind) → i < length vs → v ≡ get_or vs i v →
-    PairsLeft levels (pairs_of vs) (pairs_of (drop i vs)) last start a → WritesKey (tree_of v.0) a b →
-    is_above (AKey last) (text (tree_of v.0)) ≡ true → FailsWith kind (refusal levels (tree_of v.1)) b c →
-    FailsWith kind (refusal_pairs levels None (pairs_of vs)) start c
-value_stops_here levels vs i v last start a b c kind lt is h w above g = value_gives_up levels (pairs_of vs)
-    (pairs_of (drop (i + 1) vs)) (tree_of v.0) (tree_of v.1) last start a b c kind
+    PairsLeft levels (to_pairs vs) (to_pairs (drop i vs)) last start a → WritesKey (to_tree v.0) a b →
+    is_above (AKey last) (text (to_tree v.0)) ≡ true → FailsWith kind (refusal levels (to_tree v.1)) b c →
+    FailsWith kind (refusal_pairs levels None (to_pairs vs)) start c
+value_stops_here levels vs i v last start a b c kind lt is h w above g = value_gives_up levels (to_pairs vs)
+    (to_pairs (drop (i + 1) vs)) (to_tree v.0) (to_tree v.1) last start a b c kind
     (pairs_here levels vs i v last start a lt is h) w above g
 
 pub pair_here : (levels : ℕ) (vs : List (Value × Value)) (i : ℕ) (v : Value × Value) (last : Option (List ℕ))
     (start a b c : List ℕ) (s : Span) → i < length vs → v ≡ get_or vs i v →
-    PairsLeft levels (pairs_of vs) (pairs_of (drop i vs)) last start a → WritesKey (tree_of v.0) a b →
-    is_above (AKey last) (text (tree_of v.0)) ≡ true → Writes levels (tree_of v.1) b c → s.start ≡ length a →
-    s.end ≡ length b → PairsLeft levels (pairs_of vs) (pairs_of (drop (i + 1) vs)) (last_text c (Some s)) start c
+    PairsLeft levels (to_pairs vs) (to_pairs (drop i vs)) last start a → WritesKey (to_tree v.0) a b →
+    is_above (AKey last) (text (to_tree v.0)) ≡ true → Writes levels (to_tree v.1) b c → s.start ≡ length a →
+    s.end ≡ length b → PairsLeft levels (to_pairs vs) (to_pairs (drop (i + 1) vs)) (last_text c (Some s)) start c
 pair_here levels vs i v last start a b c s lt is h w above u first end = grind (arith, common_steps, key_span)
 
 -- ---- after the head of an array or a map
 
-pub count_trees : (vs : List Value) → count (trees_of vs) ≡ length vs
+pub count_trees : (vs : List Value) → count (to_trees vs) ≡ length vs
 count_trees [] = refl
 count_trees (v ∷ vs) = omega (arith, count_trees vs)
 
-pub count_both : (vs : List (Value × Value)) → count_pairs (pairs_of vs) ≡ length vs
+pub count_both : (vs : List (Value × Value)) → count_pairs (to_pairs vs) ≡ length vs
 count_both [] = refl
 count_both (v ∷ vs) = omega (arith, count_both vs)
 
 -- an array was written, or what is inside it wasn't
 pub array_written : (levels n : ℕ) (vs : List Value) (old middle new : List ℕ) → (levels ≡ 0 → ⊥) → n ≡ length vs →
-    n < 2 ^ 64 → middle ≡ old ++ head 4 n → WritesAll (levels - 1) (trees_of vs) middle new →
-    Writes levels (Array (trees_of vs)) old new
+    n < 2 ^ 64 → middle ≡ old ++ head 4 n → WritesAll (levels - 1) (to_trees vs) middle new →
+    Writes levels (Array (to_trees vs)) old new
 array_written levels n vs old middle new some len fits e w = grind (arith, append_assoc, count_trees)
 
 pub array_fails : (levels n : ℕ) (vs : List Value) (old middle new : List ℕ) (kind : Kind) → (levels ≡ 0 → ⊥) →
-    middle ≡ old ++ head 4 n → FailsWith kind (refusal_all (levels - 1) (trees_of vs)) middle new →
-    FailsWith kind (refusal levels (Array (trees_of vs))) old new
+    middle ≡ old ++ head 4 n → FailsWith kind (refusal_all (levels - 1) (to_trees vs)) middle new →
+    FailsWith kind (refusal levels (Array (to_trees vs))) old new
 array_fails levels n vs old middle new kind some e g = search (rules, arith, goes_on, ne_eqb)
 
 pub map_written : (levels n : ℕ) (vs : List (Value × Value)) (old middle new : List ℕ) → (levels ≡ 0 → ⊥) →
     n ≡ length vs →
-    n < 2 ^ 64 → middle ≡ old ++ head 5 n → WritesPairs (levels - 1) (pairs_of vs) middle new →
-    Writes levels (Map (pairs_of vs)) old new
+    n < 2 ^ 64 → middle ≡ old ++ head 5 n → WritesPairs (levels - 1) (to_pairs vs) middle new →
+    Writes levels (Map (to_pairs vs)) old new
 map_written levels n vs old middle new some len fits e w = grind (arith, append_assoc, count_both)
 
 pub map_fails : (levels n : ℕ) (vs : List (Value × Value)) (old middle new : List ℕ) (kind : Kind) → (levels ≡ 0 → ⊥) →
-    middle ≡ old ++ head 5 n → FailsWith kind (refusal_pairs (levels - 1) None (pairs_of vs)) middle new →
-    FailsWith kind (refusal levels (Map (pairs_of vs))) old new
+    middle ≡ old ++ head 5 n → FailsWith kind (refusal_pairs (levels - 1) None (to_pairs vs)) middle new →
+    FailsWith kind (refusal levels (Map (to_pairs vs))) old new
 map_fails levels n vs old middle new kind some e g = search (rules, arith, goes_on, ne_eqb)
 
 -- ---- where the capacity was short
@@ -167,11 +167,11 @@ item_short levels all rest t start a c d h le short =
     omega (arith, ap length h.spelled, length-append a (text t ++ texts rest), length-append (text t) (texts rest), length-append start (texts all))
 
 pub item_short_here : (levels : ℕ) (vs : List Value) (i : ℕ) (v : Value) (start a : List ℕ) (c d : ℕ) → i < length vs →
-    v ≡ get_or vs i v → ItemsLeft levels (trees_of vs) (trees_of (drop i vs)) start a → c ≤ d →
-    IsShort d a (text (tree_of v)) → IsShort c start (texts (trees_of vs))
+    v ≡ get_or vs i v → ItemsLeft levels (to_trees vs) (to_trees (drop i vs)) start a → c ≤ d →
+    IsShort d a (text (to_tree v)) → IsShort c start (texts (to_trees vs))
 item_short_here levels vs i v start a c d lt is h le short =
-    item_short levels (trees_of vs) (trees_of (drop (i + 1) vs))
-    (tree_of v) start a c d (items_here levels vs i v start a lt is h) le short
+    item_short levels (to_trees vs) (to_trees (drop (i + 1) vs))
+    (to_tree v) start a c d (items_here levels vs i v start a lt is h) le short
 
 key_short : (levels : ℕ) (all rest : Pairs) (k v : Tree) (last : Option (List ℕ)) (start a : List ℕ) (c d : ℕ) →
     PairsLeft levels all (pair k v rest) last start a → c ≤ d → IsShort d a (text k) → IsShort c start (pair_texts all)
@@ -180,11 +180,11 @@ key_short levels all rest k v last start a c d h le short =
 
 pub key_short_here : (levels : ℕ) (vs : List (Value × Value)) (i : ℕ) (v : Value × Value) (last : Option (List ℕ))
     (start a : List ℕ) (c d : ℕ) → i < length vs → v ≡ get_or vs i v →
-    PairsLeft levels (pairs_of vs) (pairs_of (drop i vs)) last start a → c ≤ d → IsShort d a (text (tree_of v.0)) →
-    IsShort c start (pair_texts (pairs_of vs))
+    PairsLeft levels (to_pairs vs) (to_pairs (drop i vs)) last start a → c ≤ d → IsShort d a (text (to_tree v.0)) →
+    IsShort c start (pair_texts (to_pairs vs))
 key_short_here levels vs i v last start a c d lt is h le short =
-    key_short levels (pairs_of vs) (pairs_of (drop (i + 1) vs))
-    (tree_of v.0) (tree_of v.1) last start a c d (pairs_here levels vs i v last start a lt is h) le short
+    key_short levels (to_pairs vs) (to_pairs (drop (i + 1) vs))
+    (to_tree v.0) (to_tree v.1) last start a c d (pairs_here levels vs i v last start a lt is h) le short
 
 value_short : (levels : ℕ) (all rest : Pairs) (k v : Tree) (last : Option (List ℕ)) (start a b : List ℕ) (c d : ℕ) →
     PairsLeft levels all (pair k v rest) last start a → b ≡ a ++ text k → c ≤ d → IsShort d b (text v) →
@@ -194,10 +194,10 @@ value_short levels all rest k v last start a b c d h e le short =
 
 pub value_short_here : (levels : ℕ) (vs : List (Value × Value)) (i : ℕ) (v : Value × Value) (last : Option (List ℕ))
     (start a b : List ℕ) (c d : ℕ) → i < length vs → v ≡ get_or vs i v →
-    PairsLeft levels (pairs_of vs) (pairs_of (drop i vs)) last start a → b ≡ a ++ text (tree_of v.0) → c ≤ d →
-    IsShort d b (text (tree_of v.1)) → IsShort c start (pair_texts (pairs_of vs))
-value_short_here levels vs i v last start a b c d lt is h e le short = value_short levels (pairs_of vs)
-    (pairs_of (drop (i + 1) vs)) (tree_of v.0) (tree_of v.1) last start a b c d
+    PairsLeft levels (to_pairs vs) (to_pairs (drop i vs)) last start a → b ≡ a ++ text (to_tree v.0) → c ≤ d →
+    IsShort d b (text (to_tree v.1)) → IsShort c start (pair_texts (to_pairs vs))
+value_short_here levels vs i v last start a b c d lt is h e le short = value_short levels (to_pairs vs)
+    (to_pairs (drop (i + 1) vs)) (to_tree v.0) (to_tree v.1) last start a b c d
     (pairs_here levels vs i v last start a lt is h) e le short
 
 -- of a head, and after it
@@ -209,11 +209,11 @@ pub short_beyond : (c d : ℕ) (old middle head rest : List ℕ) → middle ≡ 
 short_beyond c d old middle head rest e le short = search (rules, arith, length-append)
 
 pub array_short : (c n : ℕ) (vs : List Value) (old : List ℕ) → n ≡ length vs →
-    IsShort c old (head 4 n ++ texts (trees_of vs)) → IsShort c old (text (Array (trees_of vs)))
+    IsShort c old (head 4 n ++ texts (to_trees vs)) → IsShort c old (text (Array (to_trees vs)))
 array_short c n vs old e short = search (rules, arith, count_trees)
 
 pub map_short : (c n : ℕ) (vs : List (Value × Value)) (old : List ℕ) → n ≡ length vs →
-    IsShort c old (head 5 n ++ pair_texts (pairs_of vs)) → IsShort c old (text (Map (pairs_of vs)))
+    IsShort c old (head 5 n ++ pair_texts (to_pairs vs)) → IsShort c old (text (Map (to_pairs vs)))
 map_short c n vs old e short = search (rules, arith, count_both)
 
 -- whatever the refusal is

@@ -18,8 +18,8 @@ InArray H result before after (Array ts) = (ok : Bool) × (result ≡ Some ok) �
 InArray H result before after _ = (result ≡ None) × (after ≡ before)
 
 -- A value was read, and added with its key or skipped.
-abbrev pub Adds : {M : Type 0} → (M → Bool → Pairs → Type 0) → ℕ → Part → Bool → M → M → Reading → Reading → Type 0
-Adds H levels key taken before after old new = (v : Tree) × Passes levels v old new
+abbrev pub AddsPair : {M : Type 0} → (M → Bool → Pairs → Type 0) → ℕ → Part → Bool → M → M → Reading → Reading → Type 0
+AddsPair H levels key taken before after old new = (v : Tree) × Passes levels v old new
     × ((ok : Bool) (ps : Pairs) (k : Scalar) → key ≡ One k → H before ok ps
     → H after (ok && taken) (push_pair ps (Plain k) v))
 
@@ -35,8 +35,8 @@ AddsPairs H levels n last ok before after old new = (ps : Pairs) × PassesPairs 
     × (H before true no_pairs → H after ok ps)
 
 -- This many entries were read and added.
-abbrev pub AddsAll : {M : Type 0} → (M → Bool → Trees → Type 0) → ℕ → ℕ → Bool → M → M → Reading → Reading → Type 0
-AddsAll H levels n ok before after old new = (ts : Trees) × PassesAll levels n ts old new
+abbrev pub AddsEntries : {M : Type 0} → (M → Bool → Trees → Type 0) → ℕ → ℕ → Bool → M → M → Reading → Reading → Type 0
+AddsEntries H levels n ok before after old new = (ts : Trees) × PassesAll levels n ts old new
     × (H before true no_trees → H after ok ts)
 
 -- An item was read, and its pairs were collected if it is a map.

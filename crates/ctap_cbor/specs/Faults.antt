@@ -45,9 +45,9 @@ unfoldable pub item_len : ℕ → List ℕ → ℕ
 item_len first rest = 1 + argument_len (info first) + string_len first rest
 
 -- The first error whose test holds.
-abbrev pub first_of : List (Bool × Kind) → Option Kind
-first_of [] = None
-first_of (t ∷ ts) = if t.0 then Some t.1 else first_of ts
+abbrev pub first_fault_of : List (Bool × Kind) → Option Kind
+first_fault_of [] = None
+first_fault_of (t ∷ ts) = if t.0 then Some t.1 else first_fault_of ts
 
 -- The errors that the initial byte of a head determines, each with its test, in order. `levels` is how many arrays and
 -- maps may still be opened.
@@ -85,7 +85,7 @@ faults levels due first rest = first_faults levels due first ++ later_faults due
 -- The first error of the item at the beginning of these bytes.
 abbrev pub fault : ℕ → Expected → List ℕ → Option Kind
 fault levels due [] = Some Truncated
-fault levels due (first ∷ rest) = first_of (faults levels due first rest)
+fault levels due (first ∷ rest) = first_fault_of (faults levels due first rest)
 
 -- The number of bytes from the item's beginning that count as read when this error is found.
 unfoldable pub passed : Kind → List ℕ → ℕ

@@ -4,9 +4,9 @@ use Rattle.ctap_cbor.specs.{declared.fault.Kind.Kind, Head.AreBytes, Refusals.re
 use Rattle.ctap_cbor.specs.Tree.{Tree, Trees, depth, depth_all, count}
 use Rattle.ctap_cbor.specs.Grammar.{text, texts, IsLawful, AreLawful, IsEncoding, IsCanonical}
 use Rattle.ctap_cbor.specs.Outcome.{Outcome, Whole, IsOutcome, result_of, steps}
-use Rattle.ctap_cbor.specs.Parts.{Part, item_text, Suits}
+use Rattle.ctap_cbor.specs.Parts.{Part, item_text, IsAllowed}
 use Rattle.ctap_cbor.specs.Telling.{outcome_of, canonical_tree, check_steps, items_at}
-use Rattle.ctap_cbor.specs.Reading.{Reading, at_front, rest_of, add_steps, Passes, Fails, HasNoByteLeft, HasTrailingBytes}
+use Rattle.ctap_cbor.specs.Reading.{Reading, cursor_at_start, rest_of, add_steps, Passes, Fails, HasNoByteLeft, HasTrailingBytes}
 
 -- Each byte string is the encoding of exactly one tree, or has exactly one first error.
 abbrev pub EncodingsAreUnique : Type 0
@@ -19,7 +19,7 @@ NoEncodingIsAPrefix = (t u : Tree) (b c x y : List ℕ) → IsEncoding t b → I
 
 -- No head, with the content of a string, is a proper prefix of another, and no two items have the same one.
 abbrev pub NoHeadIsAPrefix : Type 0
-NoHeadIsAPrefix = (levels : ℕ) (i j : Part) (x y : List ℕ) → Suits levels AnItem i → Suits levels AnItem j
+NoHeadIsAPrefix = (levels : ℕ) (i j : Part) (x y : List ℕ) → IsAllowed levels AnItem i → IsAllowed levels AnItem j
     → item_text i ++ x ≡ item_text j ++ y → (i ≡ j) × (x ≡ y)
 
 -- Decoding n bytes takes at most 2 * n + 1 steps.
@@ -73,11 +73,11 @@ pub record ReadsNoTree (b : List ℕ) (s : ℕ) (new : Reading) (at : ℕ) (kind
 -- Reading all of these bytes returns their tree or first error, and takes the steps that `check_steps` computes,
 -- whatever the step count was before.
 pub record CursorAgreesWithCheck (b : List ℕ) : Type 0 where
-  pub passed : (t : Tree) (s : ℕ) (middle new : Reading) → Passes 4 t (at_front b s) middle → HasNoByteLeft middle new
+  pub passed : (t : Tree) (s : ℕ) (middle new : Reading) → Passes 4 t (cursor_at_start b s) middle → HasNoByteLeft middle new
       → ReadsTree b s t new
-  pub stopped : (s : ℕ) (new : Reading) (at : ℕ) (kind : Kind) → Fails 4 (at_front b s) new at kind
+  pub stopped : (s : ℕ) (new : Reading) (at : ℕ) (kind : Kind) → Fails 4 (cursor_at_start b s) new at kind
       → ReadsNoTree b s new at kind
-  pub longer : (t : Tree) (s : ℕ) (middle new : Reading) (at : ℕ) (kind : Kind) → Passes 4 t (at_front b s) middle
+  pub longer : (t : Tree) (s : ℕ) (middle new : Reading) (at : ℕ) (kind : Kind) → Passes 4 t (cursor_at_start b s) middle
       → HasTrailingBytes middle new at kind → ReadsNoTree b s new at kind
 
 -- Checking n bytes takes at most 2 * n + 1 steps.

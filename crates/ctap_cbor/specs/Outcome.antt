@@ -14,15 +14,15 @@ pub data Enclosing : Type 0 where
   AtValue : (total : ℕ) (done : Pairs) (key : Tree) → Enclosing
 
 -- The encoding of an unfinished array or map, up to where the next item is expected.
-abbrev pub front : Enclosing → List ℕ
-front (InArray total done) = head 4 total ++ texts done
-front (AtKey total done) = head 5 total ++ pair_texts done
-front (AtValue total done key) = head 5 total ++ (pair_texts done ++ text key)
+abbrev pub open_encoding : Enclosing → List ℕ
+open_encoding (InArray total done) = head 4 total ++ texts done
+open_encoding (AtKey total done) = head 5 total ++ pair_texts done
+open_encoding (AtValue total done key) = head 5 total ++ (pair_texts done ++ text key)
 
 -- The encodings of nested unfinished arrays and maps, outermost first.
-abbrev pub fronts : List Enclosing → List ℕ
-fronts [] = []
-fronts (o ∷ os) = front o ++ fronts os
+abbrev pub open_encodings : List Enclosing → List ℕ
+open_encodings [] = []
+open_encodings (o ∷ os) = open_encoding o ++ open_encodings os
 
 -- The encoding of the last key, or the given one if there is no key.
 abbrev pub last_key : Option (List ℕ) → Pairs → Option (List ℕ)
@@ -45,16 +45,16 @@ CanHold (AtKey total done) (o ∷ os) = ⊥
 CanHold _ _ = Unit {0}
 
 -- What is expected next inside of an unfinished array or map.
-abbrev pub due_in : Enclosing → Expected
-due_in (InArray total done) = AnItem
-due_in (AtKey total done) = AKey (last_key None done)
-due_in (AtValue total done key) = AnItem
+abbrev pub expected_in : Enclosing → Expected
+expected_in (InArray total done) = AnItem
+expected_in (AtKey total done) = AKey (last_key None done)
+expected_in (AtValue total done key) = AnItem
 
 -- The unfinished arrays and maps, and the error of the item after them.
-abbrev pub FailsIn : ℕ → Expected → List Enclosing → Kind → List ℕ → Type 0
-FailsIn levels due [] kind rest = fault levels due rest ≡ Some kind
-FailsIn zero due (o ∷ os) kind rest = ⊥
-FailsIn (suc levels) due (o ∷ os) kind rest = IsOpen levels o × CanHold o os × FailsIn levels (due_in o) os kind rest
+abbrev pub FailsInside : ℕ → Expected → List Enclosing → Kind → List ℕ → Type 0
+FailsInside levels due [] kind rest = fault levels due rest ≡ Some kind
+FailsInside zero due (o ∷ os) kind rest = ⊥
+FailsInside (suc levels) due (o ∷ os) kind rest = IsOpen levels o × CanHold o os × FailsInside levels (expected_in o) os kind rest
 
 -- The result of decoding: a tree; a tree and trailing bytes; or unfinished arrays and maps, and an error after them.
 pub data Outcome : Type 0 where
@@ -69,7 +69,7 @@ pub data Outcome : Type 0 where
 abbrev pub IsOutcome : List ℕ → Outcome → Type 0
 IsOutcome b (Whole t) = IsCanonical t b
 IsOutcome b (Longer t) = (whole rest : List ℕ) × IsCanonical t whole × (0 < length rest) × (b ≡ whole ++ rest)
-IsOutcome b (Stopped os kind) = (rest : List ℕ) × FailsIn 4 AnItem os kind rest × (b ≡ fronts os ++ rest)
+IsOutcome b (Stopped os kind) = (rest : List ℕ) × FailsInside 4 AnItem os kind rest × (b ≡ open_encodings os ++ rest)
 
 -- The sum of the lengths of all encoded keys in a tree, except the first key of each map.
 abbrev mutual
@@ -96,28 +96,28 @@ later_key no_pairs key = 0
 later_key (pair k v ps) key = length (text key)
 
 -- The lengths of the keys of an unfinished array or map, without the first of each map.
-abbrev pub later_in : Enclosing → ℕ
-later_in (InArray total done) = later_in_all done
-later_in (AtKey total done) = later_in_map done
-later_in (AtValue total done key) = later_in_map done + later_key done key
+abbrev pub later_keys_in : Enclosing → ℕ
+later_keys_in (InArray total done) = later_in_all done
+later_keys_in (AtKey total done) = later_in_map done
+later_keys_in (AtValue total done key) = later_in_map done + later_key done key
 
 -- The lengths of the keys of nested unfinished arrays and maps, without the first of each map.
-abbrev pub later_in_open : List Enclosing → ℕ
-later_in_open [] = 0
-later_in_open (o ∷ os) = later_in o + later_in_open os
+abbrev pub later_keys_in_open : List Enclosing → ℕ
+later_keys_in_open [] = 0
+later_keys_in_open (o ∷ os) = later_keys_in o + later_keys_in_open os
 
 -- The steps of decoding: one for each byte that is read, one more for each byte of a key that is compared with the
 -- previous one, and one for the end of the input.
 abbrev pub steps : List ℕ → Outcome → ℕ
 steps b (Whole t) = length b + later_keys t + 1
 steps b (Longer t) = length (text t) + later_keys t
-steps b (Stopped os kind) = length (fronts os) + later_in_open os + fault_steps kind (drop (length (fronts os)) b)
+steps b (Stopped os kind) = length (open_encodings os) + later_keys_in_open os + fault_steps kind (drop (length (open_encodings os)) b)
 
 -- The position and the kind of the error, if any.
 abbrev pub result_of : Outcome → Option (ℕ × Kind)
 result_of (Whole t) = None
 result_of (Longer t) = Some (length (text t), Trailing)
-result_of (Stopped os kind) = Some (length (fronts os), kind)
+result_of (Stopped os kind) = Some (length (open_encodings os), kind)
 
 -- The result of `check` for an outcome. The step count saturates at 2^64-1.
 abbrev pub IsCheckResult : List ℕ → Outcome → Result (Unit {0}) Fault → ℕ → Type 0

@@ -13,85 +13,85 @@ pub data Parse : Type 0 where
   Halt : List Enclosing → Kind → List ℕ → Parse
 
 -- The result of parsing the items of an array.
-pub data Run : Type 0 where
-  Ran : Trees → List ℕ → Run
-  Broke : Trees → List Enclosing → Kind → List ℕ → Run
+pub data ParsedItems : Type 0 where
+  Ran : Trees → List ℕ → ParsedItems
+  Broke : Trees → List Enclosing → Kind → List ℕ → ParsedItems
 
 -- The result of parsing the pairs of a map.
-pub data Walk : Type 0 where
-  Walked : Pairs → List ℕ → Walk
-  BadKey : Pairs → Kind → List ℕ → Walk
-  BadValue : Pairs → Tree → List Enclosing → Kind → List ℕ → Walk
+pub data ParsedPairs : Type 0 where
+  Walked : Pairs → List ℕ → ParsedPairs
+  BadKey : Pairs → Kind → List ℕ → ParsedPairs
+  BadValue : Pairs → Tree → List Enclosing → Kind → List ℕ → ParsedPairs
 
 -- The result of parsing an array, from that of its items.
-abbrev pub array_of : ℕ → Run → Parse
-array_of total (Ran ts rest) = Done (Array ts) rest
-array_of total (Broke done os kind rest) = Halt (InArray total done ∷ os) kind rest
+abbrev pub parsed_array : ℕ → ParsedItems → Parse
+parsed_array total (Ran ts rest) = Done (Array ts) rest
+parsed_array total (Broke done os kind rest) = Halt (InArray total done ∷ os) kind rest
 
 -- The result of parsing a map, from that of its pairs.
-abbrev pub map_of : ℕ → Walk → Parse
-map_of total (Walked ps rest) = Done (Map ps) rest
-map_of total (BadKey done kind rest) = Halt (AtKey total done ∷ []) kind rest
-map_of total (BadValue done key os kind rest) = Halt (AtValue total done key ∷ os) kind rest
+abbrev pub parsed_map : ℕ → ParsedPairs → Parse
+parsed_map total (Walked ps rest) = Done (Map ps) rest
+parsed_map total (BadKey done kind rest) = Halt (AtKey total done ∷ []) kind rest
+parsed_map total (BadValue done key os kind rest) = Halt (AtValue total done key ∷ os) kind rest
 
 -- Prepends an item to those that were parsed.
-abbrev pub before : Tree → Run → Run
-before t (Ran ts rest) = Ran (tree t ts) rest
-before t (Broke done os kind rest) = Broke (tree t done) os kind rest
+abbrev pub prepend_item : Tree → ParsedItems → ParsedItems
+prepend_item t (Ran ts rest) = Ran (tree t ts) rest
+prepend_item t (Broke done os kind rest) = Broke (tree t done) os kind rest
 
 -- Prepends a pair to those that were parsed.
-abbrev pub before_pair : Tree → Tree → Walk → Walk
-before_pair k v (Walked ps rest) = Walked (pair k v ps) rest
-before_pair k v (BadKey done kind rest) = BadKey (pair k v done) kind rest
-before_pair k v (BadValue done key os kind rest) = BadValue (pair k v done) key os kind rest
+abbrev pub prepend_pair : Tree → Tree → ParsedPairs → ParsedPairs
+prepend_pair k v (Walked ps rest) = Walked (pair k v ps) rest
+prepend_pair k v (BadKey done kind rest) = BadKey (pair k v done) kind rest
+prepend_pair k v (BadValue done key os kind rest) = BadValue (pair k v done) key os kind rest
 
 -- Parses the other items of an array after the first.
-abbrev pub then_items : Parse → (List ℕ → Run) → Run
-then_items (Done t rest) go = before t (go rest)
+abbrev pub then_items : Parse → (List ℕ → ParsedItems) → ParsedItems
+then_items (Done t rest) go = prepend_item t (go rest)
 then_items (Halt os kind rest) go = Broke no_trees os kind rest
 
 -- Parses the items of an array.
-abbrev pub items : (List ℕ → Parse) → ℕ → List ℕ → Run
+abbrev pub items : (List ℕ → Parse) → ℕ → List ℕ → ParsedItems
 items sub zero bytes = Ran no_trees bytes
 items sub (suc n) bytes = then_items (sub bytes) (items sub n)
 
 -- Parses the other pairs of a map after the first.
-abbrev pub then_pairs : Tree → Parse → (List ℕ → Walk) → Walk
-then_pairs k (Done v rest) go = before_pair k v (go rest)
+abbrev pub then_pairs : Tree → Parse → (List ℕ → ParsedPairs) → ParsedPairs
+then_pairs k (Done v rest) go = prepend_pair k v (go rest)
 then_pairs k (Halt os kind rest) go = BadValue no_pairs k os kind rest
 
 -- Parses a value after its key.
-abbrev pub then_value : (List ℕ → Parse) → List ℕ → Result (Part × List ℕ) Kind → (List ℕ → List ℕ → Walk) → Walk
+abbrev pub then_value : (List ℕ → Parse) → List ℕ → Result (Part × List ℕ) Kind → (List ℕ → List ℕ → ParsedPairs) → ParsedPairs
 then_value sub bytes (Err kind) go = BadKey no_pairs kind bytes
 then_value sub bytes (Ok (One s, rest)) go = then_pairs (Plain s) (sub rest) (go (scalar_text s))
 then_value sub bytes (Ok (OpensArray n, rest)) go = Walked no_pairs rest
 then_value sub bytes (Ok (OpensMap n, rest)) go = Walked no_pairs rest
 
 -- Parses the pairs of a map.
-abbrev pub pairs : (List ℕ → Parse) → ℕ → ℕ → Option (List ℕ) → List ℕ → Walk
+abbrev pub pairs : (List ℕ → Parse) → ℕ → ℕ → Option (List ℕ) → List ℕ → ParsedPairs
 pairs sub levels zero last bytes = Walked no_pairs bytes
 pairs sub levels (suc n) last bytes = then_value sub bytes (read levels (AKey last) bytes)
     (λ key. pairs sub levels n (Some key))
 
 -- Parses the content of an array or map after its head.
-abbrev pub then_inside : (List ℕ → Parse) → ℕ → List ℕ → Result (Part × List ℕ) Kind → Parse
-then_inside sub levels bytes (Err kind) = Halt [] kind bytes
-then_inside sub levels bytes (Ok (One s, rest)) = Done (Plain s) rest
-then_inside sub levels bytes (Ok (OpensArray n, rest)) = array_of n (items sub n rest)
-then_inside sub levels bytes (Ok (OpensMap n, rest)) = map_of n (pairs sub levels n None rest)
+abbrev pub then_content : (List ℕ → Parse) → ℕ → List ℕ → Result (Part × List ℕ) Kind → Parse
+then_content sub levels bytes (Err kind) = Halt [] kind bytes
+then_content sub levels bytes (Ok (One s, rest)) = Done (Plain s) rest
+then_content sub levels bytes (Ok (OpensArray n, rest)) = parsed_array n (items sub n rest)
+then_content sub levels bytes (Ok (OpensMap n, rest)) = parsed_map n (pairs sub levels n None rest)
 
 -- Parses a whole item with at most this many levels of arrays and maps.
 unfoldable pub parse : ℕ → List ℕ → Parse
-parse zero bytes = then_inside (λ b. Done (Plain Null) b) zero bytes (read zero AnItem bytes)
-parse (suc levels) bytes = then_inside (parse levels) levels bytes (read (suc levels) AnItem bytes)
+parse zero bytes = then_content (λ b. Done (Plain Null) b) zero bytes (read zero AnItem bytes)
+parse (suc levels) bytes = then_content (parse levels) levels bytes (read (suc levels) AnItem bytes)
 
 -- The outcome of a whole input, from the result of parsing its item.
-abbrev pub outcome_by : Parse → Outcome
-outcome_by (Done t []) = Whole t
-outcome_by (Done t (x ∷ rest)) = Longer t
-outcome_by (Halt os kind rest) = Stopped os kind
+abbrev pub outcome_of_parse : Parse → Outcome
+outcome_of_parse (Done t []) = Whole t
+outcome_of_parse (Done t (x ∷ rest)) = Longer t
+outcome_of_parse (Halt os kind rest) = Stopped os kind
 
 -- The items that were parsed.
-abbrev pub parsed_items : Run → Trees
+abbrev pub parsed_items : ParsedItems → Trees
 parsed_items (Ran ts rest) = ts
 parsed_items (Broke done os kind rest) = done

@@ -25,14 +25,14 @@ abbrev pub string_at : ℕ → List ℕ → List ℕ
 string_at first rest = take (argument first rest) (drop (argument_len (info first)) rest)
 
 -- The item with this initial byte, by its major type.
-abbrev pub item_of : ℕ → ℕ → List ℕ → Part
-item_of zero first rest = One (Int (pos (argument first rest)))
-item_of (suc zero) first rest = One (Int (negsuc (argument first rest)))
-item_of (suc (suc zero)) first rest = One (Bytes (string_at first rest))
-item_of (suc (suc (suc zero))) first rest = One (Text (string_at first rest))
-item_of (suc (suc (suc (suc zero)))) first rest = OpensArray (argument first rest)
-item_of (suc (suc (suc (suc (suc zero))))) first rest = OpensMap (argument first rest)
-item_of m first rest = One (if nat_eq (info first) 20 then Flag false else if nat_eq (info first) 21 then Flag true
+abbrev pub item_by_major : ℕ → ℕ → List ℕ → Part
+item_by_major zero first rest = One (Int (pos (argument first rest)))
+item_by_major (suc zero) first rest = One (Int (negsuc (argument first rest)))
+item_by_major (suc (suc zero)) first rest = One (Bytes (string_at first rest))
+item_by_major (suc (suc (suc zero))) first rest = One (Text (string_at first rest))
+item_by_major (suc (suc (suc (suc zero)))) first rest = OpensArray (argument first rest)
+item_by_major (suc (suc (suc (suc (suc zero))))) first rest = OpensMap (argument first rest)
+item_by_major m first rest = One (if nat_eq (info first) 20 then Flag false else if nat_eq (info first) 21 then Flag true
     else Null)
 
 -- The error if any, or else the item and the bytes after it.
@@ -43,17 +43,17 @@ item_or_error (Some kind) i rest = Err kind
 -- Reads the item at the beginning of these bytes.
 unfoldable pub read : ℕ → Expected → List ℕ → Result (Part × List ℕ) Kind
 read levels due [] = Err Truncated
-read levels due (first ∷ rest) = item_or_error (fault levels due (first ∷ rest)) (item_of (major first) first rest)
+read levels due (first ∷ rest) = item_or_error (fault levels due (first ∷ rest)) (item_by_major (major first) first rest)
     (drop (item_len first rest) (first ∷ rest))
 
 -- An array or map may be opened here: it isn't a key, and the nesting limit isn't reached.
-abbrev pub Nests : ℕ → Expected → Type 0
-Nests levels AnItem = 0 < levels
-Nests levels (AKey before) = ⊥
+abbrev pub MayNest : ℕ → Expected → Type 0
+MayNest levels AnItem = 0 < levels
+MayNest levels (AKey before) = ⊥
 
 -- The item is allowed here.
-abbrev pub Suits : ℕ → Expected → Part → Type 0
-Suits levels AnItem (One s) = Fits s
-Suits levels (AKey before) (One s) = Fits s × IsKey (Plain s) × IsAbove before (scalar_text s)
-Suits levels due (OpensArray n) = Nests levels due × (n < 2 ^ 64)
-Suits levels due (OpensMap n) = Nests levels due × (n < 2 ^ 64)
+abbrev pub IsAllowed : ℕ → Expected → Part → Type 0
+IsAllowed levels AnItem (One s) = Fits s
+IsAllowed levels (AKey before) (One s) = Fits s × IsKey (Plain s) × IsAbove before (scalar_text s)
+IsAllowed levels due (OpensArray n) = MayNest levels due × (n < 2 ^ 64)
+IsAllowed levels due (OpensMap n) = MayNest levels due × (n < 2 ^ 64)

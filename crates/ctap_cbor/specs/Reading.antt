@@ -3,11 +3,11 @@ use Rattle.std.specs.Prelude.{◌≡◌, ℕ, ◌+◌, ◌≤◌, ◌<◌, min, 
 use Rattle.std.specs.Prelude.{Ok, Err, ◌⊎◌}
 use Rattle.ctap_cbor.specs.declared.fault.{Fault.Fault, Kind.Kind, Kind.TheVariants.Trailing}
 use Rattle.ctap_cbor.specs.Tree.{Tree, Plain, Array, Map, Trees, Pairs, Scalar, depth, depth_all, depth_pairs, count}
-use Rattle.ctap_cbor.specs.{Tree.count_pairs, Outcome.later_in_open}
+use Rattle.ctap_cbor.specs.{Tree.count_pairs, Outcome.later_keys_in_open}
 use Rattle.ctap_cbor.specs.Grammar.{text, texts, pair_texts, scalar_text, KeysAscend, IsLawful, AreLawful, AreLawfulPairs}
 use Rattle.ctap_cbor.specs.Faults.{Expected, AnItem, AKey, fault, passed, fault_steps}
-use Rattle.ctap_cbor.specs.Parts.{Part, One, OpensArray, OpensMap, item_text, Suits}
-use Rattle.ctap_cbor.specs.Outcome.{Enclosing, fronts, last_key, FailsIn, later_keys, later_in_all, later_in_map}
+use Rattle.ctap_cbor.specs.Parts.{Part, One, OpensArray, OpensMap, item_text, IsAllowed}
+use Rattle.ctap_cbor.specs.Outcome.{Enclosing, open_encodings, last_key, FailsInside, later_keys, later_in_all, later_in_map}
 
 -- The state of a cursor: the message, the position, and the steps so far.
 pub record Reading : Type 0 where
@@ -16,8 +16,8 @@ pub record Reading : Type 0 where
   pub steps : ℕ
 
 -- A cursor at the first byte, with this step count.
-abbrev pub at_front : List ℕ → ℕ → Reading
-at_front b s = record { bytes = b; place = 0; steps = s }
+abbrev pub cursor_at_start : List ℕ → ℕ → Reading
+cursor_at_start b s = record { bytes = b; place = 0; steps = s }
 
 -- The bytes from the position on.
 abbrev pub rest_of : Reading → List ℕ
@@ -38,8 +38,8 @@ pub record MovesOn (old new : Reading) : Type 0 where
   pub steps : old.steps ≤ new.steps
 
 -- The cursor read an item: its head, and the content of a string.
-pub record Takes (levels : ℕ) (old new : Reading) (part : Part) : Type 0 where
-  pub suits : Suits levels AnItem part
+pub record TakesItem (levels : ℕ) (old new : Reading) (part : Part) : Type 0 where
+  pub suits : IsAllowed levels AnItem part
   pub spelled : rest_of old ≡ item_text part ++ rest_of new
   pub moved : new ≡ advance old (length (item_text part)) (length (item_text part))
 
@@ -50,16 +50,16 @@ pub record HasItemError (levels : ℕ) (due : Expected) (old new : Reading) (at 
   pub moved : new ≡ advance old (passed kind (rest_of old)) (fault_steps kind (rest_of old))
 
 -- The steps of comparing a key with the previous one.
-abbrev pub compared : Option (List ℕ) → ℕ → ℕ
-compared None n = 0
-compared (Some before) n = n
+abbrev pub log_comparison : Option (List ℕ) → ℕ → ℕ
+log_comparison None n = 0
+log_comparison (Some before) n = n
 
 -- The cursor read a map key.
 pub record TakesKey (last : Option (List ℕ)) (old new : Reading) (s : Scalar) : Type 0 where
-  pub suits : Suits 0 (AKey last) (One s)
+  pub suits : IsAllowed 0 (AKey last) (One s)
   pub spelled : rest_of old ≡ scalar_text s ++ rest_of new
   pub moved : new ≡ advance old (length (scalar_text s))
-      (length (scalar_text s) + compared last (length (scalar_text s)))
+      (length (scalar_text s) + log_comparison last (length (scalar_text s)))
 
 -- The cursor read a map key, and this is its encoding.
 pub record GivesKey (last : Option (List ℕ)) (old new : Reading) (part : Part) (bytes : List ℕ) : Type 0 where
@@ -79,11 +79,11 @@ pub record Passes (levels : ℕ) (tree : Tree) (old new : Reading) : Type 0 wher
 pub record Fails (levels : ℕ) (old new : Reading) (at : ℕ) (kind : Kind) : Type 0 where
   pub os : List Enclosing
   pub tail : List ℕ
-  pub halts : FailsIn levels AnItem os kind tail
-  pub spelled : rest_of old ≡ fronts os ++ tail
-  pub place : at ≡ old.place + length (fronts os)
-  pub moved : new ≡ advance old (length (fronts os) + passed kind tail)
-      (length (fronts os) + later_in_open os + fault_steps kind tail)
+  pub halts : FailsInside levels AnItem os kind tail
+  pub spelled : rest_of old ≡ open_encodings os ++ tail
+  pub place : at ≡ old.place + length (open_encodings os)
+  pub moved : new ≡ advance old (length (open_encodings os) + passed kind tail)
+      (length (open_encodings os) + later_keys_in_open os + fault_steps kind tail)
 
 -- The cursor read this many items of an array.
 pub record PassesAll (levels n : ℕ) (done : Trees) (old new : Reading) : Type 0 where
@@ -150,8 +150,8 @@ part_of_tree (Array ts) = OpensArray (count ts)
 part_of_tree (Map ps) = OpensMap (count_pairs ps)
 
 -- The cursor read a whole item with this head.
-abbrev pub PassesAs : ℕ → Part → Reading → Reading → Type 0
-PassesAs levels part old new = (t : Tree) × Passes levels t old new × (part ≡ part_of_tree t)
+abbrev pub PassesHead : ℕ → Part → Reading → Reading → Type 0
+PassesHead levels part old new = (t : Tree) × Passes levels t old new × (part ≡ part_of_tree t)
 
 -- The cursor read `n` whole items.
 abbrev pub PassesSome : ℕ → ℕ → Reading → Reading → Type 0

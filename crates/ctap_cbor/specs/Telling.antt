@@ -3,7 +3,7 @@
 use Rattle.std.specs.Prelude.{ℕ, Bool, true, ◌&&◌, List, [], ◌∷◌, Option, Some, None, if◌then◌else◌, nat_lt}
 use Rattle.ctap_cbor.specs.{declared.fault.Kind.TheVariants.Reserved, Tree.Tree, Tree.Trees}
 use Rattle.ctap_cbor.specs.Outcome.{Outcome, Whole, Stopped, steps}
-use Rattle.ctap_cbor.specs.Parse.{outcome_by, parsed_items, items, parse}
+use Rattle.ctap_cbor.specs.Parse.{outcome_of_parse, parsed_items, items, parse}
 
 -- Whether each number is below 256.
 abbrev pub are_bytes : List ℕ → Bool
@@ -13,7 +13,7 @@ are_bytes (b ∷ bs) = nat_lt b 256 && are_bytes bs
 -- The outcome of decoding these bytes: the tree that they encode, or their first error. If a number isn't a byte, only
 -- the step count is meaningful.
 unfoldable pub outcome_of : List ℕ → Outcome
-outcome_of b = if are_bytes b then outcome_by (parse 4 b) else Stopped [] Reserved
+outcome_of b = if are_bytes b then outcome_of_parse (parse 4 b) else Stopped [] Reserved
 
 -- The tree of an outcome without an error.
 abbrev pub whole_tree : Outcome → Option Tree

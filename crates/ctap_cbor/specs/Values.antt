@@ -28,20 +28,20 @@ tree_step (layer.Bool b) = Plain (tree.Flag b)
 tree_step layer.Null = Plain tree.Null
 
 -- The tree of a value.
-abbrev pub tree_of : Value → Tree
-tree_of = fold-Value Tree tree_step
+abbrev pub to_tree : Value → Tree
+to_tree = fold-Value Tree tree_step
 
 -- The trees of a pair of values.
-abbrev pub pair_of : Value × Value → Tree × Tree
-pair_of p = (tree_of p.0, tree_of p.1)
+abbrev pub to_tree_pair : Value × Value → Tree × Tree
+to_tree_pair p = (to_tree p.0, to_tree p.1)
 
 -- The trees of a list of values.
-abbrev pub trees_of : List Value → Trees
-trees_of vs = trees (map tree_of vs)
+abbrev pub to_trees : List Value → Trees
+to_trees vs = trees (map to_tree vs)
 
 -- The trees of a list of pairs of values.
-abbrev pub pairs_of : List (Value × Value) → Pairs
-pairs_of vs = pairs (map pair_of vs)
+abbrev pub to_pairs : List (Value × Value) → Pairs
+to_pairs vs = pairs (map to_tree_pair vs)
 
 -- The tree of an item that is neither an array nor a map.
 abbrev pub IsScalarOf : Part → Tree → Type 0

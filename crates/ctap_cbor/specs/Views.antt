@@ -5,44 +5,44 @@ use Rattle.ctap_cbor.specs.declared.{fault.Fault.Fault, fault.Kind.Kind, item.It
 use Rattle.ctap_cbor.specs.declared.fault.Kind.TheVariants.{Truncated, KeyOrder}
 use Rattle.ctap_cbor.specs.declared.item.Item.TheVariants.{Int, Bytes, Text, Array, Map, Bool as Logical, Null}
 use Rattle.std.specs.Prelude.{Bool}
-use Rattle.ctap_cbor.specs.Faults.{Expected, AnItem, AKey, first_of, later_faults, item_len, passed}
+use Rattle.ctap_cbor.specs.Faults.{Expected, AnItem, AKey, first_fault_of, later_faults, item_len, passed}
 use Rattle.ctap_cbor.specs.Head.{major}
 use Rattle.ctap_cbor.specs.Tree as tree
-use Rattle.ctap_cbor.specs.Parts.{Part, One, OpensArray, OpensMap, item_text, item_of, Suits}
+use Rattle.ctap_cbor.specs.Parts.{Part, One, OpensArray, OpensMap, item_text, item_by_major, IsAllowed}
 use Rattle.ctap_cbor.specs.Reading.{Reading, rest_of}
 
 -- Converts an item of the code (`Item`) to one of the definitions.
-abbrev pub part_of : Item → Part
-part_of (Int i) = One (tree.Int i)
-part_of (Bytes s) = One (tree.Bytes s.now)
-part_of (Text s) = One (tree.Text s.now)
-part_of (Array n) = OpensArray n
-part_of (Map n) = OpensMap n
-part_of (Logical b) = One (tree.Flag b)
-part_of Null = One tree.Null
+abbrev pub to_part : Item → Part
+to_part (Int i) = One (tree.Int i)
+to_part (Bytes s) = One (tree.Bytes s.now)
+to_part (Text s) = One (tree.Text s.now)
+to_part (Array n) = OpensArray n
+to_part (Map n) = OpensMap n
+to_part (Logical b) = One (tree.Flag b)
+to_part Null = One tree.Null
 
 -- The item as a tree, without the content of an array or map.
-abbrev pub head_of : Part → tree.Tree
-head_of (One s) = tree.Plain s
-head_of (OpensArray n) = tree.Array tree.no_trees
-head_of (OpensMap n) = tree.Map tree.no_pairs
+abbrev pub head_tree : Part → tree.Tree
+head_tree (One s) = tree.Plain s
+head_tree (OpensArray n) = tree.Array tree.no_trees
+head_tree (OpensMap n) = tree.Map tree.no_pairs
 
 -- The result is the only possible one: an item that is at the position is the one that was read.
 abbrev pub ReadsItem : ℕ → Reading → Reading → Result Item Fault → Type 0
 ReadsItem levels old new result =
-    (i : Part) (rest : List ℕ) → Suits levels AnItem i → rest_of old ≡ item_text i ++ rest
-    → IsOkAnd result (λ j. (part_of j ≡ i) × (rest_of new ≡ rest))
+    (i : Part) (rest : List ℕ) → IsAllowed levels AnItem i → rest_of old ≡ item_text i ++ rest
+    → IsOkAnd result (λ j. (to_part j ≡ i) × (rest_of new ≡ rest))
 
 -- The code's result equals that of the definition `read`.
 abbrev pub IsDecodedItem : List ℕ → Result (Item × ℕ) (Kind × ℕ) → Result (Part × List ℕ) Kind → Type 0
-IsDecodedItem bytes (Ok (i, len)) read = (read ≡ Ok (part_of i, drop len bytes)) × (len ≤ length bytes)
+IsDecodedItem bytes (Ok (i, len)) read = (read ≡ Ok (to_part i, drop len bytes)) × (len ≤ length bytes)
     × (len ≡ passed KeyOrder bytes)
 IsDecodedItem bytes (Err (kind, n)) read = (read ≡ Err kind) × (n ≡ passed kind bytes) × (n ≤ length bytes)
 
 -- What is expected: a key, or any item.
-abbrev pub due_of : Bool → Expected
-due_of true = AKey None
-due_of false = AnItem
+abbrev pub expected_of : Bool → Expected
+expected_of true = AKey None
+expected_of false = AnItem
 
 -- The item with this head, unless it is a string.
 abbrev pub item_with_head : ℕ → ℕ → ℕ → Part
@@ -55,9 +55,9 @@ item_with_head m i n = One (if nat_eq i 20 then tree.Flag false else if nat_eq i
 -- The result of reading the rest of an item after a valid initial byte: the item and its length, or the first error
 -- and the number of bytes read.
 abbrev pub IsDecodedItemRest : ℕ → List ℕ → Result (Item × ℕ) (Kind × ℕ) → Type 0
-IsDecodedItemRest first rest (Ok (i, len)) = (first_of (later_faults AnItem first rest) ≡ None)
-    × (part_of i ≡ item_of (major first) first rest) × (len ≡ item_len first rest) × (len ≤ suc (length rest))
-IsDecodedItemRest first rest (Err (kind, n)) = (first_of (later_faults AnItem first rest) ≡ Some kind)
+IsDecodedItemRest first rest (Ok (i, len)) = (first_fault_of (later_faults AnItem first rest) ≡ None)
+    × (to_part i ≡ item_by_major (major first) first rest) × (len ≡ item_len first rest) × (len ≤ suc (length rest))
+IsDecodedItemRest first rest (Err (kind, n)) = (first_fault_of (later_faults AnItem first rest) ≡ Some kind)
     × (n ≡ passed kind (first ∷ rest)) × (n ≤ suc (length rest))
 
 -- The steps for finding the end of the input, by the kind of error.

@@ -9,8 +9,8 @@ abbrev pub contents : Sink → List ℕ
 contents s = take s.len s.buffer.now
 
 -- The rest of the buffer, after the bytes written.
-abbrev pub spare : Sink → List ℕ
-spare s = drop s.len s.buffer.now
+abbrev pub unwritten_rest : Sink → List ℕ
+unwritten_rest s = drop s.len s.buffer.now
 
 -- The length of a scalar's encoding.
 abbrev pub scalar_len : Scalar → ℕ
@@ -30,7 +30,7 @@ pub record Appends (old new : Sink) (bytes : List ℕ) (len : ℕ) : Type 0 wher
   pub grows : contents new ≡ contents old ++ bytes
   pub len_is : length (contents new) ≡ length (contents old) + len
   pub space_is : space_of old ≡ space_of new + len
-  pub keeps : spare new ≡ drop len (spare old)
+  pub keeps : unwritten_rest new ≡ drop len (unwritten_rest old)
 
 -- The sink writes to this buffer.
 abbrev pub IsOver : MutBor (List ℕ) → Sink → Type 0

@@ -1,9 +1,9 @@
 //! Collects the members of maps and the entries of arrays.
 
 ghost use Rattle.std.specs.Prelude.{Bool, ◌-◌, ◌≤◌, MatchResult};
-ghost use Rattle.ctap_cbor.specs.Views.{part_of};
+ghost use Rattle.ctap_cbor.specs.Views.{to_part};
 ghost use Rattle.ctap_cbor.specs.Reading.{Fails};
-ghost use Rattle.ctap_cbor.specs.Collecting.{Adds, AddsEntry, ReadsMap, ReadsArray};
+ghost use Rattle.ctap_cbor.specs.Collecting.{AddsPair, AddsEntry, ReadsMap, ReadsArray};
 
 use crate::cursor::Cursor;
 use crate::fault::Fault;
@@ -21,7 +21,7 @@ pub trait Members<'a> {
         requires low { 1 ≤ level }
         requires high { level ≤ 5 }
         ensures { MatchResult result
-            (λ taken. Adds Holds (5 - level) (part_of key.entry) taken self.old self.new cursor.old cursor.new)
+            (λ taken. AddsPair Holds (5 - level) (to_part key.entry) taken self.old self.new cursor.old cursor.new)
             (λ f. Fails (5 - level) cursor.old cursor.new f.at f.kind) };
 }
 

@@ -4,10 +4,10 @@ ghost use Rattle.std.specs.Prelude.{◌≡◌, ◌-◌, ◌+◌, ◌≤◌, leng
 ghost use Rattle.std.specs.Option.{option_copied};
 ghost use Rattle.ctap_cbor.specs.Head.{AreBytes};
 ghost use Rattle.ctap_cbor.specs.Faults.{AnItem, AKey, is_above};
-ghost use Rattle.ctap_cbor.specs.Parts.{read, Suits};
-ghost use Rattle.ctap_cbor.specs.Views.{part_of, ReadsItem, end_steps_of};
-ghost use Rattle.ctap_cbor.specs.Reading.{Reading, rest_of, advance, compared, Takes, HasItemError, GivesKey, HasNoByteLeft, HasTrailingBytes};
-ghost use Rattle.ctap_cbor.specs.Reading.{PassesOne, PassesAs, PassesSome, PassesSomePairs, Fails, FailsInArray, FailsInPairs, IsOnlyResult, MovesOn};
+ghost use Rattle.ctap_cbor.specs.Parts.{read, IsAllowed};
+ghost use Rattle.ctap_cbor.specs.Views.{to_part, ReadsItem, end_steps_of};
+ghost use Rattle.ctap_cbor.specs.Reading.{Reading, rest_of, advance, log_comparison, TakesItem, HasItemError, GivesKey, HasNoByteLeft, HasTrailingBytes};
+ghost use Rattle.ctap_cbor.specs.Reading.{PassesOne, PassesHead, PassesSome, PassesSomePairs, Fails, FailsInArray, FailsInPairs, IsOnlyResult, MovesOn};
 
 use crate::fault::{Fault, Kind};
 use crate::head::find;
@@ -71,10 +71,10 @@ impl<'a> Cursor<'a> {
         requires low { 1 ≤ level }
         requires high { level ≤ 5 }
         ensures takes { MatchResult result
-            (λ i. Takes (5 - level) self.old self.new (part_of i))
+            (λ i. TakesItem (5 - level) self.old self.new (to_part i))
             (λ f. HasItemError (5 - level) AnItem self.old self.new f.at f.kind) }
         ensures exact { MatchResult result
-            (λ i. read (5 - level) AnItem (rest_of self.old) ≡ Ok (part_of i, rest_of self.new))
+            (λ i. read (5 - level) AnItem (rest_of self.old) ≡ Ok (to_part i, rest_of self.new))
             (λ f. read (5 - level) AnItem (rest_of self.old) ≡ Err f.kind) }
         ensures only { ReadsItem (5 - level) self.old self.new result }
     {
@@ -96,11 +96,11 @@ impl<'a> Cursor<'a> {
     /// same map, or None for the first key. The key must be above it in lexical order.
     pub fn key(&mut self, previous: Option<&'a [u8]>) -> Result<Key<'a>, Fault>
         ensures gives { MatchResult result
-            (λ k. GivesKey (option_copied previous.entry) self.old self.new (part_of k.item) k.bytes.now)
+            (λ k. GivesKey (option_copied previous.entry) self.old self.new (to_part k.item) k.bytes.now)
             (λ f. HasItemError 0 (AKey (option_copied previous.entry)) self.old self.new f.at f.kind) }
         ensures exact { MatchResult result
             (λ k. read 0 (AKey (option_copied previous.entry)) (rest_of self.old)
-            ≡ Ok (part_of k.item, rest_of self.new))
+            ≡ Ok (to_part k.item, rest_of self.new))
             (λ f. read 0 (AKey (option_copied previous.entry)) (rest_of self.old) ≡ Err f.kind) }
     {
         let at = self.place;
@@ -108,7 +108,7 @@ impl<'a> Cursor<'a> {
         match find(rest, 0, true) {
             Ok((item, len)) => {
                 let bytes = &rest[..len];
-                let (is_above, steps) = compare(previous, bytes);
+                let (is_above, steps) = compare_keys(previous, bytes);
                 self.pass(len, steps);
                 if is_above {
                     Ok(Key { item, bytes })
@@ -145,7 +145,7 @@ impl<'a> Cursor<'a> {
         requires low { 1 ≤ level }
         requires high { level ≤ 5 }
         ensures { MatchResult result
-            (λ i. PassesAs (5 - level) (part_of i) self.old self.new)
+            (λ i. PassesHead (5 - level) (to_part i) self.old self.new)
             (λ f. Fails (5 - level) self.old self.new f.at f.kind) }
     {
         let item = self.item(level)?;
@@ -158,9 +158,9 @@ impl<'a> Cursor<'a> {
     pub(crate) fn skip_content(&mut self, item: Item<'a>, level: u8) -> Result<(), Fault>
         requires low { 1 ≤ level }
         requires high { level ≤ 5 }
-        requires suits { Suits (5 - level) AnItem (part_of item) }
-        ensures passes { (start : Reading) → Takes (5 - level) start self.old (part_of item.entry) → MatchResult result
-            (λ _. PassesAs (5 - level) (part_of item.entry) start self.new)
+        requires suits { IsAllowed (5 - level) AnItem (to_part item) }
+        ensures passes { (start : Reading) → TakesItem (5 - level) start self.old (to_part item.entry) → MatchResult result
+            (λ _. PassesHead (5 - level) (to_part item.entry) start self.new)
             (λ f. Fails (5 - level) start self.new f.at f.kind) }
 
         // The position and the step count don't decrease.
@@ -262,9 +262,9 @@ impl<'a> Cursor<'a> {
 
 /// Returns whether a key is above the previous one in lexical order, and the steps of the comparison: one for each byte
 /// of the key.
-fn compare(previous: Option<&[u8]>, key: &[u8]) -> (bool, usize)
+fn compare_keys(previous: Option<&[u8]>, key: &[u8]) -> (bool, usize)
     ensures above { result.0 ≡ is_above (AKey (option_copied previous.entry)) key.now }
-    ensures steps { result.1 ≡ compared (option_copied previous.entry) (length key.now) }
+    ensures steps { result.1 ≡ log_comparison (option_copied previous.entry) (length key.now) }
 {
     match previous {
         None => (true, 0),

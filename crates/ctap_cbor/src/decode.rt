@@ -4,14 +4,14 @@ ghost use Rattle.std.specs.Prelude.{◌≡◌, ◌-◌, ◌≤◌, ℕ, List, Op
 ghost use Rattle.ctap_cbor.specs.Grammar.{IsCanonical};
 ghost use Rattle.ctap_cbor.specs.Outcome.{Outcome, IsOutcome, result_of};
 ghost use Rattle.ctap_cbor.specs.Reading.{Passes, PassesAll, PassesPairs, Fails, FailsInArray, FailsInPairs};
-ghost use Rattle.ctap_cbor.specs.Values.{tree_of, trees_of, pairs_of, IsScalarOf, UnlessMemory};
-ghost use Rattle.ctap_cbor.specs.Views.{part_of};
+ghost use Rattle.ctap_cbor.specs.Values.{to_tree, to_trees, to_pairs, IsScalarOf, UnlessMemory};
+ghost use Rattle.ctap_cbor.specs.Views.{to_part};
 
 use crate::cursor::Cursor;
 use crate::fault::{Fault, Kind};
 use crate::item::Item;
 use crate::laws::byte_bounds;
-use crate::value::{Value, array_of, bytes_of, flag_of, int_of, map_of, null_of, text_of};
+use crate::value::{Value, new_array, new_bytes, new_flag, new_int, new_map, new_null, new_text};
 use std::alloc::{AllocError, AllocFailed, Global};
 
 impl From<AllocError> for Fault {
@@ -45,7 +45,7 @@ impl<T: Drop> From<AllocFailed<T>> for Fault {
 /// Fails with the error that [`check`](crate::check) returns, or with [`Kind::Memory`] at position 0 if an allocation
 /// fails. Allocates as items are read, never according to the counts in heads.
 pub fn decode_value(alloc: Global, bytes: &[u8]) -> Result<Value, Fault>
-    ensures ok { IfOk result (λ v. IsCanonical (tree_of v) bytes.now) }
+    ensures ok { IfOk result (λ v. IsCanonical (to_tree v) bytes.now) }
     ensures err { IfErr result (λ f. UnlessMemory f ((o : Outcome) × IsOutcome bytes.now o
         × (result_of o ≡ Some (f.at, f.kind)))) }
 {
@@ -62,21 +62,21 @@ fn read_value(alloc: Global, cursor: &mut Cursor, level: u8) -> Result<Value, Fa
     requires low { 1 ≤ level }
     requires high { level ≤ 5 }
     ensures { MatchResult result
-        (λ v. Passes (5 - level) (tree_of v) cursor.old cursor.new)
+        (λ v. Passes (5 - level) (to_tree v) cursor.old cursor.new)
         (λ f. UnlessMemory f (Fails (5 - level) cursor.old cursor.new f.at f.kind)) }
 {
     let item = cursor.item(level)?;
     match item {
         Item::Array(count) => {
             let items = read_items(alloc, cursor, level + 1, count)?;
-            Ok(array_of(items))
+            Ok(new_array(items))
         }
         Item::Map(count) => {
             let pairs = read_pairs(alloc, cursor, level + 1, count)?;
-            Ok(map_of(pairs))
+            Ok(new_map(pairs))
         }
         _ => {
-            let value = scalar_of(alloc, item)?;
+            let value = decode_scalar(alloc, item)?;
             Ok(value)
         }
     }
@@ -93,7 +93,7 @@ fn read_items(
     requires low { 1 ≤ level }
     requires high { level ≤ 5 }
     ensures { MatchResult result
-        (λ v. PassesAll (5 - level) count (trees_of v.items) cursor.old cursor.new)
+        (λ v. PassesAll (5 - level) count (to_trees v.items) cursor.old cursor.new)
         (λ f. UnlessMemory f (FailsInArray (5 - level) count cursor.old cursor.new f.at f.kind)) }
 {
     let mut items = Vec::new(alloc);
@@ -115,7 +115,7 @@ fn read_pairs(
     requires low { 1 ≤ level }
     requires high { level ≤ 5 }
     ensures { MatchResult result
-        (λ v. (last : Option (List ℕ)) × PassesPairs (5 - level) count (pairs_of v.items) last cursor.old cursor.new)
+        (λ v. (last : Option (List ℕ)) × PassesPairs (5 - level) count (to_pairs v.items) last cursor.old cursor.new)
         (λ f. UnlessMemory f (FailsInPairs (5 - level) count cursor.old cursor.new f.at f.kind)) }
 {
     let mut pairs = Vec::new(alloc);
@@ -123,7 +123,7 @@ fn read_pairs(
     for done in 0..count {
         let key = cursor.key(previous)?;
         previous = Some(key.bytes);
-        let name = scalar_of(alloc, key.item)?;
+        let name = decode_scalar(alloc, key.item)?;
         let value = read_value(alloc, cursor, level)?;
         pairs.push((name, value))?;
     }
@@ -131,26 +131,26 @@ fn read_pairs(
 }
 
 /// Converts an item that is neither an array nor a map to a value.
-fn scalar_of(alloc: Global, item: Item) -> Result<Value, AllocError>
-    ensures { IfOk result (λ v. IsScalarOf (part_of item.entry) (tree_of v)) }
+fn decode_scalar(alloc: Global, item: Item) -> Result<Value, AllocError>
+    ensures { IfOk result (λ v. IsScalarOf (to_part item.entry) (to_tree v)) }
 {
     match item {
-        Item::Int(i) => Ok(int_of(i)),
+        Item::Int(i) => Ok(new_int(i)),
         Item::Bytes(bytes) => {
-            let copy = copied(alloc, bytes)?;
-            Ok(bytes_of(copy))
+            let copy = copy_bytes(alloc, bytes)?;
+            Ok(new_bytes(copy))
         }
         Item::Text(text) => {
             let copy = String::from_str(alloc, text)?;
-            Ok(text_of(copy))
+            Ok(new_text(copy))
         }
-        Item::Bool(flag) => Ok(flag_of(flag)),
-        _ => Ok(null_of()),
+        Item::Bool(flag) => Ok(new_flag(flag)),
+        _ => Ok(new_null()),
     }
 }
 
 /// Copies bytes to a new vector.
-fn copied(alloc: Global, bytes: &[u8]) -> Result<Vec<u8>, AllocError>
+fn copy_bytes(alloc: Global, bytes: &[u8]) -> Result<Vec<u8>, AllocError>
     ensures { IfOk result (λ v. v.items ≡ bytes.now) }
 {
     bytes.to_vec(alloc)

@@ -6,7 +6,7 @@ ghost use Rattle.ctap_cbor.specs.Head.{head};
 ghost use Rattle.ctap_cbor.specs.Tree as tree;
 ghost use Rattle.ctap_cbor.specs.Grammar.{scalar_text, text, texts, pair_texts, IsCanonical};
 ghost use Rattle.ctap_cbor.specs.Faults.{AKey, is_above};
-ghost use Rattle.ctap_cbor.specs.Values.{tree_of, trees_of, pairs_of};
+ghost use Rattle.ctap_cbor.specs.Values.{to_tree, to_trees, to_pairs};
 ghost use Rattle.ctap_cbor.specs.Refusals.{refusal, refusal_all, refusal_pairs, own_refusal, range_refusal};
 ghost use Rattle.ctap_cbor.specs.Writes.{Writes, WritesAll, WritesPairs, WritesKey, WritesScalar, FailsWith, Extends, IsShort, last_text};
 
@@ -50,14 +50,14 @@ impl<T: Drop> From<AllocFailed<T>> for Kind {
 /// range (8). Fails with 10 if an allocation fails, which happens only if the vector's capacity is too small. On
 /// failure, the vector is unchanged.
 pub fn encode_value(value: &Value, out: &mut Vec<u8>) -> Result<(), Kind>
-    ensures ok { OnOk result (IsCanonical (tree_of value.now) (text (tree_of value.now))) }
-    ensures appends { OnOk result (out.new.items ≡ out.old.items ++ text (tree_of value.now)) }
-    ensures err { IfErr result (λ k. k ≢ Kind.Memory → refusal 4 (tree_of value.now) ≡ Some k) }
+    ensures ok { OnOk result (IsCanonical (to_tree value.now) (text (to_tree value.now))) }
+    ensures appends { OnOk result (out.new.items ≡ out.old.items ++ text (to_tree value.now)) }
+    ensures err { IfErr result (λ k. k ≢ Kind.Memory → refusal 4 (to_tree value.now) ≡ Some k) }
     ensures unchanged { OnErr result (out.new.items ≡ out.old.items) }
 
     // Memory is only needed if the vector has to grow.
     ensures memory { result ≡ Err Kind.Memory → IsShort (vec_capacity out.old) out.old.items
-        (text (tree_of value.now)) }
+        (text (to_tree value.now)) }
 {
     let len = out.len();
     let written = write_value(value, out, 4);
@@ -71,11 +71,11 @@ pub fn encode_value(value: &Value, out: &mut Vec<u8>) -> Result<(), Kind>
 #[cycle(write)]
 fn write_value(value: &Value, out: &mut Vec<u8>, levels: u8) -> Result<(), Kind>
     ensures writes { MatchResult result
-        (λ _. Writes levels (tree_of value.now) out.old.items out.new.items)
-        (λ k. FailsWith k (refusal levels (tree_of value.now)) out.old.items out.new.items) }
+        (λ _. Writes levels (to_tree value.now) out.old.items out.new.items)
+        (λ k. FailsWith k (refusal levels (to_tree value.now)) out.old.items out.new.items) }
     ensures grows { vec_capacity out.old ≤ vec_capacity out.new }
     ensures short { IfErr result (λ k. k ≡ Kind.Memory
-        → IsShort (vec_capacity out.old) out.old.items (text (tree_of value.now))) }
+        → IsShort (vec_capacity out.old) out.old.items (text (to_tree value.now))) }
 {
     match value {
         Value::Int(i) => write_int(*i, out),
@@ -92,11 +92,11 @@ fn write_value(value: &Value, out: &mut Vec<u8>, levels: u8) -> Result<(), Kind>
 #[cycle(write)]
 fn write_array(items: &[Value], out: &mut Vec<u8>, levels: u8) -> Result<(), Kind>
     ensures writes { MatchResult result
-        (λ _. Writes levels (tree.Array (trees_of items.now)) out.old.items out.new.items)
-        (λ k. FailsWith k (refusal levels (tree.Array (trees_of items.now))) out.old.items out.new.items) }
+        (λ _. Writes levels (tree.Array (to_trees items.now)) out.old.items out.new.items)
+        (λ k. FailsWith k (refusal levels (tree.Array (to_trees items.now))) out.old.items out.new.items) }
     ensures grows { vec_capacity out.old ≤ vec_capacity out.new }
     ensures short { IfErr result (λ k. k ≡ Kind.Memory
-        → IsShort (vec_capacity out.old) out.old.items (text (tree.Array (trees_of items.now)))) }
+        → IsShort (vec_capacity out.old) out.old.items (text (tree.Array (to_trees items.now)))) }
 {
     if levels == 0 {
         return Err(Kind::TooDeep);
@@ -109,11 +109,11 @@ fn write_array(items: &[Value], out: &mut Vec<u8>, levels: u8) -> Result<(), Kin
 #[cycle(write)]
 fn write_map(pairs: &[(Value, Value)], out: &mut Vec<u8>, levels: u8) -> Result<(), Kind>
     ensures writes { MatchResult result
-        (λ _. Writes levels (tree.Map (pairs_of pairs.now)) out.old.items out.new.items)
-        (λ k. FailsWith k (refusal levels (tree.Map (pairs_of pairs.now))) out.old.items out.new.items) }
+        (λ _. Writes levels (tree.Map (to_pairs pairs.now)) out.old.items out.new.items)
+        (λ k. FailsWith k (refusal levels (tree.Map (to_pairs pairs.now))) out.old.items out.new.items) }
     ensures grows { vec_capacity out.old ≤ vec_capacity out.new }
     ensures short { IfErr result (λ k. k ≡ Kind.Memory
-        → IsShort (vec_capacity out.old) out.old.items (text (tree.Map (pairs_of pairs.now)))) }
+        → IsShort (vec_capacity out.old) out.old.items (text (tree.Map (to_pairs pairs.now)))) }
 {
     if levels == 0 {
         return Err(Kind::TooDeep);
@@ -126,11 +126,11 @@ fn write_map(pairs: &[(Value, Value)], out: &mut Vec<u8>, levels: u8) -> Result<
 #[cycle(write)]
 fn write_items(items: &[Value], out: &mut Vec<u8>, levels: u8) -> Result<(), Kind>
     ensures writes { MatchResult result
-        (λ _. WritesAll levels (trees_of items.now) out.old.items out.new.items)
-        (λ k. FailsWith k (refusal_all levels (trees_of items.now)) out.old.items out.new.items) }
+        (λ _. WritesAll levels (to_trees items.now) out.old.items out.new.items)
+        (λ k. FailsWith k (refusal_all levels (to_trees items.now)) out.old.items out.new.items) }
     ensures grows { vec_capacity out.old ≤ vec_capacity out.new }
     ensures short { IfErr result (λ k. k ≡ Kind.Memory
-        → IsShort (vec_capacity out.old) out.old.items (texts (trees_of items.now))) }
+        → IsShort (vec_capacity out.old) out.old.items (texts (to_trees items.now))) }
 {
     for item in items {
         write_value(item, out, levels)?;
@@ -142,11 +142,11 @@ fn write_items(items: &[Value], out: &mut Vec<u8>, levels: u8) -> Result<(), Kin
 #[cycle(write)]
 fn write_pairs(pairs: &[(Value, Value)], out: &mut Vec<u8>, levels: u8) -> Result<(), Kind>
     ensures writes { MatchResult result
-        (λ _. WritesPairs levels (pairs_of pairs.now) out.old.items out.new.items)
-        (λ k. FailsWith k (refusal_pairs levels None (pairs_of pairs.now)) out.old.items out.new.items) }
+        (λ _. WritesPairs levels (to_pairs pairs.now) out.old.items out.new.items)
+        (λ k. FailsWith k (refusal_pairs levels None (to_pairs pairs.now)) out.old.items out.new.items) }
     ensures grows { vec_capacity out.old ≤ vec_capacity out.new }
     ensures short { IfErr result (λ k. k ≡ Kind.Memory
-        → IsShort (vec_capacity out.old) out.old.items (pair_texts (pairs_of pairs.now))) }
+        → IsShort (vec_capacity out.old) out.old.items (pair_texts (to_pairs pairs.now))) }
 {
     let mut previous = None;
     for pair in pairs {
@@ -167,11 +167,11 @@ fn write_pairs(pairs: &[(Value, Value)], out: &mut Vec<u8>, levels: u8) -> Resul
 /// Encodes a key of a map, without checking the order.
 fn write_key(key: &Value, out: &mut Vec<u8>) -> Result<(), Kind>
     ensures writes { MatchResult result
-        (λ _. WritesKey (tree_of key.now) out.old.items out.new.items)
-        (λ k. FailsWith k (own_refusal (tree_of key.now)) out.old.items out.new.items) }
+        (λ _. WritesKey (to_tree key.now) out.old.items out.new.items)
+        (λ k. FailsWith k (own_refusal (to_tree key.now)) out.old.items out.new.items) }
     ensures grows { vec_capacity out.old ≤ vec_capacity out.new }
     ensures short { IfErr result (λ k. k ≡ Kind.Memory
-        → IsShort (vec_capacity out.old) out.old.items (text (tree_of key.now))) }
+        → IsShort (vec_capacity out.old) out.old.items (text (to_tree key.now))) }
 {
     match key {
         Value::Int(i) => write_int(*i, out),

@@ -3,9 +3,9 @@
 ghost use Rattle.std.specs.Prelude.{◌≡◌, ◌≢◌, ◌<◌, ◌≤◌, length, MatchOption, true, false};
 ghost use Rattle.std.specs.Str.{is_utf8};
 ghost use Rattle.ctap_cbor.specs.Head.{info, argument_len, argument, least_argument};
-ghost use Rattle.ctap_cbor.specs.Faults.{first_of, first_faults};
+ghost use Rattle.ctap_cbor.specs.Faults.{first_fault_of, first_faults};
 ghost use Rattle.ctap_cbor.specs.Parts.{read};
-ghost use Rattle.ctap_cbor.specs.Views.{IsDecodedItem, IsDecodedItemRest, part_of, due_of, item_with_head};
+ghost use Rattle.ctap_cbor.specs.Views.{IsDecodedItem, IsDecodedItemRest, to_part, expected_of, item_with_head};
 
 use crate::fault::Kind;
 use crate::item::Item;
@@ -19,21 +19,21 @@ pub(crate) fn find<'a>(
     levels: u8,
     is_key: bool,
 ) -> Result<(Item<'a>, usize), (Kind, usize)>
-    ensures { IsDecodedItem bytes.now result (read levels (due_of is_key) bytes.now) }
+    ensures { IsDecodedItem bytes.now result (read levels (expected_of is_key) bytes.now) }
 {
     let Some((first, rest)) = bytes.split_first() else {
         return Err((Kind::Truncated, 0));
     };
     match first_fault(*first, levels, is_key) {
         Some(kind) => Err((kind, 1)),
-        None => find_rest(*first, rest),
+        None => decode_item_rest(*first, rest),
     }
 }
 
 /// Returns the first error that an initial byte alone determines, if any.
 #[tactic(auto, unfolding(crate::specs::Faults::first_faults))]
 fn first_fault(first: u8, levels: u8, is_key: bool) -> Option<Kind>
-    ensures { result ≡ first_of (first_faults levels (due_of is_key) first) }
+    ensures { result ≡ first_fault_of (first_faults levels (expected_of is_key) first) }
 {
     let major = first / 32;
     let info = first % 32;
@@ -54,7 +54,7 @@ fn first_fault(first: u8, levels: u8, is_key: bool) -> Option<Kind>
 /// Decodes the item after a valid initial byte, and returns it with its length, or the error.
 #[tactic(auto, unfolding(crate::specs::Faults::body_faults, crate::specs::Faults::string_len, crate::specs::Faults::item_len, crate::specs::Faults::passed))]
 #[inline(always)]
-fn find_rest<'a>(first: u8, rest: &'a [u8]) -> Result<(Item<'a>, usize), (Kind, usize)>
+fn decode_item_rest<'a>(first: u8, rest: &'a [u8]) -> Result<(Item<'a>, usize), (Kind, usize)>
     requires { info first < 28 }
     ensures { IsDecodedItemRest first rest.now result }
 {
@@ -64,12 +64,12 @@ fn find_rest<'a>(first: u8, rest: &'a [u8]) -> Result<(Item<'a>, usize), (Kind, 
     if rest.len() < len {
         return Err((Kind::Truncated, 1 + rest.len()));
     }
-    let argument = argument_of(first, rest);
+    let argument = read_argument(first, rest);
     if argument < least {
         return Err((Kind::NotShortest, 1 + len));
     }
     if major != 2 && major != 3 {
-        return Ok((without_string(major, info, argument), 1 + len));
+        return Ok((non_string_item(major, info, argument), 1 + len));
     }
     let content = &rest[len..];
     if (content.len() as u64) < argument {
@@ -105,7 +105,7 @@ fn argument_form(info: u8) -> (usize, u64)
 
 /// Returns the argument of a head.
 #[tactic(auto, unfolding(crate::specs::Head::argument, crate::specs::Head::argument_len))]
-fn argument_of(first: u8, rest: &[u8]) -> u64
+fn read_argument(first: u8, rest: &[u8]) -> u64
     requires known { info first < 28 }
     requires space { argument_len (info first) ≤ length rest.now }
     ensures { result ≡ argument first rest.now }
@@ -120,9 +120,9 @@ fn argument_of(first: u8, rest: &[u8]) -> u64
 }
 
 /// Returns the item of a head that isn't the head of a string.
-fn without_string<'a>(major: u8, info: u8, argument: u64) -> Item<'a>
+fn non_string_item<'a>(major: u8, info: u8, argument: u64) -> Item<'a>
     requires { major ≢ 2 × major ≢ 3 }
-    ensures { part_of result ≡ item_with_head major info argument }
+    ensures { to_part result ≡ item_with_head major info argument }
 {
     match major {
         0 => Item::Int(i128::from(argument)),

@@ -3,7 +3,7 @@
 ghost use Rattle.std.specs.Prelude.{◌≡◌};
 ghost use Rattle.std.specs.Option.{option_copied};
 ghost use Rattle.ctap_cbor.specs.Tree.{as_bytes, as_text, as_int, as_uint, as_flag};
-ghost use Rattle.ctap_cbor.specs.Views.{part_of, head_of};
+ghost use Rattle.ctap_cbor.specs.Views.{to_part, head_tree};
 
 /// The head of a data item, with the content of a string, borrowed from the message. The content of an array or map
 /// follows in the message.
@@ -24,7 +24,7 @@ pub enum Item<'a> {
 impl<'a> Item<'a> {
     /// Returns the content of a byte string, or None for other items.
     pub fn as_bytes(&self) -> Option<&'a [u8]>
-        ensures { option_copied result ≡ as_bytes (head_of (part_of self.now)) }
+        ensures { option_copied result ≡ as_bytes (head_tree (to_part self.now)) }
     {
         match *self {
             Item::Bytes(bytes) => Some(bytes),
@@ -34,7 +34,7 @@ impl<'a> Item<'a> {
 
     /// Returns the content of a text string, or None for other items.
     pub fn as_text(&self) -> Option<&'a str>
-        ensures { option_copied result ≡ as_text (head_of (part_of self.now)) }
+        ensures { option_copied result ≡ as_text (head_tree (to_part self.now)) }
     {
         match *self {
             Item::Text(text) => Some(text),
@@ -44,7 +44,7 @@ impl<'a> Item<'a> {
 
     /// Returns an integer, or None for other items.
     pub fn as_int(&self) -> Option<i128>
-        ensures { result ≡ as_int (head_of (part_of self.now)) }
+        ensures { result ≡ as_int (head_tree (to_part self.now)) }
     {
         match *self {
             Item::Int(n) => Some(n),
@@ -54,7 +54,7 @@ impl<'a> Item<'a> {
 
     /// Returns an unsigned integer, or None for other items.
     pub fn as_uint(&self) -> Option<u64>
-        ensures { result ≡ as_uint (head_of (part_of self.now)) }
+        ensures { result ≡ as_uint (head_tree (to_part self.now)) }
     {
         match *self {
             Item::Int(n) if 0 <= n && n <= 0xffff_ffff_ffff_ffff => Some(n as u64),
@@ -64,7 +64,7 @@ impl<'a> Item<'a> {
 
     /// Returns a Boolean, or None for other items.
     pub fn as_bool(&self) -> Option<bool>
-        ensures { result ≡ as_flag (head_of (part_of self.now)) }
+        ensures { result ≡ as_flag (head_tree (to_part self.now)) }
     {
         match *self {
             Item::Bool(flag) => Some(flag),

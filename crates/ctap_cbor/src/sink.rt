@@ -17,12 +17,12 @@ pub struct Sink<'a> {
 }
 
 impl<'a> Sink<'a> {
-    ghost use Rattle.ctap_cbor.specs.Writing.{contents, spare, space_of, scalar_len, Appends, IsOver, SameBuffer};
+    ghost use Rattle.ctap_cbor.specs.Writing.{contents, unwritten_rest, space_of, scalar_len, Appends, IsOver, SameBuffer};
 
     /// Creates a sink for the whole buffer.
     pub fn new(buffer: &'a mut [u8]) -> Self
         ensures empty { contents result ≡ [] }
-        ensures spare { spare result ≡ buffer.old }
+        ensures unwritten_rest { unwritten_rest result ≡ buffer.old }
         ensures space { space_of result ≡ length buffer.old }
         ensures same { IsOver buffer.entry result }
     {

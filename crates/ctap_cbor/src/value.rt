@@ -18,55 +18,55 @@ pub enum Value {
 }
 
 ghost use Rattle.ctap_cbor.specs.Tree as tree;
-ghost use Rattle.ctap_cbor.specs.Values.{tree_of, trees_of, pairs_of};
+ghost use Rattle.ctap_cbor.specs.Values.{to_tree, to_trees, to_pairs};
 
-// One function for each variant, since in a larger function the prover doesn't evaluate `tree_of` of a constructor.
+// One function for each variant, since in a larger function the prover doesn't evaluate `to_tree` of a constructor.
 
 /// Creates an integer.
-pub(crate) fn int_of(i: i128) -> Value
-    ensures { tree_of result ≡ tree.Plain (tree.Int i) }
+pub(crate) fn new_int(i: i128) -> Value
+    ensures { to_tree result ≡ tree.Plain (tree.Int i) }
 {
     Value::Int(i)
 }
 
 /// Creates a byte string.
-pub(crate) fn bytes_of(bytes: Vec<u8>) -> Value
-    ensures { tree_of result ≡ tree.Plain (tree.Bytes bytes.items) }
+pub(crate) fn new_bytes(bytes: Vec<u8>) -> Value
+    ensures { to_tree result ≡ tree.Plain (tree.Bytes bytes.items) }
 {
     Value::Bytes(bytes)
 }
 
 /// Creates a text string.
-pub(crate) fn text_of(text: String) -> Value
-    ensures { tree_of result ≡ tree.Plain (tree.Text (string_bytes text)) }
+pub(crate) fn new_text(text: String) -> Value
+    ensures { to_tree result ≡ tree.Plain (tree.Text (string_bytes text)) }
 {
     Value::Text(text)
 }
 
 /// Creates an array.
-pub(crate) fn array_of(items: Vec<Value>) -> Value
-    ensures { tree_of result ≡ tree.Array (trees_of items.items) }
+pub(crate) fn new_array(items: Vec<Value>) -> Value
+    ensures { to_tree result ≡ tree.Array (to_trees items.items) }
 {
     Value::Array(items)
 }
 
 /// Creates a map.
-pub(crate) fn map_of(pairs: Vec<(Value, Value)>) -> Value
-    ensures { tree_of result ≡ tree.Map (pairs_of pairs.items) }
+pub(crate) fn new_map(pairs: Vec<(Value, Value)>) -> Value
+    ensures { to_tree result ≡ tree.Map (to_pairs pairs.items) }
 {
     Value::Map(pairs)
 }
 
 /// Creates a Boolean.
-pub(crate) fn flag_of(flag: bool) -> Value
-    ensures { tree_of result ≡ tree.Plain (tree.Flag flag) }
+pub(crate) fn new_flag(flag: bool) -> Value
+    ensures { to_tree result ≡ tree.Plain (tree.Flag flag) }
 {
     Value::Bool(flag)
 }
 
 /// Creates null.
-pub(crate) fn null_of() -> Value
-    ensures { tree_of result ≡ tree.Plain tree.Null }
+pub(crate) fn new_null() -> Value
+    ensures { to_tree result ≡ tree.Plain tree.Null }
 {
     Value::Null
 }

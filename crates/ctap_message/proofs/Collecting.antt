@@ -2,10 +2,10 @@
 use Rattle.std.proofs.Common.{arith, ◌≡◌, ℕ, Bool, false, List, Option, Some, sym, ap, subst, ◌∙◌}
 use Rattle.std.specs.Prelude.{unwrap_or, Result, Ok, Err, MatchResult}
 use Rattle.ctap_cbor.specs.Tree.{Scalar, Tree, Plain, Array, Map, Trees, no_trees, Pairs, no_pairs, push, push_pair}
-use Rattle.ctap_cbor.specs.{Parts.Part, Parts.One, Views.head_of}
-use Rattle.ctap_cbor.specs.{declared.fault.Fault.Fault, Reading.Reading, Reading.Passes, Reading.PassesAs}
+use Rattle.ctap_cbor.specs.{Parts.Part, Parts.One, Views.head_tree}
+use Rattle.ctap_cbor.specs.{declared.fault.Fault.Fault, Reading.Reading, Reading.Passes, Reading.PassesHead}
 use Rattle.ctap_cbor.specs.Reading.{part_of_tree, Fails}
-use Rattle.ctap_cbor.specs.Collecting.{Adds, AddsEntry, ReadsArray}
+use Rattle.ctap_cbor.specs.Collecting.{AddsPair, AddsEntry, ReadsArray}
 use Rattle.ctap_message.specs.Members.{MemberKey, pairs_of, entries_of, has_listed_type, all_pairs, all_entries, map_of, array_of}
 use Rattle.ctap_message.specs.Walks.{Reads, ReadsMembers, HasPairs, HasEntries}
 use Rattle.ctap_message.proofs.Pushes.{all_push, entries_push}
@@ -18,32 +18,32 @@ Grows {V} view next = (ps : Pairs) (k v : Tree) → view (Some (Map (push_pair p
 
 -- after this key a value's head decides
 abbrev pub HeadDecides : {V : Type 0} → List (MemberKey × (Tree → Bool)) → (Tree → Tree → V → V) → Tree → Type 0
-HeadDecides {V} types next k = (v : Tree) → (has_listed_type types k v ≡ has_listed_type types k (head_of (part_of_tree v)))
-    × ((z : V) → next k v z ≡ next k (head_of (part_of_tree v)) z)
+HeadDecides {V} types next k = (v : Tree) → (has_listed_type types k v ≡ has_listed_type types k (head_tree (part_of_tree v)))
+    × ((z : V) → next k v z ≡ next k (head_tree (part_of_tree v)) z)
 
 pub adds_tree : {M V : Type 0} (shown : M → V) (types : List (MemberKey × (Tree → Bool))) (view : Option Tree →
     V) (next : Tree → Tree → V → V) (levels : ℕ) (key : Part) (j : Scalar) (taken : Bool) (x y : M) (a c : Reading)
     → Grows view next → key ≡ One j → (v : Tree) × Passes levels v a c × (taken ≡ has_listed_type types (Plain j) v)
     × (shown y ≡ next (Plain j) v (shown x))
-    → Adds (λ m ok ps. HasPairs types view (shown m) ok ps) levels key taken x y a c
+    → AddsPair (λ m ok ps. HasPairs types view (shown m) ok ps) levels key taken x y a c
 adds_tree shown types view next levels key j taken x y a c grows is h = grind (arith, all_push)
 
 -- a value whose head was put under its key
 pub adds_head : {M V : Type 0} (shown : M → V) (types : List (MemberKey × (Tree → Bool))) (view : Option Tree →
     V) (next : Tree → Tree → V → V) (levels : ℕ) (key part : Part) (taken : Bool) (x y : M) (a c : Reading)
-    → Grows view next → HeadDecides types next (head_of key) → PassesAs levels part a c
-    → taken ≡ has_listed_type types (head_of key) (head_of part) → shown y ≡ next (head_of key) (head_of part) (shown x)
-    → Adds (λ m ok ps. HasPairs types view (shown m) ok ps) levels key taken x y a c
+    → Grows view next → HeadDecides types next (head_tree key) → PassesHead levels part a c
+    → taken ≡ has_listed_type types (head_tree key) (head_tree part) → shown y ≡ next (head_tree key) (head_tree part) (shown x)
+    → AddsPair (λ m ok ps. HasPairs types view (shown m) ok ps) levels key taken x y a c
 adds_head shown types view next levels key part taken x y a c grows head h is put = grind (arith, all_push)
 
 -- the same under a key that is known
 pub adds_put : {M V : Type 0} (shown : M → V) (types : List (MemberKey × (Tree → Bool))) (view : Option Tree →
     V) (next : Tree → Tree → V → V) (levels : ℕ) (key : Part) (j : Scalar) (part : Part) (taken : Bool) (x y : M)
-    (a c : Reading) → Grows view next → key ≡ One j → HeadDecides types next (Plain j) → PassesAs levels part a c
-    → taken ≡ has_listed_type types (Plain j) (head_of part) → shown y ≡ next (Plain j) (head_of part) (shown x)
-    → Adds (λ m ok ps. HasPairs types view (shown m) ok ps) levels key taken x y a c
+    (a c : Reading) → Grows view next → key ≡ One j → HeadDecides types next (Plain j) → PassesHead levels part a c
+    → taken ≡ has_listed_type types (Plain j) (head_tree part) → shown y ≡ next (Plain j) (head_tree part) (shown x)
+    → AddsPair (λ m ok ps. HasPairs types view (shown m) ok ps) levels key taken x y a c
 adds_put shown types view next levels key j part taken x y a c grows e head h is put =
-    subst (λ k. Adds (λ m ok ps. HasPairs types view (shown m) ok ps) levels k taken x y a c) (sym e)
+    subst (λ k. AddsPair (λ m ok ps. HasPairs types view (shown m) ok ps) levels k taken x y a c) (sym e)
     (adds_head shown types view next levels (One j) part taken x y a c grows head h is put)
 
 -- ---- one entry more
@@ -90,7 +90,7 @@ pub adds_read : {M V W : Type 0} (shown : M → V) (types : List (MemberKey × (
     → ((v : Tree) → (told v).0 ≡ has_listed_type types (Plain j) v)
     → ((v : Tree) → value ≡ (told v).1 → shown y ≡ next (Plain j) v (shown x))
     → MatchResult r (λ taken. Reads told levels (taken, value) a c) (λ f. Fails levels a c f.at f.kind)
-    → MatchResult r (λ taken. Adds (λ m ok ps. HasPairs types view (shown m) ok ps) levels key taken x y a c)
+    → MatchResult r (λ taken. AddsPair (λ m ok ps. HasPairs types view (shown m) ok ps) levels key taken x y a c)
     (λ f. Fails levels a c f.at f.kind)
 adds_read shown types view next told value levels key j x y a c (Ok taken) grows is suit put h =
     adds_tree shown types view next levels key j taken x y a c grows is

@@ -2,10 +2,10 @@
 use Rattle.std.proofs.Common.{arith, rules, ◌≡◌, ℕ, Bool, true, false, List, Option, Some, None, Result, Ok, Err, refl}
 use Rattle.std.{proofs.Common.◌∙◌, specs.Option.option_and_then}
 use Rattle.std.specs.Prelude.{ℤ, MatchResult, is_some, unwrap_or, ◌&&◌, ◌||◌, codes}
-use Rattle.ctap_cbor.specs.{declared.fault.Fault.Fault, Views.head_of, Parts.Part, Parts.One}
+use Rattle.ctap_cbor.specs.{declared.fault.Fault.Fault, Views.head_tree, Parts.Part, Parts.One}
 use Rattle.ctap_cbor.specs.Tree.{Text, Tree, Array, Map, Trees, no_trees, no_pairs, push, as_bytes, as_text}
-use Rattle.ctap_cbor.specs.{Tree.as_int, Tree.as_uint, Tree.as_flag, Reading.Reading, Reading.Fails, Reading.PassesAs}
-use Rattle.ctap_cbor.specs.Collecting.{Adds, AddsEntry, InArray, ReadsArray}
+use Rattle.ctap_cbor.specs.{Tree.as_int, Tree.as_uint, Tree.as_flag, Reading.Reading, Reading.Fails, Reading.PassesHead}
+use Rattle.ctap_cbor.specs.Collecting.{AddsPair, AddsEntry, InArray, ReadsArray}
 use Rattle.ctap_message.specs.declared.descriptor.Descriptor.{Descriptor as DescriptorFields}
 use Rattle.ctap_message.specs.declared.make_credential.Make.{Make}
 use Rattle.ctap_message.specs.declared.options.Options.{Options as OptionsFields}
@@ -26,7 +26,7 @@ use Rattle.ctap_message.specs.Collected.{rp_next, user_next, options_next, param
 use Rattle.ctap_message.specs.Collected.{to_rp, to_user, to_options, to_parameter, to_descriptor}
 use Rattle.ctap_message.specs.CollectedRequests.{make_in, make_next, to_make_parameters, IsOtherMake}
 use Rattle.ctap_message.specs.CollectedRequests.{assertion_in, assert_next, to_assertion_parameters, IsPlainAssert, IsOtherAssert}
-use Rattle.ctap_message.specs.DescriptorWalk.{DescriptorWalk, list_of, left_of, IsWhole}
+use Rattle.ctap_message.specs.DescriptorWalk.{DescriptorWalk, list_of, left_of, IsAtFirst}
 use Rattle.ctap_message.proofs.Pushes.{ap2, ap3, field_push, entries_push, some_push}
 use Rattle.ctap_message.proofs.Collecting.{Grows, HeadDecides, adds_head, adds_tree}
 
@@ -39,11 +39,11 @@ rp_heads : (k : Tree) → HeadDecides rp_types rp_next k
 rp_heads k v = grind arith
 
 pub rp_adds : (levels : ℕ) (key part : Part) (taken : Bool) (x y : RpFields) (a c : Reading) →
-    PassesAs levels part a c →
-    taken ≡ has_listed_type rp_types (head_of key) (head_of part) → to_rp y ≡ rp_next (head_of key) (head_of part) (to_rp x)
-    → Adds (λ m ok ps. HasPairs rp_types rp_in (to_rp m) ok ps) levels key taken x y a c
+    PassesHead levels part a c →
+    taken ≡ has_listed_type rp_types (head_tree key) (head_tree part) → to_rp y ≡ rp_next (head_tree key) (head_tree part) (to_rp x)
+    → AddsPair (λ m ok ps. HasPairs rp_types rp_in (to_rp m) ok ps) levels key taken x y a c
 rp_adds levels key part taken x y a c = adds_head to_rp rp_types rp_in rp_next levels key part taken x y a c rp_grows
-    (rp_heads (head_of key))
+    (rp_heads (head_tree key))
 
 pub rp_start : ◌≡◌ {A = Option (List ℕ)} None (rp_in (Some (Map no_pairs)))
 unfolding value_at
@@ -62,11 +62,11 @@ user_heads : (k : Tree) → HeadDecides user_types user_next k
 user_heads k v = grind arith
 
 pub user_adds : (levels : ℕ) (key part : Part) (taken : Bool) (x y : UserFields) (a c : Reading) →
-    PassesAs levels part a c → taken ≡ has_listed_type user_types (head_of key) (head_of part) →
-    to_user y ≡ user_next (head_of key) (head_of part) (to_user x)
-    → Adds (λ m ok ps. HasPairs user_types user_in (to_user m) ok ps) levels key taken x y a c
+    PassesHead levels part a c → taken ≡ has_listed_type user_types (head_tree key) (head_tree part) →
+    to_user y ≡ user_next (head_tree key) (head_tree part) (to_user x)
+    → AddsPair (λ m ok ps. HasPairs user_types user_in (to_user m) ok ps) levels key taken x y a c
 user_adds levels key part taken x y a c = adds_head to_user user_types user_in user_next levels key part taken x y a
-    c user_grows (user_heads (head_of key))
+    c user_grows (user_heads (head_tree key))
 
 pub user_start : make_user None None ≡ user_in (Some (Map no_pairs))
 unfolding value_at
@@ -87,11 +87,11 @@ options_heads : (k : Tree) → HeadDecides option_types options_next k
 options_heads k v = grind arith
 
 pub options_adds : (levels : ℕ) (key part : Part) (taken : Bool) (x y : OptionsFields) (a c : Reading) →
-    PassesAs levels part a c → taken ≡ has_listed_type option_types (head_of key) (head_of part) →
-    to_options y ≡ options_next (head_of key) (head_of part) (to_options x)
-    → Adds (λ m ok ps. HasPairs option_types options_in (to_options m) ok ps) levels key taken x y a c
+    PassesHead levels part a c → taken ≡ has_listed_type option_types (head_tree key) (head_tree part) →
+    to_options y ≡ options_next (head_tree key) (head_tree part) (to_options x)
+    → AddsPair (λ m ok ps. HasPairs option_types options_in (to_options m) ok ps) levels key taken x y a c
 options_adds levels key part taken x y a c = adds_head to_options option_types options_in options_next levels key
-    part taken x y a c options_grows (options_heads (head_of key))
+    part taken x y a c options_grows (options_heads (head_tree key))
 
 pub options_start : make_options None None None ≡ options_in (Some (Map no_pairs))
 unfolding value_at
@@ -110,11 +110,11 @@ parameter_heads : (k : Tree) → HeadDecides parameter_types parameter_next k
 parameter_heads k v = grind arith
 
 pub parameter_adds : (levels : ℕ) (key part : Part) (taken : Bool) (x y : ParameterFields) (a c : Reading) →
-    PassesAs levels part a c → taken ≡ has_listed_type parameter_types (head_of key) (head_of part) →
-    to_parameter y ≡ parameter_next (head_of key) (head_of part) (to_parameter x)
-    → Adds (λ m ok ps. HasPairs parameter_types parameter_in (to_parameter m) ok ps) levels key taken x y a c
+    PassesHead levels part a c → taken ≡ has_listed_type parameter_types (head_tree key) (head_tree part) →
+    to_parameter y ≡ parameter_next (head_tree key) (head_tree part) (to_parameter x)
+    → AddsPair (λ m ok ps. HasPairs parameter_types parameter_in (to_parameter m) ok ps) levels key taken x y a c
 parameter_adds levels key part taken x y a c = adds_head to_parameter parameter_types parameter_in parameter_next
-    levels key part taken x y a c parameter_grows (parameter_heads (head_of key))
+    levels key part taken x y a c parameter_grows (parameter_heads (head_tree key))
 
 pub parameter_start : make_parameter None None ≡ parameter_in (Some (Map no_pairs))
 unfolding value_at
@@ -152,7 +152,7 @@ descriptor_start = refl
 pub transports_arm : (levels : ℕ) (key : Part) (x : DescriptorFields) (a c : Reading) (r : Result Bool Fault) →
     key ≡ One (Text (codes "transports"))
     → MatchResult r (λ is. Reads (array_of is_text) levels is a c) (λ f. Fails levels a c f.at f.kind)
-    → MatchResult r (λ taken. Adds (λ m ok ps. HasPairs descriptor_types descriptor_in (to_descriptor m) ok ps)
+    → MatchResult r (λ taken. AddsPair (λ m ok ps. HasPairs descriptor_types descriptor_in (to_descriptor m) ok ps)
     levels
     key taken x x a c) (λ f. Fails levels a c f.at f.kind)
 transports_arm levels key x a c (Ok is) e h =
@@ -164,7 +164,7 @@ transports_arm levels key x a c (Err f) e h = h
 -- ---- arrays of texts
 
 pub texts_more : {M : Type 0} (levels : ℕ) (part : Part) (taken : Bool) (x y : M) (a c : Reading) →
-    PassesAs levels part a c → taken ≡ is_text (head_of part) →
+    PassesHead levels part a c → taken ≡ is_text (head_tree part) →
     AddsEntry {M = M} (λ _ ok ts. ok ≡ all_entries is_text ts) levels taken x y a c
 texts_more levels part taken x y a c h is = grind (arith, entries_push)
 
@@ -221,13 +221,13 @@ pub make_heads : (k : Tree) → is_key (Number 0x02) k ≡ false → is_key (Num
     HeadDecides make_types make_next k
 make_heads k a b c d e v = grind arith
 
-pub make_other : (levels : ℕ) (key part : Part) (x : Make) (a c : Reading) → IsOtherMake (head_of key) →
-    PassesAs levels part a c
-    → Adds (λ m ok ps. HasPairs make_types make_in (to_make_parameters m) ok ps) levels key true x x a c
+pub make_other : (levels : ℕ) (key part : Part) (x : Make) (a c : Reading) → IsOtherMake (head_tree key) →
+    PassesHead levels part a c
+    → AddsPair (λ m ok ps. HasPairs make_types make_in (to_make_parameters m) ok ps) levels key true x x a c
 make_other levels key part x a c h passes =
     let o = h.others in
     adds_head to_make_parameters make_types make_in make_next levels key part true x x a c make_grows
-    (make_heads (head_of key) o.rp o.user o.parameters o.exclude_list o.options) passes
+    (make_heads (head_tree key) o.rp o.user o.parameters o.exclude_list o.options) passes
     (rw (h.hash, o.rp, o.user, o.parameters, o.exclude_list, h.extensions, o.options, h.pin_uv_auth_param, h.pin_uv_auth_protocol, h.enterprise_attestation) refl)
     (rw (h.hash, o.rp, o.user, o.parameters, o.exclude_list, o.options, h.pin_uv_auth_param, h.enterprise_attestation)
     refl)
@@ -245,7 +245,7 @@ make_start : make_with no_trees no_trees ≡ make_in (Some (Map no_pairs))
 unfolding value_at all_entries some_entry
 make_start = refl
 
-pub make_begins : (w : DescriptorWalk) → IsWhole w no_trees →
+pub make_begins : (w : DescriptorWalk) → IsAtFirst w no_trees →
     make_with (list_of w) (left_of w) ≡ make_in (Some (Map no_pairs))
 make_begins w h = ap2 make_with h.0 h.1 ∙ make_start
 
@@ -272,13 +272,13 @@ assert_grows ps k v =
 pub assert_heads : (k : Tree) → IsPlainAssert k → HeadDecides assertion_types assert_next k
 assert_heads k h v = grind arith
 
-pub assert_other : (levels : ℕ) (key part : Part) (x : Assert) (a c : Reading) → IsOtherAssert (head_of key) →
-    PassesAs levels part a c
-    → Adds (λ m ok ps. HasPairs assertion_types assertion_in (to_assertion_parameters m) ok ps) levels key true x x a c
+pub assert_other : (levels : ℕ) (key part : Part) (x : Assert) (a c : Reading) → IsOtherAssert (head_tree key) →
+    PassesHead levels part a c
+    → AddsPair (λ m ok ps. HasPairs assertion_types assertion_in (to_assertion_parameters m) ok ps) levels key true x x a c
 assert_other levels key part x a c h passes =
     let o = h.others in
     adds_head to_assertion_parameters assertion_types assertion_in assert_next levels key part true x x a c assert_grows
-    (assert_heads (head_of key) o) passes
+    (assert_heads (head_tree key) o) passes
     (rw (h.rp_id, h.hash, o.allow_list, h.extensions, o.options, h.pin_uv_auth_param, h.pin_uv_auth_protocol) refl)
     (rw (h.rp_id, h.hash, o.allow_list, o.options, h.pin_uv_auth_param) refl)
 
@@ -289,6 +289,6 @@ assert_start : assert_with no_trees no_trees ≡ assertion_in (Some (Map no_pair
 unfolding value_at all_entries
 assert_start = refl
 
-pub assert_begins : (w : DescriptorWalk) → IsWhole w no_trees →
+pub assert_begins : (w : DescriptorWalk) → IsAtFirst w no_trees →
     assert_with (list_of w) (left_of w) ≡ assertion_in (Some (Map no_pairs))
 assert_begins w h = ap2 assert_with h.0 h.1 ∙ assert_start

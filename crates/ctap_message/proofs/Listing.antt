@@ -6,7 +6,7 @@ use Rattle.ctap_cbor.specs.Reading.{Reading, Passes}
 use Rattle.ctap_message.specs.Members.{array_of, map_of, all_entries, has_entries, entries_of}
 use Rattle.ctap_message.specs.{Descriptors.descriptor_types, Walks.typed, Collected.listing_in, Collected.list_in}
 use Rattle.ctap_message.specs.Fields.{Descriptor, descriptor_in, is_complete_descriptor, DescriptorList}
-use Rattle.ctap_message.specs.DescriptorWalk.{DescriptorWalk, list_of, left_of, IsWhole, IsList}
+use Rattle.ctap_message.specs.DescriptorWalk.{DescriptorWalk, list_of, left_of, IsAtFirst, IsList}
 use Rattle.ctap_message.proofs.Pushes.{entries_push}
 
 given_push : (ts : Trees) (t : Tree) → has_entries (push ts t) ≡ true
@@ -32,15 +32,15 @@ is_list level from t a c l low start e p given = grind (arith, common_steps)
 -- a list and a walk over it
 pub list_read : (t : Tree) (r whole given : Bool) (w : DescriptorWalk) →
     ◌≡◌ {A = Bool × (Bool × Bool)} (r, (whole, given)) (typed (array_of (map_of descriptor_types)) listing_in t) →
-    IsWhole w (entries_of (Some t))
+    IsAtFirst w (entries_of (Some t))
     → ◌≡◌ {A = Bool × (DescriptorList × Trees)} (r, (record { is_whole = whole; entries = left_of w }, list_of w))
     (typed (array_of (map_of descriptor_types)) list_in t)
 list_read t r whole given w told walk = grind arith
 
 pub no_walk : (t : Tree) (r whole given : Bool) (w : DescriptorWalk) →
     ◌≡◌ {A = Bool × (Bool × Bool)} (r, (whole, given)) (typed (array_of (map_of descriptor_types)) listing_in t) →
-    given ≡ false → IsWhole w no_trees
-    → IsWhole w (entries_of (Some t))
+    given ≡ false → IsAtFirst w no_trees
+    → IsAtFirst w (entries_of (Some t))
 no_walk t r whole given w told none e = grind arith
 
 pub given_walk : (t : Tree) (r whole given : Bool) →

@@ -5,31 +5,31 @@ use Rattle.std.specs.{Prelude.is_some, Prelude.if◌then◌else◌, Option.optio
 use Rattle.ctap_cbor.specs.declared.{fault.Kind.Kind, fault.Fault.Fault, item.Item.Item}
 use Rattle.ctap_cbor.specs.declared.item.Item.TheVariants as item
 use Rattle.ctap_cbor.specs.Tree.{Tree, Array, Trees, no_trees, tree, count}
-use Rattle.ctap_cbor.specs.{Head.AreBytes, Head.head, Faults.AnItem, Parse.parse, Views.part_of, Views.ReadsItem}
+use Rattle.ctap_cbor.specs.{Head.AreBytes, Head.head, Faults.AnItem, Parse.parse, Views.to_part, Views.ReadsItem}
 use Rattle.ctap_cbor.specs.{Grammar.text, Grammar.texts, Outcome.Whole, Outcome.later_keys}
-use Rattle.ctap_cbor.specs.Parts.{Part, OpensArray, Suits, read}
+use Rattle.ctap_cbor.specs.Parts.{Part, OpensArray, IsAllowed, read}
 use Rattle.ctap_cbor.specs.Laws.{CursorReadsOneTree, CanonicalIsAccepted, BytesDetermineTree, ItemsAreDecoded}
-use Rattle.ctap_cbor.specs.Reading.{Reading, at_front, rest_of, Fails, Passes, Takes}
+use Rattle.ctap_cbor.specs.Reading.{Reading, cursor_at_start, rest_of, Fails, Passes, TakesItem}
 use Rattle.ctap_cbor.specs.Telling.{outcome_of, canonical_tree, whole_tree, items_at}
 use Rattle.ctap_message.specs.Members.{has_entries, entries_of, map_of}
 use Rattle.ctap_message.specs.{Descriptors.ids_of, Descriptors.descriptor_types, Walks.Reads, Walks.typed}
 use Rattle.ctap_message.specs.Fields.{Descriptor, descriptor_in, id_of_public_key}
 use Rattle.std.specs.List.{cons_option}
-use Rattle.ctap_message.specs.DescriptorWalk.{DescriptorWalk, IsWhole, list_steps, entry_steps, after_first, Left}
-use Rattle.ctap_message.specs.DescriptorWalk.{Walks, YieldsId, IsList, IsValidWalk}
+use Rattle.ctap_message.specs.DescriptorWalk.{DescriptorWalk, IsAtFirst, list_steps, entry_steps, after_first, HasEntriesLeft}
+use Rattle.ctap_message.specs.DescriptorWalk.{MovesPast, YieldsId, IsList, IsValidWalk}
 
 -- as many ids are left as there were
 abbrev pub Sofar : Reading → ℕ → Reading → ℕ → Type 0
-Sofar r n s m = (ts : Trees) → Left r n ts → (us : Trees) × (more : ℕ) × Walks r s m ts us more
+Sofar r n s m = (ts : Trees) → HasEntriesLeft r n ts → (us : Trees) × (more : ℕ) × MovesPast r s m ts us more
     × (ids_of ts ≡ ids_of us) × (after_first ts ≡ after_first us)
 
 Onward : Reading → Reading → ℕ → Trees → Trees → Descriptor → Type 0
 Onward r s m ts us d =
-    (vs : Trees) × (more : ℕ) × Walks r s m ts vs more × (ids_of us ≡ cons_option (id_of_public_key d) (ids_of vs))
+    (vs : Trees) × (more : ℕ) × MovesPast r s m ts vs more × (ids_of us ≡ cons_option (id_of_public_key d) (ids_of vs))
     × (after_first us ≡ (if is_some (id_of_public_key d) then vs else after_first vs))
 
 onward : CursorReadsOneTree → (r s s' : Reading) (m : ℕ) (ts us : Trees) (more : ℕ) (d : Bool × Descriptor) →
-    Walks r s m ts us more → 0 < m → Reads (typed (map_of descriptor_types) descriptor_in) 3 d s s' →
+    MovesPast r s m ts us more → 0 < m → Reads (typed (map_of descriptor_types) descriptor_in) 3 d s s' →
     Onward r s' (m - 1) ts us d.1
 unfolding Onward
 onward law r s s' m ts no_trees more d h lt k = absurd (omega (arith, h.left.number))
@@ -54,7 +54,7 @@ onward law r s s' m ts (tree u us) more d h lt k =
     )
 
 pub entry_never : CanonicalIsAccepted → (r s s' : Reading) (m : ℕ) (ts us : Trees) (more : ℕ) (at : ℕ) (kind : Kind) →
-    Walks r s m ts us more → 0 < m → Fails 3 s s' at kind → ⊥
+    MovesPast r s m ts us more → 0 < m → Fails 3 s s' at kind → ⊥
 entry_never law r s s' m ts no_trees more at kind h lt k = omega (arith, h.left.number)
 entry_never law r s s' m ts (tree u us) more at kind h lt k = law 3 u (texts us) s s' at kind h.left.lawful.0
     (omega (arith, h.left.flat)) h.left.spelled k
@@ -106,16 +106,16 @@ entries_in r = entries_of (canonical_tree r.bytes)
 abbrev left_at : Reading → ℕ → Trees
 left_at r n = items_at 3 n (rest_of r)
 
-left_found : ItemsAreDecoded → (r : Reading) (n : ℕ) (ts : Trees) → Left r n ts → left_at r n ≡ ts
+left_found : ItemsAreDecoded → (r : Reading) (n : ℕ) (ts : Trees) → HasEntriesLeft r n ts → left_at r n ≡ ts
 left_found law r n ts h = search (rules, arith)
 
 -- ---- the head of a list
 
 -- the list's head stands at the first byte
 abbrev pub HeadStands : Reading → Trees → Type 0
-HeadStands r ts = Suits 4 AnItem (OpensArray (count ts)) × (rest_of r ≡ head 4 (count ts) ++ texts ts)
+HeadStands r ts = IsAllowed 4 AnItem (OpensArray (count ts)) × (rest_of r ≡ head 4 (count ts) ++ texts ts)
 
-pub head_stands : (l : List ℕ) (ts : Trees) (r : Reading) → IsList l ts → r ≡ at_front l 0 → HeadStands r ts
+pub head_stands : (l : List ℕ) (ts : Trees) (r : Reading) → IsList l ts → r ≡ cursor_at_start l 0 → HeadStands r ts
 head_stands l ts r h e = ((omega arith, h.lawful.0), ap rest_of e ∙ h.spelled)
 
 abbrev size_of : Part → ℕ
@@ -133,13 +133,13 @@ list_costs (tree t ts) e = omega (arith, length-append (head 4 (count (tree t ts
 
 -- after its head a list's walk begins
 pub begins : BytesDetermineTree → ItemsAreDecoded → (l : List ℕ) (ts : Trees) (r s : Reading) (n : ℕ) → AreBytes l → IsList l ts →
-    r ≡ at_front l 0 → ReadsItem 4 r s (Ok (item.Array n)) → Takes 4 r s (OpensArray n)
-    → IsValidWalk (walk_at s n) true × IsWhole (walk_at s n) ts
+    r ≡ cursor_at_start l 0 → ReadsItem 4 r s (Ok (item.Array n)) → TakesItem 4 r s (OpensArray n)
+    → IsValidWalk (walk_at s n) true × IsAtFirst (walk_at s n) ts
 begins tell found_law l ts r s n fits h e only t =
     let there = head_stands l ts r h e in
     let same = only (OpensArray (count ts)) (texts ts) there.0 there.1 in
     let size : n ≡ count ts = ap size_of same.0 in
-    let stands : Left s n ts = record { spelled = same.1; number = sym size; lawful = h.lawful.1; flat = h.flat } in
+    let stands : HasEntriesLeft s n ts = record { spelled = same.1; number = sym size; lawful = h.lawful.1; flat = h.flat } in
     let found : left_at s n ≡ ts = left_found found_law s n ts stands in
     let bytes : s.bytes ≡ l = ap (λ (r : Reading). r.bytes) t.moved ∙ ap (λ (r : Reading). r.bytes) e in
     let entries : entries_in s ≡ ts = ap (λ b. entries_of (canonical_tree b)) bytes
@@ -149,7 +149,7 @@ begins tell found_law l ts r s n fits h e only t =
     let left_cost : entry_steps (left_at s n) ≡ entry_steps ts = ap entry_steps found in
     let whole_cost : list_steps (entries_in s) ≡ list_steps ts = ap list_steps entries in (
       record {
-        stands = subst (Left s n) (sym found) stands;
+        stands = subst (HasEntriesLeft s n) (sym found) stands;
         given_is = sym h.given ∙ ap has_entries (sym entries);
         within = omega (arith, costs, left_cost, whole_cost);
         steps_are = omega (arith, ap (λ (r : Reading). r.steps) t.moved, ap (λ (r : Reading). r.steps) e, headed, costs, left_cost, whole_cost);
@@ -157,15 +157,15 @@ begins tell found_law l ts r s n fits h e only t =
       (entries, found),
     )
 
-pub no_fault : (l : List ℕ) (ts : Trees) (r s : Reading) (f : Fault) → IsList l ts → r ≡ at_front l 0 →
+pub no_fault : (l : List ℕ) (ts : Trees) (r s : Reading) (f : Fault) → IsList l ts → r ≡ cursor_at_start l 0 →
     ReadsItem 4 r s (Err f) → ⊥
 no_fault l ts r s f h e only = let there = head_stands l ts r h e in
     only (OpensArray (count ts)) (texts ts) there.0 there.1
 
-no_part : (i : Item) (n : ℕ) → ((n : ℕ) → i ≡ item.Array n → ⊥) → part_of i ≡ OpensArray n → ⊥
+no_part : (i : Item) (n : ℕ) → ((n : ℕ) → i ≡ item.Array n → ⊥) → to_part i ≡ OpensArray n → ⊥
 no_part i n other e = search (rules, arith)
 
-pub no_other : (l : List ℕ) (ts : Trees) (r s : Reading) (i : Item) → IsList l ts → r ≡ at_front l 0 →
+pub no_other : (l : List ℕ) (ts : Trees) (r s : Reading) (i : Item) → IsList l ts → r ≡ cursor_at_start l 0 →
     ReadsItem 4 r s (Ok i) → ((n : ℕ) → i ≡ item.Array n → ⊥) → ⊥
 no_other l ts r s i h e only other =
     let there = head_stands l ts r h e in
@@ -181,6 +181,6 @@ none_left : (r : Reading) → left_at r 0 ≡ no_trees
 unfolding items_at
 none_left r = refl
 
-pub no_list : (r : Reading) (l : List ℕ) → l ≡ [] → r ≡ at_front l 0 → IsValidWalk (walk_at r 0) false
-    × IsWhole (walk_at r 0) no_trees
+pub no_list : (r : Reading) (l : List ℕ) → l ≡ [] → r ≡ cursor_at_start l 0 → IsValidWalk (walk_at r 0) false
+    × IsAtFirst (walk_at r 0) no_trees
 no_list r l nothing e = grind (arith, no_tree, none_left)

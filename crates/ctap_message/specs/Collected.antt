@@ -94,8 +94,8 @@ abbrev pub listing_in : Option Tree → Bool × Bool
 listing_in t = ((descriptors_in t).is_whole, has_entries (entries_of t))
 
 -- Converts the code's summary of a list of descriptors to that of the definitions.
-abbrev pub shown_listing : ListSummary → Bool × Bool
-shown_listing x = (x.is_whole, x.given)
+abbrev pub to_list_summary : ListSummary → Bool × Bool
+to_list_summary x = (x.is_whole, x.given)
 
 -- The summary of a list of descriptors, and its entries, over which an iterator runs.
 abbrev pub list_in : Option Tree → DescriptorList × Trees

@@ -23,8 +23,8 @@ abbrev pub left_of : DescriptorWalk → Trees
 left_of w = items_at 3 w.count (rest_of w.cursor)
 
 -- An iterator at the beginning of these entries.
-abbrev pub IsWhole : DescriptorWalk → Trees → Type 0
-IsWhole w ts = (list_of w ≡ ts) × (left_of w ≡ ts)
+abbrev pub IsAtFirst : DescriptorWalk → Trees → Type 0
+IsAtFirst w ts = (list_of w ≡ ts) × (left_of w ≡ ts)
 
 -- The steps of iterating over a whole list: one less than checking its bytes takes, because the end of the input isn't
 -- checked; 0 for an empty list.
@@ -55,15 +55,15 @@ pub record NextId (old : DescriptorWalk) (id : Option (Bor (List ℕ))) (new : D
 -- ---- the cursor of an iterator
 
 -- These are the `n` entries that the cursor still has to read.
-pub record Left (r : Reading) (n : ℕ) (ts : Trees) : Type 0 where
+pub record HasEntriesLeft (r : Reading) (n : ℕ) (ts : Trees) : Type 0 where
   pub spelled : rest_of r ≡ texts ts
   pub number : count ts ≡ n
   pub lawful : AreLawful ts
   pub flat : depth_all ts ≤ 3
 
 -- The cursor moved from the entries `ts` to the remaining entries `us`, in `more` steps.
-pub record Walks (r s : Reading) (n : ℕ) (ts us : Trees) (more : ℕ) : Type 0 where
-  pub left : Left s n us
+pub record MovesPast (r s : Reading) (n : ℕ) (ts us : Trees) (more : ℕ) : Type 0 where
+  pub left : HasEntriesLeft s n us
   pub same : s.bytes ≡ r.bytes
   pub cost : entry_steps ts ≡ more + entry_steps us
   pub steps : s.steps ≡ add_steps r.steps more
@@ -71,7 +71,7 @@ pub record Walks (r s : Reading) (n : ℕ) (ts us : Trees) (more : ℕ) : Type 0
 -- The result of searching for the next entry of type `public-key`: its ID, or None if no such entry is left.
 abbrev pub YieldsId : Reading → ℕ → Reading → ℕ → Option (List ℕ) → Type 0
 YieldsId r n s m id =
-    (ts : Trees) → Left r n ts → (us : Trees) × (more : ℕ) × Walks r s m ts us more
+    (ts : Trees) → HasEntriesLeft r n ts → (us : Trees) × (more : ℕ) × MovesPast r s m ts us more
     × (ids_of ts ≡ cons_option id (ids_of us)) × (id ≡ None → us ≡ no_trees) × (us ≡ after_first ts)
 
 -- The bytes are the encoding of this list of descriptors, which isn't empty.
@@ -83,7 +83,7 @@ pub record IsList (l : List ℕ) (ts : Trees) : Type 0 where
 
 -- The invariant of the iterator.
 pub record IsValidWalk (w : DescriptorWalk) (given : Bool) : Type 0 where
-  pub stands : Left w.cursor w.count (left_of w)
+  pub stands : HasEntriesLeft w.cursor w.count (left_of w)
   pub given_is : given ≡ has_entries (list_of w)
   pub within : entry_steps (left_of w) ≤ list_steps (list_of w)
   pub steps_are : w.cursor.steps ≡ walked_steps w

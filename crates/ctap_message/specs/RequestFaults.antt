@@ -99,8 +99,8 @@ abbrev pub fault_of : Outcome → (Option Tree → Option RequestFault) → Opti
 fault_of outcome checked = fault_after (result_of outcome) (checked (whole_tree outcome))
 
 -- The error of bytes after a command without parameters (sections 6.3, 6.4, 6.6 and 6.9).
-abbrev pub trailing : ℕ → Option RequestFault
-trailing count = if count == 0 then None else Some (because.Trailing count)
+abbrev pub trailing_fault : ℕ → Option RequestFault
+trailing_fault count = if count == 0 then None else Some (because.Trailing count)
 
 -- The error of a message, if it isn't a supported request.
 unfoldable pub fault_in : List ℕ → Option RequestFault
@@ -108,10 +108,10 @@ fault_in [] = Some because.Empty
 fault_in (byte ∷ parameters) =
     if byte == 0x01 then fault_of (outcome_of parameters) checked_make
     else if byte == 0x02 then fault_of (outcome_of parameters) checked_assertion
-    else if (byte == 0x04) || ((byte == 0x07) || ((byte == 0x08) || (byte == 0x0b))) then trailing (length parameters)
+    else if (byte == 0x04) || ((byte == 0x07) || ((byte == 0x08) || (byte == 0x0b))) then trailing_fault (length parameters)
     else Some (because.NoSuchCommand byte)
 
 -- The status code of a rejected message.
-abbrev pub refused_with : Result RequestParameters ℕ → Option ℕ
-refused_with (Ok asked) = None
-refused_with (Err status) = Some status
+abbrev pub rejection_status : Result RequestParameters ℕ → Option ℕ
+rejection_status (Ok asked) = None
+rejection_status (Err status) = Some status

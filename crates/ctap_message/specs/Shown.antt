@@ -9,29 +9,29 @@ use Rattle.ctap_message.specs.RequestFaults.{status_of}
 use Rattle.ctap_message.specs.DescriptorWalk.{list_of, left_of}
 
 -- Converts a request of the code to one of the definitions.
-abbrev pub request_of : Request → RequestParameters
-request_of (request.Make m) =
+abbrev pub to_request : Request → RequestParameters
+to_request (request.Make m) =
     asks.MakeCredential m.hash.now m.rp_id.now m.user_id.now m.user_name.now m.discoverable (left_of m.exclude)
-request_of (request.Assert a) = asks.GetAssertion a.hash.now a.rp_id.now (left_of a.allow) a.presence
-request_of request.Info = asks.GetInfo
-request_of request.Reset = asks.Reset
-request_of request.Next = asks.GetNextAssertion
-request_of request.Select = asks.Selection
+to_request (request.Assert a) = asks.GetAssertion a.hash.now a.rp_id.now (left_of a.allow) a.presence
+to_request request.Info = asks.GetInfo
+to_request request.Reset = asks.Reset
+to_request request.Next = asks.GetNextAssertion
+to_request request.Select = asks.Selection
 
 -- Converts a result of the code, a request or a status, to one of the definitions.
 abbrev pub request_result : Result Request Status → Result RequestParameters ℕ
-request_result (Ok request) = Ok (request_of request)
+request_result (Ok request) = Ok (to_request request)
 request_result (Err status) = Err status.0
 
 -- Converts a result of the code, a request or an error, to one of the definitions, with the error's status.
-abbrev pub examined_result : Result Request RequestFault → Result RequestParameters ℕ
-examined_result (Ok request) = Ok (request_of request)
-examined_result (Err fault) = Err (status_of fault)
+abbrev pub parsed_result : Result Request RequestFault → Result RequestParameters ℕ
+parsed_result (Ok request) = Ok (to_request request)
+parsed_result (Err fault) = Err (status_of fault)
 
 -- The error, if any.
-abbrev pub fault_at : Result Request RequestFault → Option RequestFault
-fault_at (Ok request) = None
-fault_at (Err fault) = Some fault
+abbrev pub fault_of_result : Result Request RequestFault → Option RequestFault
+fault_of_result (Ok request) = None
+fault_of_result (Err fault) = Some fault
 
 -- The iterator over the request's list is at its beginning.
 abbrev pub HasFreshList : Request → Type 0

@@ -1,14 +1,14 @@
 //! Credential descriptors (WebAuthn Level 2, section 5.8.3), and lists of them.
 
 ghost use Rattle.std.specs.Prelude.{◌≡◌, ◌-◌, ◌≤◌, MatchResult};
-ghost use Rattle.ctap_cbor.specs.Views.{part_of, head_of};
+ghost use Rattle.ctap_cbor.specs.Views.{to_part, head_tree};
 ghost use Rattle.ctap_cbor.specs.Reading.{Fails};
 ghost use Rattle.std.specs.Option.{option_copied};
 ghost use Rattle.ctap_message.specs.Members.{is_text, has_listed_type, array_of, map_of, all_entries};
 ghost use Rattle.ctap_message.specs.Walks.{Reads, typed, HasPairs, HasEntries};
 ghost use Rattle.ctap_message.specs.Descriptors.{descriptor_types};
 ghost use Rattle.ctap_message.specs.Fields.{descriptor_in, id_of_public_key, is_complete_descriptor};
-ghost use Rattle.ctap_message.specs.Collected.{to_descriptor, descriptor_next, IsPlainName, listing_in, shown_listing, list_in, to_descriptor_list};
+ghost use Rattle.ctap_message.specs.Collected.{to_descriptor, descriptor_next, IsPlainName, listing_in, to_list_summary, list_in, to_descriptor_list};
 
 use crate::descriptors::Descriptors;
 use crate::item::{is_public_key, read_members};
@@ -66,12 +66,12 @@ impl<'a> Descriptor<'a> {
 
     /// Stores the ID or the type. Returns false if the value has the wrong type.
     fn put(&mut self, key: Item<'a>, value: Item<'a>) -> bool
-        requires plain { IsPlainName (head_of (part_of key)) }
-        ensures plain { IsPlainName (head_of (part_of key.entry)) }
-        ensures typed { result ≡ has_listed_type descriptor_types (head_of (part_of key.entry))
-            (head_of (part_of value.entry)) }
-        ensures value { to_descriptor self.new ≡ descriptor_next (head_of (part_of key.entry))
-            (head_of (part_of value.entry)) (to_descriptor self.old) }
+        requires plain { IsPlainName (head_tree (to_part key)) }
+        ensures plain { IsPlainName (head_tree (to_part key.entry)) }
+        ensures typed { result ≡ has_listed_type descriptor_types (head_tree (to_part key.entry))
+            (head_tree (to_part value.entry)) }
+        ensures value { to_descriptor self.new ≡ descriptor_next (head_tree (to_part key.entry))
+            (head_tree (to_part value.entry)) (to_descriptor self.old) }
     {
         match key {
             Item::Text("id") => {
@@ -129,7 +129,7 @@ struct ListSummary {
 }
 
 impl<'a> Entries<'a> for ListSummary {
-    ghost HoldsAll = { λ x ok ts. HasEntries (map_of descriptor_types) listing_in (shown_listing x) ok ts };
+    ghost HoldsAll = { λ x ok ts. HasEntries (map_of descriptor_types) listing_in (to_list_summary x) ok ts };
 
     fn entry(&mut self, cursor: &mut Cursor<'a>, level: u8) -> Result<bool, Fault> {
         let (typed, descriptor) = read_descriptor(cursor, level)?;
@@ -167,7 +167,7 @@ pub(crate) fn read_list<'a>(
     let typed = read_array(&mut found, cursor, level)?.unwrap_or(false);
     list.is_whole = found.is_whole;
     list.list = if found.given {
-        Descriptors::over(cursor.bytes_since(from))
+        Descriptors::from_entries(cursor.bytes_since(from))
     } else {
         Descriptors::none()
     };

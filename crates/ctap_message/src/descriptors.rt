@@ -6,10 +6,13 @@ ghost use Rattle.std.specs.Iterator.{at_most};
 ghost use Rattle.ctap_cbor.specs.Tree.{Trees, no_trees};
 ghost use Rattle.ctap_message.specs.Members.{has_entries};
 ghost use Rattle.ctap_message.specs.Descriptors.{ids_of};
-ghost use Rattle.ctap_message.specs.DescriptorWalk.{DescriptorWalk, list_of, left_of, IsWhole, walked_steps, NextId, Left, YieldsId, IsList};
+ghost use Rattle.ctap_message.specs.DescriptorWalk.{DescriptorWalk, list_of, left_of, IsAtFirst, walked_steps, NextId, HasEntriesLeft, YieldsId, IsList};
 
 use crate::descriptor::read_descriptor;
-use ctap_cbor::laws::{outcomes_are_computed, items_are_decoded, byte_bounds, canonical_is_accepted, cursor_reads_one_tree};
+use ctap_cbor::laws::{
+    byte_bounds, canonical_is_accepted, cursor_reads_one_tree, items_are_decoded,
+    outcomes_are_computed,
+};
 use ctap_cbor::{Cursor, Item};
 use std::marker::Model;
 
@@ -23,7 +26,7 @@ pub(crate) struct ListEntry<'a> {
 impl<'a> ListEntry<'a> {
     /// Returns the ID of the next entry of type `public-key`.
     fn next_id(&mut self) -> Option<&'a [u8]>
-        requires { (ts : Trees) × Left self.old.cursor self.old.left ts }
+        requires { (ts : Trees) × HasEntriesLeft self.old.cursor self.old.left ts }
         ensures gives { YieldsId self.old.cursor self.old.left self.new.cursor self.new.left (option_copied result) }
         ensures fewer { MatchOption result (self.new.left ≡ 0) (λ _. self.new.left < self.old.left) }
     {
@@ -67,7 +70,7 @@ impl<'a> Model for Descriptors<'a> {
 impl<'a> Descriptors<'a> {
     /// Returns the iterator of an absent list.
     pub(crate) fn none() -> Self
-        ensures { IsWhole result no_trees }
+        ensures { IsAtFirst result no_trees }
     {
         Descriptors {
             entry: ListEntry {
@@ -79,9 +82,9 @@ impl<'a> Descriptors<'a> {
     }
 
     /// Returns the iterator of a list with entries.
-    pub(crate) fn over(list: &'a [u8]) -> Self
+    pub(crate) fn from_entries(list: &'a [u8]) -> Self
         requires { (ts : Trees) × IsList list.now ts }
-        ensures { (ts : Trees) → IsList list.now ts → IsWhole result ts }
+        ensures { (ts : Trees) → IsList list.now ts → IsAtFirst result ts }
     {
         byte_bounds(list);
         outcomes_are_computed();

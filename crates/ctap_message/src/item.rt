@@ -2,7 +2,7 @@
 
 ghost use Rattle.std.specs.Prelude.{◌≡◌, ◌&&◌, ◌||◌, ◌-◌, ◌≤◌, MatchResult};
 ghost use Rattle.std.specs.Option.{option_copied};
-ghost use Rattle.ctap_cbor.specs.Views.{part_of, head_of};
+ghost use Rattle.ctap_cbor.specs.Views.{to_part, head_tree};
 ghost use Rattle.ctap_cbor.specs.Tree.{is_map};
 ghost use Rattle.ctap_cbor.specs.Reading.{Fails};
 ghost use Rattle.ctap_message.specs.Walks.{ReadsMembers};
@@ -12,7 +12,7 @@ use ctap_cbor::{Cursor, Fault, Item, Members, read_map};
 
 /// Returns whether an item is a map.
 pub(crate) fn expect_map(item: Item<'_>) -> bool
-    ensures { result ≡ is_map (head_of (part_of item.entry)) }
+    ensures { result ≡ is_map (head_tree (to_part item.entry)) }
 {
     matches!(item, Item::Map(_))
 }

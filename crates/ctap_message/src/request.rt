@@ -5,8 +5,8 @@ ghost use Rattle.ctap_cbor.specs.Telling.{canonical_tree, outcome_of};
 ghost use Rattle.ctap_message.specs.MakeCredential.{make_request};
 ghost use Rattle.ctap_message.specs.GetAssertion.{assertion_request};
 ghost use Rattle.ctap_message.specs.Requests.{read_of, steps_of, without_parameters as alone_of, reading_steps, MAX_STEPS, MAX_REQUEST_LEN};
-ghost use Rattle.ctap_message.specs.RequestFaults.{checked_assertion, checked_make, fault_in, fault_of, refused_with, status_of, trailing};
-ghost use Rattle.ctap_message.specs.Shown.{request_result, request_of, examined_result, fault_at, HasFreshList, HasTheLengths, IsFresh, HasLengths};
+ghost use Rattle.ctap_message.specs.RequestFaults.{checked_assertion, checked_make, fault_in, fault_of, rejection_status, status_of, trailing_fault};
+ghost use Rattle.ctap_message.specs.Shown.{request_result, to_request, parsed_result, fault_of_result, HasFreshList, HasTheLengths, IsFresh, HasLengths};
 
 use crate::command::Command;
 use crate::descriptors::Descriptors;
@@ -94,7 +94,7 @@ pub fn read_request<'a>(message: &'a [u8]) -> (Result<Request<'a>, Status>, u64)
 pub fn request_fault(message: &[u8]) -> Option<RequestFault>
     ensures fault { result ≡ fault_in message.now }
     // Its status is the one that [`read_request`] returns.
-    ensures status { option_map status_of result ≡ refused_with (read_of message.now) }
+    ensures status { option_map status_of result ≡ rejection_status (read_of message.now) }
 {
     match parse_request(message).0 {
         Ok(_) => None,
@@ -107,8 +107,8 @@ pub fn request_fault(message: &[u8]) -> Option<RequestFault>
 #[tactic(auto, unfolding(crate::specs::Requests::read_of, crate::specs::Requests::steps_of, crate::specs::RequestFaults::fault_in))]
 #[inline(always)]
 pub fn parse_request<'a>(message: &'a [u8]) -> (Result<Request<'a>, RequestFault>, u64)
-    ensures request { examined_result result.0 ≡ read_of message.now }
-    ensures fault { fault_at result.0 ≡ fault_in message.now }
+    ensures request { parsed_result result.0 ≡ read_of message.now }
+    ensures fault { fault_of_result result.0 ≡ fault_in message.now }
     ensures steps { result.1 ≡ min (steps_of message.now) MAX_STEPS }
     ensures exact { length message.now ≤ MAX_REQUEST_LEN → result.1 ≡ steps_of message.now }
     ensures fresh { IsFresh result.0 }
@@ -130,11 +130,14 @@ pub fn parse_request<'a>(message: &'a [u8]) -> (Result<Request<'a>, RequestFault
 }
 
 /// Checks that a command without parameters has none.
-fn check_no_parameters<'a>(parameters: &[u8], request: Request<'a>) -> Result<Request<'a>, RequestFault>
+fn check_no_parameters<'a>(
+    parameters: &[u8],
+    request: Request<'a>,
+) -> Result<Request<'a>, RequestFault>
     requires fresh { HasFreshList request }
     requires lens { HasTheLengths request }
-    ensures request { examined_result result ≡ alone_of parameters.now (request_of request.entry) }
-    ensures fault { fault_at result ≡ trailing (length parameters.now) }
+    ensures request { parsed_result result ≡ alone_of parameters.now (to_request request.entry) }
+    ensures fault { fault_of_result result ≡ trailing_fault (length parameters.now) }
     ensures fresh { IsFresh result }
     ensures lens { HasLengths result }
 {
@@ -150,8 +153,8 @@ fn check_no_parameters<'a>(parameters: &[u8], request: Request<'a>) -> Result<Re
 /// Parses authenticatorMakeCredential: checks that the parameters are canonical CBOR, then reads them with the same
 /// cursor.
 fn read_make_credential<'a>(parameters: &'a [u8]) -> (Result<Request<'a>, RequestFault>, u64)
-    ensures request { examined_result result.0 ≡ make_request (canonical_tree parameters.now) }
-    ensures fault { fault_at result.0 ≡ fault_of (outcome_of parameters.now) checked_make }
+    ensures request { parsed_result result.0 ≡ make_request (canonical_tree parameters.now) }
+    ensures fault { fault_of_result result.0 ≡ fault_of (outcome_of parameters.now) checked_make }
     ensures steps { result.1 ≡ min (reading_steps parameters.now) MAX_STEPS }
     ensures fresh { IsFresh result.0 }
     ensures lens { HasLengths result.0 }
@@ -171,8 +174,8 @@ fn read_make_credential<'a>(parameters: &'a [u8]) -> (Result<Request<'a>, Reques
 /// Parses authenticatorGetAssertion: checks that the parameters are canonical CBOR, then reads them with the same
 /// cursor.
 fn read_get_assertion<'a>(parameters: &'a [u8]) -> (Result<Request<'a>, RequestFault>, u64)
-    ensures request { examined_result result.0 ≡ assertion_request (canonical_tree parameters.now) }
-    ensures fault { fault_at result.0 ≡ fault_of (outcome_of parameters.now) checked_assertion }
+    ensures request { parsed_result result.0 ≡ assertion_request (canonical_tree parameters.now) }
+    ensures fault { fault_of_result result.0 ≡ fault_of (outcome_of parameters.now) checked_assertion }
     ensures steps { result.1 ≡ min (reading_steps parameters.now) MAX_STEPS }
     ensures fresh { IsFresh result.0 }
     ensures lens { HasLengths result.0 }

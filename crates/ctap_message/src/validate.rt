@@ -6,7 +6,7 @@ ghost use Rattle.ctap_message.specs.Judged.{validated_assertion};
 ghost use Rattle.ctap_message.specs.DescriptorWalk.{list_of, left_of};
 ghost use Rattle.ctap_message.specs.CollectedRequests.{to_make_parameters, to_assertion_parameters};
 ghost use Rattle.ctap_message.specs.RequestFaults.{make_fault, assertion_fault, fault_of_make};
-ghost use Rattle.ctap_message.specs.Shown.{examined_result, fault_at, IsFresh, HasLengths};
+ghost use Rattle.ctap_message.specs.Shown.{parsed_result, fault_of_result, IsFresh, HasLengths};
 
 use crate::fault::RequestFault;
 use crate::get_assertion::Assert;
@@ -81,8 +81,8 @@ pub(crate) fn validate_make_credential<'a>(
     make: Make<'a>,
 ) -> Result<Request<'a>, RequestFault>
     requires { list_of make.exclude.list ≡ left_of make.exclude.list }
-    ensures request { examined_result result ≡ validated_make true typed (to_make_parameters make.entry).0 }
-    ensures fault { fault_at result ≡ make_fault typed (to_make_parameters make.entry).0 }
+    ensures request { parsed_result result ≡ validated_make true typed (to_make_parameters make.entry).0 }
+    ensures fault { fault_of_result result ≡ make_fault typed (to_make_parameters make.entry).0 }
     ensures fresh { IsFresh result }
     ensures lens { HasLengths result }
 {
@@ -117,8 +117,8 @@ pub(crate) fn validate_get_assertion<'a>(
     assert: Assert<'a>,
 ) -> Result<Request<'a>, RequestFault>
     requires { list_of assert.allow.list ≡ left_of assert.allow.list }
-    ensures request { examined_result result ≡ validated_assertion true typed (to_assertion_parameters assert.entry).0 }
-    ensures fault { fault_at result ≡ assertion_fault typed (to_assertion_parameters assert.entry).0 }
+    ensures request { parsed_result result ≡ validated_assertion true typed (to_assertion_parameters assert.entry).0 }
+    ensures fault { fault_of_result result ≡ assertion_fault typed (to_assertion_parameters assert.entry).0 }
     ensures fresh { IsFresh result }
     ensures lens { HasLengths result }
 {

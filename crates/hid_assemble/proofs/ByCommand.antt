@@ -7,7 +7,7 @@ use Rattle.hid_assemble.specs.declared.table.ReplyRow.TheVariants.{CancelsWork, 
 use Rattle.hid_assemble.specs.declared.table.ReplyRow.TheVariants.{InitLength, InitFull, InitNew, InitAgain}
 use Rattle.hid_assemble.specs.declared.table.ReplyRow.TheVariants.{BusyElsewhere, BusyHere, BrokenOff, NoSuchCommand}
 use Rattle.hid_assemble.specs.declared.table.ReplyRow.TheVariants.{BadLength, Short, Long}
-use Rattle.hid_assemble.specs.Table.{MAX_CHANNEL, is_allocated, is_on, is_on_other, init_packet_row}
+use Rattle.hid_assemble.specs.Table.{MAX_CHANNEL, is_allocated, is_busy_here, is_busy_elsewhere, init_packet_row}
 use Rattle.hid_packet.specs.Limits.{MAX_MESSAGE_LEN}
 
 unfoldable pub init_row : ℕ → ℕ → ℕ → ReplyRow
@@ -16,9 +16,9 @@ init_row given cid len =
 
 unfoldable pub begin_row : Option ℕ → Option ℕ → ℕ → ℕ → ℕ → ReplyRow
 begin_row current work cid cmd len =
-    cond (is_on_other current cid || is_on_other work cid) BusyElsewhere
-    (cond (is_on work cid) BusyHere
-    (cond (is_on current cid) BrokenOff
+    cond (is_busy_elsewhere current cid || is_busy_elsewhere work cid) BusyElsewhere
+    (cond (is_busy_here work cid) BusyHere
+    (cond (is_busy_here current cid) BrokenOff
     (cond (not (cmd == PING || cmd == CBOR)) NoSuchCommand
     (cond (nat_lt MAX_MESSAGE_LEN len || (cmd == CBOR && (len == 0))) BadLength
     (cond (nat_le len 57) Short Long)))))
@@ -33,7 +33,7 @@ kinds x0 w s i l b f r = search (rules, arith)
 
 pub by_command : (given : ℕ) (current work : Option ℕ) (cid cmd len : ℕ) →
     init_packet_row given current work cid cmd len
-    ≡ cond (cmd == CANCEL) (cond (is_on work cid) CancelsWork CancelsNothing)
+    ≡ cond (cmd == CANCEL) (cond (is_busy_here work cid) CancelsWork CancelsNothing)
     (cond (not (is_allocated given cid || ((cid == BROADCAST) && (cmd == INIT)))) NoSuchChannel
     (cond (cmd == INIT) (init_row given cid len) (begin_row current work cid cmd len)))
 unfolding init_packet_row init_row begin_row

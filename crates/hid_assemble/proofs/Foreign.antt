@@ -4,7 +4,7 @@ use Rattle.std.proofs.{Common.subst, Common.arith, lemmas.Bool.Decides.nat_tests
 use Rattle.hid_packet.specs.Commands.{INIT, CANCEL, BROADCAST}
 use Rattle.hid_packet.specs.Packet.{Fields, initialization, continuation, channel_of}
 use Rattle.hid_assemble.specs.{declared.table.ReplyRow.ReplyRow, Table.cont_packet_row, Table.packet_class}
-use Rattle.hid_assemble.specs.Table.{Open, Begins, Continues, MAX_CHANNEL, is_allocated, is_on, init_packet_row}
+use Rattle.hid_assemble.specs.Table.{Open, Begins, Continues, MAX_CHANNEL, is_allocated, is_busy_here, init_packet_row}
 use Rattle.hid_assemble.specs.Assembly.{Assembly, open_after, accepted}
 use Rattle.hid_assemble.proofs.{ByCommand.init_row, ByCommand.begin_row, ByCommand.by_command, Comparing.cond_case}
 
@@ -23,7 +23,7 @@ module _ (at : ℕ) (m : Open) (work : Option ℕ) where
       let drops : cond (m.cid == cid) None (Some m) ≡ Some m = rw other refl in
       subst P (sym (by_command given (Some m.cid) work cid cmd len))
       (cond_case P (cmd == CANCEL) _ _
-      (λ _. cond_case P (is_on work cid) _ _ (λ _. refl) (λ _. refl))
+      (λ _. cond_case P (is_busy_here work cid) _ _ (λ _. refl) (λ _. refl))
       (λ _. cond_case P (not (is_allocated given cid || ((cid == BROADCAST) && (cmd == INIT)))) _ _ (λ _. refl)
       (λ _. cond_case P (cmd == INIT) _ _
       (λ _. cond_case P (not (len == 8)) _ _ (λ _. drops)
@@ -48,7 +48,7 @@ module _ (at : ℕ) (m : Open) (work : Option ℕ) where
   unfolding init_packet_row open_after
   cancel_kept given cid len part =
       cond_case (λ row. open_after (Some m) at (initialization cid CANCEL len part) (Begins row) ≡ Some m)
-      (is_on work cid) _ _ (λ _. refl) (λ _. refl)
+      (is_busy_here work cid) _ _ (λ _. refl) (λ _. refl)
 
 pub foreign_packet : (a : Assembly) (at : ℕ) (work : Option ℕ) (f : Fields) (m : Open) → a.current ≡ Some m →
     (channel_of f ≡ m.cid → ⊥)

@@ -8,10 +8,10 @@ use Rattle.hid_packet.specs.Packet.{initialization}
 use Rattle.hid_assemble.specs.declared.table.ReplyRow.{ReplyRow, TheVariants.Short, TheVariants.Long}
 use Rattle.hid_assemble.specs.Table.{Begins, MAX_CHANNEL, init_packet_row, packet_class}
 use Rattle.hid_assemble.specs.Assembly.{Assembly, IsValidAssembly, OpenIsValid, open_after, message_after, assembly_after_class, accepted}
-use Rattle.hid_assemble.specs.Kept.{open_in, finished_in, assembly, IsValidState, AreValidContents}
+use Rattle.hid_assemble.specs.Kept.{stored_open, stored_finished, assembly, IsValidState, AreValidContents}
 
 lawful_in : (given : ℕ) (contents : Contents) (buffer : List ℕ) → length buffer ≡ 7609 → AreValidContents given contents
-    → OpenIsValid given (open_in buffer contents) × (length (finished_in buffer contents) ≤ 7609)
+    → OpenIsValid given (stored_open buffer contents) × (length (stored_finished buffer contents) ≤ 7609)
 lawful_in given x1 buffer size h = search (rules, arith, length-take-le)
 
 pub lawful : (given : ℕ) (contents : Contents) (buffer : List ℕ) (a : Assembly) → assembly given contents buffer ≡ a →

@@ -5,7 +5,7 @@ use Rattle.hid_packet.specs.Commands.{PING, INIT, CBOR, CANCEL, BROADCAST}
 use Rattle.hid_assemble.specs.{declared.table.ReplyRow.ReplyRow, Assembly.IsOpenMessage}
 use Rattle.hid_assemble.specs.declared.table.ReplyRow.TheVariants.{InitNew, Short, Long}
 use Rattle.hid_assemble.specs.declared.table.Continuation.{Continuation, TheVariants.Kept, TheVariants.Whole}
-use Rattle.hid_assemble.specs.Table.{MAX_CHANNEL, is_allocated, is_on, init_packet_row, continuation_kind}
+use Rattle.hid_assemble.specs.Table.{MAX_CHANNEL, is_allocated, is_busy_here, init_packet_row, continuation_kind}
 use Rattle.hid_assemble.proofs.{Comparing.cond_case, ByCommand.init_row, ByCommand.begin_row, ByCommand.by_command}
 use Rattle.hid_packet.specs.Limits.{MAX_MESSAGE_LEN}
 
@@ -51,7 +51,7 @@ row_says given current work cid cmd len few =
     let P = RowSays given cid cmd len in
     subst P (sym (by_command given current work cid cmd len))
     (cond_case P (cmd == CANCEL) _ _
-    (λ _. cond_case P (is_on work cid) _ _ (λ _. tt) (λ _. tt))
+    (λ _. cond_case P (is_busy_here work cid) _ _ (λ _. tt) (λ _. tt))
     (λ _. cond_case P (not (is_allocated given cid || ((cid == BROADCAST) && (cmd == INIT)))) _ _ (λ _. tt)
     (λ known. cond_case P (cmd == INIT) _ _ (λ _. init_says given cid cmd len few)
     (λ other. let on = channel_given given cid cmd known other in

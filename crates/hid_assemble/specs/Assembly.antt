@@ -83,8 +83,8 @@ open_after current at f (Continues Kept) = option_map (with_continuation at f) c
 open_after current at f (Continues Whole) = None
 
 -- The message that a packet completes: the first `len` bytes of its packets' data.
-abbrev pub completed : Fields → Open → Message
-completed f m = record { cid = m.cid; cmd = m.cmd; bytes = take m.len (m.bytes ++ data_of f) }
+abbrev pub completed_by : Fields → Open → Message
+completed_by f m = record { cid = m.cid; cmd = m.cmd; bytes = take m.len (m.bytes ++ data_of f) }
 
 -- The message that a packet completes, if any.
 unfoldable pub message_after : Option Open → Fields → PacketClass → Option Message
@@ -93,7 +93,7 @@ message_after current f (Begins Short) = Some (record {
   cmd = command_of f;
   bytes = take (length_of f) (data_of f);
 })
-message_after current f (Continues Whole) = option_map (completed f) current
+message_after current f (Continues Whole) = option_map (completed_by f) current
 message_after current f _ = None
 
 -- The bytes of a message, or none.

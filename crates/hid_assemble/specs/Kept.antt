@@ -6,8 +6,8 @@ use Rattle.hid_assemble.specs.declared.assembler.Contents.TheVariants.{Nothing, 
 use Rattle.hid_packet.specs.Limits.{data_capacity, MAX_MESSAGE_LEN}
 
 -- The incomplete message of the code's state, whose data is at the beginning of the buffer.
-abbrev pub opened : List ℕ → OpenMessage → Open
-opened buffer m = record {
+abbrev pub stored_open_message : List ℕ → OpenMessage → Open
+stored_open_message buffer m = record {
   cid = m.cid;
   cmd = m.cmd;
   len = m.len;
@@ -17,23 +17,23 @@ opened buffer m = record {
 }
 
 -- The incomplete message in the code's state, if any.
-abbrev pub open_in : List ℕ → Contents → Option Open
-open_in buffer Nothing = None
-open_in buffer (HoldsOpen m) = Some (opened buffer m)
-open_in buffer (Finished len) = None
+abbrev pub stored_open : List ℕ → Contents → Option Open
+stored_open buffer Nothing = None
+stored_open buffer (HoldsOpen m) = Some (stored_open_message buffer m)
+stored_open buffer (Finished len) = None
 
 -- The bytes of the completed message in the code's state, or none.
-abbrev pub finished_in : List ℕ → Contents → List ℕ
-finished_in buffer Nothing = []
-finished_in buffer (HoldsOpen m) = []
-finished_in buffer (Finished len) = take len buffer
+abbrev pub stored_finished : List ℕ → Contents → List ℕ
+stored_finished buffer Nothing = []
+stored_finished buffer (HoldsOpen m) = []
+stored_finished buffer (Finished len) = take len buffer
 
 -- The state that the code's fields and buffer represent.
 unfoldable pub assembly : ℕ → Contents → List ℕ → Assembly
 assembly given contents buffer = record {
   given = given;
-  current = open_in buffer contents;
-  finished = finished_in buffer contents;
+  current = stored_open buffer contents;
+  finished = stored_finished buffer contents;
 }
 
 -- The code's fields are valid for this number of allocated channels.

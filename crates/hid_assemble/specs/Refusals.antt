@@ -2,7 +2,7 @@
 -- (CTAP 2.1, section 11.2.9.1.6).
 use Rattle.std.specs.Prelude.{ℕ, Option, Some, None, unwrap_or, if◌then◌else◌}
 use Rattle.hid_packet.specs.Packet.{Fields, initialization, continuation}
-use Rattle.hid_assemble.specs.Table.{Open, is_on_other}
+use Rattle.hid_assemble.specs.Table.{Open, is_busy_elsewhere}
 use Rattle.hid_assemble.specs.declared.refusal.Refusal.{Refusal}
 use Rattle.hid_assemble.specs.declared.refusal.Refusal.TheVariants.{NoSuchCommand, InitLength, MessageLength}
 use Rattle.hid_assemble.specs.declared.refusal.Refusal.TheVariants.{WrongNumber, BrokenOff, Overdue, BusyElsewhere}
@@ -27,15 +27,15 @@ expected_sequence_of None = 0
 expected_sequence_of (Some m) = m.kept
 
 -- The time of the incomplete message's last packet.
-abbrev pub last_of : Option Open → ℕ
-last_of None = 0
-last_of (Some m) = m.last
+abbrev pub last_packet_time : Option Open → ℕ
+last_packet_time None = 0
+last_packet_time (Some m) = m.last
 
 -- The sequence number of a continuation packet.
-abbrev pub number_in : Fields → ℕ
-number_in (initialization cid cmd len part) = 0
-number_in (continuation cid number part) = number
+abbrev pub sequence_of : Fields → ℕ
+sequence_of (initialization cid cmd len part) = 0
+sequence_of (continuation cid number part) = number
 
 -- The channel that is busy: that of the incomplete message, or else that of the pending request.
 abbrev pub busy_channel : Option ℕ → Option ℕ → ℕ → ℕ
-busy_channel current work cid = if is_on_other current cid then unwrap_or current cid else unwrap_or work cid
+busy_channel current work cid = if is_busy_elsewhere current cid then unwrap_or current cid else unwrap_or work cid

@@ -32,14 +32,14 @@ abbrev pub is_allocated : ℕ → ℕ → Bool
 is_allocated given cid = nat_le 1 cid && nat_le cid given
 
 -- A channel is busy, and it is this one.
-abbrev pub is_on : Option ℕ → ℕ → Bool
-is_on None cid = false
-is_on (Some busy) cid = busy == cid
+abbrev pub is_busy_here : Option ℕ → ℕ → Bool
+is_busy_here None cid = false
+is_busy_here (Some busy) cid = busy == cid
 
 -- A channel is busy, and it is another one.
-abbrev pub is_on_other : Option ℕ → ℕ → Bool
-is_on_other None cid = false
-is_on_other (Some busy) cid = not (busy == cid)
+abbrev pub is_busy_elsewhere : Option ℕ → ℕ → Bool
+is_busy_elsewhere None cid = false
+is_busy_elsewhere (Some busy) cid = not (busy == cid)
 
 -- The first row whose test holds, or else the last argument.
 abbrev pub first_row : List (Bool × ReplyRow) → ReplyRow → ReplyRow
@@ -52,16 +52,16 @@ unfoldable pub init_packet_row : ℕ → Option ℕ → Option ℕ → ℕ → �
 init_packet_row given current work cid cmd len =
     let asks_for_channel = (cid == BROADCAST) && (cmd == INIT) in
     first_row
-    (((cmd == CANCEL) && is_on work cid, CancelsWork)
+    (((cmd == CANCEL) && is_busy_here work cid, CancelsWork)
     ∷ (cmd == CANCEL, CancelsNothing)
     ∷ (not (is_allocated given cid || asks_for_channel), NoSuchChannel)
     ∷ ((cmd == INIT) && not (len == 8), InitLength)
     ∷ (asks_for_channel && (given == MAX_CHANNEL), InitFull)
     ∷ (asks_for_channel, InitNew)
     ∷ (cmd == INIT, InitAgain)
-    ∷ (is_on_other current cid || is_on_other work cid, BusyElsewhere)
-    ∷ (is_on work cid, BusyHere)
-    ∷ (is_on current cid, BrokenOff)
+    ∷ (is_busy_elsewhere current cid || is_busy_elsewhere work cid, BusyElsewhere)
+    ∷ (is_busy_here work cid, BusyHere)
+    ∷ (is_busy_here current cid, BrokenOff)
     ∷ (not (cmd == PING || cmd == CBOR), NoSuchCommand)
     ∷ (nat_lt MAX_MESSAGE_LEN len || (cmd == CBOR && (len == 0)), BadLength)
     ∷ (nat_le len INIT_PACKET_DATA, Short)

@@ -2,9 +2,9 @@
 use Rattle.std.specs.Prelude.{ℕ, ◌+◌, Bool, true, false, List, take, Option, Some, None, option_map, if◌then◌else◌}
 use Rattle.hid_packet.specs.Commands.{BROADCAST}
 use Rattle.hid_packet.specs.Packet.{Fields, channel_of, command_of, length_of, data_of}
-use Rattle.hid_assemble.specs.Table.{Open, PacketClass, Begins, Continues, is_on, packet_class}
+use Rattle.hid_assemble.specs.Table.{Open, PacketClass, Begins, Continues, is_busy_here, packet_class}
 use Rattle.hid_assemble.specs.Assembly.{Assembly, Message, message_after}
-use Rattle.hid_assemble.specs.Refusals.{expected_sequence_of, number_in, busy_channel}
+use Rattle.hid_assemble.specs.Refusals.{expected_sequence_of, sequence_of, busy_channel}
 use Rattle.hid_assemble.specs.declared.refusal.Refusal.TheVariants as because
 use Rattle.hid_assemble.specs.declared.table.ReplyRow.TheVariants.{CancelsWork, CancelsNothing, NoSuchChannel}
 use Rattle.hid_assemble.specs.declared.table.ReplyRow.TheVariants.{InitLength, InitFull, InitNew, InitAgain}
@@ -29,7 +29,7 @@ finished_verdict (Some m) = Finished m.cid m.cmd
 
 -- INIT on an allocated channel is answered with the same channel ID, and drops the pending request of that channel.
 abbrev pub init_on_allocated : Option ℕ → ℕ → List ℕ → Verdict
-init_on_allocated work cid nonce = if is_on work cid then GreetAndDrop cid cid nonce else Greet cid cid nonce
+init_on_allocated work cid nonce = if is_busy_here work cid then GreetAndDrop cid cid nonce else Greet cid cid nonce
 
 -- The verdict on a packet by its classification, and the message that it completes, if any.
 unfoldable pub class_verdict : ℕ → Option Open → Option ℕ → Fields → Option Message → PacketClass → Verdict
@@ -51,7 +51,7 @@ class_verdict given current work f m (Begins Short) = finished_verdict m
 class_verdict given current work f m (Begins Long) = Kept
 class_verdict given current work f m (Continues Stray) = Ignored
 class_verdict given current work f m (Continues WrongNumber) =
-    Refuse (channel_of f) (because.WrongNumber (number_in f) (expected_sequence_of current))
+    Refuse (channel_of f) (because.WrongNumber (sequence_of f) (expected_sequence_of current))
 class_verdict given current work f m (Continues KeptOn) = Kept
 class_verdict given current work f m (Continues Whole) = finished_verdict m
 

@@ -3,8 +3,8 @@
 ghost use Rattle.std.specs.Prelude.{◌≡◌, ℕ, ◌+◌, ◌*◌, ◌≤◌, ◌<◌, ◌++◌, [], length, take, drop, Option, None, Some, option_map, if◌then◌else◌};
 ghost use Rattle.hid_packet.specs.Packet.{fields, initialization, continuation};
 ghost use Rattle.hid_assemble.specs.Assembly.{IsValidAssembly, is_overdue, still_open, stored_len, accepted, drop_on};
-ghost use Rattle.hid_assemble.specs.Table.{MAX_CHANNEL, is_noise, is_on, packet_class};
-ghost use Rattle.hid_assemble.specs.Refusals.{expected_sequence_of, last_of, busy_channel};
+ghost use Rattle.hid_assemble.specs.Table.{MAX_CHANNEL, is_noise, is_busy_here, packet_class};
+ghost use Rattle.hid_assemble.specs.Refusals.{expected_sequence_of, last_packet_time, busy_channel};
 ghost use Rattle.hid_assemble.specs.Verdicts.{verdict};
 ghost use Rattle.hid_packet.specs.Limits.{CONT_PACKET_DATA, INIT_PACKET_DATA, MAX_STORED_LEN, MAX_MESSAGE_LEN};
 
@@ -65,7 +65,7 @@ fn put_data(message: &mut [u8], held: usize, part: &[u8])
 /// dropped.
 fn init_verdict(on: u32, channel: u32, part: &[u8], working: Option<u32>) -> Verdict
     requires { 8 ≤ length part.now }
-    ensures { result ≡ (if is_on working on then Verdict.GreetAndDrop on channel (take 8 part.now)
+    ensures { result ≡ (if is_busy_here working on then Verdict.GreetAndDrop on channel (take 8 part.now)
         else Verdict.Greet on channel (take 8 part.now)) }
 {
     let mut nonce = [0; 8];
@@ -364,7 +364,7 @@ impl Assembler {
 
     /// Returns the timestamp of the open message's last packet, or 0.
     pub fn last(&self) -> u64
-        ensures { result ≡ last_of self.now.current }
+        ensures { result ≡ last_packet_time self.now.current }
     {
         match self.contents {
             Contents::Open(message) => message.last,

@@ -120,7 +120,7 @@ pub(crate) fn init_packet_row(
 
 /// Returns how a continuation packet relates to this open message.
 pub(crate) fn cont_packet_row(message: &OpenMessage, cid: u32, number: u8) -> Continuation
-    ensures { result ≡ spec.continues message.now.cid message.now.len message.now.kept cid number }
+    ensures { result ≡ spec.continuation_kind message.now.cid message.now.len message.now.kept cid number }
 {
     let kept = usize::from(message.kept);
     if message.cid != cid {

@@ -5,7 +5,7 @@ use Rattle.std.proofs.Common.{get_or-drop, get_or-take}
 use native.Mathlib.Nat.{mod-add-mod}
 use Rattle.std.proofs.Math.Seq.{take-length, drop-length}
 use Rattle.std.proofs.lemmas.{List.same_lists, List.get_or_append_left, List.get_or-append_right, Bool.cases_lt}
-use Rattle.hid_packet.specs.Queue.{overwritten, window}
+use Rattle.hid_packet.specs.Queue.{with_overwritten, window}
 use Rattle.hid_packet.proofs.Windows.{wraps_once, length-window, get_or-window}
 
 module _ (e : ℕ) (front back xs : List ℕ) (fits : e + length front ≤ length xs) where
@@ -16,14 +16,14 @@ module _ (e : ℕ) (front back xs : List ℕ) (fits : e + length front ≤ lengt
   unfolding inner
   length-inner = simp (length-append, length-drop) (omega (arith, length-take-le e xs (omega arith)))
 
-  pub length-overwritten : length back ≤ length xs → length (overwritten e front back xs) ≡ length xs
+  pub length-with_overwritten : length back ≤ length xs → length (with_overwritten e front back xs) ≡ length xs
   unfolding inner
-  length-overwritten le = simp (length-append, length-drop) (omega (arith, length-take-le e xs (omega arith)))
+  length-with_overwritten le = simp (length-append, length-drop) (omega (arith, length-take-le e xs (omega arith)))
 
-  at_back : (j d : ℕ) → j < length back → get_or (overwritten e front back xs) j d ≡ get_or back j d
+  at_back : (j d : ℕ) → j < length back → get_or (with_overwritten e front back xs) j d ≡ get_or back j d
   at_back j d lt = get_or_append_left back _ d j lt
 
-  past_back : (j d : ℕ) → length back ≤ j → get_or (overwritten e front back xs) j d ≡ get_or inner j d
+  past_back : (j d : ℕ) → length back ≤ j → get_or (with_overwritten e front back xs) j d ≡ get_or inner j d
   unfolding inner
   past_back j d le =
       get_or-append_right back _ (length back) j d refl le ∙ get_or-drop (length back) inner (j - length back) d
@@ -49,31 +49,31 @@ module _ (e : ℕ) (front back xs : List ℕ) (fits : e + length front ≤ lengt
 
   -- what is in no place that was written stays
   pub kept_at : (j d : ℕ) → length back ≤ j → (j < e) ⊎ (e + length front ≤ j) →
-      get_or (overwritten e front back xs) j d ≡ get_or xs j d
+      get_or (with_overwritten e front back xs) j d ≡ get_or xs j d
   kept_at j d le (inl lt) = past_back j d le ∙ before j d lt
   kept_at j d le (inr ge) = past_back j d le ∙ after j d ge
 
   pub front_at : (j d : ℕ) → length back ≤ j → e ≤ j → j < e + length front →
-      get_or (overwritten e front back xs) j d ≡ get_or front (j - e) d
+      get_or (with_overwritten e front back xs) j d ≡ get_or front (j - e) d
   front_at j d le ge lt = past_back j d le ∙ at_front j d ge lt
 
-  pub back_at : (j d : ℕ) → j < length back → get_or (overwritten e front back xs) j d ≡ get_or back j d
+  pub back_at : (j d : ℕ) → j < length back → get_or (with_overwritten e front back xs) j d ≡ get_or back j d
   back_at = at_back
 
 -- all bytes fit before the end
 pub straight_put : (e : ℕ) (ys xs out : List ℕ) → out ≡ take e xs ++ (ys ++ drop (e + length ys) xs) →
-    out ≡ overwritten e (take (length ys) ys) (drop (length ys) ys) xs
+    out ≡ with_overwritten e (take (length ys) ys) (drop (length ys) ys) xs
 straight_put e ys xs out is = rw (take-length, drop-length) is
 
 -- the back is written at the first places
 pub round_put : (e : ℕ) (front back xs inner out : List ℕ) → inner ≡ take e xs ++ (front ++ drop (e + length front) xs)
-    → out ≡ take 0 inner ++ (back ++ drop (0 + length back) inner) → out ≡ overwritten e front back xs
+    → out ≡ take 0 inner ++ (back ++ drop (0 + length back) inner) → out ≡ with_overwritten e front back xs
 round_put e front back xs inner out i o = o ∙ ap₂ (λ k l. back ++ drop k l) (omega arith) i
 
 module _ (size first n m e : ℕ) (xs ys : List ℕ) (in_range : first < size) (fits : n + length ys ≤ size)
     (length_xs : length xs ≡ size) (end_is : e ≡ (first + n) % size) (part : m ≡ min (length ys) (size - e)) where
   abbrev filled : List ℕ
-  filled = overwritten e (take m ys) (drop m ys) xs
+  filled = with_overwritten e (take m ys) (drop m ys) xs
 
   end_at : ((first + n < size) × (e ≡ first + n)) ⊎ ((size ≤ first + n) × (e ≡ first + n - size))
   end_at = elim (wraps_once size (first + n) (omega arith)) [
@@ -138,7 +138,7 @@ module _ (size first n m e : ℕ) (xs ys : List ℕ) (in_range : first < size) (
       ] in
       let f : length (take m ys) ≡ m = length-take-le m ys (omega arith) in
       let b = length-drop m ys in
-      let length_filled : length filled ≡ size = length-overwritten e (take m ys) (drop m ys) xs (omega arith)
+      let length_filled : length filled ≡ size = length-with_overwritten e (take m ys) (drop m ys) xs (omega arith)
       (omega arith) ∙ length_xs in
       let old = length-window size first n xs in_range (omega arith) length_xs in
       let new = length-window size first (n + length ys) filled in_range fits length_filled in
@@ -155,7 +155,7 @@ module _ (size first n m e : ℕ) (xs ys : List ℕ) (in_range : first < size) (
 -- the same of the bytes that wait as clauses see them, however they were written
 pub put_around : (size first n m e : ℕ) (xs ys now out : List ℕ) → first < size → n ≤ size → length xs ≡ size →
     window first n xs ≡ now → length now + length ys ≤ size → e ≡ (first + n) % size
-    → m ≡ min (length ys) (size - e) → out ≡ overwritten e (take m ys) (drop m ys) xs →
+    → m ≡ min (length ys) (size - e) → out ≡ with_overwritten e (take m ys) (drop m ys) xs →
     window first (n + length ys) out ≡ now ++ ys
 put_around size first n m e xs ys now out in_range fits length_xs view space end_is part is =
     let waiting = length-window size first n xs in_range fits length_xs in

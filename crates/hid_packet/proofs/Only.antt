@@ -7,7 +7,7 @@ use Rattle.byteorder.specs.Endian.{big_bytes, big_number}
 use Rattle.hid_packet.specs.Packet.{channel, is_initialization, command, message_length, sequence, initialization_data}
 use Rattle.hid_packet.specs.{Packet.continuation_data, Carries.AreContinuations, Carries.IsLeast, Carries.CarriesMessage}
 use Rattle.hid_packet.specs.Message.{padded_packet, initialization_packet, continuation_packet, continuation_packets, message_packets}
-use Rattle.hid_packet.specs.Padding.{IsPacket, ArePackets, FurtherDataIsZero}
+use Rattle.hid_packet.specs.Padding.{IsPacket, ArePackets, PaddingIsZero}
 use Rattle.hid_packet.proofs.{Bytes.bytes_of_number, Bytes.bytes-drop, Carrying.fill_up}
 use Rattle.hid_packet.proofs.Writing.{one_continuation, no_continuation}
 
@@ -110,7 +110,7 @@ only_continuations most cid number n bytes (packet ∷ others) whole continues f
     ap₂ ◌∷◌ one more ∙ sym (one_continuation most cid number bytes (omega arith) (omega arith))
 
 pub only_written : (packets : List (List ℕ)) (cid cmd : ℕ) (bytes : List ℕ) → CarriesMessage packets cid cmd bytes
-    → ArePackets packets → FurtherDataIsZero bytes packets → packets ≡ message_packets cid cmd bytes
+    → ArePackets packets → PaddingIsZero bytes packets → packets ≡ message_packets cid cmd bytes
 unfolding message_packets
 only_written [] cid cmd bytes carried whole zeros = absurd carried
 only_written (first ∷ others) cid cmd bytes carried whole zeros =

@@ -7,7 +7,7 @@ use Rattle.std.specs.List.{AllByRecursion, refill, remove}
 use Rattle.std.proofs.Math.Seq.{drop-length, take-length}
 use Rattle.std.proofs.lemmas.List.{take-append-le, drop-append-le, take_all, drop_all}
 use Rattle.hid_packet.specs.Message.{continuation_packets, initialization_packet, message_packets}
-use Rattle.hid_packet.specs.Queue.{entry_len, entry_packets, queued_packets, HasPacketLeft, IsDue, IsHeld, IsQueued}
+use Rattle.hid_packet.specs.Queue.{entry_len, entry_packets, queued_packets, HasPacketLeft, HasEntryPacket, AreEntriesOf, IsQueued}
 use Rattle.hid_packet.specs.declared.queued.Queued.{Queued, TheVariants.Whole, TheVariants.Part}
 use Rattle.hid_packet.{specs.declared.fragments.NextPacket.NextPacket, proofs.Carrying.fewest_written}
 use Rattle.hid_packet.specs.declared.fragments.NextPacket.TheVariants.{Initialization, Continuation}
@@ -38,7 +38,7 @@ pub first_written : (cid cmd : ℕ) (bytes : List ℕ) → 1 ≤ length (message
 unfolding message_packets
 first_written cid cmd bytes = omega arith
 
-pub entry_fills : (e : Queued) (bytes : List ℕ) → IsDue e → length bytes ≡ entry_len e → Fills e bytes
+pub entry_fills : (e : Queued) (bytes : List ℕ) → HasEntryPacket e → length bytes ≡ entry_len e → Fills e bytes
 entry_fills Whole bytes due len = record { some = omega arith; enough = omega arith }
 entry_fills (Part message) bytes due len = go message.due refl due
   where
@@ -56,7 +56,7 @@ pub record Bounds (es : List Queued) (bytes : List ℕ) : Type 0 where
   pub entries : length es ≤ length (queued_packets es bytes)
   pub enough : length bytes ≤ 64 * length (queued_packets es bytes)
 
-pub bounds : (es : List Queued) (bytes : List ℕ) → IsHeld es bytes → Bounds es bytes
+pub bounds : (es : List Queued) (bytes : List ℕ) → AreEntriesOf es bytes → Bounds es bytes
 unfolding queued_packets
 bounds [] bytes held = search (rules, arith)
 bounds (e ∷ es) bytes held = grind (arith, common_steps, entry_fills, length-append, length-drop, length-take-le, sum_by-cons, bounds es (drop (entry_len e) bytes))
@@ -70,17 +70,17 @@ queued_packets-push [] [] more e sum len = grind (arith, append-nil, take-length
 queued_packets-push [] (b ∷ bytes) more e sum len = absurd (let none : sum_by entry_len [] ≡ 0 = refl in omega arith)
 queued_packets-push (x ∷ es) bytes more e sum len = grind (arith, common_steps, append_assoc, drop-append-le, length-drop, sum_by-cons, take-append-le, queued_packets-push es (drop (entry_len x) bytes) more e)
 
-all-push : (es : List Queued) (e : Queued) → AllByRecursion IsDue es → IsDue e → AllByRecursion IsDue (es ++ e ∷ [])
+all-push : (es : List Queued) (e : Queued) → AllByRecursion HasEntryPacket es → HasEntryPacket e → AllByRecursion HasEntryPacket (es ++ e ∷ [])
 all-push [] e all one = (one, tt)
 all-push (x ∷ es) e all one = (all.0, all-push es e all.1 one)
 
-pub held-push : (es : List Queued) (bytes more : List ℕ) (e : Queued) → IsHeld es bytes → IsDue e →
-    length more ≡ entry_len e → IsHeld (es ++ e ∷ []) (bytes ++ more)
+pub held-push : (es : List Queued) (bytes more : List ℕ) (e : Queued) → AreEntriesOf es bytes → HasEntryPacket e →
+    length more ≡ entry_len e → AreEntriesOf (es ++ e ∷ []) (bytes ++ more)
 held-push es bytes more e held due len = grind (arith, all-push, length-append, sum_by-append, sum_by-cons)
 
 -- the first entry is gone, with its packet
-pub held-pop : (es more : List Queued) (e : Queued) (bytes : List ℕ) → es ≡ e ∷ more → IsHeld es bytes →
-    IsHeld (remove es 0) (drop (entry_len e) bytes)
+pub held-pop : (es more : List Queued) (e : Queued) (bytes : List ℕ) → es ≡ e ∷ more → AreEntriesOf es bytes →
+    AreEntriesOf (remove es 0) (drop (entry_len e) bytes)
 held-pop es more e bytes is held = grind (arith, common_steps, length-drop, sum_by-cons)
 
 pub queued_packets-pop : (es more : List Queued) (e : Queued) (bytes : List ℕ) → es ≡ e ∷ more →
@@ -90,7 +90,7 @@ queued_packets-pop es more e bytes is = search (rules, arith)
 
 -- An entry was put, with its packets.
 pub queued-push : (es : List Queued) (bytes more : List ℕ) (e : Queued) (len count : ℕ) → IsQueued es bytes len →
-    IsDue e → length more ≡ entry_len e → count ≡ length (entry_packets e more) → len + count ≤ 130
+    HasEntryPacket e → length more ≡ entry_len e → count ≡ length (entry_packets e more) → len + count ≤ 130
     → IsQueued (es ++ e ∷ []) (bytes ++ more) (len + count)
 queued-push es bytes more e len count q due fits counts few =
     grind (arith, common_steps, held-push, length-append, queued_packets-push)

@@ -3,7 +3,7 @@ use Rattle.std.proofs.Common.{ℕ, ◌+◌, ◌-◌, ◌<◌, ◌≤◌, suc, ze
 use Rattle.std.proofs.{Common.length-append, lemmas.List.length-take, lemmas.List.length-replicate}
 use Rattle.byteorder.specs.Endian.{big_bytes}
 use Rattle.hid_packet.specs.Message.{padded_packet, initialization_packet, continuation_packet, continuation_packets, message_packets}
-use Rattle.hid_packet.specs.Padding.{AreBytes, IsPacket, ArePackets, FurtherDataIsZero}
+use Rattle.hid_packet.specs.Padding.{AreBytes, IsPacket, ArePackets, PaddingIsZero}
 use Rattle.hid_packet.proofs.Bytes.{bytes-append, bytes-take, bytes-drop, bytes-zeros, bytes-big_bytes}
 use Rattle.hid_packet.proofs.Carrying.{data_written}
 
@@ -48,6 +48,6 @@ whole_written cid cmd bytes low all = (
 )
 
 pub zeros_written : (cid cmd : ℕ) (bytes : List ℕ) → length bytes ≤ 7609 →
-    FurtherDataIsZero bytes (message_packets cid cmd bytes)
+    PaddingIsZero bytes (message_packets cid cmd bytes)
 unfolding message_packets
 zeros_written = data_written

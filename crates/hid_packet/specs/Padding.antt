@@ -22,5 +22,5 @@ data_bytes [] = []
 data_bytes (first ∷ others) = joined_data first others
 
 -- The packets' data is the message's bytes, followed by zeros.
-abbrev pub FurtherDataIsZero : (bytes : List ℕ) (packets : List (List ℕ)) → Type 0
-FurtherDataIsZero bytes packets = (further : ℕ) × (data_bytes packets ≡ bytes ++ replicate further 0)
+abbrev pub PaddingIsZero : (bytes : List ℕ) (packets : List (List ℕ)) → Type 0
+PaddingIsZero bytes packets = (further : ℕ) × (data_bytes packets ≡ bytes ++ replicate further 0)

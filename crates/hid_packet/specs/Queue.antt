@@ -11,8 +11,8 @@ abbrev pub window : {X : Type 0} → (first len : ℕ) → List X → List X
 window first len ring = take len (drop first ring ++ take first ring)
 
 -- The ring buffer after `front` was written at an index, and `back` at index 0.
-abbrev pub overwritten : (place : ℕ) (front back ring : List ℕ) → List ℕ
-overwritten place front back ring = back ++ drop (length back)
+abbrev pub with_overwritten : (place : ℕ) (front back ring : List ℕ) → List ℕ
+with_overwritten place front back ring = back ++ drop (length back)
     (take place ring ++ (front ++ drop (place + length front) ring))
 
 -- The number of the ring buffer's bytes that belong to a queue entry.
@@ -37,17 +37,17 @@ HasPacketLeft (Initialization cmd) left = (cmd < 128) × (left ≤ MAX_MESSAGE_L
 HasPacketLeft (Continuation number) left = (0 < left) × (left ≤ CONT_PACKET_DATA * (128 - number))
 
 -- The entry has a packet left to send.
-abbrev pub IsDue : Queued → Type 0
-IsDue Whole = Unit {0}
-IsDue (Part message) = HasPacketLeft message.due message.left
+abbrev pub HasEntryPacket : Queued → Type 0
+HasEntryPacket Whole = Unit {0}
+HasEntryPacket (Part message) = HasPacketLeft message.due message.left
 
 -- The bytes are those of the entries, each of which has a packet left.
-pub record IsHeld (entries : List Queued) (bytes : List ℕ) : Type 0 where
-  pub due : AllByRecursion IsDue entries
+pub record AreEntriesOf (entries : List Queued) (bytes : List ℕ) : Type 0 where
+  pub due : AllByRecursion HasEntryPacket entries
   pub sum : sum_by entry_len entries ≡ length bytes
 
 -- The bytes are those of the entries, and `len` is the number of their packets.
 pub record IsQueued (entries : List Queued) (bytes : List ℕ) (len : ℕ) : Type 0 where
-  pub held : IsHeld entries bytes
+  pub held : AreEntriesOf entries bytes
   pub counted : len ≡ length (queued_packets entries bytes)
   pub few : len ≤ OUTBOX_CAPACITY

@@ -4,7 +4,7 @@
 ghost use Rattle.std.specs.Prelude.{◌≡◌, ℕ, ◌-◌, ◌^◌, ◌<◌, ◌≤◌, List, length};
 ghost use Rattle.hid_packet.specs.Message.{message_packets};
 ghost use Rattle.hid_packet.specs.Carries.{IsLeast, CarriesMessage};
-ghost use Rattle.hid_packet.specs.Padding.{AreBytes, ArePackets, FurtherDataIsZero};
+ghost use Rattle.hid_packet.specs.Padding.{AreBytes, ArePackets, PaddingIsZero};
 ghost use Rattle.hid_packet.specs.Limits.{MAX_MESSAGE_LEN};
 
 /// States that the packets written for a message carry it.
@@ -26,13 +26,13 @@ pub fn written_packets_are_the_fewest()
 pub fn written_packets_end_in_zeros()
     ensures packets { (cid cmd : ℕ) (bytes : List ℕ) → cmd < 128 → AreBytes bytes → ArePackets (message_packets cid cmd bytes) }
     ensures zeros { (cid cmd : ℕ) (bytes : List ℕ) → length bytes ≤ MAX_MESSAGE_LEN
-        → FurtherDataIsZero bytes (message_packets cid cmd bytes) }
+        → PaddingIsZero bytes (message_packets cid cmd bytes) }
 {}
 
 /// States that no other packets of 64 bytes carry the message padded with zeros.
 pub fn written_packets_are_the_only_ones()
     ensures { (packets : List (List ℕ)) (cid cmd : ℕ) (bytes : List ℕ)
-        → CarriesMessage packets cid cmd bytes → ArePackets packets → FurtherDataIsZero bytes packets
+        → CarriesMessage packets cid cmd bytes → ArePackets packets → PaddingIsZero bytes packets
         → packets ≡ message_packets cid cmd bytes }
 {}
 

@@ -3,7 +3,7 @@ ghost use Rattle.std.specs.Iterator.{YieldsFirstBy, item_count};
 ghost use Rattle.std.specs.List.{remove};
 ghost use Rattle.arrayvec.specs.ArrayVec.{array_vec_len};
 ghost use Rattle.hid_packet.specs.Message.{message_packets};
-ghost use Rattle.hid_packet.specs.Queue.{queued_packets, IsHeld};
+ghost use Rattle.hid_packet.specs.Queue.{queued_packets, AreEntriesOf};
 ghost use Rattle.hid_packet.specs.Limits.{MAX_MESSAGE_LEN, OUTBOX_CAPACITY};
 
 use crate::fragments::{NextPacket, packets_for, write_init_packet};
@@ -53,9 +53,9 @@ fn drop_first(entries: &mut Entries)
 /// Takes the next packet of the first entry, and removes the entry with its last packet.
 fn take_first(entry: Queued, entries: &mut Entries, ring: &mut RingBuffer) -> Packet
     requires first { (more : List Queued) × (entries.old.items ≡ entry ∷ more) }
-    requires held { IsHeld entries.old.items ring.old }
+    requires held { AreEntriesOf entries.old.items ring.old }
     ensures packets { queued_packets entries.old.items ring.old ≡ result.0 ∷ queued_packets entries.new.items ring.new }
-    ensures held { IsHeld entries.new.items ring.new }
+    ensures held { AreEntriesOf entries.new.items ring.new }
 {
     match entry {
         Queued::Whole => {

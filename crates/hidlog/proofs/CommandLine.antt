@@ -22,7 +22,7 @@ use Rattle.clap.specs.declared.parser.matches.{ArgMatches.ArgMatches, Found.Foun
 use Rattle.hidlog.specs.declared.args.{CommandOptions.CommandOptions, ShowFormat.TheVariants.Lines}
 use Rattle.hidlog.specs.declared.args.Verbosity.{TheVariants.ByTerminal}
 use Rattle.hidlog.specs.declared.cli.{CommandEntry.CommandEntry, CommandParameter.CommandParameter}
-use Rattle.hidlog.specs.CommandLine.{Task, command, command_for, rule_for, ask_of, parsed_command_line, grammar}
+use Rattle.hidlog.specs.CommandLine.{Task, command, command_for, rule_for, command_task, parsed_command_line, grammar}
 use Rattle.hidlog.specs.CommandLine.{answers_to, logs_of, play, check, show, task_for, to_texts}
 use Rattle.clap.specs.declared.error.kind.ErrorKind.TheVariants as kind
 use Rattle.session_log.specs.declared.command.ReplayMode.TheVariants as playing
@@ -170,7 +170,7 @@ asks_something : (a b c d e help : Shape) (words : List Text) (is_a is_b is_c is
     → let met = option_map (λ (s : Shape). rows_at s words) (cond (is_a || false) (Some a) (cond (is_b || false) (Some b)
     (cond (is_c || false) (Some c) (cond (is_d || false) (Some d)
     (cond (is_e || false) (Some e) (cond (is_help || false) (Some help) None)))))) in
-    is_some met ≡ true → is_some (option_and_then ask_of met) ≡ true
+    is_some met ≡ true → is_some (option_and_then command_task met) ≡ true
 asks_something a b c d e help words true is_b is_c is_d is_e is_help a_name b_name c_name d_name e_name no_help some =
     rw a_name refl
 asks_something a b c d e help words false true is_c is_d is_e is_help a_name b_name c_name d_name e_name no_help some =
@@ -187,7 +187,7 @@ asks_something a b c d e help words false false false false false false a_name b
     = cc
 
 entered_asks : (stop : Option (Text × List Text)) → NoHelp stop → is_some (entered (built grammar) stop) ≡ true
-    → is_some (option_and_then ask_of (entered (built grammar) stop)) ≡ true
+    → is_some (option_and_then command_task (entered (built grammar) stop)) ≡ true
 entered_asks None no_help some = cc
 entered_asks (Some stop) no_help some =
     let sub : ℕ → Shape = λ place. slice_index_or (built grammar).subs place help_shape in
@@ -199,7 +199,7 @@ entered_asks (Some stop) no_help some =
 
 -- Words without fault ask for something.
 faultless_asks : (words : List Text) → answers_to words ≡ [] →
-    is_some (option_and_then ask_of (subcommand_of grammar words)) ≡ true
+    is_some (option_and_then command_task (subcommand_of grammar words)) ≡ true
 unfolding answers_to
 faultless_asks words faultless =
     let app = built grammar in
@@ -220,17 +220,17 @@ faults_are app words P is says = subst (λ a. P (fault_of a words)) is
 -- Words without fault ask for what the command asks for that was met.
 pub asked_is : (app : App) (words : List Text) (m : ArgMatches) → app ≡ grammar → HasMatchesOf app words m →
     answers_to words ≡ []
-    → parsed_command_line words ≡ option_and_then ask_of (subcommand_rows_of m)
+    → parsed_command_line words ≡ option_and_then command_task (subcommand_rows_of m)
 unfolding parsed_command_line
 asked_is app words m is has faultless =
-    rw faultless (ap (option_and_then ask_of) (sym ((has (ap is_simple is)).1 ∙ ap (λ a. subcommand_of a words) is)))
+    rw faultless (ap (option_and_then command_task) (sym ((has (ap is_simple is)).1 ∙ ap (λ a. subcommand_of a words) is)))
 
 -- They ask for something.
 pub asked_some : (app : App) (words : List Text) (m : ArgMatches) → app ≡ grammar → HasMatchesOf app words m →
     answers_to words ≡ []
-    → is_some (option_and_then ask_of (subcommand_rows_of m)) ≡ true
+    → is_some (option_and_then command_task (subcommand_rows_of m)) ≡ true
 asked_some app words m is has faultless =
-    ap (λ met. is_some (option_and_then ask_of met)) ((has (ap is_simple is)).1 ∙ ap (λ a. subcommand_of a words) is)
+    ap (λ met. is_some (option_and_then command_task met)) ((has (ap is_simple is)).1 ∙ ap (λ a. subcommand_of a words) is)
     ∙ faultless_asks words faultless
 
 -- ---- what the code meets

@@ -82,26 +82,26 @@ pub data Task : Type 0 where
   show : (form : ShowFormat) (wide : Bool) (log : Option (List ℕ)) → Task
 
 -- The bytes of a path, if any.
-abbrev pub path_of : Option (Bor (List ℕ)) → Option (List ℕ)
-path_of = option_map (λ path. path.now)
+abbrev pub to_path : Option (Bor (List ℕ)) → Option (List ℕ)
+to_path = option_map (λ path. path.now)
 
 -- the words' bytes
 abbrev pub to_texts : List (Bor (List ℕ)) → List (List ℕ)
 to_texts words = map (λ word. word.now) words
 
 -- Converts a task of the code to one of the definitions, with the paths of all logs.
-abbrev pub task_of : Action → (logs : List (List ℕ)) → Task
-task_of (Play p) logs = play p.command (path_of p.load) (path_of p.save) (path_of p.log)
-task_of (Check load all json) logs = check (path_of load) all json logs
-task_of (Show form wide log) logs = show form wide (path_of log)
+abbrev pub to_task : Action → (logs : List (List ℕ)) → Task
+to_task (Play p) logs = play p.command (to_path p.load) (to_path p.save) (to_path p.log)
+to_task (Check load all json) logs = check (to_path load) all json logs
+to_task (Show form wide log) logs = show form wide (to_path log)
 
 -- Whether an option without a value is present.
 abbrev pub is_set : List ℕ → List Row → Bool
 is_set name found = option_map_or (λ text. bytes_eq text (codes "true")) (first_of name found) false
 
 -- The requested output format.
-abbrev pub form_of : List Row → ShowFormat
-form_of found =
+abbrev pub show_format : List Row → ShowFormat
+show_format found =
     if is_set (codes "json") found then if is_set (codes "summary") found then JsonSummary else Json
     else if is_set (codes "summary") found then Summary else Lines
 
@@ -122,30 +122,30 @@ logs_of found = unwrap_or (all_of (codes "log") found) []
 
 -- Converts the code's arguments to a task and a level of detail of the definitions.
 abbrev pub task_and_verbosity : Invocation → Task × Verbosity
-task_and_verbosity asked = (task_of asked.task (to_texts asked.logs.items), asked.manner)
+task_and_verbosity asked = (to_task asked.task (to_texts asked.logs.items), asked.manner)
 
 -- These are the parsed options.
 abbrev pub AreParsedOptions : CommandOptions → List Row → Type 0
-AreParsedOptions options found = (path_of options.load ≡ first_of (codes "load") found)
-    × (path_of options.save ≡ first_of (codes "save") found)
-    × (path_of options.log ≡ first_of (codes "log") found)
+AreParsedOptions options found = (to_path options.load ≡ first_of (codes "load") found)
+    × (to_path options.save ≡ first_of (codes "save") found)
+    × (to_path options.log ≡ first_of (codes "log") found)
     × (options.all ≡ is_set (codes "all") found)
     × (options.json ≡ is_set (codes "json") found)
     × (options.wide ≡ is_set (codes "wide") found)
-    × (options.form ≡ form_of found)
+    × (options.form ≡ show_format found)
     × (options.manner ≡ verbosity_of found)
 
 -- The task of a command, by its name, its options and the paths of all logs.
 abbrev pub task_for : List ℕ → CommandOptions → (logs : List (List ℕ)) → Option Task
 task_for name options logs =
     if bytes_eq name (codes "replay") then
-    Some (play playing.Replay (path_of options.load) (path_of options.save) (path_of options.log))
+    Some (play playing.Replay (to_path options.load) (to_path options.save) (to_path options.log))
     else if bytes_eq name (codes "live") then
-    Some (play playing.Live (path_of options.load) (path_of options.save) (path_of options.log))
-    else if bytes_eq name (codes "check") then Some (check (path_of options.load) options.all options.json logs)
+    Some (play playing.Live (to_path options.load) (to_path options.save) (to_path options.log))
+    else if bytes_eq name (codes "check") then Some (check (to_path options.load) options.all options.json logs)
     else if bytes_eq name (codes "quiet") then
-    Some (play playing.Quiet (path_of options.load) None (path_of options.log))
-    else if bytes_eq name (codes "show") then Some (show options.form options.wide (path_of options.log))
+    Some (play playing.Quiet (to_path options.load) None (to_path options.log))
+    else if bytes_eq name (codes "show") then Some (show options.form options.wide (to_path options.log))
     else None
 
 -- The task of a command, by its name and its parsed options.
@@ -159,13 +159,13 @@ task_by name found =
     (is_set (codes "all") found) (is_set (codes "json") found) (logs_of found))
     else if bytes_eq name (codes "quiet") then Some (play playing.Quiet (first_of (codes "load") found) None
     (first_of (codes "log") found))
-    else if bytes_eq name (codes "show") then Some (show (form_of found) (is_set (codes "wide") found)
+    else if bytes_eq name (codes "show") then Some (show (show_format found) (is_set (codes "wide") found)
     (first_of (codes "log") found))
     else None
 
 -- The task and the level of detail of a command with its parsed options.
-abbrev pub ask_of : List ℕ × List Row → Option (Task × Verbosity)
-ask_of (name, found) = option_map (λ ask. (ask, verbosity_of found)) (task_by name found)
+abbrev pub command_task : List ℕ × List Row → Option (Task × Verbosity)
+command_task (name, found) = option_map (λ ask. (ask, verbosity_of found)) (task_by name found)
 
 -- The task and the level of detail, unless clap has an error.
 abbrev pub unless : Kinds → Option (Task × Verbosity) → Option (Task × Verbosity)
@@ -175,7 +175,7 @@ unless (kind ∷ kinds) ask = None
 -- The task and the level of detail that the arguments specify, or None if the arguments are invalid. The first
 -- argument is the program's name.
 unfoldable pub parsed_command_line : List (List ℕ) → Option (Task × Verbosity)
-parsed_command_line words = unless (answers_to words) (option_and_then ask_of (subcommand_of grammar words))
+parsed_command_line words = unless (answers_to words) (option_and_then command_task (subcommand_of grammar words))
 
 -- The log at a path: no path and `-` mean standard input.
 abbrev pub named : Option (List ℕ) → Option (List ℕ)

@@ -8,7 +8,7 @@ use Rattle.authn_core.specs.Turn.{Start}
 use Rattle.cred_table.specs.declared.row.Row.{Row}
 use Rattle.token_session.specs.Meters.{SessionState}
 use Rattle.session_log.specs.Command.{IsCounted, PlaysLog, Status, start_with}
-use Rattle.session_log.specs.{Ending.ending_of, Replay.ReadsTo, Streams.IsAtEndOfInput, Streams.PutsLine}
+use Rattle.session_log.specs.{Ending.ending_of, Replay.ReadsTo, Streams.IsAtEndOfInput, Streams.WritesLogLine}
 use Rattle.session_log.specs.declared.command.ReplayMode.{ReplayMode, TheVariants.Check, TheVariants.Live}
 use Rattle.session_show.specs.Shown.{IsLineText, Shows, read_only_world}
 use Rattle.session_show.specs.declared.detail.Detail.{Detail, TheVariants.Explained, TheVariants.Fixed}
@@ -25,9 +25,9 @@ checked_save_path Live save = save
 checked_save_path _ save = None
 
 -- The logs to compare: standard input if none is named.
-abbrev pub or_input : List (List ℕ) → List (List ℕ)
-or_input [] = codes "-" ∷ []
-or_input (log ∷ logs) = log ∷ logs
+abbrev pub logs_or_input : List (List ℕ) → List (List ℕ)
+logs_or_input [] = codes "-" ∷ []
+logs_or_input (log ∷ logs) = log ∷ logs
 
 -- The log was shown in this format. The text for each line begins with the line's number, and no more was read than it
 -- takes to find an error. Without an error, the whole log was read, and no read or write failed. A pair is a source or
@@ -115,7 +115,7 @@ module _ {D I O F : Type 0} (model : Model D I O F) where
   abbrev pub CarriesOut : Task → Detail → (explained : Bool) → Status → (old new : Host D I O F) → Type 0
   CarriesOut (play command load save log) detail explained status old new =
       DoesCommand command load save log explained status old new
-  CarriesOut (check load all true logs) detail explained status old new = Compares load (or_input logs) status old new
+  CarriesOut (check load all true logs) detail explained status old new = Compares load (logs_or_input logs) status old new
   CarriesOut (check load all false []) detail explained status old new =
       DoesCommand Check load None None explained status old new
   CarriesOut (check load all false (log ∷ [])) detail explained status old new =
@@ -139,15 +139,15 @@ module _ {D I O F : Type 0} (model : Model D I O F) where
   -- The help was written; or writing failed, and that was reported.
   abbrev pub WritesHelp : Status → (old new : Host D I O F) → Type 0
   WritesHelp status old new = (text : List ℕ) × (answer : Ended) × (ended : Ended) × (put : O)
-      × PutsLine model.taken model.unput (old.output, put) text answer
+      × WritesLogLine model.taken model.unput (old.output, put) text answer
       × FlushesPending model.taken model.unput model.waits answer (put, new.output) ended
       × MatchResult ended (λ _. (status ≡ Ok tt) × (new ≡ record old { output = new.output }))
       (λ _. (status ≡ Err 2) × (new ≡ record old { output = new.output; faults = new.faults })
       × IsWrittenTo model.parsed model.unsaid (old.faults, new.faults) writing_failed)
 
   -- clap's message of this kind was written, or an allocation failed.
-  abbrev pub Explains : ErrorKind → Status → (old new : Host D I O F) → Type 0
-  Explains kind status old new = LacksMemory status old new
+  abbrev pub WritesClapMessage : ErrorKind → Status → (old new : Host D I O F) → Type 0
+  WritesClapMessage kind status old new = LacksMemory status old new
       ⊎ ((kind ≢ OutOfMemory) × MatchBool (is_help kind) (WritesHelp status old new) (Refuses status old new))
 
   -- The task of the arguments was carried out, or an allocation failed. If the arguments are invalid, clap's error is
@@ -155,7 +155,7 @@ module _ {D I O F : Type 0} (model : Model D I O F) where
   -- `--explain`, or if they go to a terminal.
   abbrev pub Answers : List (List ℕ) → Status → (old new : Host D I O F) → Type 0
   Answers words status old new = MatchOption (parsed_command_line words)
-      ((kind : ErrorKind) × IsAmong kind (OutOfMemory ∷ answers_to words) × Explains kind status old new)
+      ((kind : ErrorKind) × IsAmong kind (OutOfMemory ∷ answers_to words) × WritesClapMessage kind status old new)
       (λ asked. CarriesOut asked.0 (detail_for (explains asked.1 old.terminals.output))
       (explains asked.1 old.terminals.faults)
       status old new

@@ -7,10 +7,10 @@ use Rattle.hidlog.specs.declared.fault.ProgramFault.TheVariants.{RefusedSnapshot
 use Rattle.hidlog.specs.Program.{Ended, IsWrittenTo, IsReported, cannot_read, cannot_read_log, cannot_write, no_memory, refused}
 
 -- the exit status
-abbrev pub code_of : ProgramFault → ℕ
-code_of (Log fault) = 1
-code_of (LogOpenError path error) = 1
-code_of _ = 2
+abbrev pub exit_status : ProgramFault → ℕ
+exit_status (Log fault) = 1
+exit_status (LogOpenError path error) = 1
+exit_status _ = 2
 
 -- The message. That of a log error is not specified here.
 abbrev pub text_of : ProgramFault → List ℕ
@@ -29,22 +29,22 @@ pub data FaultText : Type 0 where
   reasoned : (code : ℕ) (text : List ℕ) → FaultText
 
 -- The text that is reported for an error of the code.
-abbrev pub fault_message_of : ProgramFault → FaultText
-fault_message_of Memory = alone 2 no_memory
-fault_message_of (Log fault) = of_log
-fault_message_of (LogOpenError path error) = reasoned 1 cannot_read_log
-fault_message_of (SnapshotReadError path error) = reasoned 2 cannot_read
-fault_message_of (RefusedSnapshot path fault bytes) = reasoned 2 (refused fault)
-fault_message_of (SnapshotWriteError path unwritten) = reasoned 2 cannot_write
+abbrev pub to_fault_text : ProgramFault → FaultText
+to_fault_text Memory = alone 2 no_memory
+to_fault_text (Log fault) = of_log
+to_fault_text (LogOpenError path error) = reasoned 1 cannot_read_log
+to_fault_text (SnapshotReadError path error) = reasoned 2 cannot_read
+to_fault_text (RefusedSnapshot path fault bytes) = reasoned 2 (refused fault)
+to_fault_text (SnapshotWriteError path unwritten) = reasoned 2 cannot_write
 
 -- The result of working on a log: its end, or an error.
 abbrev pub RunResult : Type 0
 RunResult = Result (Unit {0}) FaultText
 
 -- Converts the result of work on a log.
-abbrev pub result_of : {A : Type 0} → Result A ProgramFault → RunResult
-result_of (Ok x) = Ok tt
-result_of (Err fault) = Err (fault_message_of fault)
+abbrev pub to_result : {A : Type 0} → Result A ProgramFault → RunResult
+to_result (Ok x) = Ok tt
+to_result (Err fault) = Err (to_fault_text fault)
 
 -- Converts the result of playing a log.
 abbrev pub to_run_result : Ended → RunResult

@@ -1,7 +1,7 @@
 //! The program's command line arguments.
 ghost use Rattle.std.specs.Prelude.{◌≡◌, List, ℕ, Some, IfOk, IfErr, IfSome, option_map, option_and_then};
 ghost use Rattle.clap.specs.Words.{HasKind, subcommand_rows_of};
-ghost use Rattle.hidlog.specs.CommandLine.{AreParsedOptions, answers_to, ask_of, task_and_verbosity, parsed_command_line, task_of, explains, form_of, is_set as is_found, logs_of, verbosity_of, task_for, report_for};
+ghost use Rattle.hidlog.specs.CommandLine.{AreParsedOptions, answers_to, command_task, task_and_verbosity, parsed_command_line, to_task, explains, show_format, is_set as is_found, logs_of, verbosity_of, task_for, to_texts};
 ghost use Rattle.clap.specs.Matches.{found_of};
 ghost use Rattle.clap.specs.Walk.{rows_of};
 
@@ -92,7 +92,7 @@ struct CommandOptions<'a> {
 impl<'a> CommandOptions<'a> {
     /// Returns the action of the command with this name.
     fn task(&self, name: &str) -> Option<Action<'a>>
-        ensures { (logs : List (List ℕ)) → option_map (λ task. task_of task logs) result ≡ task_for name.now self.now logs }
+        ensures { (logs : List (List ℕ)) → option_map (λ task. to_task task logs) result ≡ task_for name.now self.now logs }
     {
         let mut play = Play {
             command: ReplayMode::Replay,
@@ -139,7 +139,7 @@ fn is_set(options: &ArgMatches<'_>, name: &str) -> bool
 
 /// Returns the requested format.
 fn parse_show_format(options: &ArgMatches<'_>) -> ShowFormat
-    ensures { result ≡ form_of (rows_of (found_of options.now)) }
+    ensures { result ≡ show_format (rows_of (found_of options.now)) }
 {
     match (is_set(options, "json"), is_set(options, "summary")) {
         (true, true) => ShowFormat::JsonSummary,
@@ -163,7 +163,7 @@ fn parse_verbosity(options: &ArgMatches<'_>) -> Verbosity
 }
 
 /// Returns the paths of the logs.
-fn logs_in<'a>(alloc: Global, options: &ArgMatches<'a>) -> Result<Vec<&'a str>, AllocError>
+fn parse_logs<'a>(alloc: Global, options: &ArgMatches<'a>) -> Result<Vec<&'a str>, AllocError>
     ensures { IfOk result (λ logs. to_texts logs.items ≡ logs_of (rows_of (found_of options.now))) }
 {
     match options.get_strs("log") {
@@ -176,7 +176,7 @@ fn logs_in<'a>(alloc: Global, options: &ArgMatches<'a>) -> Result<Vec<&'a str>, 
 }
 
 /// Returns the arguments after a command's name.
-fn options_in<'a>(options: &ArgMatches<'a>) -> CommandOptions<'a>
+fn parse_options<'a>(options: &ArgMatches<'a>) -> CommandOptions<'a>
     ensures { AreParsedOptions result (rows_of (found_of options.now)) }
 {
     CommandOptions {
@@ -192,20 +192,20 @@ fn options_in<'a>(options: &ArgMatches<'a>) -> CommandOptions<'a>
 }
 
 /// Returns the action of the command that was given.
-fn task_in<'a>(
+fn parse_action<'a>(
     alloc: Global,
     matches: &ArgMatches<'a>,
 ) -> Result<Option<Invocation<'a>>, AllocError>
-    ensures { IfOk result (λ asked. option_map task_and_verbosity asked ≡ option_and_then ask_of (subcommand_rows_of matches.now)) }
+    ensures { IfOk result (λ asked. option_map task_and_verbosity asked ≡ option_and_then command_task (subcommand_rows_of matches.now)) }
 {
     let Some((name, found)) = matches.subcommand() else {
         return Ok(None);
     };
-    let options = options_in(found);
+    let options = parse_options(found);
     match options.task(name) {
         Some(task) => Ok(Some(Invocation {
             task,
-            logs: logs_in(alloc, found)?,
+            logs: parse_logs(alloc, found)?,
             manner: options.manner,
         })),
         None => Ok(None),
@@ -250,7 +250,7 @@ pub fn parse_args<'a>(alloc: Global, words: &'a [&'a str]) -> Result<Invocation<
         return Ok(asked);
     }
     let matches = program(alloc)?.try_get_matches_from(words)?;
-    let asked = task_in(alloc, &matches);
+    let asked = parse_action(alloc, &matches);
     drop(matches);
     match asked? {
         Some(asked) => Ok(asked),

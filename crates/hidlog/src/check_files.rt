@@ -1,6 +1,6 @@
 //! Checks several logs, one after the other.
 ghost use Rattle.std.specs.Prelude.{◌≡◌, ◌<◌, ◌-◌, ◌^◌, ◌⊎◌, IfErr, OnOk};
-ghost use Rattle.hidlog.specs.CommandLine.{path_of, report_for};
+ghost use Rattle.hidlog.specs.CommandLine.{to_path, to_texts};
 ghost use Rattle.hidlog.specs.Commands.{Compares};
 ghost use Rattle.hidlog.specs.Model.{CanFail};
 ghost use Rattle.hidlog.specs.Several.{IsSameAt};
@@ -101,7 +101,7 @@ pub fn report_note<D: Files, L: Logs, E: Target>(
     if ending.has_served && len <= MAX_REREAD_LEN {
         let mut same = *wish;
         same.is_same = true;
-        let again = input.again(false);
+        let again = input.reread(false);
         report_differences(files, &same, again, None, faults);
     }
 }
@@ -118,7 +118,7 @@ impl<D: Files, L: Logs, O: Output, E: Target> Host<D, L, O, E> {
     ) -> Result<CheckEnd, ProgramFault<'a>>
         requires { L.failed self.old.input < 2 ^ 64 - 1 }
         ensures only { self.new ≡ record self.old { input = self.new.input } }
-        ensures same { OnOk result (IsSameAt ⟦<Self as Modeled>⟧.model (path_of wish.now.load) self.old.files path.now
+        ensures same { OnOk result (IsSameAt ⟦<Self as Modeled>⟧.model (to_path wish.now.load) self.old.files path.now
             (self.old.input, self.new.input)) }
     {
         let session = &mut new_program_session();
@@ -170,7 +170,7 @@ impl<D: Files, L: Logs, O: Output, E: Target> Host<D, L, O, E> {
                 report_cause(&self.input.state(), None, told, faults);
             }
             if let LogFault::Differs { .. } = told {
-                let again = self.input.again(true);
+                let again = self.input.reread(true);
                 if wish.is_json {
                     report_differences(&self.files, wish, again, Some(fault), &mut self.output);
                 } else {
@@ -200,7 +200,7 @@ impl<D: Files, L: Logs, O: Output, E: Target> Host<D, L, O, E> {
         requires { CanFail ⟦<Self as Modeled>⟧.model self.old }
         ensures status { IfErr result (λ code. (code ≡ 1) ⊎ (code ≡ 2)) }
         ensures kept { self.new.files ≡ self.old.files }
-        ensures same { OnOk result (IsSameAt ⟦<Self as Modeled>⟧.model (path_of wish.now.load) self.old.files path.now
+        ensures same { OnOk result (IsSameAt ⟦<Self as Modeled>⟧.model (to_path wish.now.load) self.old.files path.now
             (self.old.input, self.new.input)) }
     {
         let mut same = Vec::new(self.alloc);
@@ -237,7 +237,7 @@ impl<D: Files, L: Logs, O: Output, E: Target> Host<D, L, O, E> {
     /// If a snapshot cannot be loaded, no further log is read.
     pub fn check_each(&mut self, wished: &ReportOptions<'_>, paths: &[&str]) -> Result<(), u8>
         ensures status { IfErr result (λ code. (code ≡ 1) ⊎ (code ≡ 2)) }
-        ensures compares { Compares ⟦<Self as Modeled>⟧.model (path_of wished.now.load) (to_texts paths.now) result
+        ensures compares { Compares ⟦<Self as Modeled>⟧.model (to_path wished.now.load) (to_texts paths.now) result
             self.old self.new }
     {
         let mut has_failed = false;

@@ -2,9 +2,9 @@
 ghost use Rattle.std.specs.Prelude.{◌≡◌, ◌⊎◌, [], None, Some, IfErr, IfOk, IsSomeAnd, MatchOption, OnOk};
 ghost use Rattle.session_log.specs.Command.{start_with};
 ghost use Rattle.token_session.specs.Meters.{session_of};
-ghost use Rattle.hidlog.specs.CommandLine.{named, path_of};
+ghost use Rattle.hidlog.specs.CommandLine.{named, to_path};
 ghost use Rattle.hidlog.specs.Commands.{StartsFromSnapshot, RunsCommand, RunsOn, checked_save_path};
-ghost use Rattle.hidlog.specs.Fault.{result_of, reasoned, fault_message_of};
+ghost use Rattle.hidlog.specs.Fault.{to_result, reasoned, to_fault_text};
 ghost use Rattle.hidlog.specs.Model.{CanFail};
 ghost use Rattle.hidlog.specs.Program.{cannot_read_log};
 ghost use Rattle.hidlog.specs.Saved.{FailsToSave};
@@ -33,11 +33,11 @@ pub fn open_log<'a, L: Logs>(
     input: &mut L,
     log: Option<&'a str>,
 ) -> Result<Option<&'a str>, ProgramFault<'a>>
-    ensures path { IfOk result (λ path. path_of path ≡ named (path_of log.entry)) }
-    ensures opened { OnOk result (MatchOption (named (path_of log.entry)) (input.new ≡ input.old)
+    ensures path { IfOk result (λ path. to_path path ≡ named (to_path log.entry)) }
+    ensures opened { OnOk result (MatchOption (named (to_path log.entry)) (input.new ≡ input.old)
         (λ path. L.opened input.old path input.new)) }
-    ensures fails { IfErr result (λ fault. (fault_message_of fault ≡ reasoned 1 cannot_read_log)
-        × IsSomeAnd (named (path_of log.entry)) (L.unopenable input.old) × (input.new ≡ input.old)) }
+    ensures fails { IfErr result (λ fault. (to_fault_text fault ≡ reasoned 1 cannot_read_log)
+        × IsSomeAnd (named (to_path log.entry)) (L.unopenable input.old) × (input.new ≡ input.old)) }
     ensures counted { L.failed input.new ≡ L.failed input.old }
 {
     let path = match log {
@@ -72,11 +72,11 @@ impl<D: Files, L: Logs, O: Output, E: Target> Host<D, L, O, E> {
         is_held: bool,
     ) -> Result<CheckEnd, ProgramFault<'a>>
         requires { CanFail ⟦<Self as Modeled>⟧.model self.old }
-        ensures { StartsFromSnapshot ⟦<Self as Modeled>⟧.model (path_of play.now.load)
+        ensures { StartsFromSnapshot ⟦<Self as Modeled>⟧.model (to_path play.now.load)
             (λ start. ((self.new ≡ self.old) × FailsToSave D.unwritable self.old.files
-            (checked_save_path play.now.command (path_of play.now.save)) (result_of result))
-            ⊎ RunsOn ⟦<Self as Modeled>⟧.model play.now.command (path_of play.now.save) (result_of result) self.old self.new start)
-            (result_of result) self.old self.new }
+            (checked_save_path play.now.command (to_path play.now.save)) (to_result result))
+            ⊎ RunsOn ⟦<Self as Modeled>⟧.model play.now.command (to_path play.now.save) (to_result result) self.old self.new start)
+            (to_result result) self.old self.new }
     {
         let session = &mut new_program_session();
         if let Err(fault) = load(session, &self.files, play.load) {
@@ -108,8 +108,8 @@ impl<D: Files, L: Logs, O: Output, E: Target> Host<D, L, O, E> {
     /// how the log ended. If both snapshots have the same path, it is locked meanwhile.
     pub fn play_log<'a>(&mut self, play: &Play<'a>) -> Result<CheckEnd, ProgramFault<'a>>
         requires { CanFail ⟦<Self as Modeled>⟧.model self.old }
-        ensures { RunsCommand ⟦<Self as Modeled>⟧.model play.now.command (path_of play.now.load) (path_of play.now.save)
-            (path_of play.now.log) (result_of result) self.old self.new }
+        ensures { RunsCommand ⟦<Self as Modeled>⟧.model play.now.command (to_path play.now.load) (to_path play.now.save)
+            (to_path play.now.log) (to_result result) self.old self.new }
     {
         let log = match open_log(&mut self.input, play.log) {
             Ok(log) => log,

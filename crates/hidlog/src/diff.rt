@@ -1,10 +1,10 @@
 //! Two packets side by side, in the notation of `show`.
-use crate::split::{DIGITS, Pieces, after, count_leading, find_byte};
+use crate::split::{DIGITS, Pieces, count_leading, find_byte, skip_front};
 use hid_packet::{Packet, View};
 use session_show::{Difference, TextBuf};
 
 /// Number of bytes of a packet around the first difference that are written.
-const ROW: usize = 16;
+const BYTES_PER_ROW: usize = 16;
 
 /// The spaces before a mark under a row's last byte.
 const SPACES: &[u8] = b"                                                     ";
@@ -48,7 +48,7 @@ fn write_side(buf: &mut TextBuf, own: &[u8], other: &[u8]) {
         let other = others.next().unwrap_or(b"");
         if is_packet || !line.is_empty() && line != other {
             buf.bytes(front);
-            buf.bytes(after(line, count_leading(line, DIGITS)));
+            buf.bytes(skip_front(line, count_leading(line, DIGITS)));
             buf.text("\n");
         }
         front = b"   ";
@@ -100,7 +100,7 @@ pub fn write_first_difference(
         form,
         &[Some(at as u64), Some(u64::from(old)), Some(u64::from(new))],
     );
-    let column = at % ROW;
+    let column = at % BYTES_PER_ROW;
     write_row(buf, "    log", own, at - column);
     write_row(buf, "    key", other, at - column);
     buf.bytes(SPACES.get(..3 * column + 8).unwrap_or(SPACES));
@@ -111,8 +111,8 @@ pub fn write_first_difference(
 /// Writes some bytes of a packet.
 fn write_row(buf: &mut TextBuf, name: &str, packet: &Packet, from: usize) {
     buf.text(name);
-    let part = after(&packet.0, from);
-    for byte in part.get(..ROW).unwrap_or(part) {
+    let part = skip_front(&packet.0, from);
+    for byte in part.get(..BYTES_PER_ROW).unwrap_or(part) {
         buf.text(" ");
         buf.hex(&[*byte]);
     }
@@ -120,8 +120,8 @@ fn write_row(buf: &mut TextBuf, name: &str, packet: &Packet, from: usize) {
 }
 
 /// Returns the depth and the name of a member from its line: `2 authData`, `signCount`.
-fn member_in(line: &[u8]) -> (Option<usize>, &[u8]) {
-    let text = after(line, count_leading(line, DIGITS));
+fn parse_member(line: &[u8]) -> (Option<usize>, &[u8]) {
+    let text = skip_front(line, count_leading(line, DIGITS));
     let spaces = count_leading(text, b" ");
     let level = match spaces {
         _ if text.len() == line.len() => None,
@@ -130,7 +130,7 @@ fn member_in(line: &[u8]) -> (Option<usize>, &[u8]) {
         9 => Some(2),
         _ => None,
     };
-    let text = after(text, spaces);
+    let text = skip_front(text, spaces);
     let colon = find_byte(text, b':');
     let end = match text {
         // A name that is a number or a quoted string ends with the colon.
@@ -159,10 +159,10 @@ pub fn differing_members<'a>(logged: &'a [u8], sent: &[u8]) -> [&'a [u8]; MAX_ME
         if line == other {
             continue;
         }
-        let (Some(level), name) = member_in(line) else {
+        let (Some(level), name) = parse_member(line) else {
             continue;
         };
-        if level != depth || level >= MAX_MEMBER_DEPTH || name != member_in(other).1 {
+        if level != depth || level >= MAX_MEMBER_DEPTH || name != parse_member(other).1 {
             break;
         }
         names[level] = name;

@@ -2,7 +2,7 @@
 ghost use Rattle.std.specs.Prelude.{◌≡◌, ◌⊎◌};
 
 use crate::escape::write_display;
-use crate::files::{COPY, DAMAGED_REASON, HELD, SaveError};
+use crate::files::{COPY_SUFFIX, DAMAGED_REASON, HELD, SaveError};
 use cred_table::SnapshotFault;
 use session_log::{CAPACITY, LogFault};
 use session_show::{TextBuf, Written, write_escaped};
@@ -26,11 +26,11 @@ pub enum ProgramFault<'a> {
 }
 
 impl ProgramFault<'_> {
-    ghost use Rattle.hidlog.specs.Fault.{code_of, text_of};
+    ghost use Rattle.hidlog.specs.Fault.{exit_status, text_of};
 
     /// Returns the exit status.
     pub fn status(&self) -> u8
-        ensures code { result ≡ code_of self.now }
+        ensures code { result ≡ exit_status self.now }
         ensures either { (result ≡ 1) ⊎ (result ≡ 2) }
     {
         match self {
@@ -131,7 +131,7 @@ fn write_refusal(buf: &mut TextBuf, fault: SnapshotFault, bytes: &[u8]) {
 /// Writes the path of a copy of a snapshot.
 fn write_copy_path(buf: &mut TextBuf, path: &[u8], number: u64) {
     write_escaped(buf, path);
-    buf.text(COPY);
+    buf.text(COPY_SUFFIX);
     if number > 0 {
         buf.format(b".%d", &[Some(number)]);
     }

@@ -4,7 +4,7 @@ ghost use Rattle.std.specs.IoError.{error_kind};
 ghost use Rattle.hidlog.specs.Streams.{IsWritten};
 
 use crate::disk::{Disk, OpenFile, PathKind};
-use crate::sums::{SUMS, SumLine, are_sums};
+use crate::sums::{MAX_SUMS_LEN, SumLine, are_sums};
 use std::alloc::Global;
 use std::io::{self, Error, ErrorKind};
 
@@ -82,7 +82,7 @@ const MAX_SNAPSHOT_LEN: u64 = 1 << 20;
 const ENOENT: i32 = 2;
 
 /// The suffix of a copy beside a file, followed by a dot and a number if not 0.
-pub const COPY: &str = ".hidlog-copy";
+pub const COPY_SUFFIX: &str = ".hidlog-copy";
 
 /// Maximum number of copies beside a file. An existing file is never overwritten, because it may not be a copy.
 const MAX_COPIES: u64 = 100;
@@ -99,9 +99,9 @@ fn checksum_path(alloc: Global, path: &str) -> io::Result<String> {
 /// Returns the path of a copy of a file.
 fn copy_path(alloc: Global, path: &str, number: u64) -> io::Result<String> {
     if number == 0 {
-        return Ok(format!(in alloc; "{path}{COPY}")?);
+        return Ok(format!(in alloc; "{path}{COPY_SUFFIX}")?);
     }
-    Ok(format!(in alloc; "{path}{COPY}.{number}")?)
+    Ok(format!(in alloc; "{path}{COPY_SUFFIX}.{number}")?)
 }
 
 /// The reason why a file that is loaded and then saved to cannot be loaded: another program has locked it.
@@ -162,7 +162,7 @@ fn read_checksums<D: Disk>(files: &HostFiles<D>, path: &str) -> io::Result<Optio
     let name = checksum_path(files.1, path)?;
     match files.0.look(name.as_str(), None) {
         Ok(PathKind::Nothing) => Ok(None),
-        Ok(PathKind::File) => match files.0.read(name.as_str(), SUMS as u64 + 1) {
+        Ok(PathKind::File) => match files.0.read(name.as_str(), MAX_SUMS_LEN as u64 + 1) {
             Ok(sums) if are_sums(&sums) => Ok(Some(sums)),
             Ok(_) => Err(checksum_error(ErrorKind::InvalidInput)),
             Err(error) => match error.kind() {
@@ -215,7 +215,7 @@ fn write_checksums<D: Disk>(
 
 /// Overwrites an open file of this length, truncates it to the new length and syncs it. The part beyond the old length
 /// is written first, so that a full disk leaves the old content unchanged.
-fn write_over<F: OpenFile>(file: &mut F, old: u64, bytes: &[u8]) -> io::Result<()>
+fn overwrite<F: OpenFile>(file: &mut F, old: u64, bytes: &[u8]) -> io::Result<()>
     ensures bytes { OnOk result (IfSome (F.bytes file.old) (λ has. length has ≡ old → F.bytes file.new ≡ Some bytes.now)) }
     ensures place { (path : List ℕ) → F.is_at path file.old → F.is_at path file.new }
 {
@@ -288,9 +288,9 @@ fn replace<D: Disk>(
         return Err(SaveError::Kept(error));
     }
     let copy = create_copy(files, path, bytes).ok();
-    if let Err(error) = write_over(&mut file, size, bytes) {
+    if let Err(error) = overwrite(&mut file, size, bytes) {
         let is_back = match &old {
-            Some(old) => write_over(&mut file, old.len() as u64, old.as_slice()).is_ok(),
+            Some(old) => overwrite(&mut file, old.len() as u64, old.as_slice()).is_ok(),
             None => false,
         };
         return Err(match (is_back, &copy) {

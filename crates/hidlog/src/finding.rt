@@ -2,7 +2,7 @@
 use crate::diff::{write_diff, write_first_difference};
 use crate::json_report::write_difference;
 use crate::report_options::{FaultLine, ReportOptions};
-use crate::split::after;
+use crate::split::skip_front;
 use hid_packet::command::{CBOR, KEEPALIVE};
 use hid_packet::{Packet, View};
 use memchr::memmem;
@@ -63,7 +63,7 @@ enum Reply {
 }
 
 /// Returns the kind of reply in a packet.
-fn reply_in(packet: &Option<Packet>) -> Reply {
+fn parse_reply(packet: &Option<Packet>) -> Reply {
     let Some(packet) = packet else {
         return Reply::Other;
     };
@@ -88,7 +88,10 @@ impl Finding<'_> {
         let Some((4.., _, _)) = difference.byte() else {
             return None;
         };
-        let may_lack = match (reply_in(&difference.logged), reply_in(&difference.sent)) {
+        let may_lack = match (
+            parse_reply(&difference.logged),
+            parse_reply(&difference.sent),
+        ) {
             (Reply::Status(OK) | Reply::Waits, Reply::Status(NO_CREDENTIALS)) => true,
             (
                 Reply::Status(CREDENTIAL_EXCLUDED),
@@ -141,7 +144,7 @@ impl Written for Finding<'_> {
         }
         write_diff(buf, difference, &texts.logged, &texts.sent);
         // Details that the message's own lines show aren't repeated.
-        if memmem::find(&texts.sent, after(&texts.reason, 2)).is_none() {
+        if memmem::find(&texts.sent, skip_front(&texts.reason, 2)).is_none() {
             buf.bytes(&texts.reason);
         }
         write_first_difference(buf, difference, &texts.logged, &texts.sent);

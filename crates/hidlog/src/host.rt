@@ -79,12 +79,12 @@ impl<D: Files, L: Logs, O: Output, E: Target> Modeled for Host<D, L, O, E> {
 
 impl<D: Files, L: Logs, O: Output, E: Target> Host<D, L, O, E> {
     ghost use Rattle.hidlog.specs.Commands.{Reports};
-    ghost use Rattle.hidlog.specs.Fault.{code_of, fault_message_of};
+    ghost use Rattle.hidlog.specs.Fault.{exit_status, to_fault_text};
 
     /// Writes an error message, with the reason if errors are explained.
     pub fn report(&mut self, fault: &ProgramFault<'_>, explains: bool)
         requires { E.failed self.old.faults < 2 ^ 64 - 1 }
-        ensures { Reports ⟦<Self as Modeled>⟧.model explains (Err (fault_message_of fault.now)) (Err (code_of fault.now)) self.old self.new }
+        ensures { Reports ⟦<Self as Modeled>⟧.model explains (Err (to_fault_text fault.now)) (Err (exit_status fault.now)) self.old self.new }
     {
         match fault {
             ProgramFault::Log(fault) => write_error(&mut self.faults, fault),

@@ -16,7 +16,7 @@ use std::mem;
 /// A source that can open a file.
 pub trait Logs: Source {
     /// The log, read again.
-    type Again: Source + Drop;
+    type Reread: Source + Drop;
 
     /// The source after opening the file at a path, before anything was read.
     ghost opened: { Self → List ℕ → Self → Type 0 };
@@ -36,7 +36,7 @@ pub trait Logs: Source {
     /// Returns the log from its start, if it is a file. With `takes_rest`, also returns a log that cannot be read
     /// twice, such as a pipe, if the part that was read is short; the result then reads the rest in place of this
     /// source.
-    fn again(&mut self, takes_rest: bool) -> Option<Self::Again>
+    fn reread(&mut self, takes_rest: bool) -> Option<Self::Reread>
         ensures counted { Self.failed self.new ≡ Self.failed self.old }
         ensures kept { takes_rest ≡ false → self.new ≡ self.old };
 }
@@ -235,7 +235,7 @@ impl<S: OpenSource> Source for HostLog<'_, S> {
 }
 
 impl<S: OpenSource> Logs for HostLog<'_, S> {
-    type Again = RewoundSource<S>;
+    type Reread = RewoundSource<S>;
 
     ghost opened = { λ _ path s. S.is_at path s.stream
         × (unread s.recent.held.items s.recent.at s.recent.end ≡ []) };
@@ -272,7 +272,7 @@ impl<S: OpenSource> Logs for HostLog<'_, S> {
         }
     }
 
-    fn again(&mut self, takes_rest: bool) -> Option<RewoundSource<S>> {
+    fn reread(&mut self, takes_rest: bool) -> Option<RewoundSource<S>> {
         let alloc = self.rt.alloc();
         let is_file = self.seen.progress.size.is_some();
         if !is_file && !takes_rest {

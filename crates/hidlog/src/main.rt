@@ -2,7 +2,7 @@
 #![tactic(auto)]
 
 ghost use Rattle.std.specs.Prelude.{◌≡◌, ◌<◌, ◌-◌, ◌^◌, ◌⊎◌, IfErr};
-ghost use Rattle.hidlog.specs.CommandLine.{report_for};
+ghost use Rattle.hidlog.specs.CommandLine.{to_texts};
 ghost use Rattle.hidlog.specs.Commands.{Plays};
 ghost use Rattle.hidlog.specs.Model.{CanFail};
 
@@ -76,7 +76,7 @@ impl<D: Files, L: Logs, O: Output, E: Target> Host<D, L, O, E> {
             }
             Some(LogFault::Differs { .. }) => {
                 if let Some(wish) = &outcome.wish {
-                    let again = self.input.again(true);
+                    let again = self.input.reread(true);
                     report_differences(&self.files, wish, again, outcome.fault, &mut target);
                 }
             }
@@ -108,7 +108,7 @@ impl<D: Files, L: Logs, O: Output, E: Target> Host<D, L, O, E> {
 }
 
 /// Runs the program on the streams and files of its process.
-fn play_to<'a>(
+fn run_in_process<'a>(
     rt: &HostRuntime,
     words: &'a [&'a str],
     writer: &mut RememberError<Printer<'_, HostRuntime>>,
@@ -165,7 +165,7 @@ fn main(rt: HostRuntime) -> ExitCode {
         inner: io::writer(&rt),
         failure: None,
     };
-    let outcome = play_to(&rt, words.as_slice(), &mut writer, &mut errors);
+    let outcome = run_in_process(&rt, words.as_slice(), &mut writer, &mut errors);
     if outcome.explains
         && errors.failure.is_none()
         && let Some(error) = &writer.failure

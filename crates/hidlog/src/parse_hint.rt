@@ -1,5 +1,5 @@
 //! Explains why a line isn't a log line: the bytes found, and those expected.
-use crate::split::{DIGITS, Pieces, after, count_leading, find_byte};
+use crate::split::{DIGITS, Pieces, count_leading, find_byte, skip_front};
 use session_log::parse_line;
 use session_show::{TextBuf, Written};
 
@@ -42,7 +42,7 @@ const UTF_16: &str =
     "  this is UTF-16, as PowerShell writes it: a log is UTF-8 (iconv -f UTF-16 -t UTF-8)\n";
 
 /// The first bytes of log lines.
-const LETTERS: &[u8] = b"<>tpks";
+const LINE_LETTERS: &[u8] = b"<>tpks";
 
 /// The largest timestamp.
 const MAX_TIMESTAMP: &[u8] = b"18446744073709551615";
@@ -63,7 +63,7 @@ const KEY: &[u8] = b"\
     ................................................................";
 
 /// The formats after the timestamp of a line that begins with each of these letters.
-static FORMS: [&[&[u8]]; 6] = [
+static FIELD_FORMATS: [&[&[u8]]; 6] = [
     &[PACKET],
     &[PACKET],
     &[],
@@ -94,13 +94,13 @@ fn fitting_len(line: &[u8]) -> usize {
     let Some(letter) = line.first() else {
         return 0;
     };
-    let Some(forms) = FORMS.get(find_byte(LETTERS, *letter)) else {
+    let Some(forms) = FIELD_FORMATS.get(find_byte(LINE_LETTERS, *letter)) else {
         return 0;
     };
-    if !after(line, 1).starts_with(b" ") {
+    if !skip_front(line, 1).starts_with(b" ") {
         return 1;
     }
-    let mut fields = after(line, 2);
+    let mut fields = skip_front(line, 2);
     let mut front = 2;
     if *letter != b'<' {
         let mut most = MAX_TIMESTAMP.len() - 1;
@@ -115,12 +115,12 @@ fn fitting_len(line: &[u8]) -> usize {
         }
         let moment = count_leading(fields, DIGITS).min(most);
         front = moment.saturating_add(2);
-        fields = after(fields, moment);
+        fields = skip_front(fields, moment);
         if moment == 0 || forms.is_empty() || !fields.starts_with(b" ") {
             return front;
         }
         front = front.saturating_add(1);
-        fields = after(fields, 1);
+        fields = skip_front(fields, 1);
     }
     let mut most = 0;
     for form in *forms {
@@ -178,7 +178,7 @@ fn expected_in_timed(letter: u8, fields: &[u8], place: usize) -> Expected {
     if digits == 0 {
         return (b"expected a time in milliseconds\n", None);
     }
-    match after(fields, digits) {
+    match skip_front(fields, digits) {
         [b' ', field @ ..] if letter != b't' => expected_in_field(letter, field),
         _ if letter == b't' => (b"expected the end of the line\n", None),
         _ => (b"expected a space and what comes behind the time\n", None),
@@ -209,13 +209,13 @@ impl ParseHint<'_> {
             return (b"expected a log line\n", None);
         };
         match self.place {
-            0 if LETTERS.contains(&letter.to_ascii_lowercase()) => {
+            0 if LINE_LETTERS.contains(&letter.to_ascii_lowercase()) => {
                 (b"the letters of log lines are lower case\n", None)
             }
             0 => (b"a log line begins with >, <, t, p, k, s, # or =\n", None),
             1 => (b"expected a space\n", None),
-            _ if *letter == b'<' => expected_in_field(*letter, after(rest, 1)),
-            place => expected_in_timed(*letter, after(rest, 1), place.saturating_sub(2)),
+            _ if *letter == b'<' => expected_in_field(*letter, skip_front(rest, 1)),
+            place => expected_in_timed(*letter, skip_front(rest, 1), place.saturating_sub(2)),
         }
     }
 
@@ -240,7 +240,7 @@ impl Written for ParseHint<'_> {
             buf.text(text);
             return;
         }
-        let rest = after(self.line, self.place);
+        let rest = skip_front(self.line, self.place);
         if self.place == 0 && rest.starts_with(BYTE_ORDER_MARK) {
             buf.text("  byte 1 is a byte order mark, which a log must not have\n");
             return;

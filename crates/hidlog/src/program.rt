@@ -1,14 +1,14 @@
 //! The program over any files, log, output and error stream.
 ghost use Rattle.std.specs.Prelude.{◌≡◌, ◌<◌, ◌-◌, ◌^◌, ◌⊎◌, ◌∷◌, ℕ, List, [], false, true, None, Some, Result, IfErr, OnOk, codes};
 ghost use Rattle.clap.specs.Words.{kind_of};
-ghost use Rattle.session_log.specs.Streams.{PutsLine};
-ghost use Rattle.hidlog.specs.CommandLine.{check, show as shown, path_of, report_for};
-ghost use Rattle.hidlog.specs.Fault.{result_of};
+ghost use Rattle.session_log.specs.Streams.{WritesLogLine};
+ghost use Rattle.hidlog.specs.CommandLine.{check, show as shown, to_path, to_texts};
+ghost use Rattle.hidlog.specs.Fault.{to_result};
 ghost use Rattle.hidlog.specs.Model.{CanFail};
 ghost use Rattle.hidlog.specs.Program.{IsWhole};
 ghost use Rattle.session_log.specs.declared.command.ReplayMode.TheVariants.{Check as comparing};
 ghost use Rattle.session_show.specs.declared.detail.Detail.TheVariants.{Fixed as fixed};
-ghost use Rattle.hidlog.specs.Commands.{Answers, CarriesOut, DoesCommand, Explains, Reads, Reports, ShowsIn, ShowsLog, detail_for};
+ghost use Rattle.hidlog.specs.Commands.{Answers, CarriesOut, DoesCommand, WritesClapMessage, Reads, Reports, ShowsIn, ShowsLog, detail_for};
 
 use crate::args::{Action, ShowFormat, parse_args};
 use crate::buffered_output::{Output, flush_then};
@@ -62,7 +62,7 @@ impl RunOutcome<'_> {
 /// Writes a text to the output.
 fn put_text<O: Target>(output: &mut O, text: &[u8]) -> Result<(), LogFault>
     requires { O.failed output.old < 2 ^ 64 - 1 }
-    ensures { PutsLine O.taken O.failed (output.old, output.new) text.now result }
+    ensures { WritesLogLine O.taken O.failed (output.old, output.new) text.now result }
 {
     match put_all(output, text) {
         Ok(()) => Ok(()),
@@ -133,7 +133,7 @@ impl<D: Files, L: Logs, O: Output, E: Target> Host<D, L, O, E> {
     fn write_clap_message(&mut self, error: &Error) -> Result<(), u8>
         requires { CanFail ⟦<Self as Modeled>⟧.model self.old }
         ensures status { IfErr result (λ code. (code ≡ 1) ⊎ (code ≡ 2)) }
-        ensures explains { Explains ⟦<Self as Modeled>⟧.model (kind_of error.now) result self.old self.new }
+        ensures explains { WritesClapMessage ⟦<Self as Modeled>⟧.model (kind_of error.now) result self.old self.new }
     {
         if let ErrorKind::OutOfMemory = error.kind() {
             return Err(no_memory(&mut self.faults));
@@ -163,9 +163,9 @@ impl<D: Files, L: Logs, O: Output, E: Target> Host<D, L, O, E> {
         log: Option<&'a str>,
     ) -> Result<(), ProgramFault<'a>>
         requires { CanFail ⟦<Self as Modeled>⟧.model self.old }
-        ensures { Reads ⟦<Self as Modeled>⟧.model (path_of log.entry)
-            (λ read. ShowsLog ⟦<Self as Modeled>⟧.model form (detail_for is_worded) (result_of result) read self.new)
-            (result_of result) self.old self.new }
+        ensures { Reads ⟦<Self as Modeled>⟧.model (to_path log.entry)
+            (λ read. ShowsLog ⟦<Self as Modeled>⟧.model form (detail_for is_worded) (to_result result) read self.new)
+            (to_result result) self.old self.new }
     {
         open_log(&mut self.input, log)?;
         let answer = show_in(form, is_worded, &mut self.input, &mut self.output);
@@ -183,7 +183,7 @@ impl<D: Files, L: Logs, O: Output, E: Target> Host<D, L, O, E> {
     ) -> RunOutcome<'a>
         requires { E.failed self.old.faults < 2 ^ 64 - 1 }
         ensures status { IfErr result.status (λ code. (code ≡ 1) ⊎ (code ≡ 2)) }
-        ensures reports { Reports ⟦<Self as Modeled>⟧.model explains (result_of came.now) result.status self.old self.new }
+        ensures reports { Reports ⟦<Self as Modeled>⟧.model explains (to_result came.now) result.status self.old self.new }
     {
         let Err(fault) = came else {
             return RunOutcome::of(Ok(()), explains);
@@ -203,8 +203,8 @@ impl<D: Files, L: Logs, O: Output, E: Target> Host<D, L, O, E> {
     fn run_command<'a>(&mut self, play: &Play<'_>, explains: bool) -> RunOutcome<'a>
         requires { CanFail ⟦<Self as Modeled>⟧.model self.old }
         ensures status { IfErr result.status (λ code. (code ≡ 1) ⊎ (code ≡ 2)) }
-        ensures does { DoesCommand ⟦<Self as Modeled>⟧.model play.now.command (path_of play.now.load) (path_of play.now.save)
-            (path_of play.now.log) explains result.status self.old self.new }
+        ensures does { DoesCommand ⟦<Self as Modeled>⟧.model play.now.command (to_path play.now.load) (to_path play.now.save)
+            (to_path play.now.log) explains result.status self.old self.new }
     {
         let came = self.play_log(play);
         let mut outcome = self.report_result(&came, explains);
@@ -216,7 +216,7 @@ impl<D: Files, L: Logs, O: Output, E: Target> Host<D, L, O, E> {
     fn check_log<'a>(&mut self, wish: ReportOptions<'a>, log: Option<&'a str>) -> RunOutcome<'a>
         requires { CanFail ⟦<Self as Modeled>⟧.model self.old }
         ensures status { IfErr result.status (λ code. (code ≡ 1) ⊎ (code ≡ 2)) }
-        ensures does { DoesCommand ⟦<Self as Modeled>⟧.model comparing (path_of wish.entry.load) None (path_of log.entry)
+        ensures does { DoesCommand ⟦<Self as Modeled>⟧.model comparing (to_path wish.entry.load) None (to_path log.entry)
             wish.entry.explains result.status self.old self.new }
     {
         let play = Play {
@@ -234,7 +234,7 @@ impl<D: Files, L: Logs, O: Output, E: Target> Host<D, L, O, E> {
     fn check_logs<'a>(&mut self, wish: ReportOptions<'a>, logs: &[&'a str]) -> RunOutcome<'a>
         requires { CanFail ⟦<Self as Modeled>⟧.model self.old }
         ensures status { IfErr result.status (λ code. (code ≡ 1) ⊎ (code ≡ 2)) }
-        ensures does { CarriesOut ⟦<Self as Modeled>⟧.model (check (path_of wish.entry.load) wish.entry.is_all wish.entry.is_json
+        ensures does { CarriesOut ⟦<Self as Modeled>⟧.model (check (to_path wish.entry.load) wish.entry.is_all wish.entry.is_json
             (to_texts logs.now)) fixed wish.entry.explains result.status self.old self.new }
     {
         match (wish.is_json, logs) {

@@ -6,7 +6,7 @@ use std::io::Write;
 pub const MIN_PROGRESS_SIZE: u64 = 64 << 20;
 
 /// Number of bytes between updates.
-const STEP: u64 = 8 << 20;
+const UPDATE_INTERVAL: u64 = 8 << 20;
 
 /// Bytes in a megabyte.
 const MEGABYTE: u64 = 1_000_000;
@@ -40,7 +40,7 @@ impl Progress {
         if !self.is_shown || len < self.next {
             return;
         }
-        self.next = len.saturating_add(STEP);
+        self.next = len.saturating_add(UPDATE_INTERVAL);
         self.is_written = true;
         let mut buf = TextBuf::new(Detail::Fixed);
         match self.size {

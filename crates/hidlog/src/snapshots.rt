@@ -2,9 +2,9 @@
 ghost use Rattle.std.specs.Prelude.{◌≡◌, [], List, IfErr, OnOk};
 ghost use Rattle.cred_table.specs.declared.row.Row.{Row as AnyRow};
 ghost use Rattle.token_session.specs.Meters.{IsStateAfter, session_of};
-ghost use Rattle.hidlog.specs.CommandLine.{path_of};
+ghost use Rattle.hidlog.specs.CommandLine.{to_path};
 ghost use Rattle.hidlog.specs.Commands.{checked_save_path};
-ghost use Rattle.hidlog.specs.Fault.{result_of, fault_message_of};
+ghost use Rattle.hidlog.specs.Fault.{to_result, to_fault_text};
 ghost use Rattle.session_log.specs.Command.{start_with};
 ghost use Rattle.hidlog.specs.Saved.{FailsToOpen, FailsToSave, OpenSource, Saves};
 
@@ -25,9 +25,9 @@ pub fn load<'a, D: Files>(
     path: Option<&'a str>,
 ) -> Result<(), ProgramFault<'a>>
     requires fresh { session.old ≡ session_of (start_with []) [] }
-    ensures begins { OnOk result ((rows : List AnyRow) × OpenSource D.holds files.now (path_of path.entry) rows
+    ensures begins { OnOk result ((rows : List AnyRow) × OpenSource D.holds files.now (to_path path.entry) rows
         × IsStateAfter session.new (start_with rows) []) }
-    ensures fails { IfErr result (λ fault. FailsToOpen D.holds D.unreadable files.now (path_of path.entry) (Err (fault_message_of fault))) }
+    ensures fails { IfErr result (λ fault. FailsToOpen D.holds D.unreadable files.now (to_path path.entry) (Err (to_fault_text fault))) }
 {
     let Some(path) = path else {
         return Ok(());
@@ -54,7 +54,7 @@ pub fn lock_snapshot<'a, D: Files>(
     path: Option<&'a str>,
     save: Option<&str>,
 ) -> Result<Option<D::Held>, ProgramFault<'a>>
-    ensures { IfErr result (λ fault. FailsToOpen D.holds D.unreadable files.now (path_of path.entry) (Err (fault_message_of fault))) }
+    ensures { IfErr result (λ fault. FailsToOpen D.holds D.unreadable files.now (to_path path.entry) (Err (to_fault_text fault))) }
 {
     let (Some(path), Some(save)) = (path, save) else {
         return Ok(None);
@@ -74,7 +74,7 @@ pub fn check_writable<'a, D: Files>(
     is_held: bool,
 ) -> Result<(), ProgramFault<'a>>
     ensures { IfErr result (λ fault.
-        FailsToSave D.unwritable files.now (checked_save_path command (path_of path.entry)) (Err (fault_message_of fault))) }
+        FailsToSave D.unwritable files.now (checked_save_path command (to_path path.entry)) (Err (to_fault_text fault))) }
 {
     let (ReplayMode::Live, Some(path)) = (command, path) else {
         return Ok(());
@@ -94,7 +94,7 @@ pub fn save_rows<'a, D: Files>(
     is_held: bool,
     session: &Session<CAPACITY>,
 ) -> Result<(), ProgramFault<'a>>
-    ensures { Saves D.written D.unwritten (path_of path.entry) session.now (result_of result) (files.old, files.new) }
+    ensures { Saves D.written D.unwritten (to_path path.entry) session.now (to_result result) (files.old, files.new) }
 {
     let Some(path) = path else {
         return Ok(());

@@ -51,6 +51,6 @@ pub fn count_leading(text: &[u8], bytes: &[u8]) -> usize {
 }
 
 /// Returns the text after `len` bytes; all of it if it is shorter.
-pub fn after(text: &[u8], len: usize) -> &[u8] {
+pub fn skip_front(text: &[u8], len: usize) -> &[u8] {
     text.get(len..).unwrap_or(text)
 }

@@ -6,24 +6,24 @@ use sha2::{Digest, Sha256};
 const DIGITS: usize = 64;
 
 /// Length of a line: the sum, a space, the file's inode number as 16 hexadecimal digits, and a line feed.
-const LINE: usize = 82;
+const SUM_LINE_LEN: usize = 82;
 
 /// Maximum length of a checksum file: two lines.
-pub const SUMS: usize = 2 * LINE;
+pub const MAX_SUMS_LEN: usize = 2 * SUM_LINE_LEN;
 
 /// A line of a checksum file: the SHA-256 hash of a snapshot and the inode number of its file.
 #[derive(Clone, Copy)]
-pub struct SumLine([u8; LINE]);
+pub struct SumLine([u8; SUM_LINE_LEN]);
 
 impl SumLine {
     /// Returns the checksum line for these bytes, in the file with this inode number.
     pub fn of(bytes: &[u8], file: u64) -> Self {
-        let mut line = [b'\n'; LINE];
+        let mut line = [b'\n'; SUM_LINE_LEN];
         line[DIGITS] = b' ';
         let sum = Sha256::digest(bytes);
         let number = file.to_be_bytes();
         let _ = hex::encode_to_slice(sum.as_slice(), &mut line[..DIGITS]);
-        let _ = hex::encode_to_slice(number.as_slice(), &mut line[DIGITS + 1..LINE - 1]);
+        let _ = hex::encode_to_slice(number.as_slice(), &mut line[DIGITS + 1..SUM_LINE_LEN - 1]);
         SumLine(line)
     }
 
@@ -45,12 +45,12 @@ impl SumLine {
 
 /// Returns whether a text is one or two checksum lines.
 pub fn are_sums(text: &[u8]) -> bool {
-    if text.len() != LINE && text.len() != SUMS {
+    if text.len() != SUM_LINE_LEN && text.len() != MAX_SUMS_LEN {
         return false;
     }
     for place in 0..text.len() {
         let byte = text[place];
-        let is_right = match place % LINE {
+        let is_right = match place % SUM_LINE_LEN {
             64 => byte == b' ',
             81 => byte == b'\n',
             _ => byte.is_ascii_hexdigit(),

@@ -8,7 +8,7 @@ use std::env;
 use std::io::IsTerminal;
 
 /// The width of a terminal that doesn't report one.
-const COLUMNS: usize = 80;
+const DEFAULT_WIDTH: usize = 80;
 
 /// The minimum width at which lines are truncated.
 const MIN_WIDTH: usize = 20;
@@ -47,9 +47,9 @@ pub fn terminal_info(rt: &HostRuntime, words: &[&str]) -> TerminalInfo {
         _ => (false, FlushPolicy::Nothing),
     };
     // The width of a terminal according to the environment.
-    let columns = match env::var(rt, "COLUMNS") {
-        Ok(text) => text.as_str().parse::<usize>().unwrap_or(COLUMNS),
-        Err(_) => COLUMNS,
+    let columns = match env::var(rt, "DEFAULT_WIDTH") {
+        Ok(text) => text.as_str().parse::<usize>().unwrap_or(DEFAULT_WIDTH),
+        Err(_) => DEFAULT_WIDTH,
     };
     let columns = columns.clamp(MIN_WIDTH, MAX_WIDTH);
     let mut around = TerminalInfo {

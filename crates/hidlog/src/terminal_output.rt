@@ -2,7 +2,7 @@
 ghost use Rattle.std.specs.Prelude.{◌≡◌, ◌<◌, ◌-◌, ◌^◌, None, is_none, if◌then◌else◌};
 ghost use Rattle.session_show.specs.Written.{Writes};
 
-use crate::split::{DIGITS, Pieces, after, count_leading};
+use crate::split::{DIGITS, Pieces, count_leading, skip_front};
 use memchr::{memmem, memrchr};
 use session_log::{Failed, Target, put_all};
 use session_show::{Detail, TextBuf, Written, put_parts};
@@ -55,7 +55,7 @@ fn write_cut(buf: &mut TextBuf, line: &[u8], width: usize) {
 
 /// Returns the colour of a line that begins with this many digits.
 fn colour_of(line: &[u8], digits: usize) -> &'static [u8] {
-    let text = after(line, digits);
+    let text = skip_front(line, digits);
     if digits == 0 {
         return if memmem::find(text, b"ERR_").is_some() {
             RED
@@ -65,7 +65,7 @@ fn colour_of(line: &[u8], digits: usize) -> &'static [u8] {
     }
     match text {
         // An ERROR from the key, ` < 00000001 ERROR 1 06`.
-        [b' ', b'<', ..] if after(text, 12).starts_with(b"ERROR ") => RED,
+        [b' ', b'<', ..] if skip_front(text, 12).starts_with(b"ERROR ") => RED,
         [b' ', b'<', ..] => GREEN,
         [b' ', b'>', ..] => CYAN,
         [b' ', b'p' | b'k' | b's', ..] => YELLOW,
@@ -157,7 +157,7 @@ impl<T: Target> Target for Screen<T> {
             put_styled(&mut self.inner, &StyledLines { text, style })?;
             self.line.clear();
         }
-        let _ = self.line.extend_from_slice(after(piece, len));
+        let _ = self.line.extend_from_slice(skip_front(piece, len));
         Ok(piece.len())
     }
 

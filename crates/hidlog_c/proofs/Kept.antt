@@ -5,11 +5,11 @@ use Rattle.std.proofs.{Common.take-append-drop, lemmas.Int.to_z_pos, lemmas.List
 use Rattle.session_log.specs.declared.fault.LogFault.{LogFault}
 use Rattle.token_session.specs.{Meters.SessionState, declared.cause.Causes.Causes as TwoCauses}
 use Rattle.hidlog_c.specs.{declared.outcome.CResult.CResult, Changed.SavesLen, Key.DeviceState, Key.no_causes}
-use Rattle.hidlog_c.specs.{Lines.ArePlayed, Lines.PlaysOn, Numbers.outcome_of}
+use Rattle.hidlog_c.specs.{Lines.ArePlayed, Lines.PlaysOn, Numbers.to_c_result}
 
 -- the status of an outcome is a small number
 status_small : (answer : Result (Unit {0}) LogFault) (outcome : CResult) (written : ℕ)
-    → outcome ≡ outcome_of answer written → outcome.status ≤ 1
+    → outcome ≡ to_c_result answer written → outcome.status ≤ 1
 status_small (Ok x) outcome written is = let e = ap (λ (o : CResult). o.status) is in omega (arith, e)
 status_small (Err f) outcome written is = let e = ap (λ (o : CResult). o.status) is in omega (arith, e)
 

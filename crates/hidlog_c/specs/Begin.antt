@@ -4,6 +4,6 @@ use Rattle.cred_table.specs.{declared.row.Row.Row, Snapshots.Loads}
 use Rattle.hidlog_c.specs.declared.capacity.TheConstants.{CAPACITY}
 
 -- The rows are those of the snapshot; an empty snapshot has none.
-abbrev pub Opens : List ℕ → List Row → Type 0
-Opens [] rows = rows ≡ []
-Opens snapshot rows = Loads CAPACITY snapshot (Ok tt) rows
+abbrev pub IsSnapshotOrEmpty : List ℕ → List Row → Type 0
+IsSnapshotOrEmpty [] rows = rows ≡ []
+IsSnapshotOrEmpty snapshot rows = Loads CAPACITY snapshot (Ok tt) rows

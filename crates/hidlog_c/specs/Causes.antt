@@ -100,8 +100,8 @@ ReportsOne (Some cause) report out result = (report.1 ≡ report_of cause)
     × ((n : ℕ) × (n ≤ length out.1) × (result ≡ pos n))
 
 -- 0 selects the cause of a time-out, 1 that of the input.
-abbrev pub which_of : ℕ → Option Bool
-which_of which = if nat_eq which 0 then Some false else if nat_eq which 1 then Some true else None
+abbrev pub parsed_which : ℕ → Option Bool
+parsed_which which = if nat_eq which 0 then Some false else if nat_eq which 1 then Some true else None
 
 -- The selected cause is reported. A selector other than 0 and 1 is an error.
 abbrev pub ReportsWhich : Option Bool → TwoCauses → CauseReport × CauseReport → List ℕ × List ℕ → ℤ → Type 0
@@ -112,4 +112,4 @@ ReportsWhich (Some is_input) causes report out result = ReportsOne (cause_at cau
 -- call.
 abbrev pub ReportsCause : Option DeviceState → (which : ℕ) → CauseReport × CauseReport → List ℕ × List ℕ → ℤ → Type 0
 ReportsCause None which report out result = (report.1 ≡ report.0) × (out.1 ≡ out.0) × (result ≡ ERR_NOT_INITIALIZED)
-ReportsCause (Some d) which report out result = ReportsWhich (which_of which) d.causes report out result
+ReportsCause (Some d) which report out result = ReportsWhich (parsed_which which) d.causes report out result

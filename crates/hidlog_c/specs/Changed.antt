@@ -3,7 +3,7 @@ use Rattle.std.specs.Prelude.{◌≡◌, ◌≢◌, ◌⊎◌, ◌<◌, ◌≤�
 use Rattle.std.specs.{Prelude.None, Prelude.is_some, List.find, Str.IsUtf8}
 use Rattle.authn_core.specs.Views.{needs, nothing}
 use Rattle.cred_table.specs.{declared.row.Row.Row, Snapshots.clashes, Rows.has_id, Rows.without}
-use Rattle.cred_table.specs.Saving.{SavesInto, longest}
+use Rattle.cred_table.specs.Saving.{SavesInto, max_snapshot_len}
 use Rattle.hidlog_c.specs.declared.{capacity.TheConstants.CAPACITY, structs.Credential.Credential}
 use Rattle.hidlog_c.specs.declared.fault.TheConstants.{ERR_NOT_INITIALIZED, ERR_PACKETS_QUEUED, ERR_INVALID_ARGUMENT, ERR_BUFFER_TOO_SMALL, ERR_BUSY}
 use Rattle.hidlog_c.specs.declared.fault.TheConstants.{ERR_DUPLICATE_USER, ERR_FULL}
@@ -100,7 +100,7 @@ IsSaved d out result = (len : ℕ) × SavesLen d out len × (result ≡ pos len)
 -- A buffer shorter than the maximum length of a snapshot is not changed.
 abbrev pub SavesRows : DeviceState → (List ℕ × List ℕ) → ℤ → Type 0
 SavesRows d out result = IsSaved d out result
-    ⊎ ((length out.0 < longest CAPACITY) × (out.1 ≡ out.0) × (result ≡ ERR_BUFFER_TOO_SMALL))
+    ⊎ ((length out.0 < max_snapshot_len CAPACITY) × (out.1 ≡ out.0) × (result ≡ ERR_BUFFER_TOO_SMALL))
 
 -- The effect of saving a snapshot, and the call's return value.
 abbrev pub SavesKey : Option DeviceState → (List ℕ × List ℕ) → ℤ → Type 0

@@ -7,7 +7,7 @@ use Rattle.session_log.specs.{Check.first_comparison, Check.check_history, World
 use Rattle.session_log.specs.Ending.{Ending, ending_of, read_fails, write_fails}
 use Rattle.session_log.specs.Session.{history, live_history, quiet_history}
 use Rattle.hidlog_c.specs.declared.{capacity.TheConstants.CAPACITY, outcome.CResult.CResult}
-use Rattle.hidlog_c.specs.{Begin.Opens, Switched.start_with, Numbers.outcome_of, Numbers.refused}
+use Rattle.hidlog_c.specs.{Begin.IsSnapshotOrEmpty, Switched.start_with, Numbers.to_c_result, Numbers.refused}
 
 -- A log was played from state x: `bytes` of it were read, all but `rest`, and this text was written. The bytes after an
 -- error don't matter.
@@ -40,8 +40,8 @@ pub record IsWritten (log out : List ℕ) (written : ℕ) (answer : Result (Unit
 -- snapshot is rejected, and the buffer is not changed. A pair is the buffer before and after the call.
 abbrev pub Answers : ReplayMode → (log snapshot : List ℕ) → (List ℕ × List ℕ) → CResult → Type 0
 Answers command log snapshot out outcome =
-    ((rows : List Row) × (answer : Result (Unit {0}) LogFault) × Opens snapshot rows
-    × (outcome ≡ outcome_of answer outcome.written)
+    ((rows : List Row) × (answer : Result (Unit {0}) LogFault) × IsSnapshotOrEmpty snapshot rows
+    × (outcome ≡ to_c_result answer outcome.written)
     × IsWritten log out.1 outcome.written answer (PlaysSlice command rows))
     ⊎ ((fault : SnapshotFault) × (snapshot ≢ []) × Refuses CAPACITY snapshot fault × (outcome ≡ refused fault)
     × (out.1 ≡ out.0))

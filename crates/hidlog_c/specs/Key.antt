@@ -2,7 +2,7 @@
 use Rattle.std.specs.Prelude.{◌≡◌, ℕ, ℤ, pos, List, [], ◌∷◌, length, Option, Some, None}
 use Rattle.authn_core.specs.Turn.{Start}
 use Rattle.token_session.specs.{declared.input.Timed.Timed, Answered.packets_sent_now}
-use Rattle.token_session.specs.Meters.{SessionState, IsStateAfterValidStart, stepped, sent_by}
+use Rattle.token_session.specs.Meters.{SessionState, IsStateAfterValidStart, stepped, input_packets_of}
 use Rattle.token_session.specs.{Causes.causes_of, declared.cause.Causes.Causes as TwoCauses}
 use Rattle.hidlog_c.specs.declared.fault.TheConstants.{ERR_NOT_INITIALIZED, ERR_PACKETS_QUEUED, ERR_NO_PACKET}
 
@@ -22,7 +22,7 @@ abbrev pub device_after : DeviceState → Timed → DeviceState
 device_after d x = record {
   aaguid = d.aaguid;
   session = stepped d.session x;
-  waiting = sent_by d.session x;
+  waiting = input_packets_of d.session x;
   causes = causes_of d.session.machine x;
 }
 
@@ -38,7 +38,7 @@ after_input (Some d) x = device_after_input d d.waiting x
 
 -- The number of packets that an input sends, or the error for queued packets.
 abbrev pub answer_of : DeviceState → List (List ℕ) → Timed → ℤ
-answer_of d [] x = pos (length (sent_by d.session x))
+answer_of d [] x = pos (length (input_packets_of d.session x))
 answer_of d (packet ∷ more) x = ERR_PACKETS_QUEUED
 
 -- The return value of a call with an input.

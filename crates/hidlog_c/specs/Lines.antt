@@ -6,7 +6,7 @@ use Rattle.session_log.specs.{declared.fault.LogFault.LogFault, Ending.Ending}
 use Rattle.session_log.specs.{Replay.ReadsUpToEnding, Replay.Plays, Replay.Writes, Session.live_history, Session.live_machine}
 use Rattle.hidlog_c.specs.declared.fault.TheConstants.{ERR_NOT_INITIALIZED, ERR_PACKETS_QUEUED}
 use Rattle.hidlog_c.specs.{declared.outcome.CResult.CResult, Commands.IsWritten, Key.DeviceState, Key.no_causes}
-use Rattle.hidlog_c.specs.Numbers.{outcome_of}
+use Rattle.hidlog_c.specs.Numbers.{to_c_result}
 
 -- The lines were played as `live` plays them, from one state of the session to another: `bytes` of them were read,
 -- all but `rest`, and this text was written.
@@ -28,7 +28,7 @@ FollowsLines s t log out written answer = (start : Start) (h : List Timed) → I
 
 -- The lines were played, and `outcome` is the corresponding C result.
 abbrev pub ArePlayed : SessionState → SessionState → (log out : List ℕ) → CResult → Type 0
-ArePlayed s t log out outcome = (answer : Result (Unit {0}) LogFault) × (outcome ≡ outcome_of answer outcome.written)
+ArePlayed s t log out outcome = (answer : Result (Unit {0}) LogFault) × (outcome ≡ to_c_result answer outcome.written)
     × IsWritten log out outcome.written answer (PlaysLines s t) × FollowsLines s t log out outcome.written answer
 
 -- The device with another session, no queued packet and no cause.

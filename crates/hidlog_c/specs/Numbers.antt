@@ -22,9 +22,9 @@ packet_of (Differs line packet) = packet
 packet_of _ = 0
 
 -- The result of a command with this answer that wrote this many bytes.
-abbrev pub outcome_of : {A : Type 0} → Result A LogFault → ℕ → CResult
-outcome_of (Ok x) written = record { status = 0; fault = 0; line = 0; packet = 0; written = written }
-outcome_of (Err f) written = record {
+abbrev pub to_c_result : {A : Type 0} → Result A LogFault → ℕ → CResult
+to_c_result (Ok x) written = record { status = 0; fault = 0; line = 0; packet = 0; written = written }
+to_c_result (Err f) written = record {
   status = 1;
   fault = fault_number f;
   line = line_of f;

@@ -17,11 +17,11 @@ abbrev pub plain_need : ℕ → CNeed
 plain_need kind = record { kind = kind; to_sign_len = 0; id = replicate 32 0; signed = replicate 196 0 }
 
 -- Converts a need to a C struct.
-abbrev pub need_of : Needed → CNeed
-need_of nothing = plain_need 0
-need_of presence = plain_need 1
-need_of key = plain_need 2
-need_of (sign id signed) = record { kind = 3; to_sign_len = length signed; id = id; signed = with_zeros 196 signed }
+abbrev pub to_c_need : Needed → CNeed
+to_c_need nothing = plain_need 0
+to_c_need presence = plain_need 1
+to_c_need key = plain_need 2
+to_c_need (sign id signed) = record { kind = 3; to_sign_len = length signed; id = id; signed = with_zeros 196 signed }
 
 -- A Boolean as a number: 0 or 1.
 abbrev pub bit : Bool → ℕ
@@ -29,8 +29,8 @@ bit true = 1
 bit false = 0
 
 -- Converts a row to a C struct.
-abbrev pub credential_of : Row → Credential
-credential_of row = record {
+abbrev pub to_c_credential : Row → Credential
+to_c_credential row = record {
   rp = row.rp;
   id = row.id;
   x = row.x;
@@ -44,8 +44,8 @@ credential_of row = record {
 }
 
 -- Converts meters to a C struct.
-abbrev pub meters_of : Meters → CStats
-meters_of m = record {
+abbrev pub to_c_stats : Meters → CStats
+to_c_stats m = record {
   requests = m.requests;
   bytes = m.bytes;
   steps = m.steps;
@@ -58,13 +58,13 @@ meters_of m = record {
 -- The need is stored, and its kind returned.
 abbrev pub ReportsNeed : Option DeviceState → CNeed × CNeed → ℤ → Type 0
 ReportsNeed None need result = (need.1 ≡ need.0) × (result ≡ ERR_NOT_INITIALIZED)
-ReportsNeed (Some d) need result = (need.1 ≡ need_of (needs d.session.machine.core.state.work))
+ReportsNeed (Some d) need result = (need.1 ≡ to_c_need (needs d.session.machine.core.state.work))
     × (result ≡ pos need.1.kind)
 
 -- The credential at this index is stored, if there is one.
 abbrev pub ReportsRow : List Row → ℕ → Credential × Credential → ℤ → Type 0
 ReportsRow rows place credential result =
-    (place < length rows → ((row : Row) × (slice_index_or rows place row ≡ row) × (credential.1 ≡ credential_of row))
+    (place < length rows → ((row : Row) × (slice_index_or rows place row ≡ row) × (credential.1 ≡ to_c_credential row))
     × (result ≡ pos 0))
     × (length rows ≤ place → (credential.1 ≡ credential.0) × (result ≡ ERR_INVALID_ARGUMENT))
 
@@ -77,7 +77,7 @@ ReportsCredential (Some d) place credential result =
 -- The effect of reading the meters, and the call's return value.
 abbrev pub ReportsMeters : Option DeviceState → CStats × CStats → ℤ → Type 0
 ReportsMeters None meters result = (meters.1 ≡ meters.0) × (result ≡ ERR_NOT_INITIALIZED)
-ReportsMeters (Some d) meters result = (meters.1 ≡ meters_of d.session.meters) × (result ≡ pos 0)
+ReportsMeters (Some d) meters result = (meters.1 ≡ to_c_stats d.session.meters) × (result ≡ pos 0)
 
 -- A count, or the error of a key that is not initialized.
 abbrev pub count_or : (DeviceState → ℕ) → Option DeviceState → ℤ

@@ -1,9 +1,9 @@
 -- The result of showing a log.
 use Rattle.std.specs.Prelude.{◌≡◌, ℕ, Bool, true, false, List, [], Result}
 use Rattle.session_log.specs.{declared.fault.LogFault.LogFault, Ending.Ending, Replay.ReadsUpToEnding, Replay.Plays}
-use Rattle.session_show.specs.Shown.{IsLineText, IsTextTo, read_only_world}
+use Rattle.session_show.specs.Shown.{IsLineText, IsTextUpTo, read_only_world}
 use Rattle.session_show.specs.declared.detail.Detail.{Detail, TheVariants.Explained, TheVariants.Fixed}
-use Rattle.hidlog_c.specs.{declared.outcome.CResult.CResult, Commands.IsWritten, Numbers.outcome_of}
+use Rattle.hidlog_c.specs.{declared.outcome.CResult.CResult, Commands.IsWritten, Numbers.to_c_result}
 
 -- The level of detail.
 abbrev pub detail_for : (explained : Bool) → Detail
@@ -14,10 +14,10 @@ detail_for false = Fixed
 -- first invalid line, and the text shows the lines before it. The bytes after the invalid line don't matter.
 abbrev pub Shows : Detail → (bytes rest text : List ℕ) → Ending → Type 0
 Shows detail bytes rest text ending =
-    ((lines : List ℕ) × Plays read_only_world tt tt bytes lines ending × IsTextTo (IsLineText detail) lines text ending)
+    ((lines : List ℕ) × Plays read_only_world tt tt bytes lines ending × IsTextUpTo (IsLineText detail) lines text ending)
     × ReadsUpToEnding read_only_world tt bytes (rest ≡ []) ending
 
 -- The log was shown, and `outcome` is the corresponding C result.
 abbrev pub IsShown : Detail → (log out : List ℕ) → CResult → Type 0
-IsShown detail log out outcome = (answer : Result (Unit {0}) LogFault) × (outcome ≡ outcome_of answer outcome.written)
+IsShown detail log out outcome = (answer : Result (Unit {0}) LogFault) × (outcome ≡ to_c_result answer outcome.written)
     × IsWritten log out outcome.written answer (Shows detail)

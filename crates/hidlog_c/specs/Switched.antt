@@ -4,7 +4,7 @@ use Rattle.authn_core.specs.Turn.{Start}
 use Rattle.cred_table.specs.{declared.fault.SnapshotFault.SnapshotFault, declared.row.Row.Row, Snapshots.Refuses}
 use Rattle.cred_table.specs.declared.fault.SnapshotFault.TheVariants.{NotSnapshot, TooMany, RowBroken, Memory}
 use Rattle.token_session.specs.Meters.{IsStateAfterValidStart}
-use Rattle.hidlog_c.specs.{Begin.Opens, declared.capacity.TheConstants.CAPACITY, Key.DeviceState, Key.no_causes}
+use Rattle.hidlog_c.specs.{Begin.IsSnapshotOrEmpty, declared.capacity.TheConstants.CAPACITY, Key.DeviceState, Key.no_causes}
 use Rattle.hidlog_c.specs.declared.fault.TheConstants.{ERR_ALREADY_INITIALIZED, ERR_NOT_A_SNAPSHOT, ERR_FULL, ERR_BAD_CREDENTIAL, NO_MEMORY}
 
 -- The start of a session with the library's capacity.
@@ -29,7 +29,7 @@ IsStarted d aaguid moment rows =
 
 -- The key has a new session with the credentials of the snapshot.
 abbrev pub Begins : (aaguid : List ℕ) → (moment : ℕ) → (snapshot : List ℕ) → Option DeviceState → Type 0
-Begins aaguid moment snapshot after = (rows : List Row) × (d : DeviceState) × Opens snapshot rows
+Begins aaguid moment snapshot after = (rows : List Row) × (d : DeviceState) × IsSnapshotOrEmpty snapshot rows
     × (after ≡ Some d) × IsStarted d aaguid moment rows
 
 -- The snapshot is rejected, and the key is not initialized.

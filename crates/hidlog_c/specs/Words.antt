@@ -7,8 +7,8 @@ use Rattle.hidlog_c.specs.declared.fault.TheConstants.{ERR_INVALID_ARGUMENT, ERR
 use Rattle.hidlog_c.specs.Key.{Answers, DeviceState}
 
 -- The user presence reply for a number of enum hidlog_presence.
-abbrev pub presence_of : ℕ → Option Reply
-presence_of n =
+abbrev pub parsed_presence_number : ℕ → Option Reply
+parsed_presence_number n =
     if nat_eq n 0 then Some Granted else if nat_eq n 1 then Some Denied else if nat_eq n 2 then Some TimedOut else None
 
 -- A signature of 1 to 72 bytes.

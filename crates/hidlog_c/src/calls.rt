@@ -9,7 +9,7 @@ ghost use Rattle.hidlog_c.specs.Causes.{ReportsCause};
 ghost use Rattle.hidlog_c.specs.Held.{held};
 ghost use Rattle.hidlog_c.specs.Changed.{Adds, Clears, Removes, SavesKey};
 ghost use Rattle.hidlog_c.specs.Key.{Answers, Sends};
-ghost use Rattle.hidlog_c.specs.Words.{AnswersChecked, presence_of, signature_input};
+ghost use Rattle.hidlog_c.specs.Words.{AnswersChecked, parsed_presence_number, signature_input};
 ghost use Rattle.hidlog_c.specs.Lines.{TakesLines};
 ghost use Rattle.hidlog_c.specs.Reports.{ReportsCredential, ReportsMeters, ReportsNeed, count_or, credential_count, pending_assertions, waiting_packets};
 ghost use Rattle.hidlog_c.specs.Switched.{Initializes};
@@ -30,8 +30,8 @@ use hid_packet::Packet;
 use token_session::Input;
 
 /// Converts a number to a user presence reply, if valid.
-fn presence_of(presence: u32) -> Option<Presence>
-    ensures { result ≡ presence_of presence }
+fn parsed_presence_number(presence: u32) -> Option<Presence>
+    ensures { result ≡ parsed_presence_number presence }
 {
     match presence {
         0 => Some(Presence::Granted),
@@ -70,7 +70,7 @@ pub extern "C" fn hidlog_key_init(
     if key.is_initialized() {
         return ERR_ALREADY_INITIALIZED;
     }
-    match key.make(*aaguid, at, snapshot) {
+    match key.initialize(*aaguid, at, snapshot) {
         Ok(()) => 0,
         Err(SnapshotFault::NotSnapshot) => ERR_NOT_A_SNAPSHOT,
         Err(SnapshotFault::TooMany) => ERR_FULL,
@@ -107,9 +107,9 @@ pub extern "C" fn hidlog_key_read_packet(key: &mut KeyHandle, packet: &mut [u8; 
 /// Provides user presence: 0 granted, 1 denied, 2 timed out.
 #[unsafe(no_mangle)]
 pub extern "C" fn hidlog_key_provide_presence(key: &mut KeyHandle, at: u64, presence: u32) -> i32
-    ensures { AnswersChecked (held key.old) (held key.new) at (option_map inputs.Presence (presence_of presence)) result }
+    ensures { AnswersChecked (held key.old) (held key.new) at (option_map inputs.Presence (parsed_presence_number presence)) result }
 {
-    match presence_of(presence) {
+    match parsed_presence_number(presence) {
         Some(presence) => key.take(at, Input::Presence(presence)),
         None => key.refuse(),
     }
@@ -299,6 +299,6 @@ pub extern "C" fn hidlog_key_destroy(key: &mut KeyHandle) -> i32
     if !key.is_initialized() {
         return ERR_NOT_INITIALIZED;
     }
-    key.free();
+    key.destroy();
     0
 }

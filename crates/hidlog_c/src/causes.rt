@@ -1,6 +1,6 @@
 //! Why a key refused its last input, as a C struct and as a sentence.
 ghost use Rattle.std.specs.Prelude.{◌≡◌, ◌≤◌, ◌<◌, length};
-ghost use Rattle.hidlog_c.specs.Causes.{cause_at, report_of, request_report, command_report, transport_report, which_of};
+ghost use Rattle.hidlog_c.specs.Causes.{cause_at, report_of, request_report, command_report, transport_report, parsed_which};
 
 use authn_core::Refusal;
 use ctap_cbor::Fault;
@@ -121,8 +121,8 @@ pub fn report_of(cause: Cause) -> CauseReport
 
 /// Returns whether a C number selects the cause of the input's refusal (1) or that of a time-out before it (0). Other
 /// numbers are invalid.
-pub fn which_of(which: u32) -> Option<bool>
-    ensures { result ≡ which_of which }
+pub fn parsed_which(which: u32) -> Option<bool>
+    ensures { result ≡ parsed_which which }
 {
     match which {
         0 => Some(false),

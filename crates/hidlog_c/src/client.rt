@@ -49,7 +49,7 @@ fn put(bytes: &[u8], out: &mut [u8]) -> i64 {
 
 /// Returns the number of a rejection, and writes the name of the invalid member and the reason to the beginning of a
 /// buffer, if both fit.
-fn reject(rejection: Rejection, report: &mut ClientReport, out: &mut [u8]) -> i64 {
+fn write_rejection(rejection: Rejection, report: &mut ClientReport, out: &mut [u8]) -> i64 {
     let (member, reason) = (rejection.member.as_bytes(), rejection.reason.as_bytes());
     let (Ok(member_len), Ok(reason_len)) = (
         u32::try_from(member.len()),
@@ -69,7 +69,7 @@ fn reject(rejection: Rejection, report: &mut ClientReport, out: &mut [u8]) -> i6
 }
 
 /// Converts bits (enum hidlog_client_ability) to the authenticator's abilities.
-fn abilities_of(bits: u32) -> Abilities {
+fn to_abilities(bits: u32) -> Abilities {
     let verification = if bits & 1 != 0 {
         Verification::Verified
     } else if bits & 2 != 0 {
@@ -85,7 +85,7 @@ fn abilities_of(bits: u32) -> Abilities {
 }
 
 /// Returns the ceremony: 0 creates a credential, other numbers get an assertion.
-fn ceremony_of(ceremony: u32) -> Ceremony {
+fn to_ceremony(ceremony: u32) -> Ceremony {
     if ceremony == 0 {
         Ceremony::Create
     } else {
@@ -125,17 +125,17 @@ pub extern "C" fn hidlog_client_request(
         reason_len: 0,
     };
     let begun = Client::begin(
-        ceremony_of(ceremony),
+        to_ceremony(ceremony),
         options,
         mediation,
         origin,
         suffix,
-        abilities_of(abilities),
+        to_abilities(abilities),
     );
     let mut message = Message::new();
     match begun.and_then(|client| write_request(&client, report, &mut message)) {
         Ok(()) => put(message.as_slice(), out),
-        Err(rejection) => reject(rejection, report, out),
+        Err(rejection) => write_rejection(rejection, report, out),
     }
 }
 
@@ -159,16 +159,16 @@ pub extern "C" fn hidlog_client_response(
         reason_len: 0,
     };
     let begun = Client::begin(
-        ceremony_of(ceremony),
+        to_ceremony(ceremony),
         options,
         mediation,
         origin,
         suffix,
-        abilities_of(abilities),
+        to_abilities(abilities),
     );
     let mut json = Response::new();
     match begun.and_then(|client| client.answer(response, &mut json)) {
         Ok(()) => put(json.as_slice(), out),
-        Err(rejection) => reject(rejection, report, out),
+        Err(rejection) => write_rejection(rejection, report, out),
     }
 }

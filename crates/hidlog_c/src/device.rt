@@ -10,7 +10,7 @@ ghost use Rattle.hidlog_c.specs.Causes.{ReportsCause};
 ghost use Rattle.hidlog_c.specs.Key.{Answers, Sends};
 ghost use Rattle.hidlog_c.specs.Lines.{TakesLines};
 ghost use Rattle.hidlog_c.specs.Switched.{IsStarted};
-ghost use Rattle.hidlog_c.specs.Reports.{ReportsRow, credential_count, meters_of, need_of, pending_assertions, waiting_packets};
+ghost use Rattle.hidlog_c.specs.Reports.{ReportsRow, credential_count, to_c_stats, to_c_need, pending_assertions, waiting_packets};
 
 use crate::capacity::{CAPACITY, SNAPSHOT_MAX_LEN};
 use crate::causes::{CauseReport, cause_at, put_sentence, report_of, which_of};
@@ -20,9 +20,9 @@ use crate::fault::{
 };
 use crate::lines::play_lines;
 use crate::outcome::CResult;
-use crate::rows::row_of;
+use crate::rows::to_row;
 use crate::session_start::new_session;
-use crate::structs::{CNeed, CStats, Credential, credential_of, meters_of, need_of};
+use crate::structs::{CNeed, CStats, Credential, to_c_credential, to_c_need, to_c_stats};
 use authn_core::{Config, Need};
 use cred_table::{SnapshotFault, Store, Table, copy_without, put_new, save_into};
 use hid_packet::Outbox;
@@ -142,9 +142,9 @@ impl Device {
 
     /// Returns what the session needs from the caller.
     pub fn need(&self) -> CNeed
-        ensures { result ≡ need_of (needs self.now.session.machine.core.state.work) }
+        ensures { result ≡ to_c_need (needs self.now.session.machine.core.state.work) }
     {
-        need_of(self.session.need())
+        to_c_need(self.session.need())
     }
 
     /// Returns the number of credentials.
@@ -170,15 +170,15 @@ impl Device {
         if place >= self.session.credentials() {
             return ERR_INVALID_ARGUMENT;
         }
-        *credential = credential_of(self.session.table().row(place));
+        *credential = to_c_credential(self.session.table().row(place));
         0
     }
 
     /// Returns the session's meters.
     pub fn meters(&self) -> CStats
-        ensures { result ≡ meters_of self.now.session.meters }
+        ensures { result ≡ to_c_stats self.now.session.meters }
     {
-        meters_of(self.session.meters())
+        to_c_stats(self.session.meters())
     }
 
     /// Returns the error if the key can't start a new session: packets are queued, or a request is pending.
@@ -223,7 +223,7 @@ impl Device {
         if let Some(fault) = self.busy_error() {
             return fault;
         }
-        let Some(row) = row_of(credential) else {
+        let Some(row) = to_row(credential) else {
             return ERR_INVALID_ARGUMENT;
         };
         let (mut rows, _) = self.rows_without(&row.id);

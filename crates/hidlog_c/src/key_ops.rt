@@ -31,7 +31,12 @@ impl KeyHandle {
     /// Initializes the key with a device that powers up at `at`, with the credentials of the snapshot; none if it is
     /// empty. Fails if the key is initialized or the snapshot is rejected.
     // The snapshot is read into the device in place: moving its 39 kB would copy them.
-    pub fn make(&mut self, aaguid: [u8; 16], at: u64, snapshot: &[u8]) -> Result<(), SnapshotFault>
+    pub fn initialize(
+        &mut self,
+        aaguid: [u8; 16],
+        at: u64,
+        snapshot: &[u8],
+    ) -> Result<(), SnapshotFault>
         requires { held self.old ≡ None }
         ensures made { OnOk result (Begins aaguid at snapshot.now (held self.new)) }
         ensures refused { IfErr result (λ fault. (snapshot.now ≢ []) × Refuses CAPACITY snapshot.now fault) }
@@ -52,7 +57,7 @@ impl KeyHandle {
     }
 
     /// Destroys the device.
-    pub fn free(&mut self)
+    pub fn destroy(&mut self)
         ensures { held self.new ≡ None }
     {
         if self.state == STATE_INITIALIZED {

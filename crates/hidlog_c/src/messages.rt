@@ -1,7 +1,7 @@
 //! The texts of errors.
 ghost use Rattle.std.specs.Prelude.{◌≡◌, ◌≤◌, ℕ, Some, Err, length};
 ghost use Rattle.session_log.specs.declared.fault.LogFault.{LogFault as AnyFault};
-ghost use Rattle.hidlog_c.specs.Numbers.{outcome_of};
+ghost use Rattle.hidlog_c.specs.Numbers.{to_c_result};
 
 use crate::outcome::CResult;
 use arrayvec::ArrayVec;
@@ -10,7 +10,7 @@ use std::io::Write;
 
 /// Returns the log error of a result, if any.
 fn fault_in(outcome: &CResult) -> Option<LogFault>
-    ensures { (fault : AnyFault) (written : ℕ) → outcome.now ≡ outcome_of {A = Unit {0}} (Err fault) written → result ≡ Some fault }
+    ensures { (fault : AnyFault) (written : ℕ) → outcome.now ≡ to_c_result {A = Unit {0}} (Err fault) written → result ≡ Some fault }
 {
     let line = outcome.line;
     match (outcome.status, outcome.fault) {

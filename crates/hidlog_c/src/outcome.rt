@@ -1,6 +1,6 @@
 //! The result of a command in C.
 ghost use Rattle.std.specs.Prelude.{◌≡◌};
-ghost use Rattle.hidlog_c.specs.Numbers.{line_of, outcome_of, packet_of, refused};
+ghost use Rattle.hidlog_c.specs.Numbers.{line_of, to_c_result, packet_of, refused};
 
 use cred_table::SnapshotFault;
 use session_log::LogFault;
@@ -22,7 +22,7 @@ pub struct CResult {
 }
 
 /// Returns the line and the packet of an error, or 0 if it has none.
-fn place_of(fault: &LogFault) -> (u64, u64)
+fn line_and_packet(fault: &LogFault) -> (u64, u64)
     ensures line { result.0 ≡ line_of fault.now }
     ensures packet { result.1 ≡ packet_of fault.now }
 {
@@ -39,7 +39,7 @@ fn place_of(fault: &LogFault) -> (u64, u64)
 impl CResult {
     /// Converts the result of a command that wrote `written` bytes.
     pub fn new<A: Drop>(answer: Result<A, LogFault>, written: usize) -> Self
-        ensures { result ≡ outcome_of answer written }
+        ensures { result ≡ to_c_result answer written }
     {
         let mut outcome = CResult {
             status: 0,
@@ -51,7 +51,7 @@ impl CResult {
         if let Err(fault) = answer {
             outcome.status = 1;
             outcome.fault = u32::from(fault.number());
-            (outcome.line, outcome.packet) = place_of(&fault);
+            (outcome.line, outcome.packet) = line_and_packet(&fault);
         }
         outcome
     }

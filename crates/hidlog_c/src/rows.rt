@@ -8,7 +8,7 @@ use cred_table::{Name, Row};
 use std::str;
 
 /// Returns the first `len` bytes of an array, if it has as many.
-fn front(bytes: &[u8; 64], len: u32) -> Option<&[u8]>
+fn valid_prefix(bytes: &[u8; 64], len: u32) -> Option<&[u8]>
     ensures front { IfSome result (λ front. (front.now ≡ take len bytes.now) × (len ≤ 64)) }
     ensures none { IfNone result (64 < len) }
 {
@@ -16,12 +16,12 @@ fn front(bytes: &[u8; 64], len: u32) -> Option<&[u8]>
 }
 
 /// Returns the row of a credential, if it is valid.
-pub fn row_of(credential: &Credential) -> Option<Row>
+pub fn to_row(credential: &Credential) -> Option<Row>
     ensures says { IfSome result (λ row. Describes credential.now row) }
     ensures none { IfNone result (DescribesNoRow credential.now) }
 {
-    let user = front(&credential.user, credential.user_id_len)?;
-    let name = front(&credential.name, credential.user_name_len)?;
+    let user = valid_prefix(&credential.user, credential.user_id_len)?;
+    let name = valid_prefix(&credential.name, credential.user_name_len)?;
     let discoverable = match credential.discoverable {
         0 => false,
         1 => true,

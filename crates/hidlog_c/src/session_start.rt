@@ -3,7 +3,7 @@ ghost use Rattle.std.specs.Prelude.{◌≡◌, ◌≢◌, [], List, IfOk, IfErr,
 ghost use Rattle.cred_table.specs.declared.row.Row.{Row as AnyRow};
 ghost use Rattle.cred_table.specs.Snapshots.{Refuses};
 ghost use Rattle.token_session.specs.Meters.{IsStateAfterValidStart, IsStateAfter, session_of};
-ghost use Rattle.hidlog_c.specs.Begin.{Opens};
+ghost use Rattle.hidlog_c.specs.Begin.{IsSnapshotOrEmpty};
 ghost use Rattle.hidlog_c.specs.Switched.{start_of, start_with};
 
 use crate::capacity::CAPACITY;
@@ -29,7 +29,7 @@ pub fn new_command_session() -> Session<CAPACITY>
 /// Loads the credentials of the snapshot into a new session. An empty snapshot has no credentials.
 pub fn open(session: &mut Session<CAPACITY>, snapshot: &[u8]) -> Result<(), SnapshotFault>
     requires fresh { session.old ≡ session_of (start_with []) [] }
-    ensures begins { OnOk result ((rows : List AnyRow) × Opens snapshot.now rows
+    ensures begins { OnOk result ((rows : List AnyRow) × IsSnapshotOrEmpty snapshot.now rows
         × IsStateAfter session.new (start_with rows) []) }
     ensures refused { IfErr result (λ fault. (snapshot.now ≢ []) × Refuses CAPACITY snapshot.now fault) }
 {

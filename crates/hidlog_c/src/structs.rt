@@ -1,8 +1,8 @@
 //! The C structs that calls on a key write.
 ghost use Rattle.std.specs.Prelude.{◌≡◌, ◌≤◌, ◌++◌, ◌-◌, drop, length, replicate};
-ghost use Rattle.authn_core.specs.Needs.{IsNeed};
-ghost use Rattle.authn_core.specs.Views.{needed_reply};
-ghost use Rattle.hidlog_c.specs.Reports.{credential_of, meters_of, need_of};
+ghost use Rattle.authn_core.specs.Needs.{IsValidNeed};
+ghost use Rattle.authn_core.specs.Views.{to_needed};
+ghost use Rattle.hidlog_c.specs.Reports.{to_c_credential, to_c_stats, to_c_need};
 
 use authn_core::Need;
 use cred_table::Row;
@@ -63,7 +63,7 @@ pub struct CStats {
 }
 
 /// Copies the bytes to the beginning of the buffer.
-fn put_front(out: &mut [u8], bytes: &[u8])
+fn copy_to_front(out: &mut [u8], bytes: &[u8])
     requires { length bytes.now ≤ length out.old }
     ensures { out.new ≡ bytes.now ++ drop (length bytes.now) out.old }
 {
@@ -76,7 +76,7 @@ fn with_zeros<const N: usize>(bytes: &[u8]) -> [u8; N]
     ensures { result ≡ bytes.now ++ replicate (N - length bytes.now) 0 }
 {
     let mut kept = [0; N];
-    put_front(&mut kept, bytes);
+    copy_to_front(&mut kept, bytes);
     kept
 }
 
@@ -93,9 +93,9 @@ fn plain_need(kind: u32) -> CNeed
 }
 
 /// Converts a need to a C struct.
-pub fn need_of(need: Need<'_>) -> CNeed
-    requires { IsNeed (needed_reply need) }
-    ensures { result ≡ need_of (needed_reply need.entry) }
+pub fn to_c_need(need: Need<'_>) -> CNeed
+    requires { IsValidNeed (to_needed need) }
+    ensures { result ≡ to_c_need (to_needed need.entry) }
 {
     match need {
         Need::None => plain_need(0),
@@ -111,8 +111,8 @@ pub fn need_of(need: Need<'_>) -> CNeed
 }
 
 /// Converts a row to a C struct.
-pub fn credential_of(row: &Row) -> Credential
-    ensures { result ≡ credential_of row.now }
+pub fn to_c_credential(row: &Row) -> Credential
+    ensures { result ≡ to_c_credential row.now }
 {
     let user = row.user.as_slice();
     let name = row.name.as_str().as_bytes();
@@ -131,8 +131,8 @@ pub fn credential_of(row: &Row) -> Credential
 }
 
 /// Converts meters to a C struct.
-pub fn meters_of(meters: Meters) -> CStats
-    ensures { result ≡ meters_of meters }
+pub fn to_c_stats(meters: Meters) -> CStats
+    ensures { result ≡ to_c_stats meters }
 {
     CStats {
         requests: meters.requests,

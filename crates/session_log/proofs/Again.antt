@@ -9,7 +9,7 @@ use Rattle.hid_packet.specs.declared.packet.Packet.{Packet}
 use Rattle.token_session.specs.{declared.input.Meters.Meters, Meters.SessionState}
 use Rattle.session_log.specs.{declared.line.Line.Line, Lines.lines, Parsed.parsed, Replay.IsDone, Session.RepeatsIn}
 use Rattle.session_log.specs.declared.line.Line.TheVariants.{Sent, Count, Input, Comment}
-use Rattle.session_log.specs.Log.{Played, with_text_before, played, play_all, log_of, log, last_text, text_by, state_after, state_after_parsed}
+use Rattle.session_log.specs.Log.{Played, with_text_before, played, play_all, log_of, log, last_text, parsed_line_text, state_after, state_after_parsed}
 use Rattle.session_log.specs.{Sent.SendsPackets, Sent.AllSend, Sent.FitsMeters, Needs.need_lines, Needs.is_need_line}
 use Rattle.session_log.specs.Text.{IsPacket, ArePackets, with_line_feed, sent_text, meters_line}
 use Rattle.session_log.specs.World.{LineSemantics, InputSemantics, replay_world, live_world}
@@ -74,7 +74,7 @@ add_zero n = omega arith
 module _ {S : Type 0} {w : LineSemantics S} {counts : S → Meters} (is : IsLogging w counts) where
   pub sound_step : (m : ℕ) (s : S) (line : List ℕ) (more : List (List ℕ)) (l : Option Line) → m < 2 ^ 32 → IsSound line
       → parsed line ≡ l → played w m s (line ∷ more)
-      ≡ with_text_before (text_by w s line l) (played w (m + 1) (state_after_parsed w s l) more)
+      ≡ with_text_before (parsed_line_text w s line l) (played w (m + 1) (state_after_parsed w s l) more)
   sound_step m s line more l few sound e = search (arith, played_sound, said_fault)
 
   pub sents_again : (m : ℕ) (s : S) (packets rest : List (List ℕ)) → ArePackets packets → m + length packets ≤ 2 ^ 32
@@ -86,7 +86,7 @@ module _ {S : Type 0} {w : LineSemantics S} {counts : S → Meters} (is : IsLogg
 
 -- the lines that v writes for a line, without their line feeds
 pub record WritesLines {S : Type 0} (v : LineSemantics S) (wrote : S → List ℕ → Option Line → List (List ℕ)) : Type 0 where
-  pub texts : (s : S) (line : List ℕ) (l : Option Line) → text_by v s line l ≡ flat_map with_line_feed (wrote s line l)
+  pub texts : (s : S) (line : List ℕ) (l : Option Line) → parsed_line_text v s line l ≡ flat_map with_line_feed (wrote s line l)
   pub are : (s : S) (line : List ℕ) (l : Option Line) → parsed line ≡ l → feedless line ≡ true → SendsPackets v s l
       → AreLines (wrote s line l)
 
@@ -113,7 +113,7 @@ abbrev pub Repeats : {S : Type 0} (v w : LineSemantics S) → (S → List ℕ �
 Repeats {S} v w wrote = (m : ℕ) (s : S) (line : List ℕ) (l : Option Line) (rest : List (List ℕ)) → IsSound line
     → parsed line ≡ l → SendsPackets v s l → m + length (wrote s line l) ≤ 2 ^ 32
     → played w m s (wrote s line l ++ rest)
-    ≡ with_text_before (text_by v s line l) (played w (m + length (wrote s line l)) (state_after_parsed v s l) rest)
+    ≡ with_text_before (parsed_line_text v s line l) (played w (m + length (wrote s line l)) (state_after_parsed v s l) rest)
 
 pub record GivesAgain {S : Type 0} (v w : LineSemantics S) (wrote : S → List ℕ → Option Line → List (List ℕ)) : Type 0 where
   pub writes : WritesLines v wrote
@@ -212,7 +212,7 @@ module _ {S : Type 0} (course : InputSemantics S) where
   pub replay_logs : IsLogging replays course.counts
   replay_logs = search arith
 
-  text_lines : (s : S) (line : List ℕ) (l : Option Line) → text_by replays s line l ≡ flat_map with_line_feed (lines_by s line l)
+  text_lines : (s : S) (line : List ℕ) (l : Option Line) → parsed_line_text replays s line l ≡ flat_map with_line_feed (lines_by s line l)
   text_lines s line l = search (arith, append-nil, sents_text)
 
   line_are : (s : S) (line : List ℕ) (l : Option Line) → parsed line ≡ l → feedless line ≡ true → SendsPackets replays s l
@@ -256,7 +256,7 @@ module _ {S : Type 0} (course : InputSemantics S) (needs : S → Needed) where
       line ∷ map sent_line (course.sends s timed) ++ need_lines (needs (course.turned s timed))
   needs_of s line l = []
 
-  lived_lines : (s : S) (line : List ℕ) (l : Option Line) → text_by lives s line l ≡ flat_map with_line_feed (needs_of s line l)
+  lived_lines : (s : S) (line : List ℕ) (l : Option Line) → parsed_line_text lives s line l ≡ flat_map with_line_feed (needs_of s line l)
   lived_lines s line l = search (arith, append_assoc, sents_text, flat_map-append, append-nil)
 
   lived_are : (s : S) (line : List ℕ) (l : Option Line) → parsed line ≡ l → feedless line ≡ true → SendsPackets lives s l

@@ -4,13 +4,13 @@ use Rattle.std.proofs.Common.{true, false, is_some, inl, inr, refl, ap, sym, ◌
 use Rattle.std.specs.{Cmp.Lexicographic.pointwise, Option.option_eq}
 use Rattle.hid_packet.specs.declared.packet.Packet.{Packet}
 use Rattle.token_session.specs.Meters.{SessionState}
-use Rattle.session_log.specs.Check.{Compared, after_first, differs_from, compared, due_packets, missing_of}
+use Rattle.session_log.specs.Check.{Compared, after_first, differs_from, log_comparison, due_packets, missing_of}
 use Rattle.session_log.specs.{Check.comparison_after, Check.comparison_fault, Session.session_course}
 use Rattle.session_log.specs.declared.{check_player.CheckPlayer.CheckPlayer, fault.LogFault.LogFault, line.Line.Line}
 use Rattle.session_log.specs.declared.line.Line.TheVariants.{Comment, Count}
 
 abbrev pub standing : CheckPlayer → SessionState → Compared SessionState
-standing o s = compared s o.lines o.input o.found (due_packets o.awaited o.outbox) o.inputs o.packets
+standing o s = log_comparison s o.lines o.input o.found (due_packets o.awaited o.outbox) o.inputs o.packets
 
 pub is_silent : (o : Option Packet) → false ≡ is_some o → o ≡ None
 is_silent None h = refl

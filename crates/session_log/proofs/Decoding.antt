@@ -43,6 +43,7 @@ module _ (s out : List ℕ) (i h l : ℕ) (inside : 2 * i + 1 < length s) (fits 
     (low : hex_digit_value (slice_index s (2 * i + 1)) ≡ value_of l) where
   abbrev a : ℕ
   a = slice_index s (2 * i)
+
   abbrev b : ℕ
   b = slice_index s (2 * i + 1)
 

@@ -11,7 +11,7 @@ use Rattle.session_log.specs.declared.fault.LogFault.TheVariants.{BadLine, TooLo
 use Rattle.session_log.specs.{Check.Compared, Check.first_comparison, Check.check_world, Parsed.moment, Parsed.parsed, Needs.need_lines}
 use Rattle.session_log.specs.declared.line.Line.TheVariants.{Input, Sent, Comment, Count}
 use Rattle.session_log.specs.Lines.{lines, whole_lines, last_piece}
-use Rattle.session_log.specs.Log.{fault_at, fault_of, play_all, log}
+use Rattle.session_log.specs.Log.{line_fault, fault_of, play_all, log}
 use Rattle.session_log.specs.World.{InputSemantics, LineSemantics, replay_world, quiet_world, live_world}
 use Rattle.authn_core.specs.Views.{nothing, presence, sign}
 use Rattle.hex.specs.Hex.{encode_with}
@@ -117,9 +117,9 @@ abbrev echo : LineSemantics ℕ
 echo = replay_world echoes
 
 -- faults: a line of 256 bytes is too long before it is read, and line 2^32 is one too many before that
-row-faults : (fault_at echo 7 0 (codes "#" ++ zeros 254) ≡ None) × (fault_at echo 7 0 (zeros 256) ≡ Some (TooLong 7))
-    × (fault_at echo 7 0 (zeros 255) ≡ Some (BadLine 7)) × (fault_at echo (2 ^ 32 - 1) 0 [] ≡ None)
-    × (fault_at echo (2 ^ 32) 0 (zeros 256) ≡ Some TooManyLines)
+row-faults : (line_fault echo 7 0 (codes "#" ++ zeros 254) ≡ None) × (line_fault echo 7 0 (zeros 256) ≡ Some (TooLong 7))
+    × (line_fault echo 7 0 (zeros 255) ≡ Some (BadLine 7)) × (line_fault echo (2 ^ 32 - 1) 0 [] ≡ None)
+    × (line_fault echo (2 ^ 32) 0 (zeros 256) ≡ Some TooManyLines)
 unfolding zeros
 row-faults = (refl, refl, refl, refl, refl)
 

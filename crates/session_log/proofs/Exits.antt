@@ -5,8 +5,8 @@ use Rattle.std.specs.Io.KnownBytes.{Consumes, Appends, Keeps}
 use Rattle.std.proofs.KnownBytes.{Appends-trans, Appends-kept, Consumes-trans}
 use Rattle.session_log.specs.{declared.fault.LogFault.LogFault, Parsed.parsed, World.LineSemantics, Lines.lines}
 use Rattle.session_log.specs.declared.fault.LogFault.TheVariants.{TooLong, Read, Write, TooManyLines}
-use Rattle.session_log.specs.{Ending.ended_by, Ending.ending_of, Sent.AllSend, Sent.SendsPackets}
-use Rattle.session_log.specs.Log.{line_text, last_text, state_after, fault_by}
+use Rattle.session_log.specs.{Ending.ending_of_fault, Ending.ending_of, Sent.AllSend, Sent.SendsPackets}
+use Rattle.session_log.specs.Log.{line_text, last_text, state_after, parsed_line_fault}
 use Rattle.session_log.specs.Streams.{ReadsAndWrites, WritesAll, WriteFails}
 use Rattle.session_log.{specs.Window.HasLine, specs.Window.IsUnfinished, specs.Window.Stops, proofs.Gathering.in_count}
 use Rattle.session_log.specs.Replay.{IsRefused, IsUnwritten, IsPlayed, IsDone, Plays, PlaysLine}
@@ -29,7 +29,7 @@ module _ {S : Type 0} {world : LineSemantics S} {s0 s : S} {read text : List ℕ
     (left left' start : Option (List ℕ)) (w : List ℕ) (p : Consumes left left' (read ++ w)) where
   -- no line could be read
   pub stops_reading : (taken : Option (List ℕ)) (e : LogFault) → Appends start taken text → Stops n w e
-      → ReadsAndWrites left left' start taken (λ bytes text. Plays world s0 s bytes text (ended_by e))
+      → ReadsAndWrites left left' start taken (λ bytes text. Plays world s0 s bytes text (ending_of_fault e))
   stops_reading taken TooManyLines q h =
       let some = some_line w h.1 in
       (read ++ w, text, p, q, refused through w some.0 some.1 TooManyLines some.2 (too_many world n s some.0 h.0))
@@ -45,7 +45,7 @@ module _ {S : Type 0} {world : LineSemantics S} {s0 s : S} {read text : List ℕ
     module _ (line : List ℕ) (more : List (List ℕ)) (first : lines w ≡ line ∷ more) (short : length line < 256)
         (few : n < 2 ^ 32) where
       -- the line was faulty, and nothing was written for it
-      stops_faulty : (fault : LogFault) → fault_by world n s (parsed line) ≡ Some fault → t ≡ s
+      stops_faulty : (fault : LogFault) → parsed_line_fault world n s (parsed line) ≡ Some fault → t ≡ s
           → Keeps (taken target.0) (taken target.1)
           → ReadsAndWrites left left' start (taken target.1) (λ bytes text. IsRefused world s0 t bytes text fault)
       stops_faulty fault bad stays kept =
@@ -53,8 +53,8 @@ module _ {S : Type 0} {world : LineSemantics S} {s0 s : S} {read text : List ℕ
           (read ++ w, text, p, Appends-kept start (taken target.0) (taken target.1) text q kept, rw stays found)
 
       -- the line was faulty, or its text broke off
-      pub stops_at_line : (e : LogFault) → PlaysLine world taken failed n s t line target (ended_by e)
-          → ReadsAndWrites left left' start (taken target.1) (λ bytes text. Plays world s0 t bytes text (ended_by e))
+      pub stops_at_line : (e : LogFault) → PlaysLine world taken failed n s t line target (ending_of_fault e)
+          → ReadsAndWrites left left' start (taken target.1) (λ bytes text. Plays world s0 t bytes text (ending_of_fault e))
       stops_at_line (Read m) h = absurd h
       stops_at_line Write h =
           let broken = h.2.0 in
@@ -66,7 +66,7 @@ module _ {S : Type 0} {world : LineSemantics S} {s0 s : S} {read text : List ℕ
 
     module _ (end : ℕ) (has : HasLine n w end) where
       -- the line in front was played
-      pub goes_on : (rest : List ℕ) → rest ≡ drop (end + 1) w → fault_by world n s (parsed (take end w)) ≡ None
+      pub goes_on : (rest : List ℕ) → rest ≡ drop (end + 1) w → parsed_line_fault world n s (parsed (take end w)) ≡ None
           → t ≡ state_after world s (take end w) → SendsPackets world s (parsed (take end w))
           → WritesAll taken failed target (line_text world s (take end w))
           → (read' : List ℕ) × (text' : List ℕ) × Consumes left left' (read' ++ rest)
@@ -80,8 +80,8 @@ module _ {S : Type 0} {world : LineSemantics S} {s0 s : S} {read text : List ℕ
           (read ++ take (end + 1) w, text ++ line_text world s line, rw whole at p, text', rw stood found)
 
       -- the line in front was faulty, or its text broke off
-      pub stops_in_front : (e : LogFault) → PlaysLine world taken failed n s t (take end w) target (ended_by e)
-          → ReadsAndWrites left left' start (taken target.1) (λ bytes text. Plays world s0 t bytes text (ended_by e))
+      pub stops_in_front : (e : LogFault) → PlaysLine world taken failed n s t (take end w) target (ending_of_fault e)
+          → ReadsAndWrites left left' start (taken target.1) (λ bytes text. Plays world s0 t bytes text (ending_of_fault e))
       stops_in_front =
           stops_at_line (take end w) (lines (drop (end + 1) w)) (line_in_front w end has.feed)
           (short_in_front w n end has) has.counted

@@ -1,7 +1,7 @@
 -- Of each way in which the playing of lines ends: what holds at Ok alone, and the failures that it counts.
 use Rattle.std.proofs.Common.{◌≡◌, ℕ, ◌+◌, Bool, false, OnOk, cond, List, Option, Result, Err, sym, ap, ◌∙◌, arith}
 use Rattle.session_log.specs.{declared.fault.LogFault.LogFault, Replay.PlaysLine, Window.Stops, World.LineSemantics}
-use Rattle.session_log.specs.Ending.{Ending, ended_by, read_fails, write_fails}
+use Rattle.session_log.specs.Ending.{Ending, ending_of_fault, read_fails, write_fails}
 
 pub on_err : {A : Type 0} (X : Type 0) (r : Result A LogFault) (e : LogFault) → r ≡ Err e → OnOk r X
 on_err X r e h = cc
@@ -21,7 +21,7 @@ pub counts_none : (a b : ℕ) (fails : Bool) → fails ≡ false → b ≡ a →
 counts_none a b fails none is = is ∙ ap (λ (f : Bool). cond f (a + 1) a) (sym none)
 
 -- where no line can be read, no write failed
-pub stops_unwritten : (n : ℕ) (w : List ℕ) (e : LogFault) → Stops n w e → write_fails (ended_by e) ≡ false
+pub stops_unwritten : (n : ℕ) (w : List ℕ) (e : LogFault) → Stops n w e → write_fails (ending_of_fault e) ≡ false
 stops_unwritten n w e h = search arith
 
 -- where a line is played, no read fails, and a write fails exactly where its text breaks off

@@ -7,7 +7,7 @@ use Rattle.std.specs.{Char.digit_value, Str.Parse.AllDigits, List.AllPass, List.
 use Rattle.hex.specs.Hex.{is_hex_digit}
 use Rattle.session_log.proofs.{Cases.no_some, Through.played_faulty, Cutting.pieces_some, Cutting.lines_beyond}
 use Rattle.session_log.specs.Lines.{is_line_feed, pieces, lines_of_pieces, lines}
-use Rattle.session_log.specs.{Log.played, Log.fault_at, Text.with_line_feed, Parsed.parsed, World.LineSemantics}
+use Rattle.session_log.specs.{Log.played, Log.line_fault, Text.with_line_feed, Parsed.parsed, World.LineSemantics}
 
 abbrev pub feedless : List ℕ → Bool
 feedless [] = true
@@ -95,10 +95,10 @@ pub record IsSound (line : List ℕ) : Type 0 where
   pub short : length line < 256
   pub says : parsed line ≢ None
 
-pub sound_line : {S : Type 0} (world : LineSemantics S) (n : ℕ) (s : S) (line : List ℕ) → fault_at world n s line ≡ None
+pub sound_line : {S : Type 0} (world : LineSemantics S) (n : ℕ) (s : S) (line : List ℕ) → line_fault world n s line ≡ None
     → IsSound line
 sound_line world n s line h = search arith
 
 pub sound_first : {S : Type 0} (world : LineSemantics S) (n : ℕ) (s : S) (line : List ℕ) (more : List (List ℕ))
-    → (played world n s (line ∷ more)).fault ≡ None → fault_at world n s line ≡ None
+    → (played world n s (line ∷ more)).fault ≡ None → line_fault world n s line ≡ None
 sound_first {S} world n s line more h = search (arith, no_some, played_faulty)

@@ -3,45 +3,45 @@ use Rattle.std.proofs.Common.{◌≡◌, ℕ, suc, ◌+◌, List, [], ◌∷◌,
 use Rattle.std.proofs.{Common.◌∙◌, Common.subst, Common.arith, lemmas.List.Sums.sum_by-cons}
 use Rattle.std.specs.Cmp.Lexicographic.{same_text, other_text}
 use Rattle.token_session.specs.declared.input.Timed.{Timed}
-use Rattle.session_log.{proofs.Cases.no_some, proofs.Feeds.sound_first, specs.Inputs.inputs, specs.Inputs.inputs_by}
+use Rattle.session_log.{proofs.Cases.no_some, proofs.Feeds.sound_first, specs.Inputs.inputs, specs.Inputs.line_inputs}
 use Rattle.session_log.specs.declared.fault.LogFault.{LogFault, TheVariants.Differs}
 use Rattle.session_log.specs.declared.line.Line.{Line, TheVariants.Input, TheVariants.Sent}
 use Rattle.session_log.specs.Check.{Compared, first_comparison, difference, missing_of, differs_from, after_first, check_world}
-use Rattle.session_log.specs.Groups.{Groups, with_first, with_line, found_groups, sent_groups, line_numbers, input_lines}
+use Rattle.session_log.specs.Groups.{Groups, prepend_packet, prepend_line, found_groups, sent_groups, line_numbers, input_lines}
 use Rattle.session_log.specs.{Groups.DifferFirst, Groups.IsFirstDifference, Parsed.parsed, World.InputSemantics, World.LineSemantics}
-use Rattle.session_log.specs.Log.{played, first_fault, fault_of, fault_by, fault_at, state_after, state_after_parsed}
+use Rattle.session_log.specs.Log.{played, first_fault, fault_of, parsed_line_fault, line_fault, state_after, state_after_parsed}
 use Rattle.session_log.proofs.Through.{played_sound, played_faulty, first_is_line}
 
 -- The fault of a first line, and what follows where it has none.
 
 module _ {S : Type 0} (world : LineSemantics S) (n : ℕ) (s : S) (line : List ℕ) where
-  own_fault : fault_at world n s line ≡ None → fault_by world n s (parsed line) ≡ None
+  own_fault : line_fault world n s line ≡ None → parsed_line_fault world n s (parsed line) ≡ None
   own_fault h = search arith
 
-  own_difference : (l k : ℕ) → fault_at world n s line ≡ Some (Differs l k)
-      → fault_by world n s (parsed line) ≡ Some (Differs l k)
+  own_difference : (l k : ℕ) → line_fault world n s line ≡ Some (Differs l k)
+      → parsed_line_fault world n s (parsed line) ≡ Some (Differs l k)
   own_difference l k h = search arith
 
-  faulty_here : (more : List (List ℕ)) (f : LogFault) → fault_at world n s line ≡ Some f
+  faulty_here : (more : List (List ℕ)) (f : LogFault) → line_fault world n s line ≡ Some f
       → fault_of world (played world n s (line ∷ more)) ≡ Some f
   faulty_here more f e = ap (fault_of world) (played_faulty world n s line more f e) ∙ first_is_line (world.lacks s) f
 
-  sound_here : (more : List (List ℕ)) → fault_at world n s line ≡ None
+  sound_here : (more : List (List ℕ)) → line_fault world n s line ≡ None
       → fault_of world (played world n s (line ∷ more))
       ≡ fault_of world (played world (n + 1) (state_after world s line) more)
   sound_here more e = ap (fault_of world) (played_sound world n s line more e)
 
   -- if nothing is wrong in a log, nothing is in its first line
   first_is_sound : (more : List (List ℕ)) → fault_of world (played world n s (line ∷ more)) ≡ None
-      → fault_at world n s line ≡ None
-  first_is_sound more h = no_some (fault_at world n s line) (λ f e. cc (sym (faulty_here more f e) ∙ h))
+      → line_fault world n s line ≡ None
+  first_is_sound more h = no_some (line_fault world n s line) (λ f e. cc (sym (faulty_here more f e) ∙ h))
 
 none_differs : (due : List (List ℕ)) (packet : List ℕ) (f : LogFault) → differs_from due packet f ≡ None
     → due ≡ packet ∷ after_first due
 none_differs [] packet f h = cc
 none_differs (p ∷ due) packet f h = search (arith, same_text p packet)
 
-with_one_more : (packet : List ℕ) (groups : Groups) → sum_by length (with_first packet groups)
+with_one_more : (packet : List ℕ) (groups : Groups) → sum_by length (prepend_packet packet groups)
     ≡ suc (sum_by length groups)
 with_one_more packet [] = refl
 with_one_more packet (group ∷ more) = search (arith, sum_by-cons)
@@ -109,7 +109,7 @@ after_input seen line packet input found sent numbers d = record {
 -- a packet that was found stands before
 after_packet : (seen line packet : ℕ) (p : List ℕ) (found sent : Groups) (numbers : List ℕ)
     → Differing (seen + 1) found sent numbers line packet
-    → Differing seen (with_first p found) (with_first p sent) numbers line packet
+    → Differing seen (prepend_packet p found) (prepend_packet p sent) numbers line packet
 after_packet seen line packet p found sent numbers d =
     go d.first.before d.first.earlier d.first.found_are d.first.sent_are d.first.lines_are d.first.level d.count
   where
@@ -118,17 +118,17 @@ after_packet seen line packet p found sent numbers d =
     go : (before : Groups) (earlier : List ℕ) → found ≡ before ++ (common ++ rest) ∷ later
         → sent ≡ before ++ (common ++ due) ∷ further → numbers ≡ earlier ++ line ∷ others
         → length earlier ≡ length before → packet ≡ found_before before (seen + 1) + d.at
-        → Differing seen (with_first p found) (with_first p sent) numbers line packet
+        → Differing seen (prepend_packet p found) (prepend_packet p sent) numbers line packet
     go [] earlier e f k level count = record {
       at = suc d.at;
-      first = by_parts [] (p ∷ common) rest due later further earlier others (ap (with_first p) e) (ap (with_first p) f)
+      first = by_parts [] (p ∷ common) rest due later further earlier others (ap (prepend_packet p) e) (ap (prepend_packet p) f)
           k level differ (omega (arith, long));
       count = omega (arith, count);
     }
     go (group ∷ more) earlier e f k level count = record {
       at = d.at;
-      first = by_parts ((p ∷ group) ∷ more) common rest due later further earlier others (ap (with_first p) e)
-          (ap (with_first p) f) k level differ long;
+      first = by_parts ((p ∷ group) ∷ more) common rest due later further earlier others (ap (prepend_packet p) e)
+          (ap (prepend_packet p) f) k level differ long;
       count = count;
     }
 
@@ -138,9 +138,9 @@ some_group [] = ([], [], refl)
 some_group (line ∷ rest) = go (parsed line) (some_group rest)
   where
     go : (l : Option Line) → ((group : List (List ℕ)) × (more : Groups) × (found_groups rest ≡ group ∷ more))
-        → (group : List (List ℕ)) × (more : Groups) × (with_line l (found_groups rest) ≡ group ∷ more)
+        → (group : List (List ℕ)) × (more : Groups) × (prepend_line l (found_groups rest) ≡ group ∷ more)
     go (Some (Input x)) s = ([], found_groups rest, refl)
-    go (Some (Sent p)) s = (p.0 ∷ s.0, s.1, ap (with_first p.0) s.2)
+    go (Some (Sent p)) s = (p.0 ∷ s.0, s.1, ap (prepend_packet p.0) s.2)
     go l s = s
 
 line_in : Option LogFault → ℕ
@@ -182,9 +182,9 @@ module _ {S : Type 0} (course : InputSemantics S) where
   -- No difference: the groups are those that are sent.
 
   line_groups : (n : ℕ) (c : Compared S) (l : Option Line) (groups : Groups) (xs : List Timed)
-      → fault_by compares n c l ≡ None → groups
+      → parsed_line_fault compares n c l ≡ None → groups
       ≡ (state_after_parsed compares c l).due ∷ sent_groups course (state_after_parsed compares c l).session xs
-      → with_line l groups ≡ c.due ∷ sent_groups course c.session (inputs_by l ++ xs)
+      → prepend_line l groups ≡ c.due ∷ sent_groups course c.session (line_inputs l ++ xs)
   line_groups n c l groups xs h k = search (arith, none_differs)
 
   pub same_groups : (n : ℕ) (c : Compared S) (ls : List (List ℕ)) → fault_of compares (played compares n c ls) ≡ None
@@ -198,8 +198,8 @@ module _ {S : Type 0} (course : InputSemantics S) where
   -- What was counted.
 
   line_counts : (n : ℕ) (c d : Compared S) (l : Option Line) (groups : Groups) (xs : List Timed)
-      → fault_by compares n c l ≡ None → CountsOn (state_after_parsed compares c l) d xs groups
-      → CountsOn c d (inputs_by l ++ xs) (with_line l groups)
+      → parsed_line_fault compares n c l ≡ None → CountsOn (state_after_parsed compares c l) d xs groups
+      → CountsOn c d (line_inputs l ++ xs) (prepend_line l groups)
   line_counts n c d l groups xs h k = search (arith, with_one_more)
 
   pub counts_on : (n : ℕ) (c : Compared S) (ls : List (List ℕ)) → (played compares n c ls).fault ≡ None
@@ -216,8 +216,8 @@ module _ {S : Type 0} (course : InputSemantics S) where
 
   -- at the first line
   here_differs : (n : ℕ) (c : Compared S) (l : Option Line) (rest : List (List ℕ)) (xs : List Timed) (others : List ℕ)
-      (line packet : ℕ) → fault_by compares n c l ≡ Some (Differs line packet)
-      → Differing c.found (with_line l (found_groups rest)) (c.due ∷ sent_groups course c.session (inputs_by l ++ xs))
+      (line packet : ℕ) → parsed_line_fault compares n c l ≡ Some (Differs line packet)
+      → Differing c.found (prepend_line l (found_groups rest)) (c.due ∷ sent_groups course c.session (line_inputs l ++ xs))
       (c.input ∷ others) line packet
   here_differs n c (Some (Input x)) rest xs others line packet h =
       let d = missing_differs c.due c.input c.found line packet h in
@@ -226,29 +226,29 @@ module _ {S : Type 0} (course : InputSemantics S) where
   here_differs n c (Some (Sent p)) rest xs others line packet h =
       let some = some_group rest in
       let d = packet_differs c.due p.0 some.0 c.input c.found line packet h in
-      differs_now c.found line packet c.input (p.0 ∷ some.0) c.due (with_first p.0 (found_groups rest)) _ some.1
-      (sent_groups course c.session xs) others d.0 (ap (with_first p.0) some.2) refl d.1 d.2
+      differs_now c.found line packet c.input (p.0 ∷ some.0) c.due (prepend_packet p.0 (found_groups rest)) _ some.1
+      (sent_groups course c.session xs) others d.0 (ap (prepend_packet p.0) some.2) refl d.1 d.2
   here_differs n c l rest xs others line packet h = cc
 
   -- at a later one
   later_differs : (n : ℕ) (c : Compared S) (l : Option Line) (groups : Groups) (xs : List Timed) (others : List ℕ)
-      (line packet : ℕ) → n ≡ c.lines + 1 → fault_by compares n c l ≡ None
+      (line packet : ℕ) → n ≡ c.lines + 1 → parsed_line_fault compares n c l ≡ None
       → Differing (state_after_parsed compares c l).found groups
       ((state_after_parsed compares c l).due ∷ sent_groups course (state_after_parsed compares c l).session xs)
       ((state_after_parsed compares c l).input ∷ others) line packet
-      → Differing c.found (with_line l groups) (c.due ∷ sent_groups course c.session (inputs_by l ++ xs))
+      → Differing c.found (prepend_line l groups) (c.due ∷ sent_groups course c.session (line_inputs l ++ xs))
       (c.input ∷ line_numbers n l ++ others) line packet
   later_differs n c None groups xs others line packet at own d = cc
   later_differs n c (Some (Input x)) groups xs others line packet at own d = search (arith, after_input)
   later_differs n c (Some (Sent p)) groups xs others line packet at own d =
       let sent = sent_groups course c.session xs in
       subst
-      (λ (due : List (List ℕ)). Differing c.found (with_first p.0 groups) (due ∷ sent) (c.input ∷ others) line
+      (λ (due : List (List ℕ)). Differing c.found (prepend_packet p.0 groups) (due ∷ sent) (c.input ∷ others) line
       packet) (sym (none_differs c.due p.0 (difference c) own))
       (after_packet c.found line packet p.0 groups (after_first c.due ∷ sent) (c.input ∷ others) d)
   later_differs n c (Some l) groups xs others line packet at own d = d
 
-  lines_after : (n : ℕ) (c : Compared S) (l : Option Line) → fault_by compares n c l ≡ None
+  lines_after : (n : ℕ) (c : Compared S) (l : Option Line) → parsed_line_fault compares n c l ≡ None
       → (state_after_parsed compares c l).lines ≡ c.lines + 1
   lines_after n c l h = search arith
 
@@ -261,7 +261,7 @@ module _ {S : Type 0} (course : InputSemantics S) where
       differs_now c.found line packet c.input [] c.due ([] ∷ []) (c.due ∷ []) [] [] [] d.0 refl refl d.1 d.2
   differing n c (line ∷ more) at_line packet at h =
       go (λ later faulty. differing (n + 1) (state_after compares c line) more at_line packet later faulty)
-      (fault_at compares n c line) refl
+      (line_fault compares n c line) refl
     where
       go :
           (n + 1 ≡ (state_after compares c line).lines + 1
@@ -269,7 +269,7 @@ module _ {S : Type 0} (course : InputSemantics S) where
           → Differing (state_after compares c line).found (found_groups more)
           ((state_after compares c line).due ∷ sent_groups course (state_after compares c line).session (inputs more))
           ((state_after compares c line).input ∷ input_lines (n + 1) more) at_line packet)
-          → (o : Option LogFault) → fault_at compares n c line ≡ o
+          → (o : Option LogFault) → line_fault compares n c line ≡ o
           → Differing c.found (found_groups (line ∷ more)) (c.due ∷ sent_groups course c.session (inputs (line ∷ more)))
           (c.input ∷ input_lines n (line ∷ more)) at_line packet
       go rest (Some f) e =

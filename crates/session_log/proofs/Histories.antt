@@ -3,7 +3,7 @@ use Rattle.std.proofs.Common.{◌≡◌, ℕ, Bool, List, [], ◌∷◌, Option,
 use Rattle.authn_core.specs.Turn.{Start}
 use Rattle.token_session.specs.declared.input.{Timed.Timed, Meters.Meters}
 use Rattle.cred_table.specs.Rows.{ValidRows}
-use Rattle.token_session.specs.{Answered.AgreesWithExchanges, Answered.packets_sent_now, Meters.IsStateAfterValidStart, Meters.stepped, Meters.sent_by}
+use Rattle.token_session.specs.{Answered.AgreesWithExchanges, Answered.packets_sent_now, Meters.IsStateAfterValidStart, Meters.stepped, Meters.input_packets_of}
 use Rattle.token_session.proofs.Answered.{told_now_is}
 use Rattle.token_session.specs.{History.received, Law.state_of, Meters.SessionState, Meters.IsStateAfter, Meters.session_of}
 use Rattle.token_session.proofs.Metering.{stands_longer, machine_after}
@@ -11,7 +11,7 @@ use Rattle.token_session.proofs.{Noise.noise_is_named, Follows.step_sends}
 use Rattle.session_log.{specs.declared.fault.LogFault.LogFault, specs.declared.line.Line.Line, proofs.Whole.there}
 use Rattle.session_log.specs.{Command.PlaysLog, Command.PlaysThrough, Ending.Ending, Ending.ending_of}
 use Rattle.session_log.specs.declared.command.ReplayMode.TheVariants.{Check, Quiet}
-use Rattle.session_log.specs.Check.{Compared, compared, first_comparison, missing, comparison_fault, comparison_after, check_machine}
+use Rattle.session_log.specs.Check.{Compared, log_comparison, first_comparison, missing, comparison_fault, comparison_after, check_machine}
 use Rattle.session_log.specs.{Check.check_history, Streams.ReadsAndWrites, Text.with_line_feed, World.LineSemantics, World.replay_text}
 use Rattle.session_log.specs.Replay.{Logs, PlaysWholeLog, Plays, ReadsTo, Writes}
 use Rattle.session_log.specs.Session.{session_course, history_course, exchange_histories, exchange_history, machine, history, quiet_machine, quiet_history, live_machine}
@@ -60,7 +60,7 @@ module _ (start : Start) (is : (h : List Timed) → AgreesWithExchanges start h)
   told_stays s h x f = record { lawful = f.lawful; stands = stands_longer s start h x f.stands }
 
   told_sends : (s : SessionState) (h : List Timed) (x : Timed) → IsStateAfterValidStart s start h
-      → sent_by s x ≡ packets_sent_now start h x
+      → input_packets_of s x ≡ packets_sent_now start h x
   told_sends s h x f = step_sends s.machine start h x (machine_after s start h f.stands)
       ∙ told_now_is start h x (is h) (is (x ∷ h))
 
@@ -132,7 +132,7 @@ module _ {I O : Type 0} (left : I → Option (List ℕ)) (unread : I → ℕ) (w
 
 -- all but what the session holds is the same
 abbrev onto_history : List Timed → Compared SessionState → Compared (List Timed)
-onto_history h c = compared h c.lines c.input c.found c.due c.inputs c.packets
+onto_history h c = log_comparison h c.lines c.input c.found c.due c.inputs c.packets
 
 module _ (start : Start) where
   abbrev IsBeside : Compared SessionState → Compared (List Timed) → Type 0

@@ -2,9 +2,9 @@
 use Rattle.std.proofs.Common.{◌≡◌, ℕ, suc, ◌+◌, ◌≤◌, ◌^◌, List, [], ◌∷◌, ◌++◌, length, take, drop, Option, Some, Result}
 use Rattle.std.proofs.Common.{Ok, Err, inl, inr, IfErr, refl, sym, ap, ◌∙◌, arith, append-nil, length-append}
 use Rattle.std.{proofs.Common.take-append-drop, specs.Io.KnownBytes.Consumes}
-use Rattle.session_log.specs.{declared.fault.LogFault.LogFault, World.LineSemantics, Log.fault_at, Window.HasLine, Window.Stops}
+use Rattle.session_log.specs.{declared.fault.LogFault.LogFault, World.LineSemantics, Log.line_fault, Window.HasLine, Window.Stops}
 use Rattle.session_log.specs.declared.fault.LogFault.TheVariants.{TooLong, Read, Write, TooManyLines, Memory}
-use Rattle.session_log.specs.Ending.{ended_by, ending_of}
+use Rattle.session_log.specs.Ending.{ending_of_fault, ending_of}
 use Rattle.session_log.specs.Lines.{pieces, all_but_last, whole_lines, last_piece}
 use Rattle.session_log.specs.Replay.{IsWithinLine, IsLineFault, IsFaultOfLinesRead, PlaysLine, ReadsTo}
 use Rattle.session_log.proofs.Cutting.{first_piece, one_piece, pieces_some, front_of, last_is}
@@ -29,7 +29,7 @@ module _ {S : Type 0} {world : LineSemantics S} {s0 : S} {read text : List ℕ} 
     (t : Through world s0 read text s n) where
   -- line n is one of the whole lines, and up to it they have its fault
   shown : (w : List ℕ) (end : ℕ) (all : Type 0) (f : LogFault) → HasLine n w end
-      → fault_at world n s (take end w) ≡ Some f → IsFaultOfLinesRead world s0 (read ++ w) all n f
+      → line_fault world n s (take end w) ≡ Some f → IsFaultOfLinesRead world s0 (read ++ w) all n f
   shown w end all f has bad =
       let line = take end w in
       let rest = pieces_some (drop (end + 1) w) in
@@ -55,7 +55,7 @@ module _ {S : Type 0} {world : LineSemantics S} {s0 : S} {read text : List ℕ} 
 -- a line that was played was faulty
 faulty_reaches : {S : Type 0} {world : LineSemantics S} {s0 : S} {bytes : List ℕ} {n : ℕ} (a b : Option (List ℕ)) (all : Type 0)
     (e : LogFault) → IsLineFault n e → Consumes a b bytes → IsWithinLine world s0 bytes n → IsFaultOfLinesRead world s0 bytes all n e
-    → ReadsTo world s0 a b all (ended_by e)
+    → ReadsTo world s0 a b all (ending_of_fault e)
 faulty_reaches a b all e is p near seen = search (arith, near)
 
 module _ {S : Type 0} {world : LineSemantics S} {s0 s : S} {read text : List ℕ} {n : ℕ}
@@ -64,7 +64,7 @@ module _ {S : Type 0} {world : LineSemantics S} {s0 s : S} {read text : List ℕ
   -- in front of the window
   pub faulty_in_front : {F : Type 0} (taken : F → Option (List ℕ)) (failed : F → ℕ) (target : F
       × F) (t : S) (end : ℕ) (e : LogFault) → IsLineFault n e → HasLine n w end
-      → PlaysLine world taken failed n s t (take end w) target (ended_by e) → ReadsTo world s0 a b all (ended_by e)
+      → PlaysLine world taken failed n s t (take end w) target (ending_of_fault e) → ReadsTo world s0 a b all (ending_of_fault e)
   faulty_in_front taken failed target t end (Read m) is has h = tt
   faulty_in_front taken failed target t end Write is has h = tt
   faulty_in_front taken failed target t end (TooLong m) is has h = absurd is
@@ -81,7 +81,7 @@ module _ {S : Type 0} {world : LineSemantics S} {s0 s : S} {read text : List ℕ
   faulty_last (Err e) is small last = faulty_reaches a b all e is p (near through w small) (inr last)
 
   -- no line could be read
-  pub none_bad : (e : LogFault) → n ≤ 2 ^ 32 → Stops n w e → ReadsTo world s0 a b all (ended_by e)
+  pub none_bad : (e : LogFault) → n ≤ 2 ^ 32 → Stops n w e → ReadsTo world s0 a b all (ending_of_fault e)
   none_bad Write most h = tt
   none_bad (Read m) most h = tt
   none_bad (TooLong m) most h =

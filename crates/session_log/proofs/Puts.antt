@@ -5,13 +5,13 @@ use Rattle.std.proofs.KnownBytes.{Appends-nil, Keeps-refl}
 use Rattle.hid_packet.specs.declared.packet.Packet.{Packet}
 use Rattle.session_log.specs.declared.fault.LogFault.{LogFault, TheVariants.Differs}
 use Rattle.session_log.specs.declared.line.Line.{Line, TheVariants.Sent, TheVariants.Count}
-use Rattle.session_log.specs.{Ending.ending_of, Log.fault_by, Parsed.parsed, Streams.PutsLine, Text.with_line_feed, World.LineSemantics}
-use Rattle.session_log.specs.Replay.{Closes, IsEndFault, IsLineFault, PlaysLine}
+use Rattle.session_log.specs.{Ending.ending_of, Log.parsed_line_fault, Parsed.parsed, Streams.WritesLogLine, Text.with_line_feed, World.LineSemantics}
+use Rattle.session_log.specs.Replay.{FinishesLog, IsEndFault, IsLineFault, PlaysLine}
 use Rattle.session_log.proofs.Failures.{on_any}
 
 -- the fault of a write is one of any line, and of the end
 written_at : {F A : Type 0} (taken : F → Option (List ℕ)) (failed : F → ℕ) (target : F × F) (text : List ℕ)
-    (r : Result A LogFault) (n : ℕ) → PutsLine taken failed target text r → IfErr r (IsLineFault n) × IfErr r IsEndFault
+    (r : Result A LogFault) (n : ℕ) → WritesLogLine taken failed target text r → IfErr r (IsLineFault n) × IfErr r IsEndFault
 written_at taken failed target text (Ok x) n put = (tt, tt)
 written_at taken failed target text (Err e) n put = (subst (IsLineFault n) (sym put.0) tt, subst IsEndFault (sym put.0) tt)
 
@@ -39,7 +39,7 @@ module _ {S F : Type 0} (world : LineSemantics S) (taken : F → Option (List �
   -- the text for a line that says this was handed over
   pub writes_for : {A X : Type 0} (n : ℕ) (s t : S) (line : List ℕ) (l : Line) (target : F × F) (r : Result A LogFault)
       (text : List ℕ) → parsed line ≡ Some l → world.stops s l ≡ None → t ≡ world.moves s l → world.sound s l
-      → text ≡ world.writes s line l → PutsLine taken failed target text r → X → Played X n s t line target r
+      → text ≡ world.writes s line l → WritesLogLine taken failed target text r → X → Played X n s t line target r
   writes_for n s t line l target r text is sound stood packets same put next =
       record { played = search arith; own = (written_at taken failed target text r n put).0; next = on_any r next }
 
@@ -57,7 +57,7 @@ module _ {S F : Type 0} (world : LineSemantics S) (taken : F → Option (List �
       → Played X n s s line (w, w) (loudly e)
   differs_for X n s line l w input packet e is stops same =
       subst (λ (f : LogFault). Played X n s s line (w, w) (loudly f)) (sym same)
-      (record { played = (ap (fault_by world n s) is ∙ stops, refl, Keeps-refl (taken w), refl); own = tt; next = tt })
+      (record { played = (ap (parsed_line_fault world n s) is ∙ stops, refl, Keeps-refl (taken w), refl); own = tt; next = tt })
 
   -- what an earlier run sent or counted is dropped
   abbrev IsDropped : S → List ℕ → Line → Type 0
@@ -76,11 +76,11 @@ module _ {S F : Type 0} (world : LineSemantics S) (taken : F → Option (List �
   -- what is said of the end of the lines, and X of the player
   abbrev Closed : {A : Type 0} → Type 0 → S → F × F → Result A LogFault → Type 0
   Closed X s target r =
-      record { closed : Closes world taken failed s target (ending_of r); own : IfErr r IsEndFault; same : X }
+      record { closed : FinishesLog world taken failed s target (ending_of r); own : IfErr r IsEndFault; same : X }
 
   -- the text at the end was handed over
   pub closes_by : {A X : Type 0} (s : S) (target : F × F) (r : Result A LogFault) (text : List ℕ) → world.lacks s ≡ None
-      → text ≡ world.ending s → PutsLine taken failed target text r → X
+      → text ≡ world.ending s → WritesLogLine taken failed target text r → X
       → Closed X s target r
   closes_by s target r text none is put same =
       record { closed = search arith; own = (written_at taken failed target text r 0 put).1; same = same }

@@ -9,9 +9,9 @@ use Rattle.token_session.specs.History.{receive, received}
 use Rattle.token_session.specs.Noise.{HasTicksForNoise, IsSameOrTick, is_noise_after, tick_at}
 use Rattle.token_session.proofs.Noise.{noise_is_named, quiet_alike}
 use Rattle.session_log.specs.declared.line.Line.{Line, TheVariants.Input, TheVariants.Comment}
-use Rattle.session_log.specs.{Inputs.inputs, Inputs.inputs_by, Session.history_course, Session.quiet_history}
+use Rattle.session_log.specs.{Inputs.inputs, Inputs.line_inputs, Session.history_course, Session.quiet_history}
 use Rattle.session_log.specs.{Lines.lines, Parsed.parsed, Text.with_line_feed, Text.tick_text, Sent.AllSend, Sent.SendsPackets}
-use Rattle.session_log.specs.Log.{played, play_all, text_by, state_after, state_after_parsed, fault_by, fault_at}
+use Rattle.session_log.specs.Log.{played, play_all, parsed_line_text, state_after, state_after_parsed, parsed_line_fault, line_fault}
 use Rattle.session_log.specs.World.{InputSemantics, LineSemantics, quiet_world}
 use Rattle.session_log.proofs.Again.{WritesLines, written, written_are, written_text}
 use Rattle.session_log.proofs.Feeds.{IsSound, sound_first, sound_line, feedless, AreLines, feedless-append}
@@ -45,7 +45,7 @@ AreSound-append (x ∷ xs) ys h k = (h.0, AreSound-append xs ys h.1 k)
 few_lines : (n : ℕ) → nat_le (2 ^ 32) n ≡ false → n < 2 ^ 32
 few_lines n h = grind (arith, nat_tests)
 
-few_before : {S : Type 0} (world : LineSemantics S) (n : ℕ) (s : S) (line : List ℕ) → fault_at world n s line ≡ None
+few_before : {S : Type 0} (world : LineSemantics S) (n : ℕ) (s : S) (line : List ℕ) → line_fault world n s line ≡ None
     → n < 2 ^ 32
 few_before world n s line h = search (arith, few_lines)
 
@@ -68,7 +68,7 @@ module _ {S : Type 0} (course : InputSemantics S) (noises : S → Timed → Bool
   abbrev kept : S → List (List ℕ) → List (List ℕ)
   kept = written quiets kept_by
 
-  kept_text_by : (s : S) (line : List ℕ) (l : Option Line) → text_by quiets s line l ≡ flat_map with_line_feed (kept_by s line l)
+  kept_text_by : (s : S) (line : List ℕ) (l : Option Line) → parsed_line_text quiets s line l ≡ flat_map with_line_feed (kept_by s line l)
   kept_text_by s line l = search (arith, append-nil)
 
   line_kept : (s : S) (line : List ℕ) (l : Option Line) → parsed line ≡ l → feedless line ≡ true → SendsPackets quiets s l
@@ -84,7 +84,7 @@ module _ {S : Type 0} (course : InputSemantics S) (noises : S → Timed → Bool
   all_send s [] = tt
   all_send s (line ∷ more) = search (arith, all_send (state_after quiets s line) more)
 
-  read_is_sound : (n : ℕ) (s : S) (l : Option Line) → l ≢ None → fault_by quiets n s l ≡ None
+  read_is_sound : (n : ℕ) (s : S) (l : Option Line) → l ≢ None → parsed_line_fault quiets n s l ≡ None
   read_is_sound n s l h = search arith
 
   sound_is_played : (n : ℕ) (s : S) (ls : List (List ℕ)) → AreSound ls → n + length ls ≤ 2 ^ 32
@@ -136,7 +136,7 @@ module _ (start : Start) where
 
   line_goes_on : (line : List ℕ) (more : List (List ℕ)) (l : Option Line) → parsed line ≡ l → GoesOn more
       → (h g : List Timed) → HasTicksForNoise start h g
-      → HasTicksForNoise start (append_inputs (inputs_by l ++ inputs more) h)
+      → HasTicksForNoise start (append_inputs (line_inputs l ++ inputs more) h)
       (append_inputs (inputs (kept_of h line l ++ kept_lines (state_after_parsed quiet h l) more)) g)
   line_goes_on line more l e on h g q = search (arith, either_said, either_quiet)
 

@@ -7,8 +7,8 @@ use Rattle.std.proofs.lemmas.{Fmt.decimal_is_IsNumeral, List.Quantifiers.positio
 use Rattle.std.specs.Cmp.Lexicographic.{pointwise, same_text, other_text}
 use Rattle.std.specs.{Str.Parse.digits_value, Str.Parse.AllDigits, Char.digit_value, List.AllPass, List.position_or_len}
 use Rattle.session_log.proofs.Cases.{no_some, refuted}
-use Rattle.session_log.specs.Parsed.{moment, first_field, ◌>>=◌, is_word, parsed_packet, parsed_presence, key_of, parsed_new_key}
-use Rattle.session_log.specs.Parsed.{signature_of, parsed_signature, input_by, input_line, parsed}
+use Rattle.session_log.specs.Parsed.{moment, first_field, ◌>>=◌, is_word, parsed_packet, parsed_presence, parsed_key_pair, parsed_new_key}
+use Rattle.session_log.specs.Parsed.{parsed_signature_bytes, parsed_signature, parsed_input, input_line, parsed}
 use Rattle.std.proofs.Math.Seq.{take-append_seam, drop-append-add, drop-cons}
 use Rattle.hex.specs.Hex.{is_hex_digit}
 use Rattle.hex.proofs.HexLemmas.{IsOk-decode_sized, decode_sized-ok, decode_sized-twice, decode_of-ok}
@@ -122,7 +122,7 @@ refused_signature : (field : List ℕ) → field ≡ refusal_word → parsed_sig
 refused_signature field h = ap parsed_signature h
 
 key_fields : (id x y : List ℕ) (key : NewKey) → IsHexOf id 32 key.id → IsHexOf x 32 key.x → IsHexOf y 32 key.y
-    → key_of (id ++ 32 ∷ (x ++ 32 ∷ y)) ≡ Some key
+    → parsed_key_pair (id ++ 32 ∷ (x ++ 32 ∷ y)) ≡ Some key
 key_fields id x y key a b c =
     let first = parted id (x ++ 32 ∷ y) (hex_no_space id (all_hex id 32 key.id a)) in
     let second = parted x y (hex_no_space x (all_hex x 32 key.x b)) in
@@ -138,7 +138,7 @@ key_read : (field id x y : List ℕ) (key : NewKey) → field ≡ id ++ 32 ∷ (
 key_read field id x y key e a b c = search (arith, decode_sized-ok, length-append, long_not_word, key_fields)
 
 signature_bytes : (field bytes : List ℕ) → IsHexOf field (length bytes) bytes → 1 ≤ length bytes → length bytes ≤ 72
-    → signature_of field ≡ Some bytes
+    → parsed_signature_bytes field ≡ Some bytes
 signature_bytes field bytes h low high = search (arith, le-leb, decode_sized-ok, decode_of-ok, decode_sized-twice)
 
 signature_read : (field bytes : List ℕ) → IsHexOf field (length bytes) bytes → 1 ≤ length bytes → length bytes ≤ 72
@@ -149,7 +149,7 @@ signature_read field bytes h low high =
     refl
 
 -- a field, after a letter and a time
-line_read : (letter at : ℕ) (field : List ℕ) (input : AnyInput) → at < 2 ^ 64 → input_by letter field ≡ Some input
+line_read : (letter at : ℕ) (field : List ℕ) (input : AnyInput) → at < 2 ^ 64 → parsed_input letter field ≡ Some input
     → input_line letter (decimal at ++ 32 ∷ field) ≡ Some (Input (record { at = at; input = input }))
 line_read letter at field input fits e = rw (fields_of at field fits, moment_of (decimal at) at fits refl, e) refl
 
@@ -199,16 +199,16 @@ presence_is : (field : List ℕ) (input : AnyInput) (a b c : Bool) → is_word (
     ≡ Some input → IsSpelled 112 field input
 presence_is field input a b c h k l r = search (arith, some_is, same_text)
 
-new_key_is : (field : List ℕ) (key : NewKey) → key_of field ≡ Some key → IsFieldText field (Key (Some key))
+new_key_is : (field : List ℕ) (key : NewKey) → parsed_key_pair field ≡ Some key → IsFieldText field (Key (Some key))
 new_key_is field key e = search (arith, bind_is, fields_are, some_is)
 
 key_is : (field : List ℕ) (input : AnyInput) (a : Bool) → is_word refusal_word field ≡ a
-    → cond a (Some (Key None)) (key_of field >>= (λ key. Some (Key (Some key)))) ≡ Some input
+    → cond a (Some (Key None)) (parsed_key_pair field >>= (λ key. Some (Key (Some key)))) ≡ Some input
     → IsSpelled 107 field input
 key_is field input a h k = search (arith, some_is, same_text, bind_is, new_key_is)
 
 signature_is : (field : List ℕ) (input : AnyInput) (a : Bool) → is_word refusal_word field ≡ a
-    → cond a (Some (Signature None)) (signature_of field >>= (λ bytes. Some (Signature (Some bytes)))) ≡ Some input
+    → cond a (Some (Signature None)) (parsed_signature_bytes field >>= (λ bytes. Some (Signature (Some bytes)))) ≡ Some input
     → IsSpelled 115 field input
 signature_is field input a h k =
     search (arith, some_is, same_text, bind_is, leb-true, decode_sized-ok, decode_of-ok, decode_sized-twice)
@@ -236,7 +236,7 @@ input_spelled : (letter : ℕ) (fields : List ℕ) (l : Line) → input_line let
 input_spelled letter fields l e =
     let parts = bind_is (first_field fields) _ l e in
     let at = bind_is (moment parts.0.0) _ l parts.2 in
-    let input = bind_is (input_by letter parts.0.1) _ l at.2 in
+    let input = bind_is (parsed_input letter parts.0.1) _ l at.2 in
     let number = moment_is parts.0.0 at.0 at.1 in
     let whole : fields ≡ decimal at.0 ++ 32 ∷ parts.0.1 =
     fields_are fields parts.0 parts.1 ∙ ap (λ (d : List ℕ). d ++ 32 ∷ parts.0.1) number.1 in

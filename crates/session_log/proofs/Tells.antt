@@ -4,7 +4,7 @@ use Rattle.std.proofs.Common.{take, drop, min, map, flat_map, All, refl, ap, ◌
 use Rattle.std.proofs.Common.{codes, Some, length-append, slice_index}
 use Rattle.std.proofs.lemmas.List.{length-take, take_min, drop_min, Elements.All-nil, Elements.All-cons}
 use Rattle.std.specs.Simd.{first_chunks}
-use Rattle.authn_core.specs.{Views.Needed, Views.nothing, Views.presence, Views.key, Views.sign, Needs.IsNeed}
+use Rattle.authn_core.specs.{Views.Needed, Views.nothing, Views.presence, Views.key, Views.sign, Needs.IsValidNeed}
 use Rattle.session_log.specs.Needs.{need_lines, pieces_of, reports_need, signature_line, signed_line, is_need_line}
 use Rattle.hex.specs.Hex.{encode_with, encode_lower, lower_digits}
 use Rattle.hex.proofs.HexLemmas.{length-encode_with}
@@ -102,7 +102,7 @@ chunks_told zero bytes = tt
 chunks_told (suc k) bytes =
     (signed_told (take 96 bytes) (omega (arith, length-take 96 bytes)), chunks_told k (drop 96 bytes))
 
-pub needs_told : (n : Needed) → IsNeed n → AreTold (need_lines n)
+pub needs_told : (n : Needed) → IsValidNeed n → AreTold (need_lines n)
 needs_told nothing h = (told (codes "# need nothing") refl (omega arith) refl refl, tt)
 needs_told presence h = (told (codes "# need presence") refl (omega arith) refl refl, tt)
 needs_told key h = (told (codes "# need key") refl (omega arith) refl refl, tt)

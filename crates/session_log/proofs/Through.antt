@@ -6,7 +6,7 @@ use Rattle.std.proofs.lemmas.Bool.{le-leb, le-ltb, lt-leb, lt-ltb}
 use Rattle.session_log.specs.declared.fault.LogFault.{LogFault, TheVariants.TooLong, TheVariants.TooManyLines}
 use Rattle.session_log.specs.{Parsed.parsed, World.LineSemantics, Window.IsUnfinished, Sent.SendsPackets, Sent.AllSend}
 use Rattle.session_log.specs.{Lines.is_line_feed, Lines.pieces, Lines.lines, Log.line_text, Log.last_text, Log.state_after}
-use Rattle.session_log.specs.Log.{Played, with_text_before, played, play_all, log_of, first_fault, fault_of, fault_by, fault_at}
+use Rattle.session_log.specs.Log.{Played, with_text_before, played, play_all, log_of, first_fault, fault_of, parsed_line_fault, line_fault}
 use Rattle.session_log.specs.Replay.{IsRefused, IsUnread, IsUnwritten, IsPlayed}
 use Rattle.session_log.proofs.Cutting.{first_piece, one_piece, pieces_some, lines_beyond, front_of, last_is}
 
@@ -24,12 +24,12 @@ through_none world s = record { done = []; cut = λ tail. refl; count = refl; pl
 
 module _ {S : Type 0} (world : LineSemantics S) (n : ℕ) (s : S) (line : List ℕ) (more : List (List ℕ)) where
   -- a line that isn't faulty is played
-  pub played_sound : fault_at world n s line ≡ None → played world n s (line ∷ more)
+  pub played_sound : line_fault world n s line ≡ None → played world n s (line ∷ more)
       ≡ with_text_before (line_text world s line) (played world (n + 1) (state_after world s line) more)
   played_sound e = rw e refl
 
   -- a faulty one ends the log
-  pub played_faulty : (f : LogFault) → fault_at world n s line ≡ Some f
+  pub played_faulty : (f : LogFault) → line_fault world n s line ≡ Some f
       → played world n s (line ∷ more) ≡ record { text = []; fault = Some f; state = s }
   played_faulty f e = rw e refl
 
@@ -38,7 +38,7 @@ prefixed_twice a b p = λ i. record { text = sym (append_assoc a b p.text) i; fa
 
 module _ {S : Type 0} {world : LineSemantics S} {s0 : S} {read text : List ℕ} {s : S} {n : ℕ}
     (t : Through world s0 read text s n) where
-  pub through_line : (w : List ℕ) (end : ℕ) → position is_line_feed w ≡ Some end → fault_at world n s (take end w) ≡ None
+  pub through_line : (w : List ℕ) (end : ℕ) → position is_line_feed w ≡ Some end → line_fault world n s (take end w) ≡ None
       → SendsPackets world s (parsed (take end w))
       → Through world s0 (read ++ take (end + 1) w) (text ++ line_text world s (take end w)) (state_after world s (take end w))
       (n + 1)
@@ -71,7 +71,7 @@ module _ {S : Type 0} {world : LineSemantics S} {s0 : S} {read text : List ℕ} 
     (t : Through world s0 read text s n) where
   -- the first line of the window is faulty
   pub refused : (w line : List ℕ) (more : List (List ℕ)) (f : LogFault) → lines w ≡ line ∷ more
-      → fault_at world n s line ≡ Some f → IsRefused world s0 s (read ++ w) text f
+      → line_fault world n s line ≡ Some f → IsRefused world s0 s (read ++ w) text f
   refused w line more f e bad = search (arith, playing_is t, played_faulty, first_is_line, append-nil)
 
   -- reading failed in the window's line
@@ -81,7 +81,7 @@ module _ {S : Type 0} {world : LineSemantics S} {s0 : S} {read text : List ℕ} 
 
   -- the text of the window's first line broke off
   pub unwritten : (w line : List ℕ) (more : List (List ℕ)) (front rest : List ℕ) → lines w ≡ line ∷ more
-      → fault_at world n s line ≡ None → line_text world s line ≡ front ++ rest → 0 < length rest
+      → line_fault world n s line ≡ None → line_text world s line ≡ front ++ rest → 0 < length rest
       → IsUnwritten world s0 (state_after world s line) (read ++ w) (text ++ front)
   unwritten w line more front rest e sound broken missing =
       let is : played world 1 s0 t.done ≡ with_text_before text (played world n s []) =
@@ -119,7 +119,7 @@ unwritten_end {S} world s0 s bytes text front rest p broken missing =
 module _ {S : Type 0} {world : LineSemantics S} {s0 : S} {read text : List ℕ} {s : S} {n : ℕ}
     (t : Through world s0 read text s n) where
   -- the last line was played
-  pub played_last : (w : List ℕ) → lines w ≡ w ∷ [] → fault_at world n s w ≡ None → SendsPackets world s (parsed w)
+  pub played_last : (w : List ℕ) → lines w ≡ w ∷ [] → line_fault world n s w ≡ None → SendsPackets world s (parsed w)
       → IsPlayed world s0 (state_after world s w) (read ++ w) (text ++ line_text world s w)
   played_last w e sound packets =
       grind (arith, playing_is t w, played_sound world n s w, lines_are t w, append-nil (line_text world s w))
@@ -134,15 +134,15 @@ chosen n many long other = cond many (Some TooManyLines) (cond long (Some (TooLo
 
 module _ {S : Type 0} (world : LineSemantics S) (n : ℕ) (s : S) (line : List ℕ) where
   tests : (many long : Bool) → nat_le (2 ^ 32) n ≡ many → nat_lt 255 (length line) ≡ long
-      → fault_at world n s line ≡ chosen n many long (fault_by world n s (parsed line))
-  tests many long p q = λ i. chosen n (p i) (q i) (fault_by world n s (parsed line))
+      → line_fault world n s line ≡ chosen n many long (parsed_line_fault world n s (parsed line))
+  tests many long p q = λ i. chosen n (p i) (q i) (parsed_line_fault world n s (parsed line))
 
   -- a line that is in the count and short has the fault of what it says
-  pub said_fault : n < 2 ^ 32 → length line < 256 → fault_at world n s line ≡ fault_by world n s (parsed line)
+  pub said_fault : n < 2 ^ 32 → length line < 256 → line_fault world n s line ≡ parsed_line_fault world n s (parsed line)
   said_fault few short = tests false false (lt-leb (2 ^ 32) n few) (le-ltb 255 (length line) (omega arith))
 
-  pub too_long : n < 2 ^ 32 → 256 ≤ length line → fault_at world n s line ≡ Some (TooLong n)
+  pub too_long : n < 2 ^ 32 → 256 ≤ length line → line_fault world n s line ≡ Some (TooLong n)
   too_long few long = tests false true (lt-leb (2 ^ 32) n few) (lt-ltb 255 (length line) (omega arith))
 
-  pub too_many : 2 ^ 32 ≤ n → fault_at world n s line ≡ Some TooManyLines
+  pub too_many : 2 ^ 32 ≤ n → line_fault world n s line ≡ Some TooManyLines
   too_many many = tests true (nat_lt 255 (length line)) (le-leb (2 ^ 32) n many) refl

@@ -3,8 +3,8 @@ use Rattle.std.proofs.Common.{◌≡◌, ◌∙◌, ℕ, ◌+◌, Bool, IfErr, L
 use Rattle.std.proofs.KnownBytes.{Appends-kept}
 use Rattle.token_session.specs.declared.input.Meters.{Meters}
 use Rattle.session_log.specs.{Command.PlaysThrough, Lines.lines, Sent.AllSend, World.LineSemantics}
-use Rattle.session_log.specs.Ending.{Ending, Done, ended_by, ending_of, read_fails, write_fails}
-use Rattle.session_log.specs.Replay.{Closes, IsEndFault, IsPlayed, Logs, PlaysWholeLog, PlaysWholeLogWithMeters, Plays, ReadsTo}
+use Rattle.session_log.specs.Ending.{Ending, Done, ending_of_fault, ending_of, read_fails, write_fails}
+use Rattle.session_log.specs.Replay.{FinishesLog, IsEndFault, IsPlayed, Logs, PlaysWholeLog, PlaysWholeLogWithMeters, Plays, ReadsTo}
 use Rattle.session_log.specs.Streams.{Counts, IsAtEndOfInput, ReadsAndWrites}
 use Rattle.session_log.specs.declared.fault.LogFault.{LogFault, TheVariants.Differs, TheVariants.Write}
 use Rattle.session_log.proofs.{Exits.closes, Exits.closes_not, Through.first_is_last}
@@ -21,16 +21,16 @@ module _ {S I O : Type 0} (world : LineSemantics S) (s t : S) (left : I → Opti
 
   -- a fault that was passed on
   pub stops : {A : Type 0} (r : Result A LogFault) (e : LogFault) → r ≡ Err e
-      → ReadsAndWrites (left i) (left j) (taken o) (taken p) (λ bytes text. Plays world s t bytes text (ended_by e))
-      → ReadsTo world s (left i) (left j) (IsAtEndOfInput left ended j) (ended_by e)
-      → Counts unread (i, j) (read_fails (ended_by e)) → Counts unwritten (o, p) (write_fails (ended_by e))
+      → ReadsAndWrites (left i) (left j) (taken o) (taken p) (λ bytes text. Plays world s t bytes text (ending_of_fault e))
+      → ReadsTo world s (left i) (left j) (IsAtEndOfInput left ended j) (ending_of_fault e)
+      → Counts unread (i, j) (read_fails (ending_of_fault e)) → Counts unwritten (o, p) (write_fails (ending_of_fault e))
       → PlaysThrough world s (λ bytes text. Plays world s t bytes text (ending_of r)) left unread ended taken unwritten
       r (i, j) (o, p)
   stops r e is moves reach reads writes = rw is (moves, reach, (reads, writes, tt))
 
   -- a fault ends a log as it ended its lines
   pub fails_with : {A X : Type 0} (r : Result A LogFault) (e : LogFault) → r ≡ Err e
-      → Ends (ended_by e) (λ bytes text. Plays world s t bytes text (ended_by e)) X
+      → Ends (ending_of_fault e) (λ bytes text. Plays world s t bytes text (ending_of_fault e)) X
       → PlaysThrough world s (λ bytes text. PlaysWholeLogWithMeters world s t bytes text r) left unread ended taken unwritten r
       (i, j) (o, p)
   fails_with r e is h = search arith
@@ -45,7 +45,7 @@ module _ {S I O : Type 0} (world : LineSemantics S) (s t : S) (left : I → Opti
 
   -- the same, where what was counted is answered
   pub logs_fault : {X Y : Type 0} (r : Result Meters LogFault) (e : LogFault) → r ≡ Err e
-      → Ends (ended_by e) (λ bytes text. PlaysWholeLog world s t bytes text (ended_by e) × X) Y
+      → Ends (ending_of_fault e) (λ bytes text. PlaysWholeLog world s t bytes text (ending_of_fault e) × X) Y
       → PlaysThrough world s (λ bytes text. Logs world s t bytes text r) left unread ended taken unwritten r (i, j)
       (o, p)
   logs_fault r e is h = rw is ((h.0.0, h.0.1, h.0.2, h.0.3, (h.0.4.0, tt)), h.1, (h.2.0, h.2.1, tt))
@@ -60,7 +60,7 @@ module _ {S I O : Type 0} (world : LineSemantics S) (s t : S) (left : I → Opti
 -- what comes after the last line ends a log without a fault in its lines
 pub ends_with : {S A I O : Type 0} (world : LineSemantics S) (s t : S) (left : I → Option (List ℕ)) (unread : I → ℕ) (ended : I
     → Bool) (taken : O → Option (List ℕ)) (unwritten : O → ℕ) (i j : I) (o between p : O) (r : Result A LogFault)
-    → IfErr r IsEndFault → Closes world taken unwritten t (between, p) (ending_of r)
+    → IfErr r IsEndFault → FinishesLog world taken unwritten t (between, p) (ending_of r)
     → Ends world s t left unread ended taken unwritten i j o between Done (IsPlayed world s t) (IsAtEndOfInput left ended j)
     → PlaysThrough world s (λ bytes text. PlaysWholeLogWithMeters world s t bytes text r) left unread ended taken unwritten r
     (i, j) (o, p)

@@ -6,8 +6,8 @@ use Rattle.session_log.specs.declared.fault.LogFault.{LogFault, TheVariants.Memo
 use Rattle.session_log.specs.{declared.line.Line.Line, Parsed.parsed, World.LineSemantics, Log.log_of}
 use Rattle.session_log.specs.declared.fault.LogFault.TheVariants.{BadLine, TooLong, Differs, Read, Write, TooManyLines}
 use Rattle.session_log.specs.Lines.{lines, whole_lines}
-use Rattle.session_log.specs.Log.{Played, played, play_all, text_by, state_after_parsed, first_fault, fault_by, fault_at, fault_of}
-use Rattle.session_log.specs.Ending.{Ending, Done, Refused, Unread, Unwritten, ended_by}
+use Rattle.session_log.specs.Log.{Played, played, play_all, parsed_line_text, state_after_parsed, first_fault, parsed_line_fault, line_fault, fault_of}
+use Rattle.session_log.specs.Ending.{Ending, Done, Refused, Unread, Unwritten, ending_of_fault}
 use Rattle.session_log.specs.Replay.{AreWritten, IsDone, IsPlayed, IsRefused, IsUnread, IsUnwritten, IsWithinLine, IsFaultOfLinesRead}
 use Rattle.session_log.specs.Replay.{ReadsUpToFault, ReadsTo, PlaysWholeLog, Logs, Plays, Writes, next_text, next_state}
 
@@ -31,13 +31,13 @@ either R c p x q y h k = search arith
 
 module _ {A B : Type 0} {v : LineSemantics A} {w : LineSemantics B} {R : A → B → Type 0} (f : Follows v w R) where
   by_line : (a : A) (b : B) → R a b → (line : List ℕ) (l : Option Line)
-      → (text_by v a line l ≡ text_by w b line l) × R (state_after_parsed v a l) (state_after_parsed w b l)
+      → (parsed_line_text v a line l ≡ parsed_line_text w b line l) × R (state_after_parsed v a l) (state_after_parsed w b l)
   by_line a b h line l = search arith
 
-  same_stop : (n : ℕ) (a : A) (b : B) → R a b → (l : Option Line) → fault_by v n a l ≡ fault_by w n b l
+  same_stop : (n : ℕ) (a : A) (b : B) → R a b → (l : Option Line) → parsed_line_fault v n a l ≡ parsed_line_fault w n b l
   same_stop n a b h l = search arith
 
-  same_fault : (n : ℕ) (a : A) (b : B) → R a b → (line : List ℕ) → fault_at v n a line ≡ fault_at w n b line
+  same_fault : (n : ℕ) (a : A) (b : B) → R a b → (line : List ℕ) → line_fault v n a line ≡ line_fault w n b line
   same_fault n a b r line = rw (same_stop n a b r (parsed line)) refl
 
   pub alike : (n : ℕ) (a : A) (b : B) → R a b → (lines : List (List ℕ))
@@ -46,7 +46,7 @@ module _ {A B : Type 0} {v : LineSemantics A} {w : LineSemantics B} {R : A → B
   alike n a b r (line ∷ more) =
       let here = by_line a b r line (parsed line) in
       let rest = alike (n + 1) (state_after_parsed v a (parsed line)) (state_after_parsed w b (parsed line)) here.1 more in
-      rw (same_fault n a b r line) (either R (is_some (fault_at w n b line)) _ _ _ _ (search arith) (search arith))
+      rw (same_fault n a b r line) (either R (is_some (line_fault w n b line)) _ _ _ _ (search arith) (search arith))
 
   faults_alike : (p : Played A) (q : Played B) → Alike R p q → fault_of v p ≡ fault_of w q
   faults_alike p q h = λ i. first_fault (f.lacks p.state q.state h.state i) (h.fault i)
@@ -117,7 +117,7 @@ module _ {A B : Type 0} {v : LineSemantics A} {w : LineSemantics B} {R : A → B
         → (c : B) × R t c × Logs w b c bytes text answer
     logs_alike (Ok m) h = let found = makes_alike Done h.0 in
         (found.0, found.1, (found.2, h.1 ∙ f.counts t found.0 found.1))
-    logs_alike (Err e) h = let found = makes_alike (ended_by e) h.0 in (found.0, found.1, (found.2, tt))
+    logs_alike (Err e) h = let found = makes_alike (ending_of_fault e) h.0 in (found.0, found.1, (found.2, tt))
 
   module _ (s : A) (b : B) (r : R s b) where
     -- how far is read to find a fault

@@ -22,14 +22,14 @@ pub record Compared (S : Type 0) : Type 0 where
   pub packets : ℕ
 
 -- The state of a comparison with these fields.
-abbrev pub compared : {S : Type 0} → S → (lines input found : ℕ) → (due : List (List ℕ)) → (inputs packets : ℕ)
+abbrev pub log_comparison : {S : Type 0} → S → (lines input found : ℕ) → (due : List (List ℕ)) → (inputs packets : ℕ)
     → Compared S
-compared s lines input found due inputs packets =
+log_comparison s lines input found due inputs packets =
     record { session = s; lines = lines; input = input; found = found; due = due; inputs = inputs; packets = packets }
 
 -- The state of a comparison before the first line.
 abbrev pub first_comparison : {S : Type 0} → S → Compared S
-first_comparison s = compared s 0 0 0 [] 0 0
+first_comparison s = log_comparison s 0 0 0 [] 0 0
 
 -- The next packet differs, is missing, or is one too many.
 abbrev pub difference : {S : Type 0} → Compared S → LogFault

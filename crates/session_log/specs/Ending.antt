@@ -11,19 +11,19 @@ pub data Ending : Type 0 where
   Unwritten : Ending
 
 -- The ending because of an error.
-abbrev pub ended_by : LogFault → Ending
-ended_by (BadLine n) = Refused (BadLine n)
-ended_by (TooLong n) = Refused (TooLong n)
-ended_by (Differs line packet) = Refused (Differs line packet)
-ended_by TooManyLines = Refused TooManyLines
-ended_by (Memory n) = Refused (Memory n)
-ended_by (Read n) = Unread n
-ended_by Write = Unwritten
+abbrev pub ending_of_fault : LogFault → Ending
+ending_of_fault (BadLine n) = Refused (BadLine n)
+ending_of_fault (TooLong n) = Refused (TooLong n)
+ending_of_fault (Differs line packet) = Refused (Differs line packet)
+ending_of_fault TooManyLines = Refused TooManyLines
+ending_of_fault (Memory n) = Refused (Memory n)
+ending_of_fault (Read n) = Unread n
+ending_of_fault Write = Unwritten
 
 -- The ending of a call with this result.
 abbrev pub ending_of : {A : Type 0} → Result A LogFault → Ending
 ending_of (Ok x) = Done
-ending_of (Err fault) = ended_by fault
+ending_of (Err fault) = ending_of_fault fault
 
 -- Whether a read of the source failed.
 abbrev pub read_fails : Ending → Bool

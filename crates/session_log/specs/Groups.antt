@@ -10,22 +10,22 @@ abbrev pub Groups : Type 0
 Groups = List (List (List ℕ))
 
 -- The groups with a packet added at the beginning of the first group.
-abbrev pub with_first : List ℕ → Groups → Groups
-with_first packet [] = (packet ∷ []) ∷ []
-with_first packet (group ∷ more) = (packet ∷ group) ∷ more
+abbrev pub prepend_packet : List ℕ → Groups → Groups
+prepend_packet packet [] = (packet ∷ []) ∷ []
+prepend_packet packet (group ∷ more) = (packet ∷ group) ∷ more
 
 -- The groups of a log with one more line at its beginning.
-abbrev pub with_line : Option Line → Groups → Groups
-with_line None groups = groups
-with_line (Some (Input timed)) groups = [] ∷ groups
-with_line (Some (Sent packet)) groups = with_first packet.0 groups
-with_line (Some Comment) groups = groups
-with_line (Some Count) groups = groups
+abbrev pub prepend_line : Option Line → Groups → Groups
+prepend_line None groups = groups
+prepend_line (Some (Input timed)) groups = [] ∷ groups
+prepend_line (Some (Sent packet)) groups = prepend_packet packet.0 groups
+prepend_line (Some Comment) groups = groups
+prepend_line (Some Count) groups = groups
 
 -- The groups of packets in a log.
 abbrev pub found_groups : List (List ℕ) → Groups
 found_groups [] = [] ∷ []
-found_groups (line ∷ more) = with_line (parsed line) (found_groups more)
+found_groups (line ∷ more) = prepend_line (parsed line) (found_groups more)
 
 -- The groups of packets that the session sends for the inputs.
 abbrev pub sent_groups : {S : Type 0} → InputSemantics S → S → List Timed → Groups

@@ -6,13 +6,13 @@ use Rattle.session_log.specs.declared.fault.LogFault.TheVariants.{BadLine, TooLo
 use Rattle.session_log.specs.{Lines.lines, Parsed.parsed, World.LineSemantics}
 
 -- The text for a parsed line.
-abbrev pub text_by : {S : Type 0} → LineSemantics S → S → List ℕ → Option Line → List ℕ
-text_by world s line None = []
-text_by world s line (Some l) = world.writes s line l
+abbrev pub parsed_line_text : {S : Type 0} → LineSemantics S → S → List ℕ → Option Line → List ℕ
+parsed_line_text world s line None = []
+parsed_line_text world s line (Some l) = world.writes s line l
 
 -- The text for a line.
 abbrev pub line_text : {S : Type 0} → LineSemantics S → S → List ℕ → List ℕ
-line_text world s line = text_by world s line (parsed line)
+line_text world s line = parsed_line_text world s line (parsed line)
 
 -- The state after a parsed line.
 abbrev pub state_after_parsed : {S : Type 0} → LineSemantics S → S → Option Line → S
@@ -24,16 +24,16 @@ abbrev pub state_after : {S : Type 0} → LineSemantics S → S → List ℕ →
 state_after world s line = state_after_parsed world s (parsed line)
 
 -- The error of line n by its content: it is not a log line, or the world rejects it.
-abbrev pub fault_by : {S : Type 0} → LineSemantics S → ℕ → S → Option Line → Option LogFault
-fault_by world n s None = Some (BadLine n)
-fault_by world n s (Some l) = world.stops s l
+abbrev pub parsed_line_fault : {S : Type 0} → LineSemantics S → ℕ → S → Option Line → Option LogFault
+parsed_line_fault world n s None = Some (BadLine n)
+parsed_line_fault world n s (Some l) = world.stops s l
 
 -- The error of line n: a log has at most 2^32-1 lines, and a line at most 255 bytes.
-abbrev pub fault_at : {S : Type 0} → LineSemantics S → ℕ → S → List ℕ → Option LogFault
-fault_at world n s line =
+abbrev pub line_fault : {S : Type 0} → LineSemantics S → ℕ → S → List ℕ → Option LogFault
+line_fault world n s line =
     if nat_le (2 ^ 32) n then Some TooManyLines
     else if nat_lt 255 (length line) then Some (TooLong n)
-    else fault_by world n s (parsed line)
+    else parsed_line_fault world n s (parsed line)
 
 -- The result of playing lines: the texts of those before the first invalid one, its error, and the state after them.
 pub record Played (S : Type 0) : Type 0 where
@@ -49,7 +49,7 @@ with_text_before text p = record { text = text ++ p.text; fault = p.fault; state
 abbrev pub played : {S : Type 0} → LineSemantics S → ℕ → S → List (List ℕ) → Played S
 played world n s [] = record { text = []; fault = None; state = s }
 played world n s (line ∷ more) =
-    if is_some (fault_at world n s line) then record { text = []; fault = fault_at world n s line; state = s }
+    if is_some (line_fault world n s line) then record { text = []; fault = line_fault world n s line; state = s }
     else with_text_before (line_text world s line) (played world (n + 1) (state_after world s line) more)
 
 -- Playing all lines of the bytes.

@@ -31,8 +31,8 @@ moment digits =
     if nat_lt n (2 ^ 64) && pointwise ◌==◌ (decimal n) digits then Some n else None
 
 -- The bytes of n pairs of hexadecimal digits, in either case.
-abbrev pub bytes_of : ℕ → List ℕ → Option (List ℕ)
-bytes_of n digits = result_ok (decode_sized digits n)
+abbrev pub decoded_bytes : ℕ → List ℕ → Option (List ℕ)
+decoded_bytes n digits = result_ok (decode_sized digits n)
 
 -- The field is this word.
 abbrev pub is_word : List ℕ → List ℕ → Bool
@@ -41,7 +41,7 @@ is_word word field = pointwise ◌==◌ field word
 -- `P`
 abbrev pub parsed_packet : List ℕ → Option AnyInput
 parsed_packet field = do
-  packet ← bytes_of 64 field
+  packet ← decoded_bytes 64 field
   Some (Packet (record { 0 = packet }))
 
 -- `granted`, `denied`, `timeout`
@@ -53,34 +53,34 @@ parsed_presence field =
     else None
 
 -- A credential ID and coordinates, `ID X Y`.
-abbrev pub key_of : List ℕ → Option NewKey
-key_of field = do
+abbrev pub parsed_key_pair : List ℕ → Option NewKey
+parsed_key_pair field = do
   first ← first_field field
   second ← first_field first.1
-  id ← bytes_of 32 first.0
-  x ← bytes_of 32 second.0
-  y ← bytes_of 32 second.1
+  id ← decoded_bytes 32 first.0
+  x ← decoded_bytes 32 second.0
+  y ← decoded_bytes 32 second.1
   Some (record { id = id; x = x; y = y })
 
 -- `ID X Y`, `no`
 abbrev pub parsed_new_key : List ℕ → Option AnyInput
 parsed_new_key field = if is_word refusal_word field then Some (Key None)
-    else (key_of field >>= (λ key. Some (Key (Some key))))
+    else (parsed_key_pair field >>= (λ key. Some (Key (Some key))))
 
 -- 1 to 72 bytes
-abbrev pub signature_of : List ℕ → Option (List ℕ)
-signature_of digits =
+abbrev pub parsed_signature_bytes : List ℕ → Option (List ℕ)
+parsed_signature_bytes digits =
     let n = length digits / 2 in
-    if nat_le 1 n && nat_le n 72 then bytes_of n digits else None
+    if nat_le 1 n && nat_le n 72 then decoded_bytes n digits else None
 
 -- `S`, `no`
 abbrev pub parsed_signature : List ℕ → Option AnyInput
 parsed_signature field = if is_word refusal_word field then Some (Signature None)
-    else (signature_of field >>= (λ bytes. Some (Signature (Some bytes))))
+    else (parsed_signature_bytes field >>= (λ bytes. Some (Signature (Some bytes))))
 
 -- An input other than a tick, by the line's letter.
-abbrev pub input_by : ℕ → List ℕ → Option AnyInput
-input_by letter field =
+abbrev pub parsed_input : ℕ → List ℕ → Option AnyInput
+parsed_input letter field =
     if letter == host_letter then parsed_packet field
     else if letter == presence_letter then parsed_presence field
     else if letter == new_key_letter then parsed_new_key field
@@ -92,7 +92,7 @@ abbrev pub input_line : ℕ → List ℕ → Option Line
 input_line letter fields = do
   parts ← first_field fields
   at ← moment parts.0
-  input ← input_by letter parts.1
+  input ← parsed_input letter parts.1
   Some (Input (record { at = at; input = input }))
 
 -- `M`
@@ -104,7 +104,7 @@ tick_line fields = do
 -- `P`
 abbrev pub sent_line : List ℕ → Option Line
 sent_line fields = do
-  packet ← bytes_of 64 fields
+  packet ← decoded_bytes 64 fields
   Some (Sent (record { 0 = packet }))
 
 -- An input and its timestamp, by the line's letter.

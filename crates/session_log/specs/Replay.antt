@@ -6,7 +6,7 @@ use Rattle.session_log.specs.declared.fault.LogFault.{LogFault, TheVariants.Memo
 use Rattle.session_log.specs.declared.fault.LogFault.TheVariants.{BadLine, TooLong, Differs, Read, Write, TooManyLines}
 use Rattle.session_log.specs.Ending.{Ending, Done, Refused, Unread, Unwritten, ending_of}
 use Rattle.session_log.specs.{Lines.lines, Lines.whole_lines, Lines.last_piece, Streams.WritesAll, Streams.WriteFails}
-use Rattle.session_log.specs.Log.{played, play_all, log, line_text, last_text, state_after, fault_by, fault_of}
+use Rattle.session_log.specs.Log.{played, play_all, log, line_text, last_text, state_after, parsed_line_fault, fault_of}
 use Rattle.session_log.specs.{Parsed.parsed, World.LineSemantics, Sent.SendsPackets, Sent.AllSend}
 
 -- There is no error, and the whole log was written.
@@ -101,24 +101,24 @@ Logs world s t bytes text r = PlaysWholeLog world s t bytes text (ending_of r) �
 abbrev pub PlaysLine : {S F : Type 0} → LineSemantics S → (F → Option (List ℕ)) → (F → ℕ) → ℕ → S → S → List ℕ → (F × F)
     → Ending → Type 0
 PlaysLine world taken failed n s t line target Done =
-    (fault_by world n s (parsed line) ≡ None) × (t ≡ state_after world s line) × SendsPackets world s (parsed line)
+    (parsed_line_fault world n s (parsed line) ≡ None) × (t ≡ state_after world s line) × SendsPackets world s (parsed line)
     × WritesAll taken failed target (line_text world s line)
 PlaysLine world taken failed n s t line target (Refused fault) =
-    (fault_by world n s (parsed line) ≡ Some fault) × (t ≡ s) × Keeps (taken target.0) (taken target.1)
+    (parsed_line_fault world n s (parsed line) ≡ Some fault) × (t ≡ s) × Keeps (taken target.0) (taken target.1)
     × (failed target.1 ≡ failed target.0)
 PlaysLine world taken failed n s t line target (Unread m) = ⊥
 PlaysLine world taken failed n s t line target Unwritten =
-    (fault_by world n s (parsed line) ≡ None) × (t ≡ state_after world s line)
+    (parsed_line_fault world n s (parsed line) ≡ None) × (t ≡ state_after world s line)
     × WriteFails taken failed target (line_text world s line)
 
 -- The meaning of the end of the lines: the text after them was written; or there is an error at the end, and nothing
 -- was written; or writing failed.
-abbrev pub Closes : {S F : Type 0} → LineSemantics S → (F → Option (List ℕ)) → (F → ℕ) → S → (F × F) → Ending → Type 0
-Closes world taken failed s target Done = (world.lacks s ≡ None) × WritesAll taken failed target (world.ending s)
-Closes world taken failed s target (Refused fault) =
+abbrev pub FinishesLog : {S F : Type 0} → LineSemantics S → (F → Option (List ℕ)) → (F → ℕ) → S → (F × F) → Ending → Type 0
+FinishesLog world taken failed s target Done = (world.lacks s ≡ None) × WritesAll taken failed target (world.ending s)
+FinishesLog world taken failed s target (Refused fault) =
     (world.lacks s ≡ Some fault) × Keeps (taken target.0) (taken target.1) × (failed target.1 ≡ failed target.0)
-Closes world taken failed s target (Unread n) = ⊥
-Closes world taken failed s target Unwritten = (world.lacks s ≡ None) × WriteFails taken failed target (world.ending s)
+FinishesLog world taken failed s target (Unread n) = ⊥
+FinishesLog world taken failed s target Unwritten = (world.lacks s ≡ None) × WriteFails taken failed target (world.ending s)
 
 -- The errors that processing line n can return: an invalid line, a difference, or a failed write. Its length and number
 -- were checked before.

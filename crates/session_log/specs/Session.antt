@@ -4,13 +4,13 @@ use Rattle.std.specs.Io.KnownBytes.{Appends}
 use Rattle.authn_core.specs.{Turn.Start, Views.Needed, Views.needs}
 use Rattle.token_session.specs.{Answered.packets_sent_now, declared.input.Timed.Timed, Law.sent_now, Noise.is_noise_at, Noise.is_noise_after}
 use Rattle.token_session.specs.History.{core, receive, received}
-use Rattle.token_session.specs.Meters.{SessionState, stepped, sent_by, meters_of}
+use Rattle.token_session.specs.Meters.{SessionState, stepped, input_packets_of, meters_of}
 use Rattle.session_log.specs.{Lines.lines, Log.log}
 use Rattle.session_log.specs.World.{InputSemantics, LineSemantics, replay_world, quiet_world, live_world}
 
 -- A session's state, changed by inputs.
 abbrev pub session_course : InputSemantics SessionState
-session_course = record { turned = λ s x. stepped s x; sends = λ s x. sent_by s x; counts = λ s. s.meters }
+session_course = record { turned = λ s x. stepped s x; sends = λ s x. input_packets_of s x; counts = λ s. s.meters }
 
 -- A history: the inputs so far, newest first, with the packets and meters that it defines.
 abbrev pub history_course : Start → InputSemantics (List Timed)

@@ -32,13 +32,13 @@ WriteFails taken failed target text = WritesPrefixOnly (taken target.0) (taken t
     × (failed target.1 ≡ failed target.0 + 1)
 
 -- Writing a text: on success all of it was taken, on an error only a beginning.
-abbrev pub Puts : {F A E : Type 0} → (F → Option (List ℕ)) → (F → ℕ) → (F × F) → List ℕ → Result A E → Type 0
-Puts taken failed target text r = MatchResult r (λ x. WritesAll taken failed target text)
+abbrev pub WritesText : {F A E : Type 0} → (F → Option (List ℕ)) → (F → ℕ) → (F × F) → List ℕ → Result A E → Type 0
+WritesText taken failed target text r = MatchResult r (λ x. WritesAll taken failed target text)
     (λ e. WriteFails taken failed target text)
 
--- As `Puts`, and the error is `Write`.
-abbrev pub PutsLine : {F A : Type 0} → (F → Option (List ℕ)) → (F → ℕ) → (F × F) → List ℕ → Result A LogFault → Type 0
-PutsLine taken failed target text r = MatchResult r (λ x. WritesAll taken failed target text)
+-- As `WritesText`, and the error is `Write`.
+abbrev pub WritesLogLine : {F A : Type 0} → (F → Option (List ℕ)) → (F → ℕ) → (F × F) → List ℕ → Result A LogFault → Type 0
+WritesLogLine taken failed target text r = MatchResult r (λ x. WritesAll taken failed target text)
     (λ e. (e ≡ Write) × WriteFails taken failed target text)
 
 -- P holds for the bytes that were read from a source and the text that was appended to a target.

@@ -3,7 +3,7 @@ use Rattle.std.specs.Prelude.{ℕ, Bool, List, [], ◌++◌, flat_map, Option, N
 use Rattle.token_session.specs.declared.input.{Timed.Timed, Meters.Meters}
 use Rattle.session_log.specs.declared.{fault.LogFault.LogFault, line.Line.Line}
 use Rattle.session_log.specs.declared.line.Line.TheVariants.{Input, Sent, Comment, Count}
-use Rattle.authn_core.specs.{Views.Needed, Needs.IsNeed}
+use Rattle.authn_core.specs.{Views.Needed, Needs.IsValidNeed}
 use Rattle.session_log.specs.Needs.{need_lines, is_need_line}
 use Rattle.session_log.specs.Text.{ArePackets, with_line_feed, sent_text, tick_text, meters_line}
 
@@ -28,11 +28,11 @@ pub record LineSemantics (S : Type 0) : Type 1 where
 -- the end the meters. Only a line that is not a log line is an error.
 
 -- The state after a line: an input changes it.
-abbrev pub moves_input : {S : Type 0} → InputSemantics S → S → Line → S
-moves_input course s (Input timed) = course.turned s timed
-moves_input course s (Sent packet) = s
-moves_input course s Comment = s
-moves_input course s Count = s
+abbrev pub state_after_line : {S : Type 0} → InputSemantics S → S → Line → S
+state_after_line course s (Input timed) = course.turned s timed
+state_after_line course s (Sent packet) = s
+state_after_line course s Comment = s
+state_after_line course s Count = s
 
 -- The packets that an input line sends have 64 bytes.
 abbrev pub sends_packets : {S : Type 0} → InputSemantics S → S → Line → Type 0
@@ -52,7 +52,7 @@ replay_text course s line Count = []
 abbrev pub replay_world : {S : Type 0} → InputSemantics S → LineSemantics S
 replay_world course = record {
   stops = λ s l. None;
-  moves = moves_input course;
+  moves = state_after_line course;
   sound = sends_packets course;
   writes = replay_text course;
   lacks = λ s. None;
@@ -73,7 +73,7 @@ quiet_text noises s line Count = []
 abbrev pub quiet_world : {S : Type 0} → InputSemantics S → (S → Timed → Bool) → LineSemantics S
 quiet_world course noises = record {
   stops = λ s l. None;
-  moves = moves_input course;
+  moves = state_after_line course;
   sound = λ s l. Unit {0};
   writes = quiet_text noises;
   lacks = λ s. None;
@@ -86,7 +86,7 @@ quiet_world course noises = record {
 
 -- The packets that an input line sends have 64 bytes, and the need after it is well-formed.
 abbrev pub sends_needs : {S : Type 0} → InputSemantics S → (S → Needed) → S → Line → Type 0
-sends_needs course needs s (Input timed) = ArePackets (course.sends s timed) × IsNeed (needs (course.turned s timed))
+sends_needs course needs s (Input timed) = ArePackets (course.sends s timed) × IsValidNeed (needs (course.turned s timed))
 sends_needs course needs s (Sent packet) = Unit {0}
 sends_needs course needs s Comment = Unit {0}
 sends_needs course needs s Count = Unit {0}
@@ -104,7 +104,7 @@ live_text course needs s line Count = []
 abbrev pub live_world : {S : Type 0} → InputSemantics S → (S → Needed) → LineSemantics S
 live_world course needs = record {
   stops = λ s l. None;
-  moves = moves_input course;
+  moves = state_after_line course;
   sound = sends_needs course needs;
   writes = live_text course needs;
   lacks = λ s. None;

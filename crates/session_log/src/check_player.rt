@@ -1,6 +1,6 @@
 //! Compares a log with the packets that a session sends.
 ghost use Rattle.std.specs.Prelude.{◌≡◌, ◌<◌, ◌≤◌, ◌+◌, ◌-◌, ◌^◌, ℕ, List, [], ◌∷◌, ◌++◌, None, Some, OnOk};
-ghost use Rattle.session_log.specs.Check.{Compared, first_comparison, check_machine, compared, due_packets};
+ghost use Rattle.session_log.specs.Check.{Compared, first_comparison, check_machine, log_comparison, due_packets};
 ghost use Rattle.session_log.specs.Command.{PlaysLog, PlaysThrough};
 ghost use Rattle.session_log.specs.declared.command.ReplayMode.TheVariants as commands;
 ghost use Rattle.session_log.specs.Ending.{ending_of};
@@ -37,7 +37,7 @@ struct CheckPlayer {
 impl CheckPlayer {
     /// Returns the player before the first line.
     fn new() -> Self
-        ensures begun { (s : SessionState) → compared s result.lines result.input result.found
+        ensures begun { (s : SessionState) → log_comparison s result.lines result.input result.found
             (due_packets result.awaited result.outbox) result.inputs result.packets ≡ first_comparison s }
         ensures none { result.awaited ≡ None }
         ensures empty { result.outbox ≡ [] }
@@ -111,7 +111,7 @@ impl<const C: usize> Player<C> for CheckPlayer {
 
     ghost world = { check_machine };
 
-    ghost state = { λ c s. compared s c.lines c.input c.found (due_packets c.awaited c.outbox) c.inputs c.packets };
+    ghost state = { λ c s. log_comparison s c.lines c.input c.found (due_packets c.awaited c.outbox) c.inputs c.packets };
 
     ghost IsReady = { λ c n. (n ≡ c.lines + 1) × (c.found ≤ c.lines) × (c.inputs ≤ c.lines) × (c.packets ≤ c.lines)
         × (c.awaited ≡ None → c.outbox ≡ []) };

@@ -3,7 +3,7 @@
 ghost use Rattle.std.specs.Prelude.{◌≡◌, ◌++◌, ◌*◌, ◌<◌, ℕ, true, length, replicate, slice_index};
 ghost use Rattle.std.specs.Prelude.{None, Some, MatchOption, if◌then◌else◌, nat_lt};
 ghost use Rattle.hex.specs.Hex.{encode_lower, hex_digit_value, lower_digits};
-ghost use Rattle.session_log.specs.Parsed.{bytes_of};
+ghost use Rattle.session_log.specs.Parsed.{decoded_bytes};
 
 /// Returns whether all sixteen bytes equal `byte`.
 fn are_all(group: &[u8; 16], byte: u8) -> bool
@@ -39,8 +39,8 @@ fn digit_value(digit: u8) -> u8
 
 /// Decodes hexadecimal digits in either case, two for each byte. After `None` the bytes are unspecified.
 pub fn decode_digits(digits: &[u8], bytes: &mut [u8]) -> Option<()>
-    ensures { MatchOption result (bytes_of (length bytes.old) digits.now ≡ None)
-        (λ _. bytes_of (length bytes.old) digits.now ≡ Some bytes.new) }
+    ensures { MatchOption result (decoded_bytes (length bytes.old) digits.now ≡ None)
+        (λ _. decoded_bytes (length bytes.old) digits.now ≡ Some bytes.new) }
 {
     if digits.len() != 2 * bytes.len() {
         return None;
@@ -57,7 +57,7 @@ pub fn decode_digits(digits: &[u8], bytes: &mut [u8]) -> Option<()>
 
 /// Decodes `2 * N` hexadecimal digits, in either case.
 pub fn decode_bytes<const N: usize>(digits: &[u8]) -> Option<[u8; N]>
-    ensures { result ≡ bytes_of N digits.now }
+    ensures { result ≡ decoded_bytes N digits.now }
 {
     let mut bytes = [0; N];
     if digits.len() != 2 * N {

@@ -2,9 +2,9 @@
 ghost use Rattle.std.specs.Prelude.{◌≡◌, ◌<◌, ◌≤◌, ◌-◌, ◌/◌, ◌^◌, ◌↔◌, ◌==◌, length, position, slice_index, Option, None, Some, IfSome, IsTrue, MatchOption, SomeIff};
 ghost use Rattle.std.specs.Str.Parse.{AllDigits, digits_value};
 ghost use Rattle.session_log.specs.Letters.{space};
-ghost use Rattle.session_log.specs.Parsed.{first_field, input_by, input_line, key_of, parsed_new_key, moment, parsed_presence, parsed, line_of_kind, sent_line, signature_of, parsed_signature, tick_line, timed_line};
+ghost use Rattle.session_log.specs.Parsed.{first_field, parsed_input, input_line, parsed_key_pair, parsed_new_key, moment, parsed_presence, parsed, line_of_kind, sent_line, parsed_signature_bytes, parsed_signature, tick_line, timed_line};
 
-use crate::hex_digits::{decode_digits, decode_bytes};
+use crate::hex_digits::{decode_bytes, decode_digits};
 use authn_core::{NewKey, Presence, Signature};
 use hid_packet::Packet;
 use memchr::memchr;
@@ -100,7 +100,7 @@ fn parse_presence(word: &[u8]) -> Option<Input>
 
 /// Parses a new key pair: credential ID, x and y coordinates.
 fn parse_new_key(fields: &[u8]) -> Option<NewKey>
-    ensures { result ≡ key_of fields.now }
+    ensures { result ≡ parsed_key_pair fields.now }
 {
     let (id, coordinates) = split_field(fields)?;
     let (x, y) = split_field(coordinates)?;
@@ -125,7 +125,7 @@ fn parse_key_reply(field: &[u8]) -> Option<Input>
 /// Parses the digits of a signature. `out` has the signature's length.
 fn parse_signature_into(digits: &[u8], out: &mut [u8]) -> Option<Signature>
     requires { length out.old ≡ length digits.now / 2 }
-    ensures { result ≡ signature_of digits.now }
+    ensures { result ≡ parsed_signature_bytes digits.now }
 {
     decode_digits(digits, out)?;
     Signature::new(out)
@@ -133,7 +133,7 @@ fn parse_signature_into(digits: &[u8], out: &mut [u8]) -> Option<Signature>
 
 /// Parses the digits of a signature.
 fn parse_signature(digits: &[u8]) -> Option<Signature>
-    ensures { result ≡ signature_of digits.now }
+    ensures { result ≡ parsed_signature_bytes digits.now }
 {
     let mut bytes = [0; 72];
     let len = digits.len() / 2;
@@ -156,7 +156,7 @@ fn parse_signature_reply(field: &[u8]) -> Option<Input>
 
 /// Parses the field after the timestamp, by the line's letter.
 fn parse_input(letter: u8, field: &[u8]) -> Option<Input>
-    ensures { result ≡ input_by letter field.now }
+    ensures { result ≡ parsed_input letter field.now }
 {
     match letter {
         b'>' => Some(Input::Packet(Packet(decode_bytes(field)?))),

@@ -2,13 +2,13 @@
 ghost use Rattle.std.specs.Prelude.{◌≡◌, ◌<◌, ◌≤◌, ◌+◌, ◌*◌, ◌-◌, ◌^◌, [], ◌∷◌, ◌++◌, length, flat_map, map, decimal, ◌/◌, OnOk, OnErr, IfErr};
 ghost use Rattle.std.specs.Io.KnownBytes.{Appends};
 ghost use Rattle.hex.specs.Hex.{encode_lower};
-ghost use Rattle.authn_core.specs.Needs.{IsNeed};
-ghost use Rattle.authn_core.specs.Views.{needed_reply};
+ghost use Rattle.authn_core.specs.Needs.{IsValidNeed};
+ghost use Rattle.authn_core.specs.Views.{to_needed};
 ghost use Rattle.session_log.specs.declared.line_writer.TheConstants.{MAX_TEXT_LEN, MAX_SIGNED_PER_LINE, SENT_LINE};
 ghost use Rattle.session_log.specs.Needs.{need_lines, pieces_of, signature_line, signed_line};
 ghost use Rattle.session_log.specs.Sent.{FitsMeters};
 ghost use Rattle.session_log.specs.Text.{ArePackets, IsPacket, with_line_feed, sent_text, tick_text, meters_line, same_line};
-ghost use Rattle.session_log.specs.Streams.{PutsLine};
+ghost use Rattle.session_log.specs.Streams.{WritesLogLine};
 
 use crate::fault::LogFault;
 use crate::hex_digits::{encode_digits, write_digits};
@@ -120,9 +120,9 @@ fn push_signature(text: &mut Text, id: &[u8; 32])
 
 /// Appends the lines of a need.
 fn push_need(text: &mut Text, need: Need<'_>)
-    requires sized { IsNeed (needed_reply need) }
+    requires sized { IsValidNeed (to_needed need) }
     requires space { length text.old.items + 504 ≤ MAX_TEXT_LEN }
-    ensures { text.new.items ≡ text.old.items ++ flat_map with_line_feed (need_lines (needed_reply need.entry)) }
+    ensures { text.new.items ≡ text.old.items ++ flat_map with_line_feed (need_lines (to_needed need.entry)) }
 {
     match need {
         Need::None => push_line(text, b"# need nothing"),
@@ -165,7 +165,7 @@ fn push_meters(text: &mut Text, meters: Meters)
 /// Writes a text.
 pub fn put_text<T: Target>(writer: &mut T, text: &[u8]) -> Result<(), LogFault>
     requires { T.failed writer.old < 2 ^ 64 - 1 }
-    ensures { PutsLine T.taken T.failed (writer.old, writer.new) text.now result }
+    ensures { WritesLogLine T.taken T.failed (writer.old, writer.new) text.now result }
 {
     put_all(writer, text).map_err(|_| LogFault::Write)
 }
@@ -173,7 +173,7 @@ pub fn put_text<T: Target>(writer: &mut T, text: &[u8]) -> Result<(), LogFault>
 /// Writes the line of a tick.
 pub fn put_tick<T: Target>(writer: &mut T, text: &mut Text, at: u64) -> Result<(), LogFault>
     requires { T.failed writer.old < 2 ^ 64 - 1 }
-    ensures { PutsLine T.taken T.failed (writer.old, writer.new) (with_line_feed (tick_text at)) result }
+    ensures { WritesLogLine T.taken T.failed (writer.old, writer.new) (with_line_feed (tick_text at)) result }
 {
     text.clear();
     push_count(text, b"t ", at);
@@ -191,7 +191,7 @@ pub fn put_input<T: Target>(
     requires write { T.failed writer.old < 2 ^ 64 - 1 }
     requires short { length line.now ≤ 256 }
     requires few { length outbox.old ≤ 130 }
-    ensures puts { PutsLine T.taken T.failed (writer.old, writer.new)
+    ensures puts { WritesLogLine T.taken T.failed (writer.old, writer.new)
         (line.now ++ flat_map sent_text outbox.old) result }
     ensures empty { outbox.new ≡ [] }
     ensures packets { ArePackets outbox.old }
@@ -218,9 +218,9 @@ pub fn put_response<T: Target>(
     requires write { T.failed writer.old < 2 ^ 64 - 1 }
     requires short { length line.now ≤ 256 }
     requires few { length sent.old ≤ 130 }
-    requires sized { IsNeed (needed_reply need) }
-    ensures puts { PutsLine T.taken T.failed (writer.old, writer.new)
-        (line.now ++ flat_map sent_text sent.old ++ flat_map with_line_feed (need_lines (needed_reply need.entry))) result }
+    requires sized { IsValidNeed (to_needed need) }
+    ensures puts { WritesLogLine T.taken T.failed (writer.old, writer.new)
+        (line.now ++ flat_map sent_text sent.old ++ flat_map with_line_feed (need_lines (to_needed need.entry))) result }
     ensures empty { sent.new ≡ [] }
     ensures packets { ArePackets sent.old }
 {
@@ -238,7 +238,7 @@ pub fn put_meters<T: Target>(
     meters: Meters,
 ) -> Result<(), LogFault>
     requires { T.failed writer.old < 2 ^ 64 - 1 }
-    ensures puts { PutsLine T.taken T.failed (writer.old, writer.new) (meters_line meters) result }
+    ensures puts { WritesLogLine T.taken T.failed (writer.old, writer.new) (meters_line meters) result }
     ensures fits { FitsMeters meters }
 {
     push_meters(text, meters);
@@ -253,7 +253,7 @@ pub fn put_check_result<T: Target>(
     packets: u64,
 ) -> Result<(), LogFault>
     requires { T.failed writer.old < 2 ^ 64 - 1 }
-    ensures { PutsLine T.taken T.failed (writer.old, writer.new) (same_line inputs packets) result }
+    ensures { WritesLogLine T.taken T.failed (writer.old, writer.new) (same_line inputs packets) result }
 {
     text.clear();
     push_count(text, b"same ", inputs);

@@ -14,7 +14,7 @@ use crate::fault::LogFault;
 use crate::line::Line;
 use crate::line_writer::{Text, put_meters, put_response, put_text};
 use crate::player::{Player, process_lines, process_log};
-use crate::replay_player::meters_of;
+use crate::replay_player::meters_u64;
 use crate::source::Source;
 use crate::target::Target;
 use hid_packet::Outbox;
@@ -153,5 +153,5 @@ pub fn live<S: Source, T: Target, const C: usize>(
 {
     let mut player = LivePlayer::new();
     process_log(&mut player, reader, writer, session)?;
-    Ok(meters_of(session))
+    Ok(meters_u64(session))
 }

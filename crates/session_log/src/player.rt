@@ -17,7 +17,7 @@ use token_session::Session;
 pub trait Player<const C: usize> {
     ghost use Rattle.std.specs.Prelude.{◌≡◌, ◌<◌, ◌≤◌, ◌+◌, ◌-◌, ◌^◌, ℕ, length, Some, OnOk, IfErr};
     ghost use Rattle.session_log.specs.Ending.{ending_of};
-    ghost use Rattle.session_log.specs.Replay.{Closes, IsEndFault, IsLineFault, PlaysLine};
+    ghost use Rattle.session_log.specs.Replay.{FinishesLog, IsEndFault, IsLineFault, PlaysLine};
     ghost use Rattle.session_log.specs.Parsed.{parsed};
     ghost use Rattle.session_log.specs.Text.{with_line_feed};
     ghost use Rattle.session_log.specs.World.{LineSemantics};
@@ -61,7 +61,7 @@ pub trait Player<const C: usize> {
     fn finish<T: Target>(&mut self, writer: &mut T, session: &Session<C>) -> Result<(), LogFault>
         requires write { T.failed writer.old < 2 ^ 64 - 1 }
         requires ready { (n : ℕ) × (n ≤ 2 ^ 32) × IsReady self.old n }
-        ensures closed { Closes world T.taken T.failed (state self.old session.now) (writer.old, writer.new)
+        ensures closed { FinishesLog world T.taken T.failed (state self.old session.now) (writer.old, writer.new)
             (ending_of result) }
         ensures own { IfErr result IsEndFault }
         ensures same { (s : SessionState) → state self.new s ≡ state self.old s };
@@ -114,7 +114,14 @@ fn process_first_line<P: Player<C>, T: Target, const C: usize>(
     ensures rest { window.new ≡ drop (end + 1) window.old }
 {
     let text = window.as_slice().split_at(end + 1).0;
-    let played = parse_and_process_line(player, text.split_at(end).0, text, number, writer, session);
+    let played = parse_and_process_line(
+        player,
+        text.split_at(end).0,
+        text,
+        number,
+        writer,
+        session,
+    );
     window.drop_front(end + 1);
     played
 }

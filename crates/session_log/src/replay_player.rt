@@ -19,7 +19,7 @@ use token_session::laws::answers_follow_history;
 use token_session::{Meters, Session};
 
 /// Returns a session's meters, in numbers of at most 64 bits.
-pub fn meters_of<const C: usize>(session: &Session<C>) -> Meters
+pub fn meters_u64<const C: usize>(session: &Session<C>) -> Meters
     ensures value { result ≡ session.now.meters }
     ensures fits { FitsMeters result }
 {
@@ -117,5 +117,5 @@ pub fn replay<S: Source, T: Target, const C: usize>(
     answers_follow_history();
     let mut player = ReplayPlayer::new();
     process_log(&mut player, reader, writer, session)?;
-    Ok(meters_of(session))
+    Ok(meters_u64(session))
 }

@@ -1,7 +1,7 @@
 //! Targets of a log's bytes.
 ghost use Rattle.std.specs.Prelude.{◌≡◌, ◌<◌, ◌≤◌, ◌+◌, ◌-◌, ◌^◌, ◌↔◌, [], ◌∷◌, ◌++◌, List, ℕ, Option, Some, length, take, drop, min, is_ok, if◌then◌else◌, IsErr, IfOk, OnOk, OnErr, MatchResult};
 ghost use Rattle.std.specs.Io.KnownBytes.{Appends, WriteAppends};
-ghost use Rattle.session_log.specs.Streams.{WriteFails, WritesAll, Puts};
+ghost use Rattle.session_log.specs.Streams.{WriteFails, WritesAll, WritesText};
 
 use crate::count_failures::CountFailures;
 use crate::fault::Failed;
@@ -33,7 +33,7 @@ pub trait Target {
 /// retry.
 pub fn put_all<T: Target>(writer: &mut T, piece: &[u8]) -> Result<(), Failed>
     requires { T.failed writer.old < 2 ^ 64 - 1 }
-    ensures { Puts T.taken T.failed (writer.old, writer.new) piece.now result }
+    ensures { WritesText T.taken T.failed (writer.old, writer.new) piece.now result }
 {
     let mut rest = piece;
     while !rest.is_empty() {

@@ -1,13 +1,13 @@
 -- A text that is handed over part by part.
 use Rattle.std.proofs.Common.{◌≡◌, ℕ, ◌+◌, List, ◌∷◌, ◌++◌, Option, Result, Ok, Err, ap, ◌∙◌, subst, append_assoc}
 use Rattle.std.{proofs.Common.decimal, proofs.KnownBytes.Appends-trans, specs.Io.KnownBytes.Appends}
-use Rattle.session_log.specs.{Streams.WritesAll, Streams.Puts, Streams.OnlyAppends, declared.fault.Failed.Failed}
+use Rattle.session_log.specs.{Streams.WritesAll, Streams.WritesText, Streams.OnlyAppends, declared.fault.Failed.Failed}
 use Rattle.session_show.specs.Written.{Writes, WritesNumbered}
 
 -- after the parts so far a part was appended, or broke off
 pub puts_on : {F : Type 0} (taken : F → Option (List ℕ)) (failed : F → ℕ) (a b c : F) (part : List ℕ)
     (r : Result (Unit {0}) Failed) → ((text : List ℕ) × Appends (taken a) (taken b) text) → failed b ≡ failed a →
-    Puts taken failed (b, c) part r → Writes taken failed (a, c) r
+    WritesText taken failed (b, c) part r → Writes taken failed (a, c) r
 puts_on taken failed a b c part (Ok x) before same h =
     ((before.0 ++ part, Appends-trans (taken a) (taken b) (taken c) before.0 part before.1 h.0), h.1 ∙ same)
 puts_on taken failed a b c part (Err e) before same h =

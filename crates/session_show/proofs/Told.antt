@@ -5,11 +5,11 @@ use Rattle.std.proofs.Common.{Some, None, Result, Ok, Err, refl, sym, ap, ◌∙
 use Rattle.std.proofs.{Common.length-append, Common.take-append-drop, lemmas.Grind.flat_map-append}
 use Rattle.std.specs.Io.KnownBytes.{Consumes, Appends, Keeps}
 use Rattle.std.proofs.KnownBytes.{Appends-trans, Appends-kept}
-use Rattle.session_log.specs.Ending.{Done, Ending, Refused, Unread, Unwritten, ended_by, ending_of, read_fails}
+use Rattle.session_log.specs.Ending.{Done, Ending, Refused, Unread, Unwritten, ending_of_fault, ending_of, read_fails}
 use Rattle.session_log.specs.{Ending.write_fails, Replay.ReadsTo}
 use Rattle.session_log.specs.{Lines.lines, Parsed.parsed, Sent.SendsPackets, Text.with_line_feed, declared.line.Line.Line}
 use Rattle.session_log.specs.{Replay.IsRefused, Replay.IsUnread, Replay.IsPlayed, Replay.IsUnwritten}
-use Rattle.session_log.specs.Log.{Played, fault_at, fault_by, log_of, played, with_text_before, text_by, line_text}
+use Rattle.session_log.specs.Log.{Played, line_fault, parsed_line_fault, log_of, played, with_text_before, parsed_line_text, line_text}
 use Rattle.session_log.specs.Window.{HasLine, IsUnfinished, Stops}
 use Rattle.session_log.specs.declared.fault.LogFault.{LogFault, TheVariants.Memory}
 use Rattle.session_log.specs.declared.fault.LogFault.TheVariants.{BadLine, TooLong, Differs, Read, Write, TooManyLines}
@@ -18,13 +18,13 @@ use Rattle.session_log.proofs.{Exits.short_in_front, Exits.stops_at_line, Gather
 use Rattle.session_log.proofs.Through.{Through, lines_are, played_last, played_sound, refused, said_fault, through_line}
 use Rattle.session_log.proofs.Through.{too_long, too_many, unwritten}
 use Rattle.session_show.specs.Shown.{AreLineTexts, IsShownText, LineTextRule, Shows, ShowsLine, WritesEnd, WritesLine, ShownLine}
-use Rattle.session_show.specs.Shown.{failures_of, read_only_world, rule_for_format, unknown}
+use Rattle.session_show.specs.Shown.{failures_of, read_only_world, rule_for_format, unknown_bytes}
 use Rattle.session_show.specs.declared.detail.Detail.{TheVariants.Fixed, TheVariants.Explained}
 use Rattle.session_show.specs.declared.log_writer.OutputFormat.{OutputFormat, TheVariants.Text, TheVariants.Page}
 use Rattle.session_show.specs.declared.log_writer.OutputFormat.TheVariants.{Table, Summary, Objects}
 
 -- a fault that was passed on
-pub as_err : {A : Type 0} (r : Result A LogFault) (e : LogFault) (P : Ending → Type 0) → r ≡ Err e → P (ended_by e)
+pub as_err : {A : Type 0} (r : Result A LogFault) (e : LogFault) (P : Ending → Type 0) → r ≡ Err e → P (ending_of_fault e)
     → P (ending_of r)
 as_err {A} r e P is h = rw is h
 
@@ -38,14 +38,14 @@ one_told shows m n [] t is all one = (subst (λ (k : ℕ). shows k (Some t.line)
 one_told shows m n (first ∷ more) t is all one = (all.0, one_told shows (m + 1) n more t (omega (arith, is)) all.1 one)
 
 -- the text of a line that isn't faulty is the line
-line_itself : (n : ℕ) (line : List ℕ) (o : Option Line) → fault_by read_only_world n tt o ≡ None →
-    text_by read_only_world tt line o ≡ with_line_feed line
+line_itself : (n : ℕ) (line : List ℕ) (o : Option Line) → parsed_line_fault read_only_world n tt o ≡ None →
+    parsed_line_text read_only_world tt line o ≡ with_line_feed line
 line_itself n line None sound = cc
 line_itself n line (Some l) sound = refl
 
 -- one more line was shown
 pub told_line : (shows : LineTextRule) (shown text line piece : List ℕ) (n : ℕ) (t : IsShownText shows
-    shown text) → n ≡ length t.told + 1 → fault_by read_only_world n tt (parsed line) ≡ None → shows n (Some line) piece
+    shown text) → n ≡ length t.told + 1 → parsed_line_fault read_only_world n tt (parsed line) ≡ None → shows n (Some line) piece
     → (u : IsShownText shows (shown ++ line_text read_only_world tt line) (text ++ piece)) × (n + 1 ≡ length u.told + 1)
 told_line shows shown text line piece n t count sound one =
     let last : ShownLine = record { line = line; text = piece } in (
@@ -68,7 +68,7 @@ told_line shows shown text line piece n t count sound one =
 -- the line in front was shown
 pub shown_on : (left left' : Option (List ℕ)) (read shown w rest line : List ℕ) (n end : ℕ) →
     Consumes left left' (read ++ w) → Through read_only_world tt read shown tt n → HasLine n w end → line ≡ take end w
-    → rest ≡ drop (end + 1) w → fault_by read_only_world n tt (parsed line) ≡ None → SendsPackets read_only_world tt (parsed line)
+    → rest ≡ drop (end + 1) w → parsed_line_fault read_only_world n tt (parsed line) ≡ None → SendsPackets read_only_world tt (parsed line)
     → Consumes left left' ((read ++ take (end + 1) w) ++ rest)
     × Through read_only_world tt (read ++ take (end + 1) w) (shown ++ line_text read_only_world tt line) tt (n + 1)
 shown_on left left' read shown w rest line n end p through has is_line is_rest sound packets =
@@ -81,7 +81,7 @@ shown_on left left' read shown w rest line n end p through has is_line is_rest s
       subst (Consumes left left') whole p,
       subst (λ (l : List ℕ). Through read_only_world tt (read ++ front) (shown ++ line_text read_only_world tt l) tt (n + 1))
           (sym is_line)
-          (through_line through w end has.feed (subst (λ (l : List ℕ). fault_at read_only_world n tt l ≡ None) is_line
+          (through_line through w end has.feed (subst (λ (l : List ℕ). line_fault read_only_world n tt l ≡ None) is_line
           faultless)
           (subst (λ (l : List ℕ). SendsPackets read_only_world tt (parsed l)) is_line packets)),
     )
@@ -90,7 +90,7 @@ shown_on left left' read shown w rest line n end p through has is_line is_rest s
 pub told_to_read : (shows : LineTextRule) (left left' start taken : Option (List ℕ))
     (read shown text w : List ℕ) (n : ℕ) (e : LogFault)
     → Consumes left left' (read ++ w) → Through read_only_world tt read shown tt n → Appends start taken text →
-    IsShownText shows shown text → Stops n w e → Shows shows (left, left') (start, taken) (ended_by e)
+    IsShownText shows shown text → Stops n w e → Shows shows (left, left') (start, taken) (ending_of_fault e)
 told_to_read shows left left' start taken read shown text w n TooManyLines p through q told h =
     let some = some_line w h.1 in
     (read ++ w, text, p, q, (shown, refused through w some.0 some.1 TooManyLines some.2 (too_many read_only_world n tt some.0 h.0), told))
@@ -110,7 +110,7 @@ told_to_fault : (shows : LineTextRule) (left left' start taken taken' : Option (
     (read shown text w line : List ℕ) (more : List (List ℕ)) (n : ℕ) (fault : LogFault)
     → Consumes left left' (read ++ w) → Through read_only_world tt read shown tt n → Appends start taken text →
     IsShownText shows shown text → lines w ≡ line ∷ more → length line < 256 → n < 2 ^ 32
-    → fault_by read_only_world n tt (parsed line) ≡ Some fault → Keeps taken taken' →
+    → parsed_line_fault read_only_world n tt (parsed line) ≡ Some fault → Keeps taken taken' →
     Shows shows (left, left') (start, taken') (Refused fault)
 told_to_fault shows left left' start taken taken' read shown text w line more n fault p through q told first short few
     bad kept = (
@@ -126,8 +126,8 @@ pub told_to_line : (shows : LineTextRule) (left left' start taken taken' : Optio
     (failures : ℕ × ℕ) (read shown text w line : List ℕ) (more : List (List ℕ)) (n : ℕ) (e : LogFault)
     → Consumes left left' (read ++ w) → Through read_only_world tt read shown tt n → Appends start taken text →
     IsShownText shows shown text → lines w ≡ line ∷ more → length line < 256 → n < 2 ^ 32
-    → ShowsLine n line failures (ended_by e) → WritesLine shows n line (taken, taken') (ended_by e) →
-    Shows shows (left, left') (start, taken') (ended_by e)
+    → ShowsLine n line failures (ending_of_fault e) → WritesLine shows n line (taken, taken') (ending_of_fault e) →
+    Shows shows (left, left') (start, taken') (ending_of_fault e)
 told_to_line shows left left' start taken taken' failures read shown text w line more n (BadLine k) p through q told
     first short few h tells =
     told_to_fault shows left left' start taken taken' read shown text w line more n (BadLine k) p through q told first
@@ -150,7 +150,7 @@ told_to_line shows left left' start taken taken' failures read shown text w line
     short few h.0 tells
 told_to_line shows left left' start taken taken' failures read shown text w line more n Write p through q told first
     short few h tells =
-    let m = stops_at_line through left left' None w p unknown failures_of failures tt tt line more first short few Write
+    let m = stops_at_line through left left' None w p unknown_bytes failures_of failures tt tt line more first short few Write
     h in
     (m.0, text ++ tells.0, m.2, Appends-trans start taken taken' text tells.0 q tells.1, (m.1, m.4, tt))
 told_to_line shows left left' start taken taken' failures read shown text w line more n (Read k) p through q told first
@@ -207,7 +207,7 @@ some_ended line = omega (arith, length-append line (10 ∷ []))
 -- the last piece was shown
 pub told_last : (shows : LineTextRule) (read shown text w piece : List ℕ) (n : ℕ) → Through read_only_world tt read shown tt n
     → (t : IsShownText shows shown text) → n ≡ length t.told + 1 → IsUnfinished n w → 0 < length w
-    → fault_by read_only_world n tt (parsed w) ≡ None → SendsPackets read_only_world tt (parsed w) → shows n (Some w) piece
+    → parsed_line_fault read_only_world n tt (parsed w) ≡ None → SendsPackets read_only_world tt (parsed w) → shows n (Some w) piece
     → IsPlayed read_only_world tt tt (read ++ w) (shown ++ line_text read_only_world tt w)
     × ((u : IsShownText shows (shown ++ line_text read_only_world tt w) (text ++ piece)) × (n ≡ length u.told))
     × ((front : List ℕ) × IsUnwritten read_only_world tt tt (read ++ w) front)
@@ -231,9 +231,9 @@ is_sound None rest h = refl
 is_sound (Some f) rest h = cc h
 
 first_sound : (n : ℕ) (line : List ℕ) (more : List (List ℕ)) → (played read_only_world n tt (line ∷ more)).fault ≡ None →
-    fault_at read_only_world n tt line ≡ None
+    line_fault read_only_world n tt line ≡ None
 first_sound n line more h =
-    is_sound (fault_at read_only_world n tt line) (with_text_before (line_text read_only_world tt line) (played read_only_world (n + 1) tt more)) h
+    is_sound (line_fault read_only_world n tt line) (with_text_before (line_text read_only_world tt line) (played read_only_world (n + 1) tt more)) h
 
 is_parsed : (many long : Bool) (n : ℕ) (o : Option LogFault)
     → cond many (Some TooManyLines) (cond long (Some (TooLong n)) o) ≡ None → o ≡ None
@@ -241,15 +241,15 @@ is_parsed true long n o h = cc h
 is_parsed false true n o h = cc h
 is_parsed false false n o h = h
 
-parsed_sound : (n : ℕ) (line : List ℕ) → fault_at read_only_world n tt line ≡ None → fault_by read_only_world n tt (parsed line) ≡ None
+parsed_sound : (n : ℕ) (line : List ℕ) → line_fault read_only_world n tt line ≡ None → parsed_line_fault read_only_world n tt (parsed line) ≡ None
 parsed_sound n line h =
-    is_parsed (nat_le (2 ^ 32) n) (nat_lt 255 (length line)) n (fault_by read_only_world n tt (parsed line)) h
+    is_parsed (nat_le (2 ^ 32) n) (nat_lt 255 (length line)) n (parsed_line_fault read_only_world n tt (parsed line)) h
 
 -- what lines come to, and those before the last one
 played_front : (n : ℕ) (front : List (List ℕ)) (line : List ℕ)
     → (played read_only_world n tt (front ++ line ∷ [])).fault ≡ None
     → ((played read_only_world n tt front).fault ≡ None)
-    × ((m : ℕ) × (fault_by read_only_world m tt (parsed line) ≡ None))
+    × ((m : ℕ) × (parsed_line_fault read_only_world m tt (parsed line) ≡ None))
     × ((played read_only_world n tt (front ++ line ∷ [])).text ≡ (played read_only_world n tt front).text ++ line_text read_only_world tt line)
 played_front n [] line h =
     let sound = first_sound n line [] h in (

@@ -100,23 +100,23 @@ pub record IsWholeText (shows : LineTextRule) (lines text : List ℕ) : Type 0 w
 
 -- The text consists of the texts of these lines and, at the end of the log, a text after the last line. Nothing is
 -- stated if a write failed.
-abbrev pub IsTextTo : LineTextRule → (lines text : List ℕ) → Ending → Type 0
-IsTextTo shows lines text Done = IsWholeText shows lines text
-IsTextTo shows lines text Unwritten = Unit {0}
-IsTextTo shows lines text _ = IsShownText shows lines text
+abbrev pub IsTextUpTo : LineTextRule → (lines text : List ℕ) → Ending → Type 0
+IsTextUpTo shows lines text Done = IsWholeText shows lines text
+IsTextUpTo shows lines text Unwritten = Unit {0}
+IsTextUpTo shows lines text _ = IsShownText shows lines text
 
 -- These bytes were read, and the text that was written shows their lines. A pair is a source or a target before and
 -- after.
 abbrev pub Shows : LineTextRule → (Option (List ℕ) × Option (List ℕ))
     → (Option (List ℕ) × Option (List ℕ)) → Ending → Type 0
 Shows shows left taken ending = ReadsAndWrites left.0 left.1 taken.0 taken.1
-    (λ bytes text. (lines : List ℕ) × Plays read_only_world tt tt bytes lines ending × IsTextTo shows lines text ending)
+    (λ bytes text. (lines : List ℕ) × Plays read_only_world tt tt bytes lines ending × IsTextUpTo shows lines text ending)
 
 -- ---- one line
 
 -- The bytes of the target, which are unspecified here.
-abbrev pub unknown : ℕ → Option (List ℕ)
-unknown failures = None
+abbrev pub unknown_bytes : ℕ → Option (List ℕ)
+unknown_bytes failures = None
 
 -- The failures of a target that is represented by their number.
 abbrev pub failures_of : ℕ → ℕ
@@ -125,7 +125,7 @@ failures_of failures = failures
 -- Line n was shown; or it is invalid, and nothing was written; or writing its text failed. A pair is the number of the
 -- target's failures before and after.
 abbrev pub ShowsLine : ℕ → List ℕ → (ℕ × ℕ) → Ending → Type 0
-ShowsLine n line failures ending = PlaysLine read_only_world unknown failures_of n tt tt line failures ending
+ShowsLine n line failures ending = PlaysLine read_only_world unknown_bytes failures_of n tt tt line failures ending
 
 -- The text for line n was written; or the line is invalid, and nothing was written; or writing failed.
 abbrev pub WritesLine : LineTextRule → ℕ → List ℕ → (Option (List ℕ) × Option (List ℕ)) → Ending → Type 0

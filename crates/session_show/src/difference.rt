@@ -124,7 +124,7 @@ impl Comparison {
         self.played.resume_after_difference();
         for _ in 0..LINE_BOUND {
             let number = self.lines.saturating_add(1);
-            let end = match self.next_end(reader) {
+            let end = match self.next_line_end(reader) {
                 Ok(Some(end)) => end,
                 Ok(None) => return Ok(self.played.finish(self.lines)),
                 Err(fault) => return Err(fault),
@@ -147,7 +147,7 @@ impl Comparison {
     }
 
     /// Returns the end of the next line, without its line feed, or `None` at the end of the log.
-    fn next_end<S: Source>(&mut self, reader: &mut S) -> Result<Option<usize>, LogFault> {
+    fn next_line_end<S: Source>(&mut self, reader: &mut S) -> Result<Option<usize>, LogFault> {
         let number = self.lines.saturating_add(1);
         if reader.failures() == u64::MAX {
             return Err(LogFault::Read(number));
@@ -188,7 +188,7 @@ impl Comparison {
             Some(last) => Some(last.transaction),
             None => None,
         };
-        self.played.take_logged();
+        self.played.process_logged();
         let mut transaction = self.played.walk.transaction.or(before);
         // The reply that the key needs is determined before its packets are processed.
         let why = Reason {
@@ -198,7 +198,7 @@ impl Comparison {
         };
         let _ = put_counted(reason, &mut self.buf, &why);
         if difference.sent.is_some() {
-            self.played.take_last();
+            self.played.process_last();
             transaction = self.played.key.transaction.or(before);
         }
         let _ = self.put(difference, reader, logged, sent);
@@ -226,7 +226,7 @@ impl Comparison {
             if self.played.has_sent {
                 return false;
             }
-            let end = match self.next_end(reader) {
+            let end = match self.next_line_end(reader) {
                 Ok(Some(end)) => end,
                 Ok(None) => return true,
                 Err(_) => return false,
@@ -254,7 +254,7 @@ impl Comparison {
                 let Some(next) = self.played.outbox.pop() else {
                     break;
                 };
-                self.played.take_sent(difference.input, &next);
+                self.played.process_sent(difference.input, &next);
             }
             let walk = &self.played.key;
             let side = ComparedPacket { walk, packet, line };
@@ -275,7 +275,7 @@ impl Comparison {
             if !self.played.walk.channels.is_answering(channel_of(packet)) {
                 return;
             }
-            let Ok(Some(end)) = self.next_end(reader) else {
+            let Ok(Some(end)) = self.next_line_end(reader) else {
                 return;
             };
             let number = self.lines.saturating_add(1);

@@ -50,7 +50,7 @@ pub fn message_formats(message: &CborMessage<'_>) -> &'static MessageFormats {
 
 /// Returns the kind of map in a message. In a response to an unknown request, the members have no names: its command is
 /// 0, which doesn't exist.
-pub fn map_of(message: &CborMessage<'_>, first: u8) -> MapKind {
+pub fn map_kind(message: &CborMessage<'_>, first: u8) -> MapKind {
     if message.is_request {
         return MapKind::Request(first);
     }
@@ -82,7 +82,7 @@ pub fn write_message(buf: &mut TextBuf, number: u64, message: &CborMessage<'_>) 
     if fault.is_some() {
         return;
     }
-    let map = map_of(message, *first);
+    let map = map_kind(message, *first);
     let Some(exchange) = message.exchange else {
         write_members(buf, number, map, item, b"");
         return;

@@ -1,7 +1,7 @@
 //! The JSON objects for a line of a log. Members that were renamed in format 2 have both names in this version.
 
 use crate::chunked::Written;
-use crate::entry::{input_formats, map_of, message_formats};
+use crate::entry::{input_formats, map_kind, message_formats};
 use crate::item::{Diagnostic, JSON, write_value};
 use crate::json::{write_hex, write_string};
 use crate::text_buf::{TextBuf, front};
@@ -101,7 +101,7 @@ fn write_message(buf: &mut TextBuf, own: &LineEntry<'_>, channel: u32, message: 
     }
     match &checked {
         _ if item.is_empty() => {}
-        Ok(()) => write_item(buf, map_of(message, *first).names(), item),
+        Ok(()) => write_item(buf, map_kind(message, *first).names(), item),
         Err(fault) => {
             let offset = Some(fault.at as u64);
             let numbers = [Some(u64::from(fault.kind.number())), offset, offset];

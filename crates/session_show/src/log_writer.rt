@@ -124,7 +124,7 @@ impl LogWriter {
         self.last = number;
         let format = self.format;
         let entry = self.following.next_entry(number, line, &parsed);
-        let written = Lines {
+        let written = LineOutput {
             format,
             entry,
             has_head: self.is_begun,
@@ -313,14 +313,14 @@ impl Written for LogEnd<'_> {
 /// The output for a line: an earlier ambiguous line that it resolves, the line itself, and the transactions that it
 /// ends.
 #[derive(Clone, Copy)]
-struct Lines<'a> {
+struct LineOutput<'a> {
     format: OutputFormat,
     entry: Entry<'a>,
     /// Whether the table has its header.
     has_head: bool,
 }
 
-impl Written for Lines<'_> {
+impl Written for LineOutput<'_> {
     fn write(&self, buf: &mut TextBuf) {
         let entry = &self.entry;
         if entry.own.number == 1

@@ -130,7 +130,7 @@ impl ReplayedLog {
             && *sent == *packet
         {
             self.compared = self.compared.saturating_add(1);
-            self.take_sent(number, packet);
+            self.process_sent(number, packet);
             return None;
         }
         Some(self.record_difference(number, Some(*packet), sent))
@@ -138,7 +138,7 @@ impl ReplayedLog {
 
     /// Passes the log's last differing packet to its tracker. Before that, the excluded credential of the key's
     /// request is copied from the log's tracker, if that has the same request.
-    pub fn take_logged(&mut self) {
+    pub fn process_logged(&mut self) {
         let Some(mut last) = self.last else {
             return;
         };
@@ -155,30 +155,30 @@ impl ReplayedLog {
     }
 
     /// Passes the last differing packets to the trackers.
-    pub fn take_last(&mut self) {
-        self.take_logged();
+    pub fn process_last(&mut self) {
+        self.process_logged();
         let Some(last) = self.last.take() else {
             return;
         };
         // A packet missing in the log is attributed to the input before it.
         if let Some(packet) = &last.sent {
-            self.take_sent(last.input, packet);
+            self.process_sent(last.input, packet);
         }
     }
 
     /// Continues after a difference with the session's packets.
     pub fn resume_after_difference(&mut self) {
-        self.take_last();
+        self.process_last();
         for _ in 0..PACKET_BOUND {
             let Some(packet) = self.outbox.pop() else {
                 break;
             };
-            self.take_sent(self.input, &packet);
+            self.process_sent(self.input, &packet);
         }
     }
 
     /// Processes a packet that the session sent at this line.
-    pub fn take_sent(&mut self, line: u64, packet: &Packet) {
+    pub fn process_sent(&mut self, line: u64, packet: &Packet) {
         if let View::Start { cmd: KEEPALIVE, .. } = packet.view() {
             self.kept_alive = Some((self.now, *packet));
         }

@@ -6,13 +6,13 @@ use authn_core::Need;
 const SIGNED_PREFIX: &[u8] = b"# signed ";
 
 /// The prefix of the comment that follows them.
-const NEED: &[u8] = b"# need ";
+const NEED_PREFIX: &[u8] = b"# need ";
 
 /// Maximum number of bytes to sign on one line.
 const MAX_BYTES_PER_LINE: usize = 123;
 
 /// Length of the client data hash, the last bytes to be signed.
-const CLIENT_DATA_HASH: usize = 32;
+const CLIENT_DATA_HASH_LEN: usize = 32;
 
 /// A line whose signed bytes differ from those that the session asks to sign.
 #[derive(Clone, Copy)]
@@ -39,7 +39,7 @@ impl SignedComments {
     /// Processes a comment, given the reply that the session needs.
     pub fn take(&mut self, number: u64, line: &[u8], need: &Need<'_>) {
         let Some(digits) = line.strip_prefix(SIGNED_PREFIX) else {
-            if line.starts_with(NEED) {
+            if line.starts_with(NEED_PREFIX) {
                 self.end();
             }
             return;
@@ -90,7 +90,7 @@ impl SignedComments {
             "it asks for no signature here"
         } else if self.len >= self.asked {
             "it has bytes too many at its end"
-        } else if self.len.saturating_add(CLIENT_DATA_HASH) < self.asked {
+        } else if self.len.saturating_add(CLIENT_DATA_HASH_LEN) < self.asked {
             "the authenticator data differ"
         } else {
             "clientDataHash differs"

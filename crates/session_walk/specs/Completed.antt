@@ -6,12 +6,12 @@ use Rattle.session_walk.specs.declared.tracker.TransactionTracker.{TransactionTr
 use Rattle.session_walk.specs.Messages.{KeptMessages, complete_bytes_at}
 
 -- The bytes of a message that is shown, if they were kept.
-abbrev pub shown_bytes : Option CborMessage → Option (Option (List ℕ))
-shown_bytes = option_map (λ message. option_map (λ bytes. bytes.now) message.bytes)
+abbrev pub message_bytes : Option CborMessage → Option (Option (List ℕ))
+message_bytes = option_map (λ message. option_map (λ bytes. bytes.now) message.bytes)
 
 -- The bytes of the completed message, or None if they weren't kept.
-abbrev pub ended_bytes : KeptMessages → Option CompletedMessage → Option (Option (List ℕ))
-ended_bytes kept = option_map (λ completed. complete_bytes_at kept completed.line)
+abbrev pub completed_bytes : KeptMessages → Option CompletedMessage → Option (Option (List ℕ))
+completed_bytes kept = option_map (λ completed. complete_bytes_at kept completed.line)
 
 -- An ambiguous packet is shown once its transaction is known.
 pub record ShowsResolved (kept : KeptMessages) (resolved : Option Resolved) (deferred : Option LineEntry) : Type 0 where
@@ -19,8 +19,8 @@ pub record ShowsResolved (kept : KeptMessages) (resolved : Option Resolved) (def
   pub parsed : option_map (λ own. own.parsed.now) deferred ≡ option_map (λ resolved. resolved.parsed) resolved
   pub transaction : option_map (λ own. own.transaction) deferred ≡ option_map (λ resolved. resolved.transaction) resolved
   pub data_len : option_map (λ own. own.data_len) deferred ≡ option_map (λ resolved. resolved.data_len) resolved
-  pub message : option_map (λ own. shown_bytes own.message) deferred
-      ≡ option_map (λ resolved. ended_bytes kept resolved.completed) resolved
+  pub message : option_map (λ own. message_bytes own.message) deferred
+      ≡ option_map (λ resolved. completed_bytes kept resolved.completed) resolved
 
 -- The previous line completed no message and ended no transaction.
 pub record EndsNothing (walk : TransactionTracker) : Type 0 where

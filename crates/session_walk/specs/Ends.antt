@@ -15,13 +15,13 @@ use Rattle.session_walk.specs.declared.transaction.End.{End}
 use Rattle.session_walk.specs.declared.transaction.End.TheVariants.{Dropped, Refused, Replaced, Unknown}
 
 -- After this input, the transaction of the device's next packet is ambiguous.
-abbrev pub undecided_by : ℕ → Option OpenTransaction → Bool → Bool
-undecided_by input None unclear = unclear
-undecided_by input (Some contender) unclear = unclear || not (contender.transaction.line == input)
+abbrev pub is_undecided : ℕ → Option OpenTransaction → Bool → Bool
+is_undecided input None unclear = unclear
+is_undecided input (Some contender) unclear = unclear || not (contender.transaction.line == input)
 
 -- After this input, the transaction of the device's next packet on the channel is ambiguous.
 abbrev pub is_owner_undecided : ℕ → Channel → Bool
-is_owner_undecided input c = undecided_by input c.contender (is_owner_unknown c)
+is_owner_undecided input c = is_undecided input c.contender (is_owner_unknown c)
 
 -- The channel whose current message, if any, may still be pending.
 abbrev pub current_unidentified : Option OpenTransaction → Channel → Channel
@@ -90,8 +90,8 @@ also_ends refused code (Some current) =
     && nat_lt current.transaction.line refused.line)
 
 -- How a message ends that was interrupted by a refused one.
-abbrev pub cause_of : Transaction → End
-cause_of refused = if refused.message == INIT then Dropped refused.line else Replaced refused.line
+abbrev pub interrupted_end : Transaction → End
+interrupted_end refused = if refused.message == INIT then Dropped refused.line else Replaced refused.line
 
 -- A response has the command of its complete request (CTAP 2.1, section 11.2.4).
 abbrev pub can_answer : ResponseStart → Option OpenTransaction → Bool
@@ -217,6 +217,6 @@ refused_transaction code None (Some current) c = if refuses_stray code c then No
 abbrev pub ends_by_refusal : ℕ → (contender current : Option OpenTransaction) → Channel → List Ended → List Ended
 ends_by_refusal code (Some contender) current c ended =
     let refused = with_end ended contender (Refused code) in
-    if also_ends contender.transaction code current then with_end_of refused current (cause_of contender.transaction) else refused
+    if also_ends contender.transaction code current then with_end_of refused current (interrupted_end contender.transaction) else refused
 ends_by_refusal code None None c ended = ended
 ends_by_refusal code None (Some current) c ended = if refuses_stray code c then ended else with_end ended current (Refused code)

@@ -145,14 +145,14 @@ continuation_match number now m =
     }
 
 -- How a continuation packet relates to a message, or None if the message is complete.
-abbrev pub match_in : ℕ → ℕ → Option OpenTransaction → Option ContinuationMatch
-match_in number now None = None
-match_in number now (Some m) = if is_complete_message m then None else Some (continuation_match number now m)
+abbrev pub match_if_incomplete : ℕ → ℕ → Option OpenTransaction → Option ContinuationMatch
+match_if_incomplete number now None = None
+match_if_incomplete number now (Some m) = if is_complete_message m then None else Some (continuation_match number now m)
 
 -- The message, if any, after a continuation packet.
-abbrev pub slot_after : ℕ → ℕ → Option OpenTransaction → Option OpenTransaction
-slot_after number now None = None
-slot_after number now (Some m) = Some (if is_complete_message m then m else with_continuation number now m)
+abbrev pub message_after_continuation : ℕ → ℕ → Option OpenTransaction → Option OpenTransaction
+message_after_continuation number now None = None
+message_after_continuation number now (Some m) = Some (if is_complete_message m then m else with_continuation number now m)
 
 -- The message that a continuation packet is for.
 abbrev pub continued_message : ℕ → Channel → Option OpenTransaction
@@ -166,10 +166,10 @@ is_stray (Some c) = false
 -- The channel after a continuation packet.
 abbrev pub channel_continued : ℕ → ℕ → Channel → Channel
 channel_continued number now c =
-    let stray = is_stray (match_in number now (continued_message number c)) in
+    let stray = is_stray (match_if_incomplete number now (continued_message number c)) in
     if expects_sequence number c.contender
-    then record c { contender = slot_after number now c.contender; last_was_stray = stray }
-    else record c { current = slot_after number now c.current; last_was_stray = stray }
+    then record c { contender = message_after_continuation number now c.contender; last_was_stray = stray }
+    else record c { current = message_after_continuation number now c.current; last_was_stray = stray }
 
 -- The message, if any, after a CANCEL on this line.
 abbrev pub cancelled_by : ℕ → Option OpenTransaction → Option OpenTransaction

@@ -12,7 +12,7 @@ use Rattle.session_walk.specs.declared.transaction.End.TheVariants.{Status, Answ
 use Rattle.session_walk.specs.declared.tracker.TransactionTracker.{TransactionTracker}
 use Rattle.session_walk.specs.Owners.{with_end, is_owner_unknown, is_in_process}
 use Rattle.session_walk.specs.Extents.{is_whole}
-use Rattle.session_walk.specs.Owners.{continued_message, match_in}
+use Rattle.session_walk.specs.Owners.{continued_message, match_if_incomplete}
 use Rattle.std.specs.Prelude.{position}
 use Rattle.std.specs.Option.{option_and_then}
 use Rattle.hid_packet.specs.Packet.{Fields, initialization, continuation}
@@ -31,16 +31,16 @@ time_of_lines [] = 0
 time_of_lines (line ∷ before) = time_after_line (time_of_lines before) line
 
 -- The line of the last input after one more line.
-abbrev pub input_by : ℕ → ℕ → Line → ℕ
-input_by before number (Input timed) = number
-input_by before number (Sent packet) = before
-input_by before number Comment = before
-input_by before number Count = before
+abbrev pub input_line_after : ℕ → ℕ → Line → ℕ
+input_line_after before number (Input timed) = number
+input_line_after before number (Sent packet) = before
+input_line_after before number Comment = before
+input_line_after before number Count = before
 
 -- The line of the last input. Lines are numbered from 1.
 abbrev pub last_input_line : List Line → ℕ
 last_input_line [] = 0
-last_input_line (line ∷ before) = input_by (last_input_line before) (length before + 1) line
+last_input_line (line ∷ before) = input_line_after (last_input_line before) (length before + 1) line
 
 -- The tracker's state after these lines.
 pub record IsTrackerAfter (lines : List Line) (walk : TransactionTracker) : Type 0 where
@@ -53,9 +53,9 @@ abbrev pub MIN_TIMEOUT_MS : ℕ
 MIN_TIMEOUT_MS = 100
 
 -- The ambiguous packet after a continuation packet: this one if it may have arrived too late, or else the one before.
-abbrev pub ambiguity_of : ℕ → Line → Option ContinuationMatch → Option Ambiguous → Option Ambiguous
-ambiguity_of number parsed None before = before
-ambiguity_of number parsed (Some c) before =
+abbrev pub ambiguous_after : ℕ → Line → Option ContinuationMatch → Option Ambiguous → Option Ambiguous
+ambiguous_after number parsed None before = before
+ambiguous_after number parsed (Some c) before =
     if nat_le MIN_TIMEOUT_MS c.gap
     then Some (record {
       line = number;
@@ -73,24 +73,24 @@ continued_transaction None = None
 continued_transaction (Some c) = Some c.transaction
 
 -- The line of the message that a continuation packet continues, or 0.
-abbrev pub message_continued : Option ContinuationMatch → ℕ
-message_continued None = 0
-message_continued (Some c) = if c.is_next then c.transaction.line else 0
+abbrev pub continued_message_line : Option ContinuationMatch → ℕ
+continued_message_line None = 0
+continued_message_line (Some c) = if c.is_next then c.transaction.line else 0
 
 -- The transaction of an ambiguous packet, or None if it came too late.
-abbrev pub decided_of : Bool → Ambiguous → Option Transaction
-decided_of true d = None
-decided_of false d = Some d.transaction
+abbrev pub resolved_transaction : Bool → Ambiguous → Option Transaction
+resolved_transaction true d = None
+resolved_transaction false d = Some d.transaction
 
 -- The end of a transaction with a complete response, with its status if any.
-abbrev pub end_of : Option ℕ → End
-end_of (Some status) = Status status
-end_of None = Answered
+abbrev pub complete_response_end : Option ℕ → End
+complete_response_end (Some status) = Status status
+complete_response_end None = Answered
 
 -- The transaction that a complete response ends.
 abbrev pub answered_by : Option OpenTransaction → Option ℕ → List Ended → List Ended
 answered_by None status ended = ended
-answered_by (Some exchange) status ended = with_end ended exchange (end_of status)
+answered_by (Some exchange) status ended = with_end ended exchange (complete_response_end status)
 
 -- The transaction that a complete response ends.
 abbrev pub answered : ResponseMessage → ℕ → List Ended → List Ended
@@ -154,4 +154,4 @@ channel_on number channels = option_and_then (slice_get channels) (index_on numb
 abbrev pub host_message : (line : ℕ) → Fields → (now : ℕ) → Channel → ℕ
 host_message line (initialization channel command size part) now c = if command == CANCEL then 0 else line
 host_message line (continuation channel number part) now c =
-    message_continued (match_in number now (continued_message number c))
+    continued_message_line (match_if_incomplete number now (continued_message number c))

@@ -4,7 +4,7 @@ use Rattle.std.specs.Prelude.{ℕ, Bool, true, false, not, ◌&&◌, ◌||◌, �
 use Rattle.std.specs.Prelude.{◌∷◌, ◌++◌, length, drop, remove, replicate, position, slice_get, Option, Some}
 use Rattle.std.specs.Prelude.{None, is_none, is_some, unwrap_or, if◌then◌else◌}
 use Rattle.hid_packet.specs.Commands.{BROADCAST, INIT}
-use Rattle.session_walk.specs.Ends.{also_ends, contender_refused, can_answer, cause_of, is_late_by}
+use Rattle.session_walk.specs.Ends.{also_ends, contender_refused, can_answer, interrupted_end, is_late_by}
 use Rattle.session_walk.specs.Ends.{is_owner_undecided, with_unknown_ends, both_unidentified, is_for_contender}
 use Rattle.session_walk.specs.Ends.{refused_transaction, timeout_transaction, refused_by, ends_by_refusal, timed_out, ends_by_timeout}
 use Rattle.session_walk.specs.Extents.{is_whole}
@@ -61,9 +61,9 @@ with_pending_init m part c =
     record c { last_was_init = true; pending_inits = record { items = kept ++ pending_init m part ∷ [] } }
 
 -- The end of the oldest unanswered INIT, if there are too many.
-abbrev pub oldest_ends : ℕ → List PendingInit → List Ended → List Ended
-oldest_ends channel [] ended = ended
-oldest_ends channel (oldest ∷ others) ended =
+abbrev pub with_oldest_ended : ℕ → List PendingInit → List Ended → List Ended
+with_oldest_ended channel [] ended = ended
+with_oldest_ended channel (oldest ∷ others) ended =
     if nat_lt (length others + 1) MAX_PENDING_INITS then ended else with_end ended (open_init channel oldest) Forgotten
 
 -- The channel after a host's message began: an INIT, or another one.
@@ -72,10 +72,10 @@ after_message_start m part c =
     if m.transaction.message == INIT then with_pending_init m part (contender_accepted false (after_idle m.at c)) else channel_with_message m c
 
 -- The transactions that a new message ends.
-abbrev pub begin_ends : OpenTransaction → Channel → List Ended → List Ended
-begin_ends m c ended =
+abbrev pub with_ended_by_start : OpenTransaction → Channel → List Ended → List Ended
+with_ended_by_start m c ended =
     let settled_ends = ends_by_contender false (after_idle m.at c) ended in
-    if m.transaction.message == INIT then oldest_ends c.number c.pending_inits.items settled_ends else settled_ends
+    if m.transaction.message == INIT then with_oldest_ended c.number c.pending_inits.items settled_ends else settled_ends
 
 -- The INIT has this nonce, or without a nonce, a wrong length.
 abbrev pub matches_nonce : Option ℕ → PendingInit → Bool
@@ -83,12 +83,12 @@ matches_nonce (Some nonce) g = (g.length == 8) && (g.nonce == nonce)
 matches_nonce None g = not (g.length == 8)
 
 -- The index of the first INIT that passes the test, or the number of INITs.
-abbrev pub place_of : (PendingInit → Bool) → List PendingInit → ℕ
-place_of test items = unwrap_or (position test items) (length items)
+abbrev pub init_index : (PendingInit → Bool) → List PendingInit → ℕ
+init_index test items = unwrap_or (position test items) (length items)
 
 -- The channel without the INIT at an index.
-abbrev pub without_at : ℕ → Channel → Channel
-without_at place c =
+abbrev pub without_init_at : ℕ → Channel → Channel
+without_init_at place c =
     let items = c.pending_inits.items in
     if nat_lt place (length items)
     then record c {
@@ -108,24 +108,24 @@ init_at place c = open_init_at c.number (slice_get c.pending_inits.items place)
 
 -- An ERROR can be for an INIT of 8 bytes: 04 and 05 never, 06 and 7F on the broadcast channel, others if nothing else
 -- is pending (CTAP 2.1, section 11.2.9.1.6).
-abbrev pub may_be_of_init : ℕ → Channel → Bool
-may_be_of_init code c =
+abbrev pub can_refuse_init : ℕ → Channel → Bool
+can_refuse_init code c =
     if (code == 4) || (code == 5) then false
     else if code == 6 then c.number == BROADCAST
     else if (code == 0x7f) && (c.number == BROADCAST) then true
     else is_none c.current && not (is_owner_unknown c)
 
 -- The index of the last unanswered INIT.
-abbrev pub last_of : Channel → ℕ
-last_of c = length c.pending_inits.items - 1
+abbrev pub last_init_index : Channel → ℕ
+last_init_index c = length c.pending_inits.items - 1
 
 -- The index of the INIT that an ERROR is for, or the number of INITs if it is for none.
 abbrev pub refused_init : ℕ → ℕ → Channel → ℕ
 refused_init code input c =
     let items = c.pending_inits.items in
-    let wrong = place_of (matches_nonce None) items in
+    let wrong = init_index (matches_nonce None) items in
     if (code == 3) && nat_lt wrong (length items) then wrong
-    else if c.last_was_init && may_be_of_init code c then last_of c
+    else if c.last_was_init && can_refuse_init code c then last_init_index c
     else length items
 
 -- The result of an ERROR for this INIT.
@@ -136,7 +136,7 @@ init_refused code (Some init) c ended =
     let also = also_ends init.transaction code c.current in
     record {
       channel = contender_refused code init.transaction c;
-      ended = if also then with_end_of refused c.current (cause_of init.transaction) else refused;
+      ended = if also then with_end_of refused c.current (interrupted_end init.transaction) else refused;
       transaction = Some init;
       deferred = false;
     }
@@ -151,7 +151,7 @@ owner_of None current (Some transaction) = current
 abbrev pub init_refused_last : ℕ → Option OpenTransaction → Channel → List Ended → PacketResult
 init_refused_last code None c ended = record { channel = c; ended = ended; transaction = None; deferred = false }
 init_refused_last code (Some init) c ended = record {
-  channel = without_at (last_of c) c;
+  channel = without_init_at (last_init_index c) c;
   ended = with_end ended init (Refused code);
   transaction = Some init;
   deferred = false;
@@ -159,7 +159,7 @@ init_refused_last code (Some init) c ended = record {
 
 -- The result of an ERROR that refuses the channel's last unanswered INIT.
 abbrev pub last_init : ℕ → Channel → List Ended → PacketResult
-last_init code c ended = init_refused_last code (init_at (last_of c) c) c ended
+last_init code c ended = init_refused_last code (init_at (last_init_index c) c) c ended
 
 -- The result of an ERROR that isn't for an INIT: it refuses the contender, or else the current message.
 abbrev pub refused_message : ℕ → Option OpenTransaction → Channel → List Ended → PacketResult
@@ -174,7 +174,7 @@ refused_message code contender c ended = record {
 abbrev pub error_result : ℕ → ℕ → Channel → List Ended → PacketResult
 error_result code input c ended =
     let place = refused_init code input c in
-    if nat_lt place (length c.pending_inits.items) then init_refused code (init_at place c) (without_at place c) ended
+    if nat_lt place (length c.pending_inits.items) then init_refused code (init_at place c) (without_init_at place c) ended
     else if is_owner_undecided input c
     then record { channel = record (both_unidentified c) { last_asserted_rp = unnamed.rp_id }; ended = with_unknown_ends c ended; transaction = None; deferred = false }
     else if c.last_was_init && is_some c.current || (not c.last_was_init && (is_some c.contender || is_some c.current)) then refused_message code (if c.last_was_init then None else c.contender) c ended
@@ -252,7 +252,7 @@ is_before init (Some current) = nat_lt current.transaction.line init.transaction
 abbrev pub init_answered : ℕ → Option OpenTransaction → Channel → List Ended → PacketResult
 init_answered place None c ended = record { channel = c; ended = ended; transaction = None; deferred = false }
 init_answered place (Some init) c ended =
-    let alone = cleared_by_init init (without_at place c) in
+    let alone = cleared_by_init init (without_init_at place c) in
     let drops = not (c.number == BROADCAST) && is_before init c.current in
     record {
       channel = if drops then current_ended alone else alone;
@@ -264,7 +264,7 @@ init_answered place (Some init) c ended =
 -- The result of an INIT response, whose nonce identifies the INIT.
 abbrev pub answered_init : List ℕ → Channel → List Ended → PacketResult
 answered_init part c ended =
-    let place = place_of (matches_nonce (Some (nonce_of part))) c.pending_inits.items in init_answered place (init_at place c) c ended
+    let place = init_index (matches_nonce (Some (nonce_of part))) c.pending_inits.items in init_answered place (init_at place c) c ended
 
 -- The device is processing the message, which wasn't cancelled.
 abbrev pub is_served_uncancelled : Option OpenTransaction → Bool
@@ -290,8 +290,8 @@ message_answered answer c ended =
     else record { channel = record c { current = c.contender; contender = None }; ended = ended; transaction = c.current; deferred = false }
 
 -- The result of a response.
-abbrev pub answered_on : ResponseStart → Channel → List Ended → PacketResult
-answered_on answer c ended =
+abbrev pub response_result : ResponseStart → Channel → List Ended → PacketResult
+response_result answer c ended =
     if answer.command == INIT then answered_init answer.part.now c ended
     else message_answered answer c ended
 

@@ -54,7 +54,7 @@ impl ResponseStart<'_> {
 
 /// Result of a response's initialization packet.
 #[derive(Clone, Copy)]
-pub struct Started {
+pub struct StartedResponse {
     /// Its transaction, if any.
     pub transaction: Option<Transaction>,
     /// Its role if it belongs to no transaction.
@@ -67,7 +67,7 @@ pub struct Started {
 
 /// A response that a continuation packet continues.
 #[derive(Clone, Copy)]
-pub struct Answered {
+pub struct ContinuedResponse {
     /// First line of the response.
     pub line: u64,
     /// Its transaction, if any.

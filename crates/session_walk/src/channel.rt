@@ -1,9 +1,9 @@
 //! The state of one channel, derived from the packets alone by the transport's rules (CTAP 2.1, sections 11.2.4 and
 //! 11.2.5).
 ghost use Rattle.std.specs.Prelude.{◌≡◌, true, false, IfSome, None, Some};
-ghost use Rattle.session_walk.specs.Owners.{with_end_of, cancelled_transaction, channel_cancelled, channel_continued, match_in};
+ghost use Rattle.session_walk.specs.Owners.{with_end_of, cancelled_transaction, channel_cancelled, channel_continued, match_if_incomplete};
 ghost use Rattle.session_walk.specs.Owners.{continued_message, current_ended, continuation_match, with_continuation, is_owner_unknown, with_unidentified, channel_with_message};
-ghost use Rattle.session_walk.specs.Owners.{nonce_of, contender_accepted, ends_by_contender, after_idle, slot_after, transaction_of};
+ghost use Rattle.session_walk.specs.Owners.{nonce_of, contender_accepted, ends_by_contender, after_idle, message_after_continuation, transaction_of};
 ghost use Rattle.hid_packet.specs.Commands.{INIT as INIT_COMMAND};
 ghost use Rattle.session_walk.specs.Ends.{is_owner_undecided, with_unknown_ends, both_unidentified};
 ghost use Rattle.session_walk.specs.Extents.{is_whole};
@@ -305,7 +305,7 @@ impl Channel {
     /// Continues a message, or returns `None` if no open message is incomplete.
     pub fn on_continuation(&mut self, number: u8, now: u64) -> Option<ContinuationMatch>
         ensures next { IfSome result (λ continued. continued.is_whole ≡ true → continued.is_next ≡ true) }
-        ensures value { result ≡ match_in number now (continued_message number self.old) }
+        ensures value { result ≡ match_if_incomplete number now (continued_message number self.old) }
         ensures state { self.new ≡ channel_continued number now self.old }
     {
         let is_of_asked = matches!(&self.contender, Some(contender)
@@ -447,8 +447,8 @@ fn continue_slot(
     number: u8,
     now: u64,
 ) -> Option<ContinuationMatch>
-    ensures value { result ≡ match_in number now message.old }
-    ensures state { message.new ≡ slot_after number now message.old }
+    ensures value { result ≡ match_if_incomplete number now message.old }
+    ensures state { message.new ≡ message_after_continuation number now message.old }
 {
     let Some(mut current) = *message else {
         return None;

@@ -16,7 +16,7 @@ use hid_packet::command::INIT;
 const MAX_TRACKED_CHANNELS: usize = 6;
 
 /// Maximum number of transactions open at once: on each channel four INITs, two other messages and a response.
-pub const OPEN: usize = 7 * MAX_TRACKED_CHANNELS;
+pub const MAX_OPEN_TRANSACTIONS: usize = 7 * MAX_TRACKED_CHANNELS;
 
 /// The tracked channels, in no order.
 #[derive(Drop, Default)]
@@ -157,13 +157,13 @@ impl Channels {
         } else if answer.is_success()
             && (transaction.is_none() || answer.has_assertion(transaction))
         {
-            self.forget_assertions(place, transaction.is_none());
+            self.clear_assertions(place, transaction.is_none());
         }
     }
 
     /// Clears the RP ID of the last assertion on all other channels, because a key continues only its latest assertion
     /// (CTAP 2.1, section 6.3); and on this channel if the response belongs to no known transaction.
-    fn forget_assertions(&mut self, place: usize, is_unknown: bool) {
+    fn clear_assertions(&mut self, place: usize, is_unknown: bool) {
         for other in 0..MAX_TRACKED_CHANNELS {
             if is_unknown || other != place {
                 self.list[other].last_asserted_rp = RpId::default();

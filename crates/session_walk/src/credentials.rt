@@ -4,7 +4,7 @@ ghost use Rattle.std.specs.Prelude.{◌<◌};
 use crate::channel::ResponseMessage;
 use crate::command::{CREDENTIAL_MANAGEMENT, GET_ASSERTION, MAKE_CREDENTIAL, RESET};
 use crate::map_iter::{item_at, next_value, value_at};
-use crate::message_buffers::Pool;
+use crate::message_buffers::MessageBuffers;
 use crate::rp_id::RpId;
 use crate::status::OK;
 use crate::transaction::{RequestNames, Transaction};
@@ -26,7 +26,7 @@ pub type HashedId = [u8; 16];
 
 /// A credential that a response created.
 #[derive(Clone, Copy)]
-struct Made {
+struct CreatedCredential {
     /// Last line of the response, or 0 if there is none.
     line: u64,
     name: HashedId,
@@ -52,7 +52,7 @@ pub struct Excluded {
 /// The latest credentials that a log created and did not replace.
 #[derive(Clone, Copy)]
 pub struct Credentials {
-    made: [Made; MAX_CREDENTIALS],
+    made: [CreatedCredential; MAX_CREDENTIALS],
     /// Number of credentials created, replacements excluded.
     count: usize,
     /// Whether there was a reset, after which no credential from before the log exists.
@@ -62,7 +62,7 @@ pub struct Credentials {
 impl Credentials {
     /// Returns an empty list.
     pub fn new() -> Self {
-        let none = Made {
+        let none = CreatedCredential {
             line: 0,
             name: [0; 16],
             account: None,
@@ -107,7 +107,7 @@ impl Credentials {
         let Some(id) = data[55..].get(..length) else {
             return;
         };
-        let made = Made {
+        let made = CreatedCredential {
             line,
             name: hash_id(data.split_at(32).0, id),
             account,
@@ -127,7 +127,7 @@ impl Credentials {
     }
 
     /// Returns the RP ID and credentials of a complete request, if its CBOR is canonical.
-    pub fn identify(&self, transaction: &Transaction, pool: &Pool) -> RequestNames {
+    pub fn identify(&self, transaction: &Transaction, pool: &MessageBuffers) -> RequestNames {
         let mut named = RequestNames::default();
         let Some([_, item @ ..]) = pool.bytes(transaction.line) else {
             return named;
@@ -152,7 +152,7 @@ impl Credentials {
             return named;
         }
         let relying_party = Sha256::digest(named.rp_id.bytes());
-        named.excluded = self.excluded_in(relying_party.as_slice(), item);
+        named.excluded = self.find_excluded(relying_party.as_slice(), item);
         if let Some(options) = value_at(item, Item::Int(7))
             && let Some(Item::Bool(true)) = item_at(options, Item::Text("rk"))
             && let Some(user) = value_at(item, Item::Int(3))
@@ -164,7 +164,7 @@ impl Credentials {
     }
 
     /// Returns the entry of a request's excludeList that the log created last, if any.
-    fn excluded_in(&self, relying_party: &[u8], item: &[u8]) -> Option<Excluded> {
+    fn find_excluded(&self, relying_party: &[u8], item: &[u8]) -> Option<Excluded> {
         let Some(list) = value_at(item, Item::Int(EXCLUDE_LIST)) else {
             return None;
         };

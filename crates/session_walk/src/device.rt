@@ -2,12 +2,12 @@
 
 ghost use Rattle.std.specs.Prelude.{◌≡◌, [], true, false, if◌then◌else◌, Some, None};
 ghost use Rattle.session_walk.specs.Owners.{with_end_of, current_ended};
-ghost use Rattle.session_walk.specs.Ends.{also_ends, answered_message, cause_of, is_late_by, fits_one_message, timeout_transaction};
+ghost use Rattle.session_walk.specs.Ends.{also_ends, answered_message, interrupted_end, is_late_by, fits_one_message, timeout_transaction};
 ghost use Rattle.session_walk.specs.Ends.{awaited_by, transaction_if_processing, was_due_before_contender, is_owner_undecided, after_keepalive, channel_processing, keepalive_transaction, refused_transaction, refused_by, ends_by_refusal};
 ghost use Rattle.session_walk.specs.Ends.{timed_out, ends_by_timeout, response_continued};
 
 use crate::ambiguous::Ambiguous;
-use crate::answer::{Answered, ResponseStart, Started};
+use crate::answer::{ContinuedResponse, ResponseStart, StartedResponse};
 use crate::awaited::AwaitedReply;
 use crate::channel::{Channel, ResponseMessage, parse_nonce};
 use crate::command::{GET_ASSERTION, GET_NEXT_ASSERTION, MAKE_CREDENTIAL, RESET, SELECTION};
@@ -35,7 +35,7 @@ impl Channel {
         behind: (u64, u64),
         ambiguous: &Option<Ambiguous>,
         ended: &mut EndedList,
-    ) -> Started {
+    ) -> StartedResponse {
         // No further packet of the previous message can follow.
         if self.is_answering()
             && let Some(exchange) = self.last_response.exchange
@@ -58,7 +58,7 @@ impl Channel {
                 }
                 transaction
             }
-            KEEPALIVE => self.keep_alive(status, behind, ended),
+            KEEPALIVE => self.on_keepalive(status, behind, ended),
             _ => self.answer(answer, ended),
         };
         self.last_packet_at = behind.1;
@@ -73,7 +73,7 @@ impl Channel {
                 .saturating_sub(1),
             _ => {}
         }
-        Started {
+        StartedResponse {
             transaction,
             role,
             before,
@@ -83,7 +83,7 @@ impl Channel {
 
     /// Handles a KEEPALIVE. Returns the transaction being processed, if known. If both messages could be, this is
     /// `current`, provided that the KEEPALIVE became due before the second one was accepted.
-    fn keep_alive(
+    fn on_keepalive(
         &mut self,
         status: u8,
         behind: (u64, u64),
@@ -220,10 +220,10 @@ impl Channel {
     }
 
     /// Ends the incomplete message that began before one that is refused with this code, if the error ends it, too.
-    fn end_before(&mut self, refused: &Transaction, code: u8, ended: &mut EndedList)
+    fn end_interrupted(&mut self, refused: &Transaction, code: u8, ended: &mut EndedList)
         ensures state { self.new ≡ (if also_ends refused.now code self.old.current then current_ended self.old else self.old) }
         ensures ended { ended.new.0.items ≡ (if also_ends refused.now code self.old.current
-            then with_end_of ended.old.0.items self.old.current (cause_of refused.now) else ended.old.0.items) }
+            then with_end_of ended.old.0.items self.old.current (interrupted_end refused.now) else ended.old.0.items) }
     {
         let line = refused.line;
         let (cause, by) = if refused.message == INIT {
@@ -252,7 +252,7 @@ impl Channel {
         let is_unresolved = self.is_unresolved(input);
         let mut refused = None;
         if code == INVALID_LEN {
-            let place = self.pending_init_of(None);
+            let place = self.pending_init_index(None);
             refused = self.take_init(place);
         }
         if refused.is_none() && (!is_unresolved || self.last_was_init) {
@@ -260,7 +260,7 @@ impl Channel {
         }
         if let Some(refused) = refused {
             ended.add(refused, End::Refused(code));
-            self.end_before(&refused.transaction, code, ended);
+            self.end_interrupted(&refused.transaction, code, ended);
             return Some(refused.transaction);
         }
         if is_unresolved {
@@ -297,7 +297,7 @@ impl Channel {
         if !self.last_was_init {
             return self.contender.take();
         }
-        if !self.may_be_of_init(code) {
+        if !self.can_refuse_init(code) {
             return None;
         }
         let last = self.pending_inits.len().saturating_sub(1);
@@ -306,7 +306,7 @@ impl Channel {
 
     /// Returns whether an ERROR with this code can be for an INIT of 8 bytes. An allocated channel accepts INIT at any
     /// time, so there the ERROR is for another open message.
-    fn may_be_of_init(&self, code: u8) -> bool {
+    fn can_refuse_init(&self, code: u8) -> bool {
         match code {
             INVALID_SEQ | MSG_TIMEOUT => false,
             CHANNEL_BUSY => self.number == BROADCAST,
@@ -317,7 +317,7 @@ impl Channel {
 
     /// Returns the index of the first INIT with this nonce, or, without a nonce, of the first one with a wrong length;
     /// the number of INITs if there is none.
-    fn pending_init_of(&self, nonce: Option<u64>) -> usize {
+    fn pending_init_index(&self, nonce: Option<u64>) -> usize {
         let pending_inits = self.pending_inits.as_slice();
         for place in 0..pending_inits.len() {
             let init = &pending_inits[place];
@@ -372,7 +372,7 @@ impl Channel {
         answer: &ResponseStart<'_>,
         ended: &mut EndedList,
     ) -> Option<OpenTransaction> {
-        let place = self.pending_init_of(Some(parse_nonce(answer.part)));
+        let place = self.pending_init_index(Some(parse_nonce(answer.part)));
         let Some(exchange) = self.take_init(place) else {
             return None;
         };
@@ -430,14 +430,14 @@ impl Channel {
     }
 
     /// Handles the next continuation packet of the device's last message.
-    pub fn continue_response(&mut self, number: u8) -> Option<Answered>
+    pub fn continue_response(&mut self, number: u8) -> Option<ContinuedResponse>
         ensures { self.new ≡ record self.old { last_response = response_continued number self.old.last_response } }
     {
         if !self.is_answering() || self.last_response.progress.continuations != number {
             return None;
         }
         let data_len = self.last_response.progress.push_continuation();
-        Some(Answered {
+        Some(ContinuedResponse {
             line: self.last_response.line,
             transaction: self.last_response.transaction(),
             data_len,

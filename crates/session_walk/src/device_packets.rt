@@ -61,7 +61,7 @@ impl TransactionTracker {
                 }
             }
         }
-        self.end_answer(place, number);
+        self.complete_response(place, number);
     }
 
     /// Handles the initialization packet of a device message.
@@ -104,7 +104,7 @@ impl TransactionTracker {
 
     /// Ends the transaction of the device's last message if this line completes the message, and updates the state by
     /// the response.
-    fn end_answer(&mut self, place: usize, number: u64)
+    fn complete_response(&mut self, place: usize, number: u64)
         requires place { place < 6 }
         requires none { self.old.completed ≡ None }
         ensures pool { self.new.pool ≡ self.old.pool }

@@ -1,7 +1,7 @@
 //! The last line that a tracker processed, as `show` presents it.
 ghost use Rattle.std.specs.Prelude.{◌≡◌, ◌↔◌, None, Some, IfSome, false, true, option_map};
 ghost use Rattle.session_walk.specs.Messages.{complete_bytes_at};
-ghost use Rattle.session_walk.specs.Completed.{ShowsResolved, ended_bytes, shown_bytes};
+ghost use Rattle.session_walk.specs.Completed.{ShowsResolved, completed_bytes, message_bytes};
 
 use crate::ambiguous::CompletedMessage;
 use crate::entry::{CborMessage, Entry, LineEntry};
@@ -21,10 +21,10 @@ impl TransactionTracker {
         ensures is_ambiguous { result.is_ambiguous ≡ true
             ↔ option_map (λ ambiguous. ambiguous.line) self.entry.now.ambiguous ≡ Some number }
         ensures message { result.is_ambiguous ≡ false
-            → shown_bytes result.own.message ≡ ended_bytes self.entry.now.pool self.entry.now.completed }
+            → message_bytes result.own.message ≡ completed_bytes self.entry.now.pool self.entry.now.completed }
         ensures ambiguous { IfSome self.entry.now.ambiguous (λ ambiguous. ambiguous.line ≡ number
             → ambiguous.is_whole ≡ true
-            → shown_bytes result.own.message ≡ Some (complete_bytes_at self.entry.now.pool ambiguous.transaction.line)) }
+            → message_bytes result.own.message ≡ Some (complete_bytes_at self.entry.now.pool ambiguous.transaction.line)) }
         ensures deferred { ShowsResolved self.entry.now.pool self.entry.now.resolved result.deferred }
         ensures ended { result.ended.now ≡ self.entry.now.ended.0.items }
         ensures page { result.page ≡ None }
@@ -90,7 +90,7 @@ impl TransactionTracker {
 
     /// Returns a completed message.
     pub fn message(&self, completed: &Option<CompletedMessage>) -> Option<CborMessage<'_>>
-        ensures { shown_bytes result ≡ ended_bytes self.entry.now.pool completed.now }
+        ensures { message_bytes result ≡ completed_bytes self.entry.now.pool completed.now }
     {
         let Some(completed) = completed else {
             return None;

@@ -88,14 +88,14 @@ impl Kept {
 
 /// Buffers of the two latest messages, by first line. A key processes one and refuses others at once.
 #[derive(Drop)]
-pub struct Pool {
+pub struct MessageBuffers {
     first: Kept,
     second: Kept,
     /// Whether `first` was used last.
     is_first_last: bool,
 }
 
-impl Model for Pool {
+impl Model for MessageBuffers {
     ghost use Rattle.std.specs.Prelude.{◌≡◌};
     ghost use Rattle.session_walk.specs.Messages.{KeptMessages};
 
@@ -106,12 +106,12 @@ impl Model for Pool {
     ghost invariant = { λ p. p.first.line ≡ p.second.line → p.first.line ≡ 0 };
 }
 
-impl Pool {
+impl MessageBuffers {
     /// Returns empty buffers.
     pub fn new() -> Self
         ensures { (line : ℕ) → kept_at result line ≡ None }
     {
-        Pool {
+        MessageBuffers {
             first: Kept::none(),
             second: Kept::none(),
             is_first_last: false,

@@ -10,8 +10,8 @@ ghost use Rattle.std.specs.Prelude.{List, [], ◌∷◌, ◌+◌, length, true, 
 ghost use Rattle.hid_packet.specs.Commands.{ERROR as ERROR_COMMAND, INIT as INIT_COMMAND};
 ghost use Rattle.session_log.specs.declared.line.{Line.Line as AnyLine, Line.TheVariants.Input as InputLine};
 ghost use Rattle.session_walk.specs.declared.{channel.Channel.Channel as AnyChannel, ambiguous.Ambiguous.Ambiguous as AnyDoubtful};
-ghost use Rattle.session_walk.specs.Owners.{continued_message, match_in};
-ghost use Rattle.session_walk.specs.Walks.{IsTrackerAfter, IsAt, answered, status_of, waiting_on, decided_of, ambiguity_of, current_time_at, channel_on, host_message, input_by, time_after_line, message_continued, continued_transaction};
+ghost use Rattle.session_walk.specs.Owners.{continued_message, match_if_incomplete};
+ghost use Rattle.session_walk.specs.Walks.{IsTrackerAfter, IsAt, answered, status_of, waiting_on, resolved_transaction, ambiguous_after, current_time_at, channel_on, host_message, input_line_after, time_after_line, continued_message_line, continued_transaction};
 
 use crate::ambiguous::{Ambiguous, CompletedMessage, Resolved};
 use crate::awaited::AwaitedReply;
@@ -20,7 +20,7 @@ use crate::channels::Channels;
 use crate::credentials::Credentials;
 use crate::device::MIN_TIMEOUT_MS;
 use crate::entry::{Role, channel_of};
-use crate::message_buffers::Pool;
+use crate::message_buffers::MessageBuffers;
 use crate::transaction::{EndedList, MessageProgress, OpenTransaction, RequestNames, Transaction};
 use hid_packet::command::{CANCEL, CBOR, INIT};
 use hid_packet::{CONT_PACKET_DATA, Packet, View};
@@ -31,7 +31,7 @@ use token_session::{Input, Timed};
 #[derive(Drop)]
 pub struct TransactionTracker {
     pub channels: Channels,
-    pub(crate) pool: Pool,
+    pub(crate) pool: MessageBuffers,
     pub(crate) credentials: Credentials,
     /// The latest timestamp.
     pub(crate) now: u64,
@@ -61,7 +61,7 @@ impl TransactionTracker {
     {
         TransactionTracker {
             channels: Channels::default(),
-            pool: Pool::new(),
+            pool: MessageBuffers::new(),
             credentials: Credentials::new(),
             now: 0,
             input: 0,
@@ -86,7 +86,7 @@ impl TransactionTracker {
             → LineContinues parsed.now self.new.message_start self.old.pool self.new.pool }
         ensures completed { IfSome self.new.completed (λ message. message.line ≡ self.new.message_start) }
         ensures moment { self.new.now ≡ time_after_line self.old.now parsed.now }
-        ensures input { self.new.input ≡ input_by self.old.input number parsed.now }
+        ensures input { self.new.input ≡ input_line_after self.old.input number parsed.now }
         ensures follows { (before : List AnyLine) → number ≡ length before + 1 → IsTrackerAfter before self.old
             → IsTrackerAfter (parsed.now ∷ before) self.new }
     {
@@ -285,11 +285,11 @@ impl TransactionTracker {
         ensures time { self.new.now ≡ self.old.now }
         ensures last { self.new.input ≡ self.old.input }
         ensures ambiguous { (c : AnyChannel) → IsAt place self.old c → self.new.ambiguous
-            ≡ ambiguity_of number (InputLine timed.now) (match_in sequence self.old.now (continued_message sequence c)) self.old.ambiguous }
+            ≡ ambiguous_after number (InputLine timed.now) (match_if_incomplete sequence self.old.now (continued_message sequence c)) self.old.ambiguous }
         ensures transaction { (c : AnyChannel) → IsAt place self.old c → self.old.transaction ≡ None
-            → self.new.transaction ≡ continued_transaction (match_in sequence self.old.now (continued_message sequence c)) }
+            → self.new.transaction ≡ continued_transaction (match_if_incomplete sequence self.old.now (continued_message sequence c)) }
         ensures message { (c : AnyChannel) → IsAt place self.old c
-            → self.new.message_start ≡ message_continued (match_in sequence self.old.now (continued_message sequence c)) }
+            → self.new.message_start ≡ continued_message_line (match_if_incomplete sequence self.old.now (continued_message sequence c)) }
     {
         let continuation = self.channels.list[place].on_continuation(sequence, self.now);
         self.continue_matching(place, number, timed, part, &continuation);
@@ -317,9 +317,9 @@ impl TransactionTracker {
         ensures time { self.new.now ≡ self.old.now }
         ensures last { self.new.input ≡ self.old.input }
         ensures ambiguous { self.new.ambiguous
-            ≡ ambiguity_of number (InputLine timed.now) continuation.now self.old.ambiguous }
+            ≡ ambiguous_after number (InputLine timed.now) continuation.now self.old.ambiguous }
         ensures transaction { self.old.transaction ≡ None → self.new.transaction ≡ continued_transaction continuation.now }
-        ensures message { self.new.message_start ≡ message_continued continuation.now }
+        ensures message { self.new.message_start ≡ continued_message_line continuation.now }
     {
         let Some(continuation) = *continuation else {
             let role = self.channels.list[place].role_outside_messages(Role::Stray);
@@ -381,7 +381,7 @@ impl TransactionTracker {
         ensures last { self.new.input ≡ self.old.input }
         ensures settles { self.new.ambiguous ≡ None }
         ensures transaction { (d : AnyDoubtful) → self.old.ambiguous ≡ Some d
-            → option_map (λ x. x.transaction) self.new.resolved ≡ Some (decided_of is_late d) }
+            → option_map (λ x. x.transaction) self.new.resolved ≡ Some (resolved_transaction is_late d) }
         ensures resolved { (d : AnyDoubtful) → self.old.ambiguous ≡ Some d
             → option_map (λ x. x.line) self.new.resolved ≡ Some d.line }
         ensures nothing { self.old.ambiguous ≡ None → self.new ≡ self.old }

@@ -8,7 +8,7 @@ use Rattle.token_session.specs.{declared.input.Timed.Timed, Events.event_packets
 use Rattle.token_session.specs.Inputs.{channels_allocated}
 use Rattle.token_session.specs.{Messages.open_at, Messages.completed_message, History.table_packets, History.time_packets}
 use Rattle.token_session.specs.History.{core, receive, received, last_keepalive, sent, sent_at, service_packets}
-use Rattle.token_session.specs.Credentials.{step_of, steps}
+use Rattle.token_session.specs.Credentials.{timed_event, steps}
 use Rattle.token_session.specs.Answered.{received_input, received_inputs, pending_work_of, with_event, exchanges_of, response_packets}
 use Rattle.token_session.specs.Answered.{input_packets, timer_packets, last_keepalive_at, packets_sent, packets_sent_now, packets_sent_from, AgreesWithExchanges}
 use Rattle.token_session.specs.Law.{with_input_number, sent_from, sent_now}
@@ -22,7 +22,7 @@ pub record Law (start : Start) : Type 0 where
       → waiting (core_at (first_state start) h) ≡ pending_work_of (exchanges start h)
 
 one_happened : (start : Start) (h : List TimedEvent) (at : ℕ) (o : Option Event)
-    → with_event start (exchanges start h) at o ≡ exchanges start (step_of at o ++ h)
+    → with_event start (exchanges start h) at o ≡ exchanges start (timed_event at o ++ h)
 unfolding exchanges
 one_happened start h at x3 = search (rules, arith)
 
@@ -43,7 +43,7 @@ waits_told start law h = grind (arith, core_is, happened_steps, orderly)
 event_told : (start : Start) (law : Law start) (h : List TimedEvent) (k : CoreState) (past : List Exchange) (at : ℕ)
     (o : Option Event)
     → k ≡ core_at (first_state start) h → past ≡ exchanges start h → Orderly (first_state start) h
-    → Orderly (first_state start) (step_of at o ++ h)
+    → Orderly (first_state start) (timed_event at o ++ h)
     → event_packets k at o ≡ response_packets start past at o
 event_told start law h k past at x6 e p r s = search (rules, arith)
 

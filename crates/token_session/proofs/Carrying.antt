@@ -5,7 +5,7 @@ use Rattle.std.proofs.Common.{length-append, length-drop, length-take}
 use Rattle.std.proofs.lemmas.{Bool.cond_both, Bool.Decides.nat_tests, List.length-map, Option.same_Some}
 use Rattle.authn_core.specs.Turn.{Start}
 use Rattle.token_session.{proofs.Bounds.goes_on_below, specs.History.admits, specs.History.receive, specs.History.received}
-use Rattle.token_session.specs.Carried.{AreFullPackets, IsWhole, AreWhole, ArriveWhole, carriers, long_carriers, carriers_at}
+use Rattle.token_session.specs.Carried.{AreFullPackets, HasFullPacket, HaveFullPackets, ArriveWithFullPackets, completed_message_packets, open_message_packets, completed_packets_at}
 use Rattle.hid_assemble.specs.Assembly.{Message}
 use Rattle.hid_packet.specs.Carries.{Carries, CarriesMessage, AreContinuations, joined_data}
 use Rattle.hid_packet.specs.Packet.{channel, command, continuation_data, initialization_data, is_initialization}
@@ -70,7 +70,7 @@ unfolding is_last_packet
 last_carries b t p st l64 a64 p64 channel_inputs low high goes last = grind (arith, all_continue, are64_more, continue_more, goes_on_below, length-append, length-map, length-take, length_joined, nat_tests)
 
 -- Every packet of these inputs has 64 bytes.
-pub packets_whole : (c : ℕ) (es : List ReceivedInput) → AreWhole es → AreFullPackets (packets_of (channel_inputs c es))
+pub packets_whole : (c : ℕ) (es : List ReceivedInput) → HaveFullPackets es → AreFullPackets (packets_of (channel_inputs c es))
 unfolding channel_inputs is_channel_input
 packets_whole c [] h = tt
 packets_whole c (e ∷ es) h = grind (arith, packets_whole c es h.1)
@@ -85,12 +85,12 @@ pub record Known (b : MessageStart) (t : ℕ) : Type 0 where
   pub short : message_length b.packet ≤ 7609
   pub goes : continues_until (message_length b.packet) 0 b.at b.own t ≡ true
 
-known_here : (start : Start) (h : List ReceivedInput) (x : Timed) (L : List ReceivedInput) (t : ℕ) → IsWhole x.input → AreWhole L
+known_here : (start : Start) (h : List ReceivedInput) (x : Timed) (L : List ReceivedInput) (t : ℕ) → HasFullPacket x.input → HaveFullPackets L
     → is_open (receive start x h) L t ≡ true → Known (message_start (receive start x h) L) t
 unfolding is_open is_long receive admits
 known_here start h x x3 t w whole o = grind (arith, nat_tests, own_on, packets_whole)
 
-known : (start : Start) (h : List Timed) (L : List ReceivedInput) (t : ℕ) (b : MessageStart) → ArriveWhole h → AreWhole L
+known : (start : Start) (h : List Timed) (L : List ReceivedInput) (t : ℕ) (b : MessageStart) → ArriveWithFullPackets h → HaveFullPackets L
     → open_among L (received start h) t ≡ Some b → Known b t
 unfolding open_among received receive
 known start [] L t b w v is = cc
@@ -109,8 +109,8 @@ long_is b p m h = grind arith
 long_carried : (o : Option MessageStart) (t : ℕ) (p : List ℕ) (m : Message) → ((b : MessageStart) → o ≡ Some b → Known b t)
     → length p ≡ 64
     → completed_long_message o p ≡ Some m
-    → CarriesMessage (long_carriers o p) m.cid m.cmd m.bytes
-unfolding completed_long_message long_carriers
+    → CarriesMessage (open_message_packets o p) m.cid m.cmd m.bytes
+unfolding completed_long_message open_message_packets
 long_carried x0 t p m k whole h = grind (arith, last_carries, long_is)
 
 short_carries : (p : List ℕ) → is_initialization p ≡ true → length p ≡ 64 → message_length p ≤ 57
@@ -132,16 +132,16 @@ short_carries p start whole few =
 
 -- what an input finishes
 carried : (o : Option MessageStart) (t : ℕ) (admitted : Bool) (i : Input) (m : Message)
-    → ((b : MessageStart) → o ≡ Some b → Known b t) → IsWhole i
+    → ((b : MessageStart) → o ≡ Some b → Known b t) → HasFullPacket i
     → (admitted ≡ true → is_initialization (packet i) ≡ true) → completed_message o admitted i ≡ Some m
-    → CarriesMessage (carriers o admitted i) m.cid m.cmd m.bytes
-unfolding completed_message carriers
+    → CarriesMessage (completed_message_packets o admitted i) m.cid m.cmd m.bytes
+unfolding completed_message completed_message_packets
 carried o t admitted (Packet p) m k whole starts h =
     go (admitted && nat_le (message_length p.0) 57) refl h
   where
     go : (b : Bool) → (admitted && nat_le (message_length p.0) 57) ≡ b
         → cond b (Some (message p.0 [])) (completed_long_message o p.0) ≡ Some m
-        → CarriesMessage (cond b (p.0 ∷ []) (long_carriers o p.0)) m.cid m.cmd m.bytes
+        → CarriesMessage (cond b (p.0 ∷ []) (open_message_packets o p.0)) m.cid m.cmd m.bytes
     go true e q = grind (arith, nat_tests, same_Some, short_carries)
     go false e q = long_carried o t p.0 m k whole q
 carried o t admitted other m k whole starts h = cc
@@ -151,9 +151,9 @@ admitted_starts : (g : ℕ) (o : Option MessageStart) (w : Option ℕ) (i : Inpu
 unfolding admits
 admitted_starts g o w i h = grind arith
 
-pub finished_is_carried : (start : Start) (h : List Timed) (x : Timed) (m : Message) → ArriveWhole (x ∷ h)
+pub finished_is_carried : (start : Start) (h : List Timed) (x : Timed) (m : Message) → ArriveWithFullPackets (x ∷ h)
     → message_completed_at (receive start x (received start h)) (received start h) ≡ Some m
-    → CarriesMessage (carriers_at (receive start x (received start h)) (received start h)) m.cid m.cmd m.bytes
+    → CarriesMessage (completed_packets_at (receive start x (received start h)) (received start h)) m.cid m.cmd m.bytes
 unfolding receive open_at
 finished_is_carried start h x m w f =
     let past = received start h in

@@ -2,13 +2,13 @@
 use Rattle.std.proofs.lemmas.Bool.Decides.{nat_tests}
 use Rattle.std.proofs.Common.{rules, ◌≡◌, ℕ, List, [], ◌∷◌, ◌++◌, Option, Some, None, option_map, refl, arith}
 use Rattle.authn_core.specs.State.{PendingTask, Event, SignatureIs, Answer, Answered}
-use Rattle.authn_core.specs.{Views.as_work, Views.needs, Views.sign, Ready.Ready, Signed.IsSigned}
+use Rattle.authn_core.specs.{Views.pending_work, Views.needs, Views.sign, Ready.Ready, Signed.IsSigned}
 use Rattle.authn_core.specs.Turn.{Start, CoreState, Work, working_channel, first_state, core_answer}
 use Rattle.authn_core.specs.Marks.{TimedEvent, Orderly, core_at}
 use Rattle.token_session.specs.declared.input.{Timed.Timed, Input.TheVariants.Signature}
 use Rattle.token_session.specs.{Inputs.ReceivedInput, Messages.completed_message, Events.event_packets, Replies.answer_packets}
 use Rattle.token_session.specs.History.{core, receive, received, event, service_packets, table_packets}
-use Rattle.token_session.specs.{Credentials.step_of, Credentials.steps, Signing.latest_requests, Signing.IsAnsweredBy}
+use Rattle.token_session.specs.{Credentials.timed_event, Credentials.steps, Signing.latest_requests, Signing.IsAnsweredBy}
 use Rattle.token_session.proofs.{Safety.EventGiven, Safety.event_given, Follows.good_judged, Follows.safe_at}
 use Rattle.hid_packet.specs.{Commands.CBOR, Message.message_packets}
 use Rattle.ctap_message.specs.Asked.{RequestParameters}
@@ -21,7 +21,7 @@ core_is start (e ∷ past) = search (rules, arith, core_is start past)
 
 one_orderly : (g : ℕ) (k : CoreState) (at : ℕ) (e : Option Event) (past : List TimedEvent)
     → EventGiven g (working_channel (core_at k past)) e
-    → Orderly k past → Orderly k (step_of at e ++ past)
+    → Orderly k past → Orderly k (timed_event at e ++ past)
 unfolding Orderly
 one_orderly g k at x3 past a o = grind (arith, nat_tests)
 
@@ -46,7 +46,7 @@ unfolding answer_packets
 sends k t sig bytes cid w a = rw (w, a) refl
 
 asked_on : (work : Option PendingTask) (id signed : List ℕ) → needs work ≡ sign id signed
-    → (cid : ℕ) × (option_map (λ (w : Work). w.cid) (option_map as_work work) ≡ Some cid)
+    → (cid : ℕ) × (option_map (λ (w : Work). w.cid) (option_map pending_work work) ≡ Some cid)
 asked_on None id signed e = cc
 asked_on (Some work) id signed e = (work.cid, refl)
 

@@ -6,7 +6,7 @@ use Rattle.authn_core.{proofs.Facts.drop_answers_nothing, specs.Turn.CoreState}
 use Rattle.authn_core.specs.State.{Answer, Drop, Event}
 use Rattle.hid_assemble.specs.declared.verdict.Verdict.{Verdict}
 use Rattle.token_session.specs.{Effects.verdict_event, Effects.verdict_packets, Events.event_packets}
-use Rattle.token_session.specs.Machine.{MachineState, time_passed, served, turn}
+use Rattle.token_session.specs.Machine.{MachineState, time_passed, processed_input, turn}
 use Rattle.token_session.specs.Replies.{answer_packets, init_response}
 use Rattle.token_session.specs.declared.input.{Input.Input, Timed.Timed}
 
@@ -42,7 +42,7 @@ below : (a b : List (List ℕ)) → length a ≤ 1 → length b ≤ 129 → leng
 below a b h k = omega (arith, length-append a b)
 
 pub served_few : (s : MachineState) (early : List (List ℕ)) (i : Input) → length early ≤ 1
-    → length (served s early i).packets ≤ 130
+    → length (processed_input s early i).packets ≤ 130
 served_few s early other h = grind (arith, below, event_few, verdict_few)
 
 pub turn_few : (s : MachineState) (x : Timed) → length (turn s x).packets ≤ 130

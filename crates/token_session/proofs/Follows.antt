@@ -8,8 +8,8 @@ use Rattle.token_session.specs.Inputs.{ReceivedInput, requests_channel, latest_t
 use Rattle.token_session.specs.Messages.{MessageStart, to_open, completed_message, open_at}
 use Rattle.token_session.specs.History.{admits, core, event, receive, received, last_keepalive, packet_event, sent_at}
 use Rattle.token_session.specs.History.{service_packets, table_packets, time_packets}
-use Rattle.token_session.specs.Law.{event_at, state_of, is_timed_out, IsAfter, append_inputs, run_sent, run_state, sent_from, sent_now}
-use Rattle.token_session.specs.Machine.{MachineState, MachineTurn, turn_packets, machine, time_passed, served, start_state}
+use Rattle.token_session.specs.Law.{event_at, state_of, is_timed_out, IsMachineAfter, append_inputs, run_sent, run_state, sent_from, sent_now}
+use Rattle.token_session.specs.Machine.{MachineState, MachineTurn, turn_packets, machine, time_passed, processed_input, start_state}
 use Rattle.token_session.specs.{Machine.turn, Events.keepalive_due, Replies.ping_packets}
 use Rattle.token_session.specs.declared.input.{Input.Input, Input.TheVariants.Packet, Timed.Timed}
 use Rattle.token_session.proofs.Opens.{Lawful, next, open_next_is, still, still_open}
@@ -89,7 +89,7 @@ unfolding state_of sent_at service_packets core
 named_turn start e h g c packets ev eg ec ep ee = rw (eg, ec, ep, ee, last_noted start e h) refl
 
 served_named : (start : Start) (t : ℕ) (h : List ReceivedInput) (i : Input) → Good start h → latest_time start h ≤ t
-    → served (late start h t) (time_packets start h (last_keepalive start h) t) i
+    → processed_input (late start h t) (time_packets start h (last_keepalive start h) t) i
     ≡ goal_turn start (judged_at start t h i) h
 unfolding event completed_message table_packets accepted verdict next is_channel_input
 served_named start t h (Packet x) good le =
@@ -148,25 +148,25 @@ machine_follows start [] = refl
 machine_follows start (x ∷ h) = grind (arith, follows, good_judged, machine_follows start h)
 
 -- what a turn makes of a state that stands after a history
-pub turn_after : (s : MachineState) (start : Start) (h : List Timed) (x : Timed) → IsAfter s start h
+pub turn_after : (s : MachineState) (start : Start) (h : List Timed) (x : Timed) → IsMachineAfter s start h
     → turn s x ≡ record { state = state_of start (received start (x ∷ h)); packets = sent_now start h x; event = event_at start (receive start x (received start h)) (received start h) }
 unfolding received sent_now
 turn_after s start h x b = ap (λ v. turn v x) b ∙ follows start (received start h) x (good_judged start h)
 
-pub step_after : (s : MachineState) (start : Start) (h : List Timed) (x : Timed) → IsAfter s start h
-    → IsAfter (turn s x).state start (x ∷ h)
+pub step_after : (s : MachineState) (start : Start) (h : List Timed) (x : Timed) → IsMachineAfter s start h
+    → IsMachineAfter (turn s x).state start (x ∷ h)
 step_after s start h x b = ap (λ (v : MachineTurn). v.state) (turn_after s start h x b)
 
-pub step_sends : (s : MachineState) (start : Start) (h : List Timed) (x : Timed) → IsAfter s start h
+pub step_sends : (s : MachineState) (start : Start) (h : List Timed) (x : Timed) → IsMachineAfter s start h
     → (turn s x).packets ≡ sent_now start h x
 step_sends s start h x b = ap (λ (v : MachineTurn). v.packets) (turn_after s start h x b)
 
-pub run_after : (xs : List Timed) (s : MachineState) (start : Start) (h : List Timed) → IsAfter s start h
-    → IsAfter (run_state s xs) start (append_inputs xs h)
+pub run_after : (xs : List Timed) (s : MachineState) (start : Start) (h : List Timed) → IsMachineAfter s start h
+    → IsMachineAfter (run_state s xs) start (append_inputs xs h)
 run_after [] s start h b = b
 run_after (x ∷ xs) s start h b = run_after xs (turn s x).state start (x ∷ h) (step_after s start h x b)
 
-pub run_sends : (xs : List Timed) (s : MachineState) (start : Start) (n : ℕ) (h : List Timed) → IsAfter s start h
+pub run_sends : (xs : List Timed) (s : MachineState) (start : Start) (n : ℕ) (h : List Timed) → IsMachineAfter s start h
     → run_sent n s xs ≡ sent_from n start h xs
 run_sends [] s start n h b = refl
 run_sends (x ∷ xs) s start n h b = grind (arith, step_after, step_sends, run_sends xs)

@@ -6,9 +6,9 @@ use Rattle.std.specs.List.{AllByRecursion}
 use Rattle.ctap_message.specs.Requests.{steps_of}
 use Rattle.authn_core.specs.Turn.{Start}
 use Rattle.token_session.specs.declared.input.{Sent.Sent, Timed.Timed, Meters.Meters}
-use Rattle.token_session.specs.{Carried.ArriveWhole, declared.driver.DriveFault.DriveFault, Inputs.ReceivedInput}
-use Rattle.token_session.specs.Drive.{numbered_packet, done_of, packet_of}
-use Rattle.token_session.specs.{History.received, History.sent, Headline.AllCarried, Headline.IsAnswered}
+use Rattle.token_session.specs.{Carried.ArriveWithFullPackets, declared.driver.DriveFault.DriveFault, Inputs.ReceivedInput}
+use Rattle.token_session.specs.Drive.{numbered_packet, inputs_done, packet_of}
+use Rattle.token_session.specs.{History.received, History.sent, Headline.AllReceivedInPackets, Headline.IsAnswered}
 use Rattle.token_session.specs.Law.{with_input_number, append_inputs, sent_from, sent_now, turns_send}
 use Rattle.token_session.specs.Meters.{requests, meters_of, session_of, SessionState, IsStateAfter}
 use Rattle.token_session.proofs.{Carrying.finished_is_carried, Follows.machine_follows, Follows.step_sends}
@@ -18,7 +18,7 @@ unfolding turns_send sent received sent_now
 turns_send_sent start [] = refl
 turns_send_sent start (x ∷ h) = grind (arith, machine_follows, step_sends, turns_send_sent start h)
 
-pub all_carried : (start : Start) (h : List Timed) → ArriveWhole h → AllCarried (received start h)
+pub all_carried : (start : Start) (h : List Timed) → ArriveWithFullPackets h → AllReceivedInPackets (received start h)
 unfolding received
 all_carried start [] w = tt
 all_carried start (x ∷ h) w = (λ m fin. finished_is_carried start h x m w fin, all_carried start h w.1)
@@ -54,12 +54,12 @@ unfolding sent received
 sent_reverse xs start = sent_along xs 0 start [] ∙ ap (λ h. sent start (received start h))
     (onto_reverse xs [] ∙ append-nil (reverse xs))
 
-whole_onto : (xs h : List Timed) → ArriveWhole xs → ArriveWhole h → ArriveWhole (append_inputs xs h)
+whole_onto : (xs h : List Timed) → ArriveWithFullPackets xs → ArriveWithFullPackets h → ArriveWithFullPackets (append_inputs xs h)
 whole_onto [] h ws w = w
 whole_onto (x ∷ xs) h ws w = whole_onto xs (x ∷ h) ws.1 (ws.0, w)
 
-pub whole_reverse : (xs : List Timed) → ArriveWhole xs → ArriveWhole (reverse xs)
-whole_reverse xs w = subst ArriveWhole (onto_reverse xs [] ∙ append-nil (reverse xs)) (whole_onto xs [] w tt)
+pub whole_reverse : (xs : List Timed) → ArriveWithFullPackets xs → ArriveWithFullPackets (reverse xs)
+whole_reverse xs w = subst ArriveWithFullPackets (onto_reverse xs [] ∙ append-nil (reverse xs)) (whole_onto xs [] w tt)
 
 packets_pairs : (sent : List Sent) → map packet_of sent ≡ map (λ (p : ℕ × List ℕ). p.1) (map numbered_packet sent)
 packets_pairs [] = refl
@@ -74,7 +74,7 @@ run_answered start xs out is answers = grind (arith, packets_pairs, sent_reverse
 
 -- A drive of a new session that stepped all inputs returns the meters that their history names.
 pub meters_named : (start : Start) (xs : List Timed) (result : Result Meters DriveFault) (s : SessionState)
-    → IsStateAfter s start (append_inputs (take (done_of (length xs) result) xs) []) → IfOk result (λ meters. meters ≡ s.meters)
+    → IsStateAfter s start (append_inputs (take (inputs_done (length xs) result) xs) []) → IfOk result (λ meters. meters ≡ s.meters)
     → IfOk result (λ meters. meters ≡ meters_of start (received start (reverse xs)))
 unfolding session_of
 meters_named start xs x2 s after is = grind (arith, common_steps, append-nil, onto_reverse)

@@ -6,7 +6,7 @@ use Rattle.ctap_message.specs.Requests.{steps_of, MAX_STEPS}
 use Rattle.authn_core.specs.Turn.{Start}
 use Rattle.token_session.specs.declared.input.{Timed.Timed, Meters.Meters}
 use Rattle.token_session.{specs.Effects.request_in, proofs.Follows.turn_after}
-use Rattle.token_session.specs.{Inputs.ReceivedInput, Inputs.channels_allocated, Law.state_of, Law.event_at, Law.IsAfter}
+use Rattle.token_session.specs.{Inputs.ReceivedInput, Inputs.channels_allocated, Law.state_of, Law.event_at, Law.IsMachineAfter}
 use Rattle.token_session.specs.Messages.{open_at, open_among}
 use Rattle.token_session.specs.History.{received, receive, held, core, last_keepalive}
 use Rattle.token_session.specs.Machine.{MachineState, turn, start_state}
@@ -76,7 +76,7 @@ pub bounded_first : (k : Meters) (rows : ℕ)
 bounded_first k rows first = rw first (omega arith)
 
 pub machine_after : (s : SessionState) (start : Start) (h : List Timed) → IsStateAfter s start h
-    → IsAfter s.machine start h
+    → IsMachineAfter s.machine start h
 unfolding session_of
 machine_after s start h b = ap (λ (v : SessionState). v.machine) b
 

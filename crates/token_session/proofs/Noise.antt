@@ -11,10 +11,10 @@ use Rattle.authn_core.proofs.Facts.{presence_ignored, key_ignored, signature_ign
 use Rattle.token_session.specs.declared.input.{Input.Input, Timed.Timed}
 use Rattle.token_session.specs.declared.input.Input.TheVariants.{Packet, Tick, Presence, Key, Signature}
 use Rattle.token_session.specs.Effects.{request_in, verdict_event, verdict_packets}
-use Rattle.token_session.specs.Machine.{MachineState, MachineTurn, response_sends_keepalive, turn, time_passed, served}
+use Rattle.token_session.specs.Machine.{MachineState, MachineTurn, response_sends_keepalive, turn, time_passed, processed_input}
 use Rattle.token_session.{specs.Machine.turn_packets, specs.Inputs.latest_time, proofs.Metering.stands_longer}
 use Rattle.token_session.specs.History.{receive, received, sent}
-use Rattle.token_session.specs.Law.{state_of, IsAfter, append_inputs, sent_now, sent_from}
+use Rattle.token_session.specs.Law.{state_of, IsMachineAfter, append_inputs, sent_now, sent_from}
 use Rattle.token_session.specs.Meters.{SessionState, stepped, session_of}
 use Rattle.token_session.specs.Noise.{is_noise_among, is_noise_in, is_noise_at, is_noise_after, tick_at, IsSameOrTick, HasTicksForNoise}
 use Rattle.token_session.specs.Noise.{is_replaced, quiet_now, quiet_sent, quiet_from}
@@ -34,7 +34,7 @@ ruled s f early r =
     (verdict_packets v (bytes_of m)) (verdict_event v (bytes_of m))
 
 row_leaves : (s : MachineState) (f : Fields) (early : List (List ℕ)) (r : PacketClass) → is_noise r ≡ true
-    → Leaves (ruled s f early r) (served s early Tick)
+    → Leaves (ruled s f early r) (processed_input s early Tick)
 unfolding open_after message_after class_verdict
 row_leaves s f early r h = record { state = grind arith; request = grind arith }
 
@@ -42,12 +42,12 @@ row_leaves s f early r h = record { state = grind arith; request = grind arith }
 event_leaves : (s : MachineState) (early : List (List ℕ)) (e : Event)
     → turn_of (s.core).setup (s.core).state s.now e ≡ record { state = (s.core).state; answer = Ignored; why = None }
     → request_in (Some e) ≡ None
-    → Leaves (turn_packets s.now s.given s.current s.core s.keepalive_at early [] (Some e)) (served s early Tick)
+    → Leaves (turn_packets s.now s.given s.current s.core s.keepalive_at early [] (Some e)) (processed_input s early Tick)
 unfolding response_sends_keepalive
 event_leaves s early e ignored unread = rw ignored (record { state = grind arith; request = unread })
 
 served_leaves : (s : MachineState) (early : List (List ℕ)) (i : Input) → is_noise_in s i ≡ true
-    → Leaves (served s early i) (served s early Tick)
+    → Leaves (processed_input s early i) (processed_input s early Tick)
 unfolding accepted verdict
 served_leaves s early (Packet p) h = search (rules, arith, row_leaves)
 served_leaves s early (Presence reply) h = event_leaves s early (PresenceIs reply)
@@ -84,7 +84,7 @@ unfolding turn
 tick_sends s at = append-nil _
 
 -- What is noise to the state that a history names is noise after that history.
-pub noise_is_named : (s : MachineState) (start : Start) (h : List Timed) (x : Timed) → IsAfter s start h
+pub noise_is_named : (s : MachineState) (start : Start) (h : List Timed) (x : Timed) → IsMachineAfter s start h
     → is_noise_at s x ≡ is_noise_after start (receive start x (received start h)) (received start h)
 unfolding is_noise_at is_noise_after receive state_of
 noise_is_named s start h x b = grind (arith, good_judged, time_named)
@@ -106,7 +106,7 @@ quiet_alike start (x ∷ h) (y ∷ g) q =
 quiet_alike start h g q = absurd q
 
 -- The packets that one input sends after both, the second with the same input or with a tick.
-now_same : (start : Start) (h g : List Timed) (x : Timed) → IsAfter (state_of start (received start h)) start g
+now_same : (start : Start) (h g : List Timed) (x : Timed) → IsMachineAfter (state_of start (received start h)) start g
     → sent_now start g x ≡ quiet_now start h x x
 unfolding sent_now quiet_now receive
 now_same start h g x b =
@@ -114,7 +114,7 @@ now_same start h g x b =
     let never : is_replaced x.input x.input ≡ false = grind arith in
     rw never (sym (step_sends s start g x b) ∙ step_sends s start h x refl)
 
-now_tick : (start : Start) (h g : List Timed) (x : Timed) → IsAfter (state_of start (received start h)) start g
+now_tick : (start : Start) (h g : List Timed) (x : Timed) → IsMachineAfter (state_of start (received start h)) start g
     → is_noise_after start (receive start x (received start h)) (received start h) ≡ true
     → sent_now start g (tick_at x.at) ≡ quiet_now start h x (tick_at x.at)
 unfolding quiet_now receive state_of is_noise_after

@@ -5,7 +5,7 @@ use Rattle.std.proofs.lemmas.{Bool.Decides.nat_tests, List.Elements.filter-appen
 use Rattle.hid_packet.specs.Packet.{channel, message_length}
 use Rattle.authn_core.specs.Turn.{Start}
 use Rattle.token_session.specs.Inputs.{ReceivedInput, latest_time, is_channel_input, channel_inputs, packet}
-use Rattle.token_session.specs.Messages.{MessageStart, continues_until, is_long, is_next_packet, is_open, last_at, open_among, open_at}
+use Rattle.token_session.specs.Messages.{MessageStart, continues_until, is_long, is_next_packet, is_open, time_of_last_packet, open_among, open_at}
 
 -- each of these inputs came at t or later
 abbrev pub From : ℕ → List ReceivedInput → Type 0
@@ -116,19 +116,19 @@ open_next_is h x start l le = let soon : nat_lt x.at (x.at + 500) ≡ true = gri
 -- ---- time
 
 goes_on_still : (os : List ReceivedInput) (len m since t u : ℕ) → t ≤ u
-    → continues_until len m since os u ≡ (continues_until len m since os t && nat_lt u (last_at since os + 500))
+    → continues_until len m since os u ≡ (continues_until len m since os t && nat_lt u (time_of_last_packet since os + 500))
 unfolding continues_until
 goes_on_still [] len m since t u le = grind (arith, nat_tests)
 goes_on_still (o ∷ os) len m since t u le = grind (arith, goes_on_still os len (m + 1) o.at t u le)
 
 open_still : (e : ReceivedInput) (L : List ReceivedInput) (t u : ℕ) → t ≤ u
-    → is_open e L u ≡ (is_open e L t && nat_lt u (last_at e.at (channel_inputs (channel (packet e.input)) L) + 500))
+    → is_open e L u ≡ (is_open e L t && nat_lt u (time_of_last_packet e.at (channel_inputs (channel (packet e.input)) L) + 500))
 unfolding is_open
 open_still e x1 t u le = search (rules, arith, goes_on_still)
 
 abbrev pub still : ℕ → Option MessageStart → Option MessageStart
 still u None = None
-still u (Some b) = cond (nat_lt u (last_at b.at b.own + 500)) (Some b) None
+still u (Some b) = cond (nat_lt u (time_of_last_packet b.at b.own + 500)) (Some b) None
 
 later_open : (h L : List ReceivedInput) (start : Start) (t u : ℕ) → Lawful start h → From (latest_time start h) L → latest_time start h ≤ t
     → t ≤ u

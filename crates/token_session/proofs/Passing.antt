@@ -4,7 +4,7 @@ use Rattle.std.proofs.{Common.List, Common.nat_le, Common.arith, lemmas.Bool.Dec
 use Rattle.hid_assemble.specs.{Table.Open, Assembly.Assembly, Assembly.is_overdue, Assembly.still_open}
 use Rattle.authn_core.specs.Turn.{CoreState, waiting}
 use Rattle.token_session.specs.{Replies.error, declared.input.Meters.Meters, Meters.SessionState}
-use Rattle.hid_assemble.specs.Refusals.{last_of}
+use Rattle.hid_assemble.specs.Refusals.{last_packet_time}
 use Rattle.hid_assemble.specs.declared.refusal.Refusal.{Refusal, TheVariants.Overdue}
 use Rattle.token_session.specs.Causes.{time_cause}
 use Rattle.token_session.specs.Machine.{MachineState, time_passed}
@@ -40,7 +40,7 @@ dropped c t = cond (is_overdue c t) (option_map (λ m. m.cid) c) None
 module _ (n b t : ℕ) (a d : Assembly) (k : CoreState) (m : Meters) (v : SessionState) (sent : List (List ℕ))
     (is : record { machine = whole n a k b; meters = m } ≡ v) (kept : d ≡ passed_to a t) where
   pub late_passed : (x : ℕ) → Some x ≡ dropped a.current t → sent ≡ error x 5
-      → (last : ℕ) → last ≡ last_of a.current
+      → (last : ℕ) → last ≡ last_packet_time a.current
       → IsPassed v t (record { machine = whole t d k b; meters = m }) sent (Some (Overdue last t))
   unfolding time_passed is_overdue time_cause
   late_passed x r s last l =

@@ -6,7 +6,7 @@ use Rattle.std.proofs.{Common.nat_lt, Common.nat_le, Common.min, lemmas.List.map
 use Rattle.std.proofs.lemmas.{Bool.cond_both, Bool.Decides.nat_tests, Grind.flat_map-append}
 use Rattle.authn_core.{proofs.Facts.IsGiven, specs.State.Cancel, specs.State.Drop}
 use Rattle.hid_assemble.specs.Table.{Begins, Continues, MAX_CHANNEL, PacketClass, Open, cont_packet_row, first_row}
-use Rattle.hid_assemble.specs.Table.{init_packet_row, is_on_other, is_allocated, is_on, packet_class}
+use Rattle.hid_assemble.specs.Table.{init_packet_row, is_busy_elsewhere, is_allocated, is_busy_here, packet_class}
 use Rattle.hid_assemble.specs.declared.table.ReplyRow.{ReplyRow, TheVariants.NoSuchCommand, TheVariants.Short}
 use Rattle.hid_assemble.specs.declared.table.ReplyRow.TheVariants.{BadLength, BrokenOff, BusyElsewhere, BusyHere}
 use Rattle.hid_assemble.specs.declared.table.ReplyRow.TheVariants.{CancelsNothing, CancelsWork, InitAgain, InitFull}
@@ -19,7 +19,7 @@ use Rattle.hid_packet.specs.Packet.{Fields, channel, channel_of, command, contin
 use Rattle.hid_packet.specs.Packet.{initialization, initialization_data, is_initialization, message_length, sequence}
 use Rattle.hid_packet.specs.declared.packet.Packet.{Packet as Packet64}
 use Rattle.token_session.specs.Inputs.{ReceivedInput, requests_channel, is_channel_input, is_packet, packet}
-use Rattle.token_session.specs.Messages.{MessageStart, to_open, completed_message, completed_long_message, is_last_packet, is_long, is_next_packet, last_at}
+use Rattle.token_session.specs.Messages.{MessageStart, to_open, completed_message, completed_long_message, is_last_packet, is_long, is_next_packet, time_of_last_packet}
 use Rattle.token_session.specs.History.{admits, packet_event, table_packets}
 use Rattle.token_session.specs.Effects.{verdict_event, verdict_packets}
 use Rattle.token_session.specs.Replies.{request_event, ping_packets, row_packets}
@@ -78,14 +78,14 @@ pub record Tests : Type 0 where
 abbrev tests : ℕ → (current work : Option ℕ) → List ℕ → Tests
 tests g current work p = record {
   cancel = command p == CANCEL;
-  on = is_on work (channel p);
+  on = is_busy_here work (channel p);
   known = is_allocated g (channel p);
   broadcast = channel p == BROADCAST;
   init = command p == INIT;
   eight = message_length p == 8;
   full = g == MAX_CHANNEL;
-  apart = is_on_other current (channel p) || is_on_other work (channel p);
-  here = is_on current (channel p);
+  apart = is_busy_elsewhere current (channel p) || is_busy_elsewhere work (channel p);
+  here = is_busy_here current (channel p);
   served = (command p == PING) || (command p == CBOR);
   over = nat_lt MAX_MESSAGE_LEN (message_length p);
   empty = (command p == CBOR) && (message_length p == 0);
@@ -136,7 +136,7 @@ unfolding message_after
 message_none s f m a alone small is = grind arith
 
 event_row : (s : Tests) (w : Option ℕ) (g : ℕ) (o : Option Open) (f : Fields) (m : Option Message) → Agree s
-    → is_on w (channel_of f) ≡ s.on
+    → is_busy_here w (channel_of f) ≡ s.on
     → m ≡ message_after o f (Begins (row s))
     → cond (s.cancel && s.on) (Some Cancel) (cond ((s.init && s.eight) && s.on) (Some Drop) (request_event m))
     ≡ verdict_event (class_verdict g o w f m (Begins (row s))) (bytes_of m)
@@ -227,7 +227,7 @@ start_some g b t x few og st =
 
 -- ---- continuation packets
 
-last_at_more : (es : List ReceivedInput) (t : ℕ) (e : ReceivedInput) → last_at t (es ++ e ∷ []) ≡ e.at
+last_at_more : (es : List ReceivedInput) (t : ℕ) (e : ReceivedInput) → time_of_last_packet t (es ++ e ∷ []) ≡ e.at
 last_at_more [] t e = refl
 last_at_more (x ∷ es) t e = last_at_more es x.at e
 

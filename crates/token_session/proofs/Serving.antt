@@ -7,8 +7,8 @@ use Rattle.authn_core.specs.Turn.{CoreState, working_channel}
 use Rattle.token_session.specs.declared.input.{Input.Input, Input.TheVariants.Packet, Timed.Timed, Meters.Meters}
 use Rattle.std.specs.Option.{option_or}
 use Rattle.token_session.specs.declared.cause.Cause.{Cause}
-use Rattle.token_session.specs.Causes.{verdict_cause, event_cause, served_cause}
-use Rattle.token_session.specs.Machine.{MachineState, MachineTurn, event_sends_keepalive, time_passed, turn, served}
+use Rattle.token_session.specs.Causes.{verdict_cause, event_cause, input_cause}
+use Rattle.token_session.specs.Machine.{MachineState, MachineTurn, event_sends_keepalive, time_passed, turn, processed_input}
 use Rattle.token_session.{specs.Machine.turn_packets, proofs.Passing.whole}
 use Rattle.token_session.specs.{Events.event_core, Events.event_packets, Meters.SessionState, Meters.counted}
 use Rattle.token_session.specs.Effects.{assembly_after, input_event, input_verdict, request_in, verdict_packets}
@@ -16,35 +16,35 @@ use Rattle.token_session.specs.Effects.{assembly_after, input_event, input_verdi
 -- An input was served: what is left after it, and what it sent.
 pub record IsServed (v : SessionState) (early : List (List ℕ)) (i : Input) (left : SessionState) (sent : List (List ℕ))
     (cause : Option Cause) : Type 0 where
-  pub state : left.machine ≡ (served v.machine early i).state
-  pub meters : left.meters ≡ counted v.meters (request_in (served v.machine early i).event)
-  pub packets : sent ≡ (served v.machine early i).packets
-  pub why : cause ≡ served_cause v.machine i
+  pub state : left.machine ≡ (processed_input v.machine early i).state
+  pub meters : left.meters ≡ counted v.meters (request_in (processed_input v.machine early i).event)
+  pub packets : sent ≡ (processed_input v.machine early i).packets
+  pub why : cause ≡ input_cause v.machine i
 
 module _ (n b : ℕ) (a d : Assembly) (k : CoreState) (m : Meters) (v : SessionState) (early : List (List ℕ))
     (w : Option ℕ)
     (is : record { machine = whole n a k b; meters = m } ≡ v) (ew : w ≡ working_channel k)
     (i : Input) (ed : d ≡ assembly_after a n w i) (V : Verdict) (eV : V ≡ input_verdict a w i) where
   turned : (E : Option Event) → E ≡ input_event i V d.finished
-      → turn_packets n d.given d.current k b early (verdict_packets V d.finished) E ≡ served v.machine early i
+      → turn_packets n d.given d.current k b early (verdict_packets V d.finished) E ≡ processed_input v.machine early i
   unfolding accepted verdict
   turned E eE = rw (← is, eE, eV) (input_turn i ed)
     where
       input_turn : (i : Input) → d ≡ assembly_after a n w i
           → turn_packets n d.given d.current k b early (verdict_packets (input_verdict a w i) d.finished)
           (input_event i (input_verdict a w i) d.finished)
-          ≡ served (whole n a k b) early i
+          ≡ processed_input (whole n a k b) early i
       input_turn (Packet x) ed = rw (ed, ew) refl
       input_turn other ed = rw ed refl
 
   caused : (E : Option Event) → E ≡ input_event i V d.finished
-      → option_or (verdict_cause V) (event_cause k n E) ≡ served_cause v.machine i
+      → option_or (verdict_cause V) (event_cause k n E) ≡ input_cause v.machine i
   unfolding accepted verdict
   caused E eE = rw (← is, eE, eV) (input_caused i ed)
     where
       input_caused : (i : Input) → d ≡ assembly_after a n w i
           → option_or (verdict_cause (input_verdict a w i)) (event_cause k n (input_event i (input_verdict a w i) d.finished))
-          ≡ served_cause (whole n a k b) i
+          ≡ input_cause (whole n a k b) i
       input_caused (Packet x) ed = rw (ed, ew) refl
       input_caused other ed = refl
 
@@ -86,7 +86,7 @@ module _ (n b : ℕ) (a d : Assembly) (k : CoreState) (m : Meters) (v : SessionS
 pub step_turn : (v mid : MachineState) (t : ℕ) (x : Timed) (early : List (List ℕ)) → t ≡ max v.now x.at
     → mid ≡ (time_passed v t).state
     → early ≡ (time_passed v t).packets
-    → served mid early x.input ≡ turn v x
+    → processed_input mid early x.input ≡ turn v x
 unfolding turn
 step_turn v mid t x early a b e = rw (b, e, a) refl
 

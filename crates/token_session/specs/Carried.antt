@@ -11,33 +11,33 @@ AreFullPackets [] = Unit {0}
 AreFullPackets (p ∷ ps) = (length p ≡ 64) × AreFullPackets ps
 
 -- If the input is a packet, it has 64 bytes.
-abbrev pub IsWhole : Input → Type 0
-IsWhole (Packet p) = length p.0 ≡ 64
-IsWhole other = Unit {0}
+abbrev pub HasFullPacket : Input → Type 0
+HasFullPacket (Packet p) = length p.0 ≡ 64
+HasFullPacket other = Unit {0}
 
 -- Each packet among these inputs has 64 bytes.
-abbrev pub AreWhole : List ReceivedInput → Type 0
-AreWhole [] = Unit {0}
-AreWhole (e ∷ es) = IsWhole e.input × AreWhole es
+abbrev pub HaveFullPackets : List ReceivedInput → Type 0
+HaveFullPackets [] = Unit {0}
+HaveFullPackets (e ∷ es) = HasFullPacket e.input × HaveFullPackets es
 
 -- Each packet among these inputs has 64 bytes.
-abbrev pub ArriveWhole : List Timed → Type 0
-ArriveWhole [] = Unit {0}
-ArriveWhole (x ∷ xs) = IsWhole x.input × ArriveWhole xs
+abbrev pub ArriveWithFullPackets : List Timed → Type 0
+ArriveWithFullPackets [] = Unit {0}
+ArriveWithFullPackets (x ∷ xs) = HasFullPacket x.input × ArriveWithFullPackets xs
 
 -- The packets of the open message if packet `p` completes it: its initialization packet, its channel's packets since
 -- then, and `p`. Otherwise none.
-unfoldable pub long_carriers : Option MessageStart → List ℕ → List (List ℕ)
-long_carriers None p = []
-long_carriers (Some b) p = if is_last_packet b p then b.packet ∷ (packets_of b.own ++ p ∷ []) else []
+unfoldable pub open_message_packets : Option MessageStart → List ℕ → List (List ℕ)
+open_message_packets None p = []
+open_message_packets (Some b) p = if is_last_packet b p then b.packet ∷ (packets_of b.own ++ p ∷ []) else []
 
 -- The packets of the message that an input completes: the input's packet if it is a whole message, or those of the
 -- open message if the input has its last packet.
-unfoldable pub carriers : Option MessageStart → Bool → Input → List (List ℕ)
-carriers o admitted (Packet p) = if admitted && nat_le (message_length p.0) INIT_PACKET_DATA then p.0 ∷ []
-    else long_carriers o p.0
-carriers o admitted other = []
+unfoldable pub completed_message_packets : Option MessageStart → Bool → Input → List (List ℕ)
+completed_message_packets o admitted (Packet p) = if admitted && nat_le (message_length p.0) INIT_PACKET_DATA then p.0 ∷ []
+    else open_message_packets o p.0
+completed_message_packets o admitted other = []
 
 -- The packets of the message that an input completes after a history.
-abbrev pub carriers_at : ReceivedInput → List ReceivedInput → List (List ℕ)
-carriers_at e past = carriers (open_at past e.at) e.admitted e.input
+abbrev pub completed_packets_at : ReceivedInput → List ReceivedInput → List (List ℕ)
+completed_packets_at e past = completed_message_packets (open_at past e.at) e.admitted e.input

@@ -2,7 +2,7 @@
 use Rattle.std.specs.Prelude.{ℕ, max, List, [], Option, Some, None, if◌then◌else◌}
 use Rattle.std.specs.Option.{option_or}
 use Rattle.hid_assemble.specs.{Table.Open, Assembly.Assembly, Assembly.is_overdue}
-use Rattle.hid_assemble.specs.Refusals.{last_of}
+use Rattle.hid_assemble.specs.Refusals.{last_packet_time}
 use Rattle.hid_assemble.specs.declared.refusal.Refusal.{Refusal as TransportRefusal, TheVariants.Overdue}
 use Rattle.hid_assemble.specs.declared.verdict.Verdict.{Verdict, TheVariants.Refuse}
 use Rattle.ctap_message.specs.{declared.fault.RequestFault.RequestFault, RequestFaults.fault_in}
@@ -17,7 +17,7 @@ use Rattle.token_session.specs.{Machine.MachineState, Machine.time_passed, Law.s
 
 -- The cause of dropping a message that timed out, if any.
 unfoldable pub time_cause : Option Open → ℕ → Option TransportRefusal
-time_cause current at = if is_overdue current at then Some (Overdue (last_of current) at) else None
+time_cause current at = if is_overdue current at then Some (Overdue (last_packet_time current) at) else None
 
 -- The cause of a verdict that refuses a packet.
 abbrev pub verdict_cause : Verdict → Option Cause
@@ -41,8 +41,8 @@ event_cause core at None = None
 event_cause core at (Some e) = command_cause e (core_refusal core at e)
 
 -- The cause of a refusal: the transport rejects the input, or the authenticator rejects its event.
-abbrev pub served_cause : MachineState → Input → Option Cause
-served_cause s i =
+abbrev pub input_cause : MachineState → Input → Option Cause
+input_cause s i =
     let a : Assembly = record { given = s.given; current = s.current; finished = [] } in
     let v = input_verdict a (working_channel s.core) i in
     let after = assembly_after a s.now (working_channel s.core) i in
@@ -52,7 +52,7 @@ served_cause s i =
 unfoldable pub causes_of : MachineState → Timed → TwoCauses
 causes_of s x = let at = max s.now x.at in record {
   time = time_cause s.current at;
-  input = served_cause (time_passed s at).state x.input;
+  input = input_cause (time_passed s at).state x.input;
 }
 
 -- The causes that a history defines for the next input.

@@ -3,7 +3,7 @@ use Rattle.std.specs.Prelude.{◌≡◌, ℕ, ◌+◌, ◌<◌, ◌≤◌, ◌++
 use Rattle.token_session.specs.declared.{input.Timed.Timed, input.Sent.Sent, driver.BothFault.BothFault}
 use Rattle.token_session.specs.declared.driver.DriveFault.{DriveFault, TheVariants.Full}
 use Rattle.token_session.specs.declared.driver.BothFault.TheVariants.{Full as BothFull}
-use Rattle.token_session.specs.{Law.with_input_number, Meters.SessionState, Meters.stepped, Meters.sent_by}
+use Rattle.token_session.specs.{Law.with_input_number, Meters.SessionState, Meters.stepped, Meters.input_packets_of}
 use Rattle.hid_packet.specs.Limits.{OUTBOX_CAPACITY}
 
 -- A packet that was sent, with the number of its input.
@@ -22,7 +22,7 @@ state_after_inputs s (x ∷ xs) = state_after_inputs (stepped s x) xs
 -- The packets that the inputs send, each with the number of its input.
 abbrev pub packets_of_inputs : ℕ → SessionState → List Timed → List (ℕ × List ℕ)
 packets_of_inputs n s [] = []
-packets_of_inputs n s (x ∷ xs) = with_input_number n (sent_by s x) ++ packets_of_inputs (n + 1) (stepped s x) xs
+packets_of_inputs n s (x ∷ xs) = with_input_number n (input_packets_of s x) ++ packets_of_inputs (n + 1) (stepped s x) xs
 
 -- The number of an error of one run.
 abbrev pub drive_number : DriveFault → ℕ
@@ -33,9 +33,9 @@ abbrev pub both_number : BothFault → ℕ
 both_number (BothFull first second) = 1
 
 -- How many of n inputs were processed.
-abbrev pub done_of : {A : Type 0} → ℕ → Result A DriveFault → ℕ
-done_of n (Ok x) = n
-done_of n (Err (Full done)) = done
+abbrev pub inputs_done : {A : Type 0} → ℕ → Result A DriveFault → ℕ
+inputs_done n (Ok x) = n
+inputs_done n (Err (Full done)) = done
 
 -- How many of n inputs the first run processed.
 abbrev pub first_done : {A : Type 0} → ℕ → Result A BothFault → ℕ

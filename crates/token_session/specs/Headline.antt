@@ -6,7 +6,7 @@ use Rattle.hid_assemble.specs.Assembly.{Message}
 use Rattle.cred_table.specs.{declared.row.Row.Row, Waiting.pending_count}
 use Rattle.ctap_message.specs.Requests.{steps_of}
 use Rattle.authn_core.specs.Turn.{Start}
-use Rattle.token_session.specs.{declared.input.Timed.Timed, Carried.carriers_at, Inputs.ReceivedInput, Messages.message_completed_at}
+use Rattle.token_session.specs.{declared.input.Timed.Timed, Carried.completed_packets_at, Inputs.ReceivedInput, Messages.message_completed_at}
 use Rattle.authn_core.specs.Exchanges.{rows_after}
 use Rattle.token_session.specs.Answered.{exchanges_of, received_inputs, packets_sent}
 use Rattle.token_session.specs.{History.received, History.held, History.core, Meters.requests}
@@ -16,11 +16,11 @@ abbrev pub start_of : (aaguid : List ℕ) → (moment capacity : ℕ) → List R
 start_of aaguid moment capacity rows = record { aaguid = aaguid; moment = moment; capacity = capacity; rows = rows }
 
 -- Each message that an input completes was received in its channel's packets.
-abbrev pub AllCarried : List ReceivedInput → Type 0
-AllCarried [] = Unit {0}
-AllCarried (e ∷ past) =
-    ((m : Message) → message_completed_at e past ≡ Some m → CarriesMessage (carriers_at e past) m.cid m.cmd m.bytes)
-    × AllCarried past
+abbrev pub AllReceivedInPackets : List ReceivedInput → Type 0
+AllReceivedInPackets [] = Unit {0}
+AllReceivedInPackets (e ∷ past) =
+    ((m : Message) → message_completed_at e past ≡ Some m → CarriesMessage (completed_packets_at e past) m.cid m.cmd m.bytes)
+    × AllReceivedInPackets past
 
 -- Properties of a history, newest first, in which these packets were sent, stated without an authenticator's state.
 pub record IsAnswered (start : Start) (h : List Timed) (packets : List (List ℕ)) : Type 0 where
@@ -31,6 +31,6 @@ pub record IsAnswered (start : Start) (h : List Timed) (packets : List (List ℕ
 -- Properties of a history that its packets don't show: completed messages are those that their packets carry, and the
 -- number of pending assertions and the steps of parsing are bounded.
 pub record IsBounded (start : Start) (h : List Timed) : Type 0 where
-  pub carried : AllCarried (received start h)
+  pub carried : AllReceivedInPackets (received start h)
   pub pending : pending_count (core start (received start h)).state.pending ≤ start.capacity
   pub steps : AllByRecursion (λ m. steps_of m ≤ 4 * (length m - 1) + 2) (requests start (received start h))

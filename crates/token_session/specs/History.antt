@@ -7,7 +7,7 @@ use Rattle.std.specs.List.{list_any}
 use Rattle.hid_packet.specs.Commands.{PING, INIT, CBOR, CANCEL, KEEPALIVE}
 use Rattle.hid_packet.specs.Limits.{data_capacity}
 use Rattle.hid_packet.specs.Packet.{channel, is_initialization, command, message_length, sequence, is_command}
-use Rattle.hid_assemble.specs.{Table.is_allocated, Table.is_on, Table.init_packet_row, Assembly.Message}
+use Rattle.hid_assemble.specs.{Table.is_allocated, Table.is_busy_here, Table.init_packet_row, Assembly.Message}
 use Rattle.authn_core.specs.State.{Event, Cancel, Drop}
 use Rattle.authn_core.specs.Turn.{Start, CoreState, working_channel, first_state, waiting}
 use Rattle.token_session.specs.declared.input.{Input.Input, Input.TheVariants.Packet, Timed.Timed}
@@ -20,8 +20,8 @@ use Rattle.token_session.specs.Events.{reply_event, event_core, event_packets, k
 -- a request.
 unfoldable pub packet_event : Option ℕ → Option Message → List ℕ → Option Event
 packet_event work m p =
-    if is_command CANCEL p && is_on work (channel p) then Some Cancel
-    else if is_command INIT p && (message_length p == 8) && is_on work (channel p) then Some Drop
+    if is_command CANCEL p && is_busy_here work (channel p) then Some Cancel
+    else if is_command INIT p && (message_length p == 8) && is_busy_here work (channel p) then Some Drop
     else request_event m
 
 -- The event of an input.

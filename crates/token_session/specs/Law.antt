@@ -19,8 +19,8 @@ state_of start h = record {
 }
 
 -- The state is the one that the history defines.
-abbrev pub IsAfter : MachineState → Start → List Timed → Type 0
-IsAfter s start h = s ≡ state_of start (received start h)
+abbrev pub IsMachineAfter : MachineState → Start → List Timed → Type 0
+IsMachineAfter s start h = s ≡ state_of start (received start h)
 
 -- The packets that input x sends after history h.
 unfoldable pub sent_now : Start → List Timed → Timed → List (List ℕ)

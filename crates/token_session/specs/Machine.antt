@@ -1,7 +1,7 @@
 -- The composed machine: the transport and the authenticator together, as a state and the effect of an input on it. It
 -- has no history.
 use Rattle.std.specs.Prelude.{ℕ, Bool, false, not, ◌&&◌, List, [], ◌∷◌, ◌++◌, max, Option, Some, None, if◌then◌else◌}
-use Rattle.hid_assemble.specs.{Table.Open, Table.is_on, Assembly.Assembly, Assembly.is_overdue, Assembly.still_open}
+use Rattle.hid_assemble.specs.{Table.Open, Table.is_busy_here, Assembly.Assembly, Assembly.is_overdue, Assembly.still_open}
 use Rattle.authn_core.specs.State.{Answer, Event, Waits}
 use Rattle.authn_core.specs.Turn.{Start, CoreState, core_answer, working_channel, first_state, waiting}
 use Rattle.token_session.specs.Replies.{error, response_channel, status_of}
@@ -44,7 +44,7 @@ time_passed s at =
 
 -- Whether an answer sends a KEEPALIVE.
 unfoldable pub response_sends_keepalive : Option ℕ → Option ℕ → Answer → Bool
-response_sends_keepalive (Some cid) before (Waits status) = not (is_on before status)
+response_sends_keepalive (Some cid) before (Waits status) = not (is_busy_here before status)
 response_sends_keepalive _ before _ = false
 
 -- Whether an event sends a KEEPALIVE.
@@ -69,8 +69,8 @@ turn_packets at given current core keepalive_at early packets e =
     }
 
 -- An input is processed by the transport's verdict on it, after the packets that are due by time.
-abbrev pub served : MachineState → List (List ℕ) → Input → MachineTurn
-served s early i =
+abbrev pub processed_input : MachineState → List (List ℕ) → Input → MachineTurn
+processed_input s early i =
     let a : Assembly = record { given = s.given; current = s.current; finished = [] } in
     let v = input_verdict a (working_channel s.core) i in
     let after = assembly_after a s.now (working_channel s.core) i in
@@ -79,7 +79,7 @@ served s early i =
 
 -- One input: a time earlier than the latest counts as the latest. First time passes, then the input is processed.
 unfoldable pub turn : MachineState → Timed → MachineTurn
-turn s x = let at = max s.now x.at in served (time_passed s at).state (time_passed s at).packets x.input
+turn s x = let at = max s.now x.at in processed_input (time_passed s at).state (time_passed s at).packets x.input
 
 -- The state of the composed machine at a start.
 unfoldable pub start_state : Start → MachineState

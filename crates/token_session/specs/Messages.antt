@@ -58,16 +58,16 @@ abbrev pub packets_of : List ReceivedInput → List (List ℕ)
 packets_of es = map (λ e. packet e.input) es
 
 -- The time of a message's last own packet.
-abbrev pub last_at : ℕ → List ReceivedInput → ℕ
-last_at t [] = t
-last_at t (e ∷ es) = last_at e.at es
+abbrev pub time_of_last_packet : ℕ → List ReceivedInput → ℕ
+time_of_last_packet t [] = t
+time_of_last_packet t (e ∷ es) = time_of_last_packet e.at es
 
 -- The open message with the data of its packets.
 abbrev pub to_open : MessageStart → Open
 to_open b =
     let p = b.packet in
     let bytes = joined_data p (packets_of b.own) in
-    let last = last_at b.at b.own in
+    let last = time_of_last_packet b.at b.own in
     record { cid = channel p; cmd = command p; len = message_length p; bytes = bytes; kept = length b.own; last = last }
 
 -- The message in these packets.

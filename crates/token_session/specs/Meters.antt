@@ -67,8 +67,8 @@ pub record SessionState : Type 0 where
   pub meters : Meters
 
 -- The meters after a turn of the composed machine.
-abbrev pub metered_by : Meters → MachineTurn → Meters
-metered_by m t =
+abbrev pub with_turn_metered : Meters → MachineTurn → Meters
+with_turn_metered m t =
     metered m (stored_len t.state.current) (length t.state.core.state.rows) (pending_count t.state.core.state.pending)
     (request_in t.event)
 
@@ -76,12 +76,12 @@ metered_by m t =
 unfoldable pub stepped : SessionState → Timed → SessionState
 stepped s x = record {
   machine = (turn s.machine x).state;
-  meters = metered_by s.meters (turn s.machine x);
+  meters = with_turn_metered s.meters (turn s.machine x);
 }
 
 -- The packets that the input sends.
-abbrev pub sent_by : SessionState → Timed → List (List ℕ)
-sent_by s x = (turn s.machine x).packets
+abbrev pub input_packets_of : SessionState → Timed → List (List ℕ)
+input_packets_of s x = (turn s.machine x).packets
 
 -- The session that a history defines.
 unfoldable pub session_of : Start → List ReceivedInput → SessionState

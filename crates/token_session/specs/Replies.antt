@@ -4,7 +4,7 @@ use Rattle.std.specs.Prelude.{ℕ, ◌+◌, ◌==◌, List, [], ◌∷◌, ◌++
 use Rattle.byteorder.specs.Endian.{big_bytes}
 use Rattle.hid_packet.specs.Commands.{PING, INIT, CBOR, KEEPALIVE, ERROR, BROADCAST}
 use Rattle.hid_packet.specs.{Packet.channel, Packet.initialization_data, Message.message_packets}
-use Rattle.hid_assemble.specs.{Table.is_on, Assembly.Message}
+use Rattle.hid_assemble.specs.{Table.is_busy_here, Assembly.Message}
 use Rattle.hid_assemble.specs.declared.table.ReplyRow.{ReplyRow, TheVariants.NoSuchCommand, TheVariants.BadLength}
 use Rattle.hid_assemble.specs.declared.table.ReplyRow.TheVariants.{NoSuchChannel, InitLength, InitFull, InitNew}
 use Rattle.hid_assemble.specs.declared.table.ReplyRow.TheVariants.{InitAgain, BusyElsewhere, BusyHere, BrokenOff}
@@ -59,5 +59,5 @@ response_channel work e = option_map (λ w. w.cid) work
 -- A request that becomes pending or changes its status sends a KEEPALIVE.
 unfoldable pub answer_packets : Option ℕ → Option ℕ → Answer → List (List ℕ)
 answer_packets (Some cid) before (Answered bytes) = message_packets cid CBOR bytes
-answer_packets (Some cid) before (Waits status) = if is_on before status then [] else keepalive cid status
+answer_packets (Some cid) before (Waits status) = if is_busy_here before status then [] else keepalive cid status
 answer_packets _ before _ = []

@@ -1,7 +1,7 @@
 //! The authenticator within a session, and the packets that it sends.
 ghost use Rattle.std.specs.Prelude.{◌≡◌, ◌+◌, ◌≤◌, ◌++◌, Some, length, option_map, if◌then◌else◌};
 ghost use Rattle.hid_assemble.specs.Assembly.{still_open};
-ghost use Rattle.authn_core.specs.Views.{answer_of, event_of, work_of};
+ghost use Rattle.authn_core.specs.Views.{to_answer, to_event, to_work};
 ghost use Rattle.token_session.specs.Replies.{answer_packets, init_response, status_of};
 ghost use Rattle.token_session.specs.Machine.{response_sends_keepalive, event_sends_keepalive};
 ghost use Rattle.token_session.specs.Meters.{AreBounded, counted};
@@ -59,17 +59,17 @@ impl<const C: usize> AuthenticatorState<C> {
     pub(crate) fn take(&mut self, now: u64, event: &Event<'_>, outbox: &mut Outbox) -> Option<Cause>
         requires later { self.old.core.latest ≤ now }
         requires bounded { AreBounded self.old.meters }
-        requires few { length outbox.old + length (event_packets self.old.core.core now (Some (event_of event.now)))
+        requires few { length outbox.old + length (event_packets self.old.core.core now (Some (to_event event.now)))
             ≤ OUTBOX_CAPACITY }
-        ensures core { self.new.core.core ≡ event_core self.old.core.core now (Some (event_of event.now)) }
+        ensures core { self.new.core.core ≡ event_core self.old.core.core now (Some (to_event event.now)) }
         ensures latest { self.new.core.latest ≤ now }
         ensures keepalive { self.new.keepalive_at ≡ (if event_sends_keepalive self.old.core.core now
-            (Some (event_of event.now)) then now else self.old.keepalive_at) }
-        ensures meters { self.new.meters ≡ counted self.old.meters (request_in (Some (event_of event.now))) }
+            (Some (to_event event.now)) then now else self.old.keepalive_at) }
+        ensures meters { self.new.meters ≡ counted self.old.meters (request_in (Some (to_event event.now))) }
         ensures bounded { AreBounded self.new.meters }
         ensures packets { outbox.new ≡ outbox.old
-            ++ event_packets self.old.core.core now (Some (event_of event.now)) }
-        ensures why { result ≡ event_cause self.old.core.core now (Some (event_of event.now)) }
+            ++ event_packets self.old.core.core now (Some (to_event event.now)) }
+        ensures why { result ≡ event_cause self.old.core.core now (Some (to_event event.now)) }
     {
         steps_are_bounded();
         let before = self.core.work();
@@ -109,14 +109,14 @@ impl<const C: usize> AuthenticatorState<C> {
         answer: &Answer,
         outbox: &mut Outbox,
     )
-        requires { length outbox.old + length (answer_packets (Some cid) (status_of (option_map work_of before))
-            (answer_of turn answer.now.items)) ≤ OUTBOX_CAPACITY }
+        requires { length outbox.old + length (answer_packets (Some cid) (status_of (option_map to_work before))
+            (to_answer turn answer.now.items)) ≤ OUTBOX_CAPACITY }
         ensures others { self.new ≡ record self.old { keepalive_at = self.new.keepalive_at } }
         ensures keepalive { self.new.keepalive_at ≡ (if response_sends_keepalive (Some cid)
-            (status_of (option_map work_of before)) (answer_of turn answer.now.items)
+            (status_of (option_map to_work before)) (to_answer turn answer.now.items)
             then now else self.old.keepalive_at) }
         ensures packets { outbox.new ≡ outbox.old ++ answer_packets (Some cid)
-            (status_of (option_map work_of before)) (answer_of turn answer.now.items) }
+            (status_of (option_map to_work before)) (to_answer turn answer.now.items) }
     {
         match turn {
             Turn::Answer | Turn::Refuses(_) => outbox.put_message(cid, CBOR, answer.as_slice()),

@@ -1,6 +1,6 @@
 //! Why an input was refused.
 ghost use Rattle.std.specs.Prelude.{◌≡◌};
-ghost use Rattle.authn_core.specs.Views.{event_of, refusal_of};
+ghost use Rattle.authn_core.specs.Views.{to_event, refusal_of};
 ghost use Rattle.token_session.specs.Causes.{command_cause};
 
 use authn_core::{Event, Refusal, Turn};
@@ -26,7 +26,7 @@ pub struct Causes {
 
 /// Returns the cause of an event's refusal, if it was refused.
 pub(crate) fn cause_of(turn: Turn, event: &Event<'_>) -> Option<Cause>
-    ensures { result ≡ command_cause (event_of event.now) (refusal_of turn) }
+    ensures { result ≡ command_cause (to_event event.now) (refusal_of turn) }
 {
     let Turn::Refuses(why) = turn else {
         return None;

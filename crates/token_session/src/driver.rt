@@ -3,8 +3,8 @@ ghost use Rattle.std.specs.Prelude.{◌≡◌, ◌+◌, ◌<◌, ◌≤◌, ◌+
 ghost use Rattle.arrayvec.specs.ArrayVec.{array_vec_len};
 ghost use Rattle.authn_core.specs.Turn.{Start};
 ghost use Rattle.token_session.specs.declared.input.Timed.{Timed as OneInput};
-ghost use Rattle.token_session.specs.Carried.{ArriveWhole, IsWhole};
-ghost use Rattle.token_session.specs.Drive.{numbered_packet, packet_of, both_number, drive_number, done_of, first_done, second_done, HadCapacity, IsDriven};
+ghost use Rattle.token_session.specs.Carried.{ArriveWithFullPackets, HasFullPacket};
+ghost use Rattle.token_session.specs.Drive.{numbered_packet, packet_of, both_number, drive_number, inputs_done, first_done, second_done, HadCapacity, IsDriven};
 ghost use Rattle.token_session.specs.Headline.{IsAnswered, IsBounded, start_of};
 ghost use Rattle.token_session.specs.Answered.{packets_sent_from};
 ghost use Rattle.token_session.specs.Law.{with_input_number, append_inputs, sent_from};
@@ -83,7 +83,7 @@ fn packet_bounds(packet: &Packet)
 
 /// States that the packet of an input, if it is one, has 64 bytes, for proofs. Has no effect.
 fn input_bounds(input: &Input)
-    ensures { IsWhole input.now }
+    ensures { HasFullPacket input.now }
 {
     if let Input::Packet(packet) = input {
         packet_bounds(packet);
@@ -99,24 +99,24 @@ pub fn drive<const C: usize, const N: usize>(
 ) -> Result<Meters, DriveFault>
     // The session and the list are those after the stepped inputs.
     ensures run { IsDriven N session.old session.new (map numbered_packet sent.old.items) (map numbered_packet sent.new.items)
-        inputs.now (done_of (length inputs.now) result) }
+        inputs.now (inputs_done (length inputs.now) result) }
     ensures meters { IfOk result (λ meters. meters ≡ session.new.meters) }
     // Each packet of the stepped inputs has 64 bytes.
-    ensures whole { ArriveWhole (take (done_of (length inputs.now) result) inputs.now) }
+    ensures whole { ArriveWithFullPackets (take (inputs_done (length inputs.now) result) inputs.now) }
     // It fails if and only if there is too little capacity.
-    ensures full { IfErr result (λ e. (done_of 0 result < length inputs.now)
+    ensures full { IfErr result (λ e. (inputs_done 0 result < length inputs.now)
         × (N < array_vec_len sent.new + OUTBOX_CAPACITY)) }
     // After any history.
     ensures after { (start : Start) (h : List OneInput) → IsStateAfter session.old start h
-        → IsStateAfter session.new start (append_inputs (take (done_of (length inputs.now) result) inputs.now) h) }
+        → IsStateAfter session.new start (append_inputs (take (inputs_done (length inputs.now) result) inputs.now) h) }
     ensures sent { (start : Start) (h : List OneInput) → IsStateAfter session.old start h
         → map numbered_packet sent.new.items ≡ map numbered_packet sent.old.items
-        ++ sent_from 0 start h (take (done_of (length inputs.now) result) inputs.now) }
+        ++ sent_from 0 start h (take (inputs_done (length inputs.now) result) inputs.now) }
     ensures follows { (start : Start) (h : List OneInput) → IsStateAfterValidStart session.old start h
-        → IsStateAfterValidStart session.new start (append_inputs (take (done_of (length inputs.now) result) inputs.now) h) }
+        → IsStateAfterValidStart session.new start (append_inputs (take (inputs_done (length inputs.now) result) inputs.now) h) }
     ensures told { (start : Start) (h : List OneInput) → IsStateAfterValidStart session.old start h
         → map numbered_packet sent.new.items ≡ map numbered_packet sent.old.items
-        ++ packets_sent_from 0 start h (take (done_of (length inputs.now) result) inputs.now) }
+        ++ packets_sent_from 0 start h (take (inputs_done (length inputs.now) result) inputs.now) }
 {
     answers_follow_history();
     let mut outbox = Outbox::new();
@@ -142,23 +142,23 @@ pub fn drive_new<const C: usize, const N: usize>(
     sent: &mut ArrayVec<Sent, N>,
 ) -> Result<Meters, DriveFault>
     ensures answered { IsAnswered (start_of config.aaguid start C (⟦<Store<C> as Table<C>>⟧.rows rows.entry))
-        (reverse (take (done_of (length inputs.now) result) inputs.now)) (map packet_of sent.new.items) }
+        (reverse (take (inputs_done (length inputs.now) result) inputs.now)) (map packet_of sent.new.items) }
     ensures bounded { IsBounded (start_of config.aaguid start C (⟦<Store<C> as Table<C>>⟧.rows rows.entry))
-        (reverse (take (done_of (length inputs.now) result) inputs.now)) }
+        (reverse (take (inputs_done (length inputs.now) result) inputs.now)) }
     // Each packet has the number of its input.
     ensures numbers { map numbered_packet sent.new.items
         ≡ packets_sent_from 0 (start_of config.aaguid start C (⟦<Store<C> as Table<C>>⟧.rows rows.entry)) []
-        (take (done_of (length inputs.now) result) inputs.now) }
+        (take (inputs_done (length inputs.now) result) inputs.now) }
     ensures meters { IfOk result (λ meters. meters
         ≡ meters_of (start_of config.aaguid start C (⟦<Store<C> as Table<C>>⟧.rows rows.entry))
         (received (start_of config.aaguid start C (⟦<Store<C> as Table<C>>⟧.rows rows.entry)) (reverse inputs.now))) }
     // It fails if and only if there is too little capacity.
-    ensures full { IfErr result (λ e. (done_of 0 result < length inputs.now)
+    ensures full { IfErr result (λ e. (inputs_done 0 result < length inputs.now)
         × (N < array_vec_len sent.new + OUTBOX_CAPACITY)) }
     // Before each input that was stepped there was capacity for 130 packets.
     ensures capacity { HadCapacity N []
         (session_of (start_of config.aaguid start C (⟦<Store<C> as Table<C>>⟧.rows rows.entry)) [])
-        inputs.now (done_of (length inputs.now) result) }
+        inputs.now (inputs_done (length inputs.now) result) }
 {
     every_history_is_answered();
     sent.clear();

@@ -19,13 +19,13 @@ ghost use Rattle.hid_packet.specs.Carries.{CarriesMessage};
 ghost use Rattle.hid_assemble.specs.Assembly.{Assembly, Message};
 ghost use Rattle.token_session.specs.declared.input.Input.{Input};
 ghost use Rattle.token_session.specs.Arriving.{MessageArrives};
-ghost use Rattle.token_session.specs.Carried.{ArriveWhole, carriers_at};
+ghost use Rattle.token_session.specs.Carried.{ArriveWithFullPackets, completed_packets_at};
 ghost use Rattle.token_session.specs.Inputs.{latest_time, channels_allocated};
 ghost use Rattle.token_session.specs.Messages.{message_completed_at, open_at};
 ghost use Rattle.token_session.specs.History.{received_after, received, held, core, sent, service_packets, last_keepalive};
 ghost use Rattle.token_session.specs.Machine.{MachineState, machine, turn, time_passed};
 ghost use Rattle.token_session.specs.Events.{event_packets};
-ghost use Rattle.token_session.specs.Law.{all_open, IsAfter, sent_now, append_inputs, sent_from, run_state, run_sent, turns_send, has_keepalive};
+ghost use Rattle.token_session.specs.Law.{all_open, IsMachineAfter, sent_now, append_inputs, sent_from, run_state, run_sent, turns_send, has_keepalive};
 ghost use Rattle.token_session.specs.Credentials.{steps};
 ghost use Rattle.token_session.specs.Signing.{latest_requests, IsAnsweredBy};
 ghost use Rattle.token_session.specs.Answered.{AgreesWithExchanges, exchanges_of, pending_work_of};
@@ -35,15 +35,15 @@ ghost use Rattle.token_session.specs.Noise.{HasTicksForNoise, is_noise_among, is
 ghost use Rattle.hid_packet.specs.Limits.{MAX_STORED_LEN, OUTBOX_CAPACITY};
 
 use authn_core::laws::{
-    answers_follow_history as answering_law, rows_follow_history, signed_bytes_differ,
-    signed_bytes_are_in_the_response as signing_law,
+    answers_follow_history as answering_law, rows_follow_history,
+    signed_bytes_are_in_the_response as signing_law, signed_bytes_differ,
 };
 use ctap_message::laws::steps_are_bounded;
 
 /// States that after any history, the machine is in the state that the history's definition gives, and each input sends
 /// the packets that it gives.
 pub fn machine_follows_history()
-    ensures state { (start : Start) (h : List OneInput) → IsAfter (machine start h) start h }
+    ensures state { (start : Start) (h : List OneInput) → IsMachineAfter (machine start h) start h }
     ensures packets { (start : Start) (h : List OneInput) (x : OneInput)
         → (turn (machine start h) x).packets ≡ sent_now start h x }
 {}
@@ -51,9 +51,9 @@ pub fn machine_follows_history()
 /// States that a machine that is in the state of a history stays in that of the longer history after each further
 /// input, and sends the packets of the longer history.
 pub fn runs_follow_history()
-    ensures state { (s : MachineState) (start : Start) (h xs : List OneInput) → IsAfter s start h
-        → IsAfter (run_state s xs) start (append_inputs xs h) }
-    ensures packets { (s : MachineState) (start : Start) (n : ℕ) (h xs : List OneInput) → IsAfter s start h
+    ensures state { (s : MachineState) (start : Start) (h xs : List OneInput) → IsMachineAfter s start h
+        → IsMachineAfter (run_state s xs) start (append_inputs xs h) }
+    ensures packets { (s : MachineState) (start : Start) (n : ℕ) (h xs : List OneInput) → IsMachineAfter s start h
         → run_sent n s xs ≡ sent_from n start h xs }
 {}
 
@@ -125,9 +125,9 @@ pub fn one_input_sends_few_packets()
 /// States that the bytes of a completed message are exactly the data of its initialization packet and its channel's
 /// following packets, up to the one that completes it.
 pub fn finished_messages_were_received()
-    ensures { (start : Start) (h : List OneInput) (x : OneInput) (m : Message) → ArriveWhole (x ∷ h)
+    ensures { (start : Start) (h : List OneInput) (x : OneInput) (m : Message) → ArriveWithFullPackets (x ∷ h)
         → message_completed_at (received_after start h x) (received start h) ≡ Some m
-        → CarriesMessage (carriers_at (received_after start h x) (received start h)) m.cid m.cmd m.bytes }
+        → CarriesMessage (completed_packets_at (received_after start h x) (received start h)) m.cid m.cmd m.bytes }
 {}
 
 /// States that an ignored input has the same effect as a tick: the same state and meters afterwards, and a tick sends
@@ -140,7 +140,7 @@ pub fn noise_is_a_tick()
     ensures answered { (a : Assembly) (core : CoreState) (now : ℕ) (i : Input)
         → is_noise_among a.given a.current core i ≡ is_turned_away_by a core now i }
     ensures packets { (s : MachineState) (at : ℕ) → (turn s (tick_at at)).packets ≡ (time_passed s (max s.now at)).packets }
-    ensures named { (s : MachineState) (start : Start) (h : List OneInput) (x : OneInput) → IsAfter s start h
+    ensures named { (s : MachineState) (start : Start) (h : List OneInput) (x : OneInput) → IsMachineAfter s start h
         → is_noise_at s x ≡ is_noise_after start (received_after start h x) (received start h) }
 {}
 
@@ -211,7 +211,7 @@ pub fn answers_follow_history()
 pub fn every_history_is_answered()
     ensures answered { (start : Start) (h : List OneInput) → ValidRows start.capacity start.rows
         → IsAnswered start h (turns_send start h) }
-    ensures bounded { (start : Start) (h : List OneInput) → ValidRows start.capacity start.rows → ArriveWhole h
+    ensures bounded { (start : Start) (h : List OneInput) → ValidRows start.capacity start.rows → ArriveWithFullPackets h
         → IsBounded start h }
 {
     rows_follow_history();

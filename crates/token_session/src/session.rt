@@ -1,7 +1,7 @@
 ghost use Rattle.std.specs.Prelude.{◌≡◌, ◌≤◌, [], ◌∷◌, List, Ok, length, MatchResult, OnOk};
 ghost use Rattle.hid_assemble.specs.Assembly.{stored_len};
-ghost use Rattle.authn_core.specs.Needs.{IsNeed};
-ghost use Rattle.authn_core.specs.Views.{first_contents, needs, needed_reply};
+ghost use Rattle.authn_core.specs.Needs.{IsValidNeed};
+ghost use Rattle.authn_core.specs.Views.{first_contents, needs, to_needed};
 ghost use Rattle.cred_table.specs.declared.row.Row.{Row as AnyRow};
 ghost use Rattle.cred_table.specs.Snapshots.{Loads, Refuses};
 ghost use Rattle.cred_table.specs.Waiting.{pending_count};
@@ -12,9 +12,9 @@ ghost use Rattle.token_session.specs.History.{received_after, received, held};
 ghost use Rattle.token_session.specs.Answered.{packets_sent_now};
 ghost use Rattle.token_session.specs.Law.{sent_now};
 ghost use Rattle.token_session.specs.Effects.{request_in};
-ghost use Rattle.token_session.specs.Meters.{AreBounded, IsStateAfterValidStart, SessionState, IsStateAfter, counted, stepped, sent_by, session_of};
-ghost use Rattle.token_session.specs.Causes.{time_cause, served_cause, causes_of, causes_after};
-ghost use Rattle.token_session.specs.Machine.{time_passed, served};
+ghost use Rattle.token_session.specs.Meters.{AreBounded, IsStateAfterValidStart, SessionState, IsStateAfter, counted, stepped, input_packets_of, session_of};
+ghost use Rattle.token_session.specs.Causes.{time_cause, input_cause, causes_of, causes_after};
+ghost use Rattle.token_session.specs.Machine.{time_passed, processed_input};
 ghost use Rattle.token_session.specs.Noise.{is_noise_at, is_noise_after};
 ghost use Rattle.hid_packet.specs.Limits.{MAX_STORED_LEN, OUTBOX_CAPACITY};
 
@@ -159,7 +159,7 @@ impl<const C: usize> Session<C> {
         requires { outbox.old ≡ [] }
         // The new state and the packets are those of the composed machine.
         ensures state { self.new ≡ stepped self.old (record { at = at; input = input }) }
-        ensures packets { outbox.new ≡ sent_by self.old (record { at = at; input = input }) }
+        ensures packets { outbox.new ≡ input_packets_of self.old (record { at = at; input = input }) }
         ensures few { length outbox.new ≤ OUTBOX_CAPACITY }
         // For each history that leads to the session's state: the history with this input leads to its new state, and
         // exactly the packets that the history defines for the input are sent.
@@ -223,8 +223,8 @@ impl<const C: usize> Session<C> {
 
     /// Returns what the authenticator needs from its caller, with the exact bytes to sign, at most 196.
     pub fn need(&self) -> Need<'_>
-        ensures value { needed_reply result ≡ needs self.now.machine.core.state.work }
-        ensures sized { IsNeed (needed_reply result) }
+        ensures value { to_needed result ≡ needs self.now.machine.core.state.work }
+        ensures sized { IsValidNeed (to_needed result) }
     {
         self.authenticator.core.need()
     }
@@ -293,11 +293,11 @@ impl<const C: usize> Session<C> {
     /// Processes an input, after the packets due by time were sent.
     fn serve(&mut self, input: &Input, outbox: &mut Outbox) -> Option<Cause>
         requires { length outbox.old ≤ 1 }
-        ensures state { self.new.machine ≡ (served self.old.machine outbox.old input.now).state }
+        ensures state { self.new.machine ≡ (processed_input self.old.machine outbox.old input.now).state }
         ensures meters { self.new.meters
-            ≡ counted self.old.meters (request_in (served self.old.machine outbox.old input.now).event) }
-        ensures packets { outbox.new ≡ (served self.old.machine outbox.old input.now).packets }
-        ensures why { result ≡ served_cause self.old.machine input.now }
+            ≡ counted self.old.meters (request_in (processed_input self.old.machine outbox.old input.now).event) }
+        ensures packets { outbox.new ≡ (processed_input self.old.machine outbox.old input.now).packets }
+        ensures why { result ≡ input_cause self.old.machine input.now }
     {
         let now = self.latest;
         match input {
@@ -317,11 +317,11 @@ impl<const C: usize> Session<C> {
     #[tactic(auto, using(hid_packet::proofs::Carrying::few_written))]
     fn serve_packet(&mut self, packet: &Packet, outbox: &mut Outbox) -> Option<Cause>
         requires { length outbox.old ≤ 1 }
-        ensures state { self.new.machine ≡ (served self.old.machine outbox.old (inputs.Packet packet.now)).state }
+        ensures state { self.new.machine ≡ (processed_input self.old.machine outbox.old (inputs.Packet packet.now)).state }
         ensures meters { self.new.meters
-            ≡ counted self.old.meters (request_in (served self.old.machine outbox.old (inputs.Packet packet.now)).event) }
-        ensures packets { outbox.new ≡ (served self.old.machine outbox.old (inputs.Packet packet.now)).packets }
-        ensures why { result ≡ served_cause self.old.machine (inputs.Packet packet.now) }
+            ≡ counted self.old.meters (request_in (processed_input self.old.machine outbox.old (inputs.Packet packet.now)).event) }
+        ensures packets { outbox.new ≡ (processed_input self.old.machine outbox.old (inputs.Packet packet.now)).packets }
+        ensures why { result ≡ input_cause self.old.machine (inputs.Packet packet.now) }
     {
         let now = self.latest;
         let working = self.authenticator.core.work().map(|work| work.cid);

@@ -12,7 +12,7 @@ use arrayvec::ArrayVec;
 use base64::engine::general_purpose::URL_SAFE_NO_PAD;
 
 /// Number of characters written at a time.
-const LETTERS: usize = 12288;
+const ENCODED_CHUNK_LEN: usize = 12288;
 
 /// Returns the six bits of a base64url character.
 fn decode_char(letter: u8) -> Option<u8>
@@ -66,7 +66,7 @@ pub fn decode(text: &[u8], member: &'static str) -> Result<Text, Rejection> {
 pub fn encode<const N: usize>(bytes: &[u8], out: &mut ArrayVec<u8, N>) -> Result<(), ()>
     ensures { OnOk result (out.new.items ≡ out.old.items ++ encode_of url_safe_no_pad bytes.now) }
 {
-    let mut letters = [0u8; LETTERS];
+    let mut letters = [0u8; ENCODED_CHUNK_LEN];
     let Ok(len) = URL_SAFE_NO_PAD.encode_slice(bytes, &mut letters) else {
         return Err(());
     };

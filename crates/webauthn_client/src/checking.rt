@@ -3,11 +3,11 @@
 use std::str::from_utf8;
 
 /// Maximum nesting of arrays and objects.
-const LEVELS: u8 = 64;
+const MAX_NESTING: u8 = 64;
 
 /// The state within a number.
 #[derive(Clone, Copy)]
-enum Digits {
+enum NumberState {
     Minus,
     Zero,
     Whole,
@@ -31,7 +31,7 @@ enum ExpectedToken {
     Escape(bool),
     Hex(bool, u8),
     Word(&'static [u8]),
-    Number(Digits),
+    Number(NumberState),
 }
 
 /// The state of the validation. Open brackets are bits, 1 for an object, the innermost lowest.
@@ -55,7 +55,7 @@ impl Checker {
 
     /// Handles an opening bracket.
     fn begin(self, is_object: bool) -> Option<Checker> {
-        if self.levels >= LEVELS {
+        if self.levels >= MAX_NESTING {
             return None;
         }
         let bit = if is_object { 1 } else { 0 };
@@ -91,9 +91,9 @@ impl Checker {
             b't' => self.expecting(ExpectedToken::Word(b"rue")),
             b'f' => self.expecting(ExpectedToken::Word(b"alse")),
             b'n' => self.expecting(ExpectedToken::Word(b"ull")),
-            b'-' => self.expecting(ExpectedToken::Number(Digits::Minus)),
-            b'0' => self.expecting(ExpectedToken::Number(Digits::Zero)),
-            b'1'..=b'9' => self.expecting(ExpectedToken::Number(Digits::Whole)),
+            b'-' => self.expecting(ExpectedToken::Number(NumberState::Minus)),
+            b'0' => self.expecting(ExpectedToken::Number(NumberState::Zero)),
+            b'1'..=b'9' => self.expecting(ExpectedToken::Number(NumberState::Whole)),
             _ => None,
         }
     }
@@ -121,7 +121,11 @@ impl Checker {
     /// Handles a byte of a string or key.
     fn text(self, is_key: bool, byte: u8) -> Option<Checker> {
         match byte {
-            b'"' => self.expecting(if is_key { ExpectedToken::Colon } else { ExpectedToken::Next }),
+            b'"' => self.expecting(if is_key {
+                ExpectedToken::Colon
+            } else {
+                ExpectedToken::Next
+            }),
             b'\\' => self.expecting(ExpectedToken::Escape(is_key)),
             0..=31 => None,
             _ => Some(self),
@@ -131,7 +135,9 @@ impl Checker {
     /// Handles the byte after a backslash.
     fn escape(self, is_key: bool, byte: u8) -> Option<Checker> {
         match byte {
-            b'"' | b'\\' | b'/' | b'b' | b'f' | b'n' | b'r' | b't' => self.expecting(ExpectedToken::Text(is_key)),
+            b'"' | b'\\' | b'/' | b'b' | b'f' | b'n' | b'r' | b't' => self.expecting(
+                ExpectedToken::Text(is_key),
+            ),
             b'u' => self.expecting(ExpectedToken::Hex(is_key, 3)),
             _ => None,
         }
@@ -162,16 +168,18 @@ impl Checker {
     }
 
     /// Handles a byte in or after a number.
-    fn number(self, digits: Digits, byte: u8) -> Option<Checker> {
+    fn number(self, digits: NumberState, byte: u8) -> Option<Checker> {
         let next = match (digits, byte) {
-            (Digits::Minus, b'0') => Digits::Zero,
-            (Digits::Minus, b'1'..=b'9') => Digits::Whole,
-            (Digits::Whole, b'0'..=b'9') => Digits::Whole,
-            (Digits::Zero | Digits::Whole, b'.') => Digits::Point,
-            (Digits::Point | Digits::Fraction, b'0'..=b'9') => Digits::Fraction,
-            (Digits::Zero | Digits::Whole | Digits::Fraction, b'e' | b'E') => Digits::E,
-            (Digits::E, b'+' | b'-') => Digits::Sign,
-            (Digits::E | Digits::Sign | Digits::Exponent, b'0'..=b'9') => Digits::Exponent,
+            (NumberState::Minus, b'0') => NumberState::Zero,
+            (NumberState::Minus, b'1'..=b'9') => NumberState::Whole,
+            (NumberState::Whole, b'0'..=b'9') => NumberState::Whole,
+            (NumberState::Zero | NumberState::Whole, b'.') => NumberState::Point,
+            (NumberState::Point | NumberState::Fraction, b'0'..=b'9') => NumberState::Fraction,
+            (NumberState::Zero | NumberState::Whole | NumberState::Fraction, b'e' | b'E') =>
+                NumberState::E,
+            (NumberState::E, b'+' | b'-') => NumberState::Sign,
+            (NumberState::E | NumberState::Sign | NumberState::Exponent, b'0'..=b'9') =>
+                NumberState::Exponent,
             _ => {
                 if !ends(digits) {
                     return None;
@@ -206,7 +214,9 @@ impl Checker {
         match (self.at, byte) {
             (ExpectedToken::Colon, b':') => self.expecting(ExpectedToken::Value),
             (ExpectedToken::Colon, _) => None,
-            (ExpectedToken::Key | ExpectedToken::KeyOrEnd, b'"') => self.expecting(ExpectedToken::Text(true)),
+            (ExpectedToken::Key | ExpectedToken::KeyOrEnd, b'"') => self.expecting(
+                ExpectedToken::Text(true),
+            ),
             (ExpectedToken::KeyOrEnd, b'}') => self.close(true),
             (ExpectedToken::Key | ExpectedToken::KeyOrEnd, _) => None,
             (ExpectedToken::ItemOrEnd, b']') => self.close(false),
@@ -226,10 +236,10 @@ impl Checker {
 }
 
 /// Returns whether a number may end.
-fn ends(digits: Digits) -> bool {
+fn ends(digits: NumberState) -> bool {
     matches!(
         digits,
-        Digits::Zero | Digits::Whole | Digits::Fraction | Digits::Exponent
+        NumberState::Zero | NumberState::Whole | NumberState::Fraction | NumberState::Exponent
     )
 }
 

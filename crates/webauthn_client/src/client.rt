@@ -15,7 +15,7 @@ use crate::number::unsigned_long;
 use crate::options::{Abilities, is_conditional, public_key};
 use crate::rejection::{DomError, Rejection, not_allowed, type_error};
 use crate::relying_party::{Origin, parse_origin};
-use crate::response::{Response, authentication_json, registration_json, invalid_response};
+use crate::response::{Response, authentication_json, invalid_response, registration_json};
 use crate::{registration, sign_in};
 use ctap_cbor::check;
 
@@ -33,10 +33,10 @@ pub struct Client<'a> {
 }
 
 /// The default time-out, in milliseconds.
-const TIMEOUT: u32 = 600_000;
+const DEFAULT_TIMEOUT_MS: u32 = 600_000;
 
 /// Returns the error that the page gets for a CTAP status code.
-fn rejection_of(status: u8) -> Rejection
+fn status_rejection(status: u8) -> Rejection
     ensures excluded { status ≡ 25 → result.error ≡ InvalidState }
     ensures others { status ≢ 25 → result.error ≡ NotAllowed }
 {
@@ -75,7 +75,7 @@ impl<'a> Client<'a> {
         }
         let timeout = match member(options, "timeout") {
             Some(timeout) if !is_conditional => unsigned_long(timeout),
-            _ => TIMEOUT,
+            _ => DEFAULT_TIMEOUT_MS,
         };
         Ok(Client {
             ceremony,
@@ -91,14 +91,14 @@ impl<'a> Client<'a> {
     /// Appends the CTAP2 request. Fails if browsers would reject the options' values.
     pub fn request(&self, message: &mut Message) -> Result<(), Rejection> {
         match self.ceremony {
-            Ceremony::Create => registration::request_of(
+            Ceremony::Create => registration::encode_request(
                 self.options,
                 &self.origin,
                 self.suffix,
                 self.abilities,
                 message,
             )?,
-            Ceremony::Get => sign_in::request_of(
+            Ceremony::Get => sign_in::encode_request(
                 self.options,
                 &self.origin,
                 self.suffix,
@@ -128,8 +128,8 @@ impl<'a> Client<'a> {
     /// Returns the client data of the call.
     pub fn client_data(&self) -> Result<ClientData, Rejection> {
         match self.ceremony {
-            Ceremony::Create => registration::client_data_of(self.options, &self.origin),
-            Ceremony::Get => sign_in::client_data_of(self.options, &self.origin),
+            Ceremony::Create => registration::create_client_data(self.options, &self.origin),
+            Ceremony::Get => sign_in::create_client_data(self.options, &self.origin),
         }
     }
 
@@ -159,7 +159,7 @@ impl<'a> Client<'a> {
     {
         match answer.split_first() {
             Some((0, map)) => self.response(map, out),
-            Some((status, _)) => Err(rejection_of(*status)),
+            Some((status, _)) => Err(status_rejection(*status)),
             None => Err(not_allowed("the key's response is empty")),
         }
     }

@@ -6,10 +6,10 @@ ghost use Rattle.webauthn_client.specs.declared.rejection.DomError.TheVariants.{
 
 use crate::json::{Kind, inside, kind_of, member, next_value};
 use crate::number::boolean;
-use crate::options::{bytes_of, dictionary, optional_dictionary, required};
+use crate::options::{decode_member, dictionary, optional_dictionary, required};
 use crate::rejection::{DomError, Rejection, not_allowed, type_error};
 use crate::relying_party::{Origin, check_site};
-use crate::text::{is_word, text_of};
+use crate::text::{is_word, to_string_value};
 
 /// Returns an extension by its name.
 pub fn extension<'a>(extensions: Option<&'a [u8]>, name: &str) -> Option<&'a [u8]> {
@@ -83,9 +83,9 @@ pub fn check_extension_types(extensions: Option<&[u8]>) -> Result<(), Rejection>
 
 /// Checks that the `prf` inputs are base64url.
 fn check_prf_bytes(value: &[u8]) -> Result<(), Rejection> {
-    bytes_of(required(value, "first")?, "extensions.prf.first")?;
+    decode_member(required(value, "first")?, "extensions.prf.first")?;
     if let Some(second) = member(value, "second") {
-        bytes_of(second, "extensions.prf.second")?;
+        decode_member(second, "extensions.prf.second")?;
     }
     Ok(())
 }
@@ -93,10 +93,10 @@ fn check_prf_bytes(value: &[u8]) -> Result<(), Rejection> {
 /// Checks that the extensions' binary inputs are base64url.
 pub fn check_extension_bytes(extensions: Option<&[u8]>) -> Result<(), Rejection> {
     if let Some(blob) = extension(extensions, "credBlob") {
-        bytes_of(blob, "extensions.credBlob")?;
+        decode_member(blob, "extensions.credBlob")?;
     }
     if let Some(written) = inner_member(extensions, "largeBlob", "write") {
-        bytes_of(written, "extensions.largeBlob.write")?;
+        decode_member(written, "extensions.largeBlob.write")?;
     }
     if let Some(values) = inner_member(extensions, "prf", "eval") {
         check_prf_bytes(values)?;
@@ -130,7 +130,10 @@ fn check_protection(
         && !is_required
         && !is_word(policy, "userVerificationOptionalWithCredentialIDList")
     {
-        return Err(unsupported("credentialProtectionPolicy", "must be one of the three credential protection policies"));
+        return Err(unsupported(
+            "credentialProtectionPolicy",
+            "must be one of the three credential protection policies",
+        ));
     }
     if is_required && !is_word(verification.unwrap_or(b"null"), "required") {
         return Err(unsupported(
@@ -149,7 +152,7 @@ fn check_app_id(value: Option<&[u8]>, origin: &Origin) -> Result<(), Rejection> 
     let Some(value) = value else {
         return Ok(());
     };
-    let text = text_of(value)?;
+    let text = to_string_value(value)?;
     if text.is_empty() {
         return Ok(());
     }
@@ -210,7 +213,7 @@ fn credential_names(record: &[u8]) -> (bool, bool) {
             break;
         };
         has_any = true;
-        if is_word(key, "") || bytes_of(key, "").is_err() {
+        if is_word(key, "") || decode_member(key, "").is_err() {
             return (true, false);
         }
         rest = after;
@@ -240,9 +243,11 @@ pub fn check_request(
             "only one of read and write is allowed at a time",
         ));
     }
-    let (has_any, are_ids) = credential_names(inner_member(extensions, "prf", "evalByCredential").unwrap_or(
-        b"",
-    ));
+    let (has_any, are_ids) = credential_names(inner_member(
+        extensions,
+        "prf",
+        "evalByCredential",
+    ).unwrap_or(b""));
     if has_any && !has_list {
         return Err(unsupported("prf", "evalByCredential needs a non-empty allowCredentials"));
     }

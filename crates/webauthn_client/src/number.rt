@@ -4,7 +4,7 @@
 ghost use Rattle.std.specs.Prelude.{◌≤◌, length};
 
 use crate::json::{Kind, inside, kind_of, next_value};
-use crate::text::text_of;
+use crate::text::to_string_value;
 
 /// Returns the integer part of a decimal number modulo 2^32, or 0 for other strings.
 fn decimal(text: &[u8]) -> u32 {
@@ -40,7 +40,7 @@ pub fn unsigned_long(value: &[u8]) -> u32 {
     match kind_of(value) {
         Kind::True => 1,
         Kind::False | Kind::Null | Kind::Object => 0,
-        _ => match text_of(value) {
+        _ => match to_string_value(value) {
             Ok(text) => decimal(text.as_slice().trim_ascii()),
             Err(_) => 0,
         },

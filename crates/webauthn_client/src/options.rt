@@ -9,7 +9,7 @@ use crate::json::{Kind, inside, kind_of, member, next_value};
 use crate::message::{Message, put, put_bytes, put_head};
 use crate::number::count;
 use crate::rejection::{DomError, Rejection, not_allowed, type_error};
-use crate::text::{Text, is_word, text_of};
+use crate::text::{Text, is_word, to_string_value};
 
 /// Whether the authenticator verifies the user: it can't, it does, or verification fails.
 #[derive(Clone, Copy, Debug, PartialEq, Eq)]
@@ -35,7 +35,7 @@ impl Abilities {
 }
 
 /// Maximum number of credentials in a list.
-const LIST: usize = 64;
+const MAX_LIST_LEN: usize = 64;
 
 /// Checks that a value is a dictionary. An array counts as one without members.
 pub fn dictionary(value: &[u8], name: &'static str) -> Result<(), Rejection> {
@@ -105,8 +105,8 @@ pub fn check_descriptors(list: Option<&[u8]>, name: &'static str) -> Result<(), 
 }
 
 /// Decodes a base64url member.
-pub fn bytes_of(value: &[u8], name: &'static str) -> Result<Text, Rejection> {
-    let text = text_of(value)?;
+pub fn decode_member(value: &[u8], name: &'static str) -> Result<Text, Rejection> {
+    let text = to_string_value(value)?;
     decode(text.as_slice(), name)
 }
 
@@ -118,7 +118,7 @@ pub fn check_ids(list: Option<&[u8]>, name: &'static str) -> Result<(), Rejectio
         let Some((item, after)) = next_value(rest) else {
             break;
         };
-        bytes_of(required(item, "id")?, name)?;
+        decode_member(required(item, "id")?, name)?;
         rest = after;
     }
     Ok(())
@@ -126,7 +126,7 @@ pub fn check_ids(list: Option<&[u8]>, name: &'static str) -> Result<(), Rejectio
 
 /// Checks the length of a list of credential descriptors.
 pub fn check_length(list: Option<&[u8]>, name: &'static str) -> Result<(), Rejection> {
-    if count(list.unwrap_or(b"")) > LIST {
+    if count(list.unwrap_or(b"")) > MAX_LIST_LEN {
         return Err(Rejection {
             error: DomError::Range,
             member: name,
@@ -169,7 +169,7 @@ pub fn put_descriptors(message: &mut Message, list: &[u8]) -> Result<(), Rejecti
             break;
         };
         if is_public_key(item) {
-            let id = bytes_of(required(item, "id")?, "id")?;
+            let id = decode_member(required(item, "id")?, "id")?;
             put(message, b"\xa2\x62id")?;
             put_bytes(message, id.as_slice())?;
             put(message, b"\x64type\x6apublic-key")?;

@@ -9,12 +9,13 @@ use crate::json::{inside, member, next_value};
 use crate::message::{Message, put, put_bytes, put_head, put_long, put_text};
 use crate::number::{boolean, count, unsigned_long};
 use crate::options::{
-    Abilities, bytes_of, check_descriptors, check_ids, check_length, dictionary, is_public_key,
-    is_verified, public_key_count, optional_dictionary, put_descriptors, required, sequence,
+    Abilities, check_descriptors, check_ids, check_length, decode_member, dictionary,
+    is_public_key, is_verified, optional_dictionary, public_key_count, put_descriptors, required,
+    sequence,
 };
 use crate::rejection::{DomError, Rejection, not_allowed, type_error};
-use crate::relying_party::{Origin, rp_id_of};
-use crate::text::{is_word, text_of};
+use crate::relying_party::{Origin, select_rp_id};
+use crate::text::{is_word, to_string_value};
 use sha2::{Digest, Sha256};
 
 /// Checks the types in `pubKeyCredParams`.
@@ -63,9 +64,9 @@ pub fn check_types(options: &[u8]) -> Result<(), Rejection> {
     }
     check_parameters(required(options, "pubKeyCredParams")?)?;
     check_entities(options)?;
-    bytes_of(challenge, "challenge")?;
+    decode_member(challenge, "challenge")?;
     check_ids(excluded, "excludeCredentials.id")?;
-    bytes_of(required(required(options, "user")?, "id")?, "user.id")?;
+    decode_member(required(required(options, "user")?, "id")?, "user.id")?;
     check_extension_bytes(extensions)
 }
 
@@ -142,22 +143,28 @@ fn put_entities(message: &mut Message, options: &[u8], rp_id: &[u8]) -> Result<(
     let user = required(options, "user")?;
     put_text(
         message,
-        text_of(required(required(options, "rp")?, "name")?)?.as_slice(),
+        to_string_value(required(required(options, "rp")?, "name")?)?.as_slice(),
     )?;
     put(message, b"\x03\xa3\x62id")?;
     put_bytes(
         message,
-        bytes_of(required(user, "id")?, "user.id")?.as_slice(),
+        decode_member(required(user, "id")?, "user.id")?.as_slice(),
     )?;
     put(message, b"\x64name")?;
-    put_text(message, text_of(required(user, "name")?)?.as_slice())?;
+    put_text(
+        message,
+        to_string_value(required(user, "name")?)?.as_slice(),
+    )?;
     put(message, b"\x6bdisplayName")?;
-    put_text(message, text_of(required(user, "displayName")?)?.as_slice())
+    put_text(
+        message,
+        to_string_value(required(user, "displayName")?)?.as_slice(),
+    )
 }
 
 /// Checks the options' values, as browsers do before they check the RP ID.
 fn check_values(options: &[u8], origin: &Origin) -> Result<(), Rejection> {
-    if bytes_of(required(required(options, "user")?, "id")?, "user.id")?.len() > 64 {
+    if decode_member(required(required(options, "user")?, "id")?, "user.id")?.len() > 64 {
         return Err(type_error("user.id", "User handle exceeds 64 bytes"));
     }
     check_length(member(options, "excludeCredentials"), "excludeCredentials")?;
@@ -188,13 +195,13 @@ pub fn requests_verification(options: &[u8], abilities: Abilities) -> Result<boo
 }
 
 /// Returns the client data of a registration.
-pub fn client_data_of(options: &[u8], origin: &Origin) -> Result<ClientData, Rejection> {
-    let challenge = bytes_of(required(options, "challenge")?, "challenge")?;
+pub fn create_client_data(options: &[u8], origin: &Origin) -> Result<ClientData, Rejection> {
+    let challenge = decode_member(required(options, "challenge")?, "challenge")?;
     write_client_data(Ceremony::Create, challenge.as_slice(), origin)
 }
 
 /// Appends the request of a registration.
-pub fn request_of(
+pub fn encode_request(
     options: &[u8],
     origin: &Origin,
     suffix: &[u8],
@@ -203,12 +210,12 @@ pub fn request_of(
 ) -> Result<(), Rejection> {
     check_values(options, origin)?;
     let given = match member(required(options, "rp")?, "id") {
-        Some(id) => Some(text_of(id)?),
+        Some(id) => Some(to_string_value(id)?),
         None => None,
     };
     let rp_id = match &given {
-        Some(id) => rp_id_of(Some(id.as_slice()), origin, suffix)?,
-        None => rp_id_of(None, origin, suffix)?,
+        Some(id) => select_rp_id(Some(id.as_slice()), origin, suffix)?,
+        None => select_rp_id(None, origin, suffix)?,
     };
     check_abilities(options, abilities)?;
     requests_verification(options, abilities)?;
@@ -221,7 +228,7 @@ pub fn request_of(
     put(message, b"\x01")?;
     put_bytes(
         message,
-        &Sha256::digest(client_data_of(options, origin)?.as_slice()),
+        &Sha256::digest(create_client_data(options, origin)?.as_slice()),
     )?;
     put_entities(message, options, rp_id)?;
     put(message, b"\x04")?;

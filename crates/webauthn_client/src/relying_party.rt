@@ -31,7 +31,7 @@ fn is_host_char(byte: u8) -> bool {
 }
 
 /// Parses the host after the scheme, and checks the port after it.
-fn host_of(rest: &[u8]) -> Option<&[u8]> {
+fn parse_host(rest: &[u8]) -> Option<&[u8]> {
     let len = rest
         .iter()
         .position(|&byte| !is_host_char(byte))
@@ -60,7 +60,7 @@ pub fn parse_origin<'a>(text: &'a [u8]) -> Option<Origin<'a>> {
         (_, Some(rest)) => (false, rest),
         _ => return None,
     };
-    let host = host_of(rest)?;
+    let host = parse_host(rest)?;
     Some(Origin {
         text,
         host,
@@ -123,7 +123,7 @@ fn check_context(origin: &Origin) -> Result<(), Rejection> {
 
 /// Returns the RP ID: the given one if the page may use it, or else its host. If the caller passes no public suffix,
 /// the last label is used.
-pub fn rp_id_of<'a>(
+pub fn select_rp_id<'a>(
     given: Option<&'a [u8]>,
     origin: &Origin<'a>,
     suffix: &[u8],

@@ -39,7 +39,7 @@ pub fn invalid_response() -> Rejection
 }
 
 /// Returns a member of a response map by its number.
-fn part_of<'a>(map: &'a [u8], number: i128) -> Option<ResponseMember<'a>> {
+fn response_member<'a>(map: &'a [u8], number: i128) -> Option<ResponseMember<'a>> {
     let mut cursor = Cursor::new(map);
     let Ok(Item::Map(count)) = cursor.item(1) else {
         return None;
@@ -88,7 +88,11 @@ fn push_encoded(out: &mut Response, bytes: &[u8]) -> Result<(), Rejection>
 }
 
 /// Appends the beginning of a response, with the credential ID.
-fn push_front(out: &mut Response, id: &[u8], client_data: &ClientData) -> Result<(), Rejection> {
+fn push_beginning(
+    out: &mut Response,
+    id: &[u8],
+    client_data: &ClientData,
+) -> Result<(), Rejection> {
     push(out, b"{\"id\":\"")?;
     push_encoded(out, id)?;
     push(out, b"\",\"rawId\":\"")?;
@@ -236,9 +240,9 @@ pub fn registration_json(
     out: &mut Response,
 ) -> Result<(), Rejection> {
     let (Some(format), Some(auth), Some(statement)) = (
-        part_of(map, 1),
-        part_of(map, 2),
-        part_of(map, 3),
+        response_member(map, 1),
+        response_member(map, 2),
+        response_member(map, 3),
     ) else {
         return Err(invalid_response());
     };
@@ -257,7 +261,7 @@ pub fn registration_json(
     push(&mut attestation, statement.whole)?;
     push(&mut attestation, b"\x68authData")?;
     push(&mut attestation, auth.whole)?;
-    push_front(out, id, client_data)?;
+    push_beginning(out, id, client_data)?;
     push(out, b"\",\"authenticatorData\":\"")?;
     push_encoded(out, auth_data)?;
     push(out, b"\",\"attestationObject\":\"")?;
@@ -279,9 +283,9 @@ pub fn authentication_json(
     out: &mut Response,
 ) -> Result<(), Rejection> {
     let (Some(credential), Some(auth), Some(signature)) = (
-        part_of(map, 1),
-        part_of(map, 2),
-        part_of(map, 3),
+        response_member(map, 1),
+        response_member(map, 2),
+        response_member(map, 3),
     ) else {
         return Err(invalid_response());
     };
@@ -293,12 +297,12 @@ pub fn authentication_json(
     let Ok(Item::Bytes(id)) = cursor.item(2) else {
         return Err(invalid_response());
     };
-    push_front(out, id, client_data)?;
+    push_beginning(out, id, client_data)?;
     push(out, b"\",\"authenticatorData\":\"")?;
     push_encoded(out, auth.content)?;
     push(out, b"\",\"signature\":\"")?;
     push_encoded(out, signature.content)?;
-    if let Some(user) = part_of(map, 4) {
+    if let Some(user) = response_member(map, 4) {
         push_user(out, user.whole)?;
     }
     push(out, b"\"},\"clientExtensionResults\":{")?;

@@ -8,12 +8,12 @@ use crate::extensions::{check_extension_bytes, check_extension_types, check_requ
 use crate::json::{inside, member, next_value};
 use crate::message::{Message, put, put_bytes, put_head, put_text};
 use crate::options::{
-    Abilities, bytes_of, check_descriptors, check_ids, check_length, dictionary, is_public_key,
-    is_verified, public_key_count, put_descriptors, required, sequence,
+    Abilities, check_descriptors, check_ids, check_length, decode_member, dictionary,
+    is_public_key, is_verified, public_key_count, put_descriptors, required, sequence,
 };
 use crate::rejection::{Rejection, not_allowed};
-use crate::relying_party::{Origin, rp_id_of};
-use crate::text::{is_word, text_of};
+use crate::relying_party::{Origin, select_rp_id};
+use crate::text::{is_word, to_string_value};
 use sha2::{Digest, Sha256};
 
 /// Checks the options' types, and that binary members are base64url.
@@ -27,14 +27,14 @@ pub fn check_types(options: &[u8]) -> Result<(), Rejection> {
     if let Some(hints) = member(options, "hints") {
         sequence(hints, "hints")?;
     }
-    bytes_of(challenge, "challenge")?;
+    decode_member(challenge, "challenge")?;
     check_ids(allowed, "allowCredentials.id")?;
     check_extension_bytes(extensions)
 }
 
 /// Returns whether a value is this transport's name.
 fn is_transport(value: &[u8]) -> bool {
-    let text = match text_of(value) {
+    let text = match to_string_value(value) {
         Ok(text) => text,
         Err(_) => return false,
     };
@@ -97,13 +97,13 @@ pub fn requests_verification(options: &[u8], abilities: Abilities) -> Result<boo
 }
 
 /// Returns the client data of an authentication.
-pub fn client_data_of(options: &[u8], origin: &Origin) -> Result<ClientData, Rejection> {
-    let challenge = bytes_of(required(options, "challenge")?, "challenge")?;
+pub fn create_client_data(options: &[u8], origin: &Origin) -> Result<ClientData, Rejection> {
+    let challenge = decode_member(required(options, "challenge")?, "challenge")?;
     write_client_data(Ceremony::Get, challenge.as_slice(), origin)
 }
 
 /// Appends the request of an authentication.
-pub fn request_of(
+pub fn encode_request(
     options: &[u8],
     origin: &Origin,
     suffix: &[u8],
@@ -115,12 +115,12 @@ pub fn request_of(
     let has_list = public_key_count(allowed) > 0;
     check_request(member(options, "extensions"), has_list, origin)?;
     let given = match member(options, "rpId") {
-        Some(id) => Some(text_of(id)?),
+        Some(id) => Some(to_string_value(id)?),
         None => None,
     };
     let rp_id = match &given {
-        Some(id) => rp_id_of(Some(id.as_slice()), origin, suffix)?,
-        None => rp_id_of(None, origin, suffix)?,
+        Some(id) => select_rp_id(Some(id.as_slice()), origin, suffix)?,
+        None => select_rp_id(None, origin, suffix)?,
     };
     requests_verification(options, abilities)?;
     if !is_any_usable_over(allowed, abilities.transport()) {
@@ -133,7 +133,7 @@ pub fn request_of(
     put(message, b"\x02")?;
     put_bytes(
         message,
-        &Sha256::digest(client_data_of(options, origin)?.as_slice()),
+        &Sha256::digest(create_client_data(options, origin)?.as_slice()),
     )?;
     if has_list {
         put(message, b"\x03")?;

@@ -36,7 +36,7 @@ pub fn push(out: &mut Text, bytes: &[u8]) -> Result<(), Rejection>
 }
 
 /// Returns the value of a hexadecimal digit, or 0 for other bytes.
-fn digit_of(letter: u8) -> u32
+fn hex_value(letter: u8) -> u32
     ensures { result < 16 }
 {
     match letter {
@@ -132,7 +132,7 @@ impl Reader {
                 self.plain(escaped(byte), out)
             }
             Mode::Hex(left) => {
-                let unit = self.unit % 0x1000 * 16 + digit_of(byte);
+                let unit = self.unit % 0x1000 * 16 + hex_value(byte);
                 if left == 0 {
                     return self.unit(unit, out);
                 }
@@ -205,7 +205,7 @@ pub fn push_value(value: &[u8], out: &mut Text) -> Result<(), Rejection> {
 }
 
 /// Converts a value to a string.
-pub fn text_of(value: &[u8]) -> Result<Text, Rejection> {
+pub fn to_string_value(value: &[u8]) -> Result<Text, Rejection> {
     let mut text = Text::new();
     push_value(value, &mut text)?;
     Ok(text)
@@ -216,7 +216,7 @@ pub fn is_word(value: &[u8], word: &str) -> bool {
     if kind_of(value) == Kind::Text && !value.contains(&b'\\') {
         return value.get(1..value.len().saturating_sub(1)) == Some(word.as_bytes());
     }
-    match text_of(value) {
+    match to_string_value(value) {
         Ok(text) => text.as_slice() == word.as_bytes(),
         Err(_) => false,
     }

@@ -10,7 +10,7 @@ ghost use Rattle.ctap_message.specs.DescriptorWalk.{list_of, left_of};
 ghost use Rattle.sha2.specs.Sha256.{sha256};
 ghost use Rattle.authn_core.specs.State.{AwaitAssertSignature, await_signature};
 ghost use Rattle.authn_core.specs.GetAssertion as get;
-ghost use Rattle.authn_core.specs.Views.{TakesTurn, TakesWork, assert_state_of};
+ghost use Rattle.authn_core.specs.Views.{TakesTurn, TakesWork, to_assert_state};
 ghost use Rattle.authn_core.specs.Ready.{IsPendingAlone, SignsItsResponse};
 
 use crate::authenticator::{Core, Turn};
@@ -144,7 +144,7 @@ impl<T: Table<C>, const C: usize> Core<T, C> {
         requires there { is_some (find (has_id a.now.id) self.old.core.state.rows) ≡ true }
         requires below { counter_of a.now.id self.old.core.state.rows < 2 ^ 32 - 1 }
         ensures { TakesWork self.old self.new result (await_signature self.old.core.state.rows self.old.core.state.pending cid
-            (assert_state_of a.now)) }
+            (to_assert_state a.now)) }
     {
         self.work = None;
         let counter = self.table.raise(&a.id);
@@ -166,7 +166,7 @@ impl<T: Table<C>, const C: usize> Core<T, C> {
         requires there { is_some (find (has_id a.id) self.old.core.state.rows) ≡ true }
         requires below { counter_of a.id self.old.core.state.rows < 2 ^ 32 - 1 }
         ensures { TakesTurn self.old self.new result answer.new.items (get.assertion_after_presence self.old.core.state.rows
-            self.old.core.state.pending cid (assert_state_of a) reply) }
+            self.old.core.state.pending cid (to_assert_state a) reply) }
     {
         match reply {
             Presence::Granted => Turn::Waits(self.sign(cid, &a)),
@@ -184,9 +184,9 @@ impl<T: Table<C>, const C: usize> Core<T, C> {
         signature: &Option<Signature>,
         answer: &mut Answer,
     ) -> Turn
-        requires { SignsItsResponse self.old.core.setup.aaguid (AwaitAssertSignature (assert_state_of a) counter signed.now.items) }
+        requires { SignsItsResponse self.old.core.setup.aaguid (AwaitAssertSignature (to_assert_state a) counter signed.now.items) }
         ensures { TakesTurn self.old self.new result answer.new.items (get.assertion_after_signature self.old.core.state.rows
-            self.old.core.state.pending self.old.latest (assert_state_of a) counter signature.now) }
+            self.old.core.state.pending self.old.latest (to_assert_state a) counter signature.now) }
     {
         let Some(signature) = signature else {
             return self.refuse_and_clear(Refusal::SignatureRefused, answer);

@@ -8,7 +8,7 @@ ghost use Rattle.ctap_message.specs.DescriptorWalk.{left_of};
 ghost use Rattle.authn_core.specs.MakeCredential as make;
 ghost use Rattle.authn_core.specs.State.{AwaitMakeSignature};
 ghost use Rattle.authn_core.specs.Ready.{SignsItsResponse};
-ghost use Rattle.authn_core.specs.Views.{TakesTurn, TakesWork, make_state_of};
+ghost use Rattle.authn_core.specs.Views.{TakesTurn, TakesWork, to_make_state};
 
 use crate::authenticator::{Core, Turn};
 use crate::refusal::{Refusal, presence_refusal};
@@ -22,7 +22,11 @@ use fido_authdata::{AuthData, CREATED_LEN, to_sign};
 use sha2::{Digest, Sha256};
 
 /// Returns whether one of the IDs is that of a credential of the RP.
-fn has_listed_credential<T: Table<C>, const C: usize>(table: &T, rp: &[u8; 32], ids: Descriptors<'_>) -> bool
+fn has_listed_credential<T: Table<C>, const C: usize>(
+    table: &T,
+    rp: &[u8; 32],
+    ids: Descriptors<'_>,
+) -> bool
     ensures { result ≡ make.has_listed_credential rp.now (T.rows table.now) (ids_of (left_of ids.entry)) }
 {
     let mut ids = ids;
@@ -36,9 +40,9 @@ fn has_listed_credential<T: Table<C>, const C: usize>(table: &T, rp: &[u8; 32], 
 
 /// Stores a new credential, replacing that of the same account.
 fn store<T: Table<C>, const C: usize>(table: &mut T, making: MakeState, key: NewKey)
-    requires capacity { make.has_capacity C (make_state_of making) (T.rows table.old) ≡ true }
+    requires capacity { make.has_capacity C (to_make_state making) (T.rows table.old) ≡ true }
     requires fresh { is_some (find (has_id key.id) (T.rows table.old)) ≡ false }
-    ensures { T.rows table.new ≡ rows_with (make.new_row (make_state_of making) key) (T.rows table.old) }
+    ensures { T.rows table.new ≡ rows_with (make.new_row (to_make_state making) key) (T.rows table.old) }
 {
     let MakeState {
         rp,
@@ -102,7 +106,7 @@ impl<T: Table<C>, const C: usize> Core<T, C> {
         answer: &mut Answer,
     ) -> Turn
         ensures { TakesTurn self.old self.new result answer.new.items (make.make_after_presence C self.old.core.state.rows
-            self.old.core.state.pending cid (make_state_of making) excluded reply) }
+            self.old.core.state.pending cid (to_make_state making) excluded reply) }
     {
         if excluded {
             return self.refuse(Refusal::Excluded, answer);
@@ -126,9 +130,9 @@ impl<T: Table<C>, const C: usize> Core<T, C> {
         key: &Option<NewKey>,
         answer: &mut Answer,
     ) -> Turn
-        requires { make.has_capacity C (make_state_of making) self.old.core.state.rows ≡ true }
+        requires { make.has_capacity C (to_make_state making) self.old.core.state.rows ≡ true }
         ensures { TakesTurn self.old self.new result answer.new.items (make.make_after_key self.old.core.setup.aaguid
-            self.old.core.state.rows self.old.core.state.pending cid (make_state_of making) key.now) }
+            self.old.core.state.rows self.old.core.state.pending cid (to_make_state making) key.now) }
     {
         let Some(key) = key else {
             return self.refuse(Refusal::KeyRefused, answer);
@@ -150,11 +154,11 @@ impl<T: Table<C>, const C: usize> Core<T, C> {
         signature: &Option<Signature>,
         answer: &mut Answer,
     ) -> Turn
-        requires capacity { make.has_capacity C (make_state_of making) self.old.core.state.rows ≡ true }
+        requires capacity { make.has_capacity C (to_make_state making) self.old.core.state.rows ≡ true }
         requires fresh { is_some (find (has_id key.id) self.old.core.state.rows) ≡ false }
-        requires signed { SignsItsResponse self.old.core.setup.aaguid (AwaitMakeSignature (make_state_of making) key signed.now.items) }
+        requires signed { SignsItsResponse self.old.core.setup.aaguid (AwaitMakeSignature (to_make_state making) key signed.now.items) }
         ensures { TakesTurn self.old self.new result answer.new.items (make.make_after_signature self.old.core.setup.aaguid
-            self.old.core.state.rows self.old.core.state.pending (make_state_of making) key signature.now) }
+            self.old.core.state.rows self.old.core.state.pending (to_make_state making) key signature.now) }
     {
         let Some(signature) = signature else {
             return self.refuse(Refusal::SignatureRefused, answer);

@@ -1,5 +1,5 @@
-use Rattle.cred_table.specs.Parsing.{TakesRows}
+use Rattle.cred_table.specs.Parsing.{ReadsFirstRows}
 use Rattle.cred_table.proofs.load_snapshot.read_rows.Given as goal
 
 abbrev pub invariant-loop-place : goal.invariant-loop-place
-invariant-loop-place g l = TakesRows l.named l.place l.fn.cursor l.cursor l.rows.list.items
+invariant-loop-place g l = ReadsFirstRows l.named l.place l.fn.cursor l.cursor l.rows.list.items

@@ -1,5 +1,5 @@
 use Rattle.std.proofs.Common.{◌+◌, ◌-◌, ◌&&◌, refl, arith, ◌≡◌, subst}
-use Rattle.ctap_cbor.{specs.Views.part_of, specs.Reading.Takes, specs.Collecting.AddsAll, proofs.Skipping.array_stops}
+use Rattle.ctap_cbor.{specs.Views.to_part, specs.Reading.TakesItem, specs.Collecting.AddsEntries, proofs.Skipping.array_stops}
 use Rattle.ctap_cbor.proofs.Collecting.{all_none, all_more, array_read}
 use Rattle.ctap_cbor.proofs.collect.read_array.Goals as goal
 
@@ -17,9 +17,9 @@ returns-in_err-taken g c = grind (arith, array_stops)
 pub returns : goal.returns
 returns g c =
     let e : c.loop-done.done ≡ c.in-Array.count = omega arith in
-    let takes = subst (λ i. Takes (5 - c.args.level) c.args.cursor.now c.item.new.self (part_of i)) c.in-Array.is
+    let takes = subst (λ i. TakesItem (5 - c.args.level) c.args.cursor.now c.item.new.self (to_part i)) c.in-Array.is
     c.in_ok-other.ensures.takes in
     array_read g.M.Entries.HoldsAll c.args.level c.in-Array.count c.loop-done.ok c.args.entries.now c.loop-done.entries
     c.args.cursor.now c.item.new.self c.loop-done.cursor takes
-    (subst (λ n. AddsAll g.M.Entries.HoldsAll (5 - (c.args.level + 1)) n c.loop-done.ok c.args.entries.now
+    (subst (λ n. AddsEntries g.M.Entries.HoldsAll (5 - (c.args.level + 1)) n c.loop-done.ok c.args.entries.now
     c.loop-done.entries c.item.new.self c.loop-done.cursor) e c.loop-done.invariant)

@@ -1,7 +1,7 @@
 use Rattle.std.proofs.Common.{◌+◌, ◌-◌}
-use Rattle.ctap_cbor.specs.Collecting.{AddsAll}
+use Rattle.ctap_cbor.specs.Collecting.{AddsEntries}
 use Rattle.ctap_cbor.proofs.collect.read_array.Given as goal
 
 abbrev pub invariant-loop-done : goal.invariant-loop-done
-invariant-loop-done g l = AddsAll g.M.Entries.HoldsAll (5 - (l.level + 1)) l.done l.ok l.fn.entries l.entries
+invariant-loop-done g l = AddsEntries g.M.Entries.HoldsAll (5 - (l.level + 1)) l.done l.ok l.fn.entries l.entries
     l.initial.cursor l.cursor

@@ -1,5 +1,5 @@
 use Rattle.std.{proofs.Common.◌+◌, proofs.Common.◌-◌, proofs.Common.◌*◌, specs.Option.option_copied}
-use Rattle.ctap_cbor.specs.{Values.trees_of, Values.pairs_of, Reading.PassesAll, Reading.PassesPairs}
+use Rattle.ctap_cbor.specs.{Values.to_trees, Values.to_pairs, Reading.PassesAll, Reading.PassesPairs}
 use Rattle.ctap_cbor.proofs.decode.+value.Given as goal
 
 abbrev pub decreases-read_value : goal.decreases-read_value
@@ -12,8 +12,8 @@ abbrev pub decreases-read_pairs : goal.decreases-read_pairs
 decreases-read_pairs l = 2 * (5 - l.level) + 1
 
 abbrev pub invariant-read_items-loop-done : goal.invariant-read_items-loop-done
-invariant-read_items-loop-done l = PassesAll (5 - l.level) l.done (trees_of l.items.items) l.fn.cursor l.cursor
+invariant-read_items-loop-done l = PassesAll (5 - l.level) l.done (to_trees l.items.items) l.fn.cursor l.cursor
 
 abbrev pub invariant-read_pairs-loop-done : goal.invariant-read_pairs-loop-done
-invariant-read_pairs-loop-done l = PassesPairs (5 - l.level) l.done (pairs_of l.pairs.items) (option_copied l.previous)
+invariant-read_pairs-loop-done l = PassesPairs (5 - l.level) l.done (to_pairs l.pairs.items) (option_copied l.previous)
     l.fn.cursor l.cursor

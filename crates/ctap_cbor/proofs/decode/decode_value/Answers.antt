@@ -1,5 +1,5 @@
 use Rattle.std.proofs.lemmas.Result.{err_from_is_err_and}
-use Rattle.ctap_cbor.specs.Values.{tree_of}
+use Rattle.ctap_cbor.specs.Values.{to_tree}
 use Rattle.ctap_cbor.proofs.Valuing.{told_by, stopped_outcome, longer_outcome}
 use Rattle.ctap_cbor.proofs.decode.decode_value.Goals as goal
 
@@ -15,4 +15,4 @@ returns-in_err-end-clause-err c =
     let p = err_from_is_err_and c.from_residual-in_err-end.result c.from_residual-in_err-end.ensures.1 in
     let f = c.in_err-end.field-0.0 in
     rw (p.1, p.2) (longer_outcome c.args.bytes.now c.new-cursor.result c.read_value.new.cursor c.end.new.self f
-    (tree_of c.in_ok-value.value) c.new-cursor.ensures c.in_ok-value.ensures c.in_err-end.ensures)
+    (to_tree c.in_ok-value.value) c.new-cursor.ensures c.in_ok-value.ensures c.in_err-end.ensures)

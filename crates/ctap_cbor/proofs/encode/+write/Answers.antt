@@ -8,7 +8,7 @@ use Rattle.ctap_cbor.specs.{Tree.Tree, Head.head, Writes.last_text, Faults.AKey,
 use Rattle.std.proofs.lemmas.Result.{err_from_is_err_and, IfErr-weaker, MatchResult-weaker}
 use Rattle.std.specs.Prelude.{vec_capacity}
 use Rattle.ctap_cbor.specs.Grammar.{text, texts, pair_texts}
-use Rattle.ctap_cbor.specs.Values.{tree_step, tree_of, trees_of, pairs_of}
+use Rattle.ctap_cbor.specs.Values.{tree_step, to_tree, to_trees, to_pairs}
 use Rattle.ctap_cbor.proofs.Written.{array_written, array_fails, map_written, map_fails, item_stops_here}
 use Rattle.ctap_cbor.proofs.Written.{key_stops_here, value_stops_here, pair_here, above_here, span_within}
 use Rattle.ctap_cbor.proofs.Written.{item_short_here, key_short_here, value_short_here, front_short, short_beyond}
@@ -19,18 +19,18 @@ use Rattle.ctap_cbor.proofs.encode.+write.Goals as goal
 
 pub write_value-returns-in-Map-clause-writes : goal.write_value-returns-in-Map-clause-writes
 write_value-returns-in-Map-clause-writes t c =
-    let e : tree_of c.args.value.now ≡ tree.Map (pairs_of c.in-Map.pairs.items) = ap tree_of c.in-Map.is
-    ∙ ap tree_of (sym (rolls-Map c.in-Map.pairs)) ∙ fold-roll-Value Tree tree_step (layer.Map c.in-Map.pairs) in
-    let now : tree_of c.args.value.now ≡ tree.Map (pairs_of c.deref-in-Map.result.now) = e
-    ∙ ap (λ x. tree.Map (pairs_of x)) (sym c.deref-in-Map.ensures.value) in
+    let e : to_tree c.args.value.now ≡ tree.Map (to_pairs c.in-Map.pairs.items) = ap to_tree c.in-Map.is
+    ∙ ap to_tree (sym (rolls-Map c.in-Map.pairs)) ∙ fold-roll-Value Tree tree_step (layer.Map c.in-Map.pairs) in
+    let now : to_tree c.args.value.now ≡ tree.Map (to_pairs c.deref-in-Map.result.now) = e
+    ∙ ap (λ x. tree.Map (to_pairs x)) (sym c.deref-in-Map.ensures.value) in
     rw now c.write_map.ensures.writes
 
 pub write_value-returns-in-Map-clause-short : goal.write_value-returns-in-Map-clause-short
 write_value-returns-in-Map-clause-short t c =
-    let e : tree_of c.args.value.now ≡ tree.Map (pairs_of c.in-Map.pairs.items) = ap tree_of c.in-Map.is
-    ∙ ap tree_of (sym (rolls-Map c.in-Map.pairs)) ∙ fold-roll-Value Tree tree_step (layer.Map c.in-Map.pairs) in
-    let now : tree_of c.args.value.now ≡ tree.Map (pairs_of c.deref-in-Map.result.now) = e
-    ∙ ap (λ x. tree.Map (pairs_of x)) (sym c.deref-in-Map.ensures.value) in
+    let e : to_tree c.args.value.now ≡ tree.Map (to_pairs c.in-Map.pairs.items) = ap to_tree c.in-Map.is
+    ∙ ap to_tree (sym (rolls-Map c.in-Map.pairs)) ∙ fold-roll-Value Tree tree_step (layer.Map c.in-Map.pairs) in
+    let now : to_tree c.args.value.now ≡ tree.Map (to_pairs c.deref-in-Map.result.now) = e
+    ∙ ap (λ x. tree.Map (to_pairs x)) (sym c.deref-in-Map.ensures.value) in
     rw now c.write_map.ensures.short
 
 -- ---- an array, a map
@@ -41,7 +41,7 @@ write_array-returns-in_err-write_head-clause-short t c =
     let cap : ℕ = vec_capacity c.args.out.now in
     if_memory c.from_residual.result _ (array_short cap (length vs) vs c.args.out.now.items refl
     (front_short cap c.args.out.now.items (head 4 (length vs))
-    (texts (trees_of vs)) c.in_err-write_head.ensures.short))
+    (texts (to_trees vs)) c.in_err-write_head.ensures.short))
 
 pub write_array-returns-clause-short : goal.write_array-returns-clause-short
 write_array-returns-clause-short t c = grind (arith, common_steps, array_short)
@@ -52,7 +52,7 @@ write_map-returns-in_err-write_head-clause-short t c =
     let cap : ℕ = vec_capacity c.args.out.now in
     if_memory c.from_residual.result _ (map_short cap (length vs) vs c.args.out.now.items refl
     (front_short cap c.args.out.now.items (head 5 (length vs))
-    (pair_texts (pairs_of vs)) c.in_err-write_head.ensures.short))
+    (pair_texts (to_pairs vs)) c.in_err-write_head.ensures.short))
 
 pub write_map-returns-clause-short : goal.write_map-returns-clause-short
 write_map-returns-clause-short t c =
@@ -63,7 +63,7 @@ write_map-returns-clause-short t c =
     IfErr-weaker c.write_pairs.result _ _
     (λ k short is. map_short cap (length vs) vs old refl
     (short_beyond cap (vec_capacity c.write_head.new.out) old middle (head 5 (length vs))
-    (pair_texts (pairs_of vs)) c.in_ok-write_head.ensures.ok c.write_head.ensures.grows (short is)))
+    (pair_texts (to_pairs vs)) c.in_ok-write_head.ensures.ok c.write_head.ensures.grows (short is)))
     c.write_pairs.ensures.short
 
 pub write_array-returns-clause-writes : goal.write_array-returns-clause-writes
@@ -143,7 +143,7 @@ write_pairs-returns-in_err-write_value-clause-writes t c =
     let a = c.loop-pair.out.items in
     let b = c.write_key.new.out.items in
     let w = c.in_ok-write_key.ensures.writes in
-    let asked = above_here a b (text (tree_of v.0)) c.loop-pair.previous c.len-start.result c.loop-pair.invariant.span
+    let asked = above_here a b (text (to_tree v.0)) c.loop-pair.previous c.len-start.result c.loop-pair.invariant.span
     w.appended (c.len-start.ensures ∙ c.loop-pair.out.ok.0) in
     let told = ap (λ x. is_above (AKey (last_text x c.loop-pair.previous)) (drop c.len-start.result x))
     (sym c.deref.ensures.value) ∙ sym c.is_above_last.ensures ∙ c.if-not-is_above_last.false in
@@ -163,14 +163,14 @@ write_pairs-loop-pair-preserved t c =
     let u = c.in_ok-write_value.ensures.writes in
     let start = c.len-start.ensures ∙ c.loop-pair.out.ok.0 in
     let end = c.len.ensures ∙ c.write_key.new.out.ok.0 in
-    let asked = above_here a b (text (tree_of v.0)) c.loop-pair.previous c.len-start.result c.loop-pair.invariant.span
+    let asked = above_here a b (text (to_tree v.0)) c.loop-pair.previous c.len-start.result c.loop-pair.invariant.span
     w.appended start in
     let told = ap (λ x. is_above (AKey (last_text x c.loop-pair.previous)) (drop c.len-start.result x))
     (sym c.deref.ensures.value) ∙ sym c.is_above_last.ensures ∙ c.if-not-is_above_last.false in
     record {
       grows = omega (arith, c.loop-pair.invariant.grows, c.write_key.ensures.grows, c.write_value.ensures.grows);
-      span = span_within a b c.write_value.new.out.items (text (tree_of v.0))
-          (text (tree_of v.1)) record { start = c.len-start.result; end = c.len.result } w.appended u.appended start
+      span = span_within a b c.write_value.new.out.items (text (to_tree v.0))
+          (text (to_tree v.1)) record { start = c.len-start.result; end = c.len.result } w.appended u.appended start
           end;
       left = pair_here c.args.levels c.args.pairs.now c.loop-pair.pair-index v (last_text a c.loop-pair.previous)
           c.args.out.now.items a b c.write_value.new.out.items record { start = c.len-start.result; end = c.len.result }

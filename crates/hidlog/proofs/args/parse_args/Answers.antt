@@ -1,6 +1,6 @@
 use Rattle.std.proofs.Common.{◌≡◌, [], ◌∙◌, is_some, option_and_then, option_map, ap, sym, true, false}
 use Rattle.clap.{specs.Words.HasKind, specs.Words.app_of, specs.Words.subcommand_rows_of, proofs.TakesLemmas.passed_up}
-use Rattle.hidlog.specs.CommandLine.{answers_to, ask_of, task_and_verbosity, to_texts}
+use Rattle.hidlog.specs.CommandLine.{answers_to, command_task, task_and_verbosity, to_texts}
 use Rattle.hidlog.proofs.CommandLine.{asked_is, asked_some, faults_are}
 use Rattle.hidlog.proofs.args.parse_args.Goals as goal
 
@@ -23,9 +23,9 @@ pub unreachable-requires : goal.unreachable-requires
 unreachable-requires c =
     let none = faults_are (app_of c.in_ok-program.field-0) (to_texts c.args.words.now) (λ kinds. kinds ≡ [])
     c.in_ok-program.ensures c.in_ok-matches.ensures.kinds in
-    let some : is_some (option_and_then ask_of (subcommand_rows_of c.in_ok-matches.matches)) ≡ true =
+    let some : is_some (option_and_then command_task (subcommand_rows_of c.in_ok-matches.matches)) ≡ true =
     asked_some (app_of c.in_ok-program.field-0) (to_texts c.args.words.now) c.in_ok-matches.matches
     c.in_ok-program.ensures c.in_ok-matches.ensures.matches none in
-    let no : false ≡ is_some (option_and_then ask_of (subcommand_rows_of c.in_ok-matches.matches)) =
+    let no : false ≡ is_some (option_and_then command_task (subcommand_rows_of c.in_ok-matches.matches)) =
     ap is_some (sym (ap (option_map task_and_verbosity) c.in-None.is) ∙ c.in_ok-asked.ensures) in
     let bad : false ≡ true = no ∙ some in cc

@@ -3,14 +3,14 @@ use Rattle.std.proofs.lemmas.{Bool.eqb-true, Bool.eqb-false, List.nil_from_lengt
 use Rattle.std.specs.Prelude.{◌≢◌, Ok}
 use Rattle.cred_table.specs.{declared.row.Row.Row, Snapshots.Loads}
 use Rattle.session_log.proofs.Histories.{begins}
-use Rattle.hidlog_c.specs.{Begin.Opens, declared.capacity.TheConstants.CAPACITY}
+use Rattle.hidlog_c.specs.{Begin.IsSnapshotOrEmpty, declared.capacity.TheConstants.CAPACITY}
 use Rattle.hidlog_c.proofs.session_start.open.Goals as goal
 
-opens_none : (s : List ℕ) → s ≡ [] → Opens s []
+opens_none : (s : List ℕ) → s ≡ [] → IsSnapshotOrEmpty s []
 opens_none [] e = refl
 opens_none (x ∷ s) e = cc
 
-opens : (s : List ℕ) (rows : List Row) → s ≢ [] → Loads CAPACITY s (Ok tt) rows → Opens s rows
+opens : (s : List ℕ) (rows : List Row) → s ≢ [] → Loads CAPACITY s (Ok tt) rows → IsSnapshotOrEmpty s rows
 opens [] rows some l = absurd (some refl)
 opens (x ∷ s) rows some l = l
 

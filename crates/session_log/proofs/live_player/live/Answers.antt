@@ -36,16 +36,16 @@ returns g c =
     let again = live_again session_course session_needs in
     let through =
     logs_whole live_machine s new.session g.S.Source.left g.S.Source.failed g.S.Source.ended g.T.Target.taken
-    g.T.Target.failed c.args.reader.now new.reader c.args.writer.now new.writer _ c.meters_of.ensures.value h in
-    let held = subst FitsMeters c.meters_of.ensures.value c.meters_of.ensures.fits in
+    g.T.Target.failed c.args.reader.now new.reader c.args.writer.now new.writer _ c.meters_u64.ensures.value h in
+    let held = subst FitsMeters c.meters_u64.ensures.value c.meters_u64.ensures.fits in
     record {
       lived = through;
       again = repeats_in logs logs again _ _ s _ _ _ h.0.3 h.0.4.0 h.0.4.0.faultless h.0.4.1 held;
       replays = repeats_in logs (replay_logs session_course) copies _ _ s _ _ _ h.0.3 h.0.4.0 h.0.4.0.faultless h.0.4.1 held;
       history = logs_history g.S.Source.left g.S.Source.failed g.S.Source.ended g.T.Target.taken g.T.Target.failed
           (c.args.reader.now, new.reader) (c.args.writer.now, new.writer) live_machine live_history live_follows s
-          new.session (Ok c.meters_of.result) through;
+          new.session (Ok c.meters_u64.result) through;
     }
 
-pub meters_of-requires : goal.meters_of-requires
-meters_of-requires g c = assumption c.well_formed
+pub meters_u64-requires : goal.meters_u64-requires
+meters_u64-requires g c = assumption c.well_formed

@@ -1,7 +1,7 @@
 use Rattle.std.proofs.Common.{◌≡◌, ◌<◌, ◌+◌, ◌-◌, ◌^◌, ℕ, List, sym, subst, [], ◌++◌, length, take, Err, refl, ap, ◌∙◌}
 use Rattle.std.proofs.{Common.arith, lemmas.List.nil_from_length, lemmas.Result.err_from_is_err_and}
 use Rattle.std.proofs.KnownBytes.{Consumes-nil, Appends-nil}
-use Rattle.session_log.specs.{Ending.ended_by, Ending.ending_of, Replay.PlaysLine, Streams.IsAtEndOfInput}
+use Rattle.session_log.specs.{Ending.ending_of_fault, Ending.ending_of, Replay.PlaysLine, Streams.IsAtEndOfInput}
 use Rattle.session_log.proofs.{Cutting.ends_in_feed, Cutting.last_text, Through.through_none, Through.played_none}
 use Rattle.session_log.proofs.{Whole.stops, Gathering.in_count, Failures.stops_unwritten}
 use Rattle.session_log.proofs.Exits.{read_on, goes_on, stops_reading, stops_in_front, ends, some_left}
@@ -86,9 +86,9 @@ returns-in_err-process_first_line g c =
     let read = read_on i (g.S.Source.left c.lines.reader) k before.0 c.lines.window w before.2 c.in_ok-end.ensures.bytes
     in
     let all = IsAtEndOfInput g.S.Source.left g.S.Source.ended c.next_line.new.reader in
-    let unread = plays_unread world taken failed c.lines.number s t line (c.lines.writer, new.writer) (ended_by e)
+    let unread = plays_unread world taken failed c.lines.number s t line (c.lines.writer, new.writer) (ending_of_fault e)
     played in
-    let counts = plays_counts world taken failed c.lines.number s t line (c.lines.writer, new.writer) (ended_by e)
+    let counts = plays_counts world taken failed c.lines.number s t line (c.lines.writer, new.writer) (ending_of_fault e)
     played in
     let reads = ◌∙◌ {b = g.S.Source.failed c.lines.reader} c.in_ok-end.ensures.reads c.lines.invariant.reads in
     record {

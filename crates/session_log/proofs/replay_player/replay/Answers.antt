@@ -36,18 +36,18 @@ returns g c =
     let logs = replay_logs session_course in
     let through =
     logs_whole machine s new.session g.S.Source.left g.S.Source.failed g.S.Source.ended g.T.Target.taken
-    g.T.Target.failed c.args.reader.now new.reader c.args.writer.now new.writer _ c.meters_of.ensures.value h in
-    let held = subst FitsMeters c.meters_of.ensures.value c.meters_of.ensures.fits in
+    g.T.Target.failed c.args.reader.now new.reader c.args.writer.now new.writer _ c.meters_u64.ensures.value h in
+    let held = subst FitsMeters c.meters_u64.ensures.value c.meters_u64.ensures.fits in
     record {
       replayed = through;
       again = repeats_in logs logs (replay_again session_course) _ _ s _ _ _ h.0.3 h.0.4.0 h.0.4.0.faultless h.0.4.1 held;
       history = logs_history g.S.Source.left g.S.Source.failed g.S.Source.ended g.T.Target.taken g.T.Target.failed
           (c.args.reader.now, new.reader) (c.args.writer.now, new.writer) machine history follows s new.session
-          (Ok c.meters_of.result) through;
+          (Ok c.meters_u64.result) through;
       told = logs_told g.S.Source.left g.S.Source.failed g.S.Source.ended g.T.Target.taken g.T.Target.failed
           (c.args.reader.now, new.reader) (c.args.writer.now, new.writer)
-          (λ start h l. c.answers_follow_history.ensures.told start h l) s new.session (Ok c.meters_of.result) through;
+          (λ start h l. c.answers_follow_history.ensures.told start h l) s new.session (Ok c.meters_u64.result) through;
     }
 
-pub meters_of-requires : goal.meters_of-requires
-meters_of-requires g c = assumption c.well_formed
+pub meters_u64-requires : goal.meters_u64-requires
+meters_u64-requires g c = assumption c.well_formed

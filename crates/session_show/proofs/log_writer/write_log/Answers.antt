@@ -4,7 +4,7 @@ use Rattle.std.proofs.KnownBytes.{Consumes-nil, Appends-nil, Appends-trans}
 use Rattle.std.proofs.lemmas.{List.nil_from_length, Result.err_from_is_err_and}
 use Rattle.session_log.proofs.{Cutting.last_line, Gathering.in_count}
 use Rattle.std.proofs.Common.{Result, append-nil, ◌-◌}
-use Rattle.session_log.specs.Ending.{Done, Ending, ended_by, ending_of, read_fails, write_fails}
+use Rattle.session_log.specs.Ending.{Done, Ending, ending_of_fault, ending_of, read_fails, write_fails}
 use Rattle.session_log.specs.{Replay.ReadsTo, Lines.lines, Log.line_text, Window.IsUnfinished}
 use Rattle.session_log.specs.{Streams.Counts, Streams.IsAtEndOfInput, declared.fault.LogFault.LogFault}
 use Rattle.session_log.proofs.Through.{through_none, played_none}
@@ -12,7 +12,7 @@ use Rattle.session_log.proofs.{Cutting.line_in_front, Failures.stops_unwritten}
 use Rattle.session_log.proofs.Exits.{read_on, short_in_front, some_left}
 use Rattle.session_log.proofs.Failures.{on_any, on_err, counts_none, counts_on, plays_counts, plays_unread}
 use Rattle.session_log.proofs.Lasts.{faulty_in_front, faulty_last, none_bad}
-use Rattle.session_show.specs.Shown.{Shows, ShowsLine, WritesEnd, WritesLine, read_only_world, rule_for_format, unknown, failures_of}
+use Rattle.session_show.specs.Shown.{Shows, ShowsLine, WritesEnd, WritesLine, read_only_world, rule_for_format, unknown_bytes, failures_of}
 use Rattle.session_show.specs.declared.log_writer.OutputFormat.{OutputFormat}
 use Rattle.session_show.proofs.Told.{as_err, behind_nothing, behind_reach, behind_reads, behind_writes, shown_on, told_behind}
 use Rattle.session_show.proofs.Told.{told_last, told_line, told_none, told_to_line, told_to_read, unwritten_back}
@@ -105,7 +105,7 @@ returns-in_err-end g c =
       reads = as_err r e (λ (q : Ending). Counts g.S.Source.failed (c.args.reader.now, c.next_line.new.reader)
           (read_fails q)) is
           (counts_on (g.S.Source.failed c.lines.reader) (g.S.Source.failed c.args.reader.now) (g.S.Source.failed
-          c.next_line.new.reader) (read_fails (ended_by e)) c.lines.invariant.reads c.in_err-end.ensures.reads);
+          c.next_line.new.reader) (read_fails (ending_of_fault e)) c.lines.invariant.reads c.in_err-end.ensures.reads);
       writes = as_err r e (λ (q : Ending). Counts g.T.Target.failed (c.args.writer.now, c.lines.writer) (write_fails q))
           is
           (counts_none _ _ _ (stops_unwritten c.lines.number w e stopped) c.lines.invariant.writes);
@@ -141,24 +141,24 @@ returns-in_err-write_next_line g c =
           (sym is_line))
           (omega (arith, ap length is_line, short_in_front w c.lines.number c.in-Some.end has)) has.counted shown
           (subst (λ (f : OutputFormat). WritesLine (rule_for_format f) c.lines.number line
-          (taken c.lines.writer, taken c.write_next_line.new.writer) (ended_by e)) c.lines.invariant.format c.in_err-write_next_line.ensures.text));
+          (taken c.lines.writer, taken c.write_next_line.new.writer) (ending_of_fault e)) c.lines.invariant.format c.in_err-write_next_line.ensures.text));
       reach = as_err r e (λ (q : Ending). ReadsTo read_only_world tt (left c.args.reader.now) (left c.next_line.new.reader) all
           q) is
-          (faulty_in_front before.3 (left c.args.reader.now) (left c.next_line.new.reader) w read all unknown
+          (faulty_in_front before.3 (left c.args.reader.now) (left c.next_line.new.reader) w read all unknown_bytes
           failures_of
           (failed c.lines.writer, failed c.write_next_line.new.writer) tt c.in-Some.end e c.in_err-write_next_line.ensures.own has
           (subst (λ (l : List ℕ). ShowsLine c.lines.number l (failed c.lines.writer, failed c.write_next_line.new.writer)
-          (ended_by e)) is_line shown));
+          (ending_of_fault e)) is_line shown));
       end = on_err all r e is;
       reads = as_err r e (λ (q : Ending). Counts g.S.Source.failed (c.args.reader.now, c.next_line.new.reader)
           (read_fails q)) is
-          (counts_none _ _ _ (plays_unread read_only_world unknown failures_of c.lines.number tt tt line
-          (failed c.lines.writer, failed c.write_next_line.new.writer) (ended_by e) shown)
+          (counts_none _ _ _ (plays_unread read_only_world unknown_bytes failures_of c.lines.number tt tt line
+          (failed c.lines.writer, failed c.write_next_line.new.writer) (ending_of_fault e) shown)
           (◌∙◌ {b = g.S.Source.failed c.lines.reader} c.in_ok-end.ensures.reads c.lines.invariant.reads));
       writes = as_err r e (λ (q : Ending). Counts failed (c.args.writer.now, c.write_next_line.new.writer) (write_fails q)) is
           (counts_on (failed c.lines.writer) (failed c.args.writer.now) _ _ c.lines.invariant.writes
-          (plays_counts read_only_world unknown failures_of c.lines.number tt tt line
-          (failed c.lines.writer, failed c.write_next_line.new.writer) (ended_by e) shown));
+          (plays_counts read_only_world unknown_bytes failures_of c.lines.number tt tt line
+          (failed c.lines.writer, failed c.write_next_line.new.writer) (ending_of_fault e) shown));
     }
 
 -- the last piece stands in the window
@@ -195,7 +195,7 @@ returns-in_err-write_next_line-2 g c =
           before.3 before.4.1 before.4.2.0 (last_line w last.no_feed some) last.short
           (in_count c.lines.number w last.counted some) shown
           (subst (λ (f : OutputFormat). WritesLine (rule_for_format f) c.lines.number w
-          (taken c.lines.writer, taken c.write_next_line-2.new.writer) (ended_by e)) c.lines.invariant.format
+          (taken c.lines.writer, taken c.write_next_line-2.new.writer) (ending_of_fault e)) c.lines.invariant.format
           c.in_err-write_next_line-2.ensures.text));
       reach = as_err r e (λ (q : Ending). ReadsTo read_only_world tt (left c.args.reader.now) (left c.next_line.new.reader) all
           q) stopped
@@ -204,13 +204,13 @@ returns-in_err-write_next_line-2 g c =
       end = on_err all r e stopped;
       reads = as_err r e (λ (q : Ending). Counts g.S.Source.failed (c.args.reader.now, c.next_line.new.reader)
           (read_fails q)) stopped
-          (counts_none _ _ _ (plays_unread read_only_world unknown failures_of c.lines.number tt tt w
-          (failed c.lines.writer, failed c.write_next_line-2.new.writer) (ended_by e) shown)
+          (counts_none _ _ _ (plays_unread read_only_world unknown_bytes failures_of c.lines.number tt tt w
+          (failed c.lines.writer, failed c.write_next_line-2.new.writer) (ending_of_fault e) shown)
           (◌∙◌ {b = g.S.Source.failed c.lines.reader} c.in_ok-end.ensures.reads c.lines.invariant.reads));
       writes = as_err r e (λ (q : Ending). Counts failed (c.args.writer.now, c.write_next_line-2.new.writer) (write_fails q)) stopped
           (counts_on (failed c.lines.writer) (failed c.args.writer.now) _ _ c.lines.invariant.writes
-          (plays_counts read_only_world unknown failures_of c.lines.number tt tt w
-          (failed c.lines.writer, failed c.write_next_line-2.new.writer) (ended_by e) shown));
+          (plays_counts read_only_world unknown_bytes failures_of c.lines.number tt tt w
+          (failed c.lines.writer, failed c.write_next_line-2.new.writer) (ending_of_fault e) shown));
     }
 
 -- nothing is left of whole lines

@@ -1,12 +1,12 @@
 use Rattle.std.proofs.Common.{◌≡◌, ◌++◌, [], map, take}
-use Rattle.token_session.specs.{Carried.ArriveWhole, Drive.numbered_packet, Drive.state_after_inputs, Drive.packets_of_inputs, Drive.HadCapacity}
+use Rattle.token_session.specs.{Carried.ArriveWithFullPackets, Drive.numbered_packet, Drive.state_after_inputs, Drive.packets_of_inputs, Drive.HadCapacity}
 use Rattle.token_session.proofs.driver.drive.Given as goal
 
 abbrev pub invariant-loop-i : goal.invariant-loop-i
 invariant-loop-i g l = record {
   state : l.session ≡ state_after_inputs l.fn.session (take l.i l.inputs);
   packets : map numbered_packet l.sent.items ≡ map numbered_packet l.fn.sent.items ++ packets_of_inputs 0 l.fn.session (take l.i l.inputs);
-  whole : ArriveWhole (take l.i l.inputs);
+  whole : ArriveWithFullPackets (take l.i l.inputs);
   capacity : HadCapacity g.row.N (map numbered_packet l.fn.sent.items) l.fn.session l.inputs l.i;
   empty : l.outbox ≡ [];
 }

@@ -1,5 +1,5 @@
 use Rattle.std.proofs.Common.{[], length, take}
-use Rattle.token_session.specs.{Drive.done_of, History.received}
+use Rattle.token_session.specs.{Drive.inputs_done, History.received}
 use Rattle.token_session.proofs.{Headline.meters_named, Headline.run_answered, Headline.whole_reverse, Sizes.session_small}
 use Rattle.token_session.proofs.driver.drive_new.Goals as goal
 
@@ -7,7 +7,7 @@ pub returns : goal.returns
 unfolding received
 returns g c =
     let begun = c.new-session.ensures.value in
-    let done = take (done_of (length c.args.inputs.now) c.drive.result) c.args.inputs.now in
+    let done = take (inputs_done (length c.args.inputs.now) c.drive.result) c.args.inputs.now in
     let lawful = c.args.rows.lawful in
     record {
       answered = run_answered _ done c.drive.new.sent.items (rw c.clear.ensures at (c.drive.ensures.sent _ [] begun))

@@ -13,11 +13,11 @@ returns g c =
     let rp = c.args.rp.now in
     let test : (ℕ × Slot) → _ = λ item. is_named rp id item.1.row in
     let found = find_from_yields_List test _ _ c.find.result c.find.ensures.ran
-    (YieldsList-from_first seen (λ (l : List (ℕ × Slot)). l) c.like.result refl) (λ x b q k. search rules) in
+    (YieldsList-from_first seen (λ (l : List (ℕ × Slot)). l) c.id_chain.result refl) (λ x b q k. search rules) in
     let row : option_map (λ (row : Bor Row). row.now) c.map.result ≡ option_map
     (λ (item : ℕ × Bor Slot). item.1.now.row) c.find.result = search rules in
     row
     ∙ (found_row table.chains.slots (id_slots (bucket id) table.chains) (is_named rp id) c.find.result (found
-    ∙ ap (find test) c.like.ensures)
+    ∙ ap (find test) c.id_chain.ensures)
     ∙ found_alike table.chains (is_named rp id) id table.linked table.lawful.distinct
     (λ r h. (and_parts (bytes_eq r.id id) (bytes_eq r.rp rp) h).0))

@@ -13,6 +13,6 @@ returns g c =
     let read = slot_read chains.slots k c.from.result c.index-self-from.result inside c.from.ensures in
     let leader : List (ℕ × Slot) → Option ℕ = λ ls. option_map (λ (found : ℕ × Slot). found.0) (find (points_to k) ls) in
     c.find_predecessor.ensures
-    ∙ (ap leader c.like.ensures
+    ∙ (ap leader c.id_chain.ensures
     ∙ (ap (λ (s : Slot). leader (numbered chains.slots (id_slots (bucket s.row.id) chains))) read
     ∙ before_is chains (bucket (row_at chains.slots k).id) k c.requires.linked))

@@ -10,24 +10,24 @@ unwrap-requires g c =
     let id = c.args.id.now in
     let test : (ℕ × Slot) → _ = λ item. has_id id item.1.row in
     let found = find_from_yields_List test _ _ c.find.result c.find.ensures.ran
-    (YieldsList-from_first seen (λ (l : List (ℕ × Slot)). l) c.like.result refl) (λ x b q k. search rules) in
+    (YieldsList-from_first seen (λ (l : List (ℕ × Slot)). l) c.id_chain.result refl) (λ x b q k. search rules) in
     slot_there c.args.self.now id c.find.result c.requires.linked c.requires.there (found
-    ∙ ap (find test) c.like.ensures)
+    ∙ ap (find test) c.id_chain.ensures)
 
 pub returns-clause-held : goal.returns-clause-held
 returns-clause-held g c =
     let id = c.args.id.now in
     let test : (ℕ × Slot) → _ = λ item. has_id id item.1.row in
     let found = find_from_yields_List test _ _ c.find.result c.find.ensures.ran
-    (YieldsList-from_first seen (λ (l : List (ℕ × Slot)). l) c.like.result refl) (λ x b q k. search rules) in
+    (YieldsList-from_first seen (λ (l : List (ℕ × Slot)). l) c.id_chain.result refl) (λ x b q k. search rules) in
     (slot_found c.args.self.now id c.find.result c.unwrap.result c.requires.linked c.unwrap.ensures (found
-    ∙ ap (find test) c.like.ensures)).0
+    ∙ ap (find test) c.id_chain.ensures)).0
 
 pub returns-clause-named : goal.returns-clause-named
 returns-clause-named g c =
     let id = c.args.id.now in
     let test : (ℕ × Slot) → _ = λ item. has_id id item.1.row in
     let found = find_from_yields_List test _ _ c.find.result c.find.ensures.ran
-    (YieldsList-from_first seen (λ (l : List (ℕ × Slot)). l) c.like.result refl) (λ x b q k. search rules) in
+    (YieldsList-from_first seen (λ (l : List (ℕ × Slot)). l) c.id_chain.result refl) (λ x b q k. search rules) in
     (slot_found c.args.self.now id c.find.result c.unwrap.result c.requires.linked c.unwrap.ensures (found
-    ∙ ap (find test) c.like.ensures)).1
+    ∙ ap (find test) c.id_chain.ensures)).1

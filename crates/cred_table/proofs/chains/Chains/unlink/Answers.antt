@@ -3,22 +3,22 @@ use Rattle.cred_table.specs.declared.row.Row.{Row}
 use Rattle.cred_table.proofs.Unlinked.{unlink_read, unlink_code, within_led, one_less}
 use Rattle.cred_table.proofs.chains.Chains.unlink.Goals as goal
 
-pub lead-requires : goal.lead-requires
-lead-requires g c =
+pub link_after-requires : goal.link_after-requires
+link_after-requires g c =
     let u = unlink_read c.args.self.now c.args.number c.from.result c.bucket-head.result c.index-self-from.result
     c.before-before.result c.requires.linked c.requires.there c.from.ensures c.bucket-head.ensures.value
     (omega (arith, c.bucket-head.ensures.bound)) c.before-before.ensures in
     u.3
 
-pub lead-self-requires : goal.lead-self-requires
-lead-self-requires g c =
+pub link_after-self-requires : goal.link_after-self-requires
+link_after-self-requires g c =
     let u = unlink_read c.args.self.now c.args.number c.from.result c.bucket-head.result c.index-self-from.result
     c.before-before.result c.requires.linked c.requires.there c.from.ensures c.bucket-head.ensures.value
     (omega (arith, c.bucket-head.ensures.bound)) c.before-before.ensures in
     grind (arith, within_led, u)
 
-pub lead-self-requires-2 : goal.lead-self-requires-2
-lead-self-requires-2 g c =
+pub link_after-self-requires-2 : goal.link_after-self-requires-2
+link_after-self-requires-2 g c =
     let u = unlink_read c.args.self.now c.args.number c.from.result c.bucket-head.result c.index-self-from.result
     c.before-before.result c.requires.linked c.requires.there c.from.ensures c.bucket-head.ensures.value
     (omega (arith, c.bucket-head.ensures.bound)) c.before-before.ensures in

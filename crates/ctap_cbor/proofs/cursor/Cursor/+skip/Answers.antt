@@ -1,6 +1,6 @@
 use Rattle.std.proofs.{Common.arith, Common.◌-◌, lemmas.Result.MatchResult-weaker}
 use Rattle.std.specs.Option.{option_copied}
-use Rattle.ctap_cbor.specs.Views.{part_of}
+use Rattle.ctap_cbor.specs.Views.{to_part}
 use Rattle.ctap_cbor.proofs.{Moves.passes_none, Moves.passes_more, Moves.pairs_none, Only.only_halts, Only.only_matches}
 use Rattle.ctap_cbor.proofs.Skipping.{array_whole, array_stops, map_whole, map_stops, plain_passes, given_more}
 use Rattle.ctap_cbor.proofs.cursor.Cursor.+skip.Goals as goal
@@ -11,7 +11,7 @@ pub skip-returns-in_err-item-clause-only : goal.skip-returns-in_err-item-clause-
 skip-returns-in_err-item-clause-only t c = grind (arith, only_halts)
 
 pub skip-returns-clause-only : goal.skip-returns-clause-only
-skip-returns-clause-only t c = only_matches (5 - c.args.level) (part_of c.in_ok-item.item) c.args.self.now
+skip-returns-clause-only t c = only_matches (5 - c.args.level) (to_part c.in_ok-item.item) c.args.self.now
     c.skip_content.new.self c.skip_content.result (c.skip_content.ensures.passes c.args.self.now c.in_ok-item.ensures.takes)
 
 pub skip_content-returns-in-Array-clause-passes : goal.skip_content-returns-in-Array-clause-passes
@@ -32,7 +32,7 @@ skip_pairs-loop-done-init t c = (_, pairs_none (5 - c.args.level) c.args.self.no
 
 pub skip_pairs-loop-done-preserved : goal.skip_pairs-loop-done-preserved
 skip_pairs-loop-done-preserved t c =
-    (_, given_more (5 - c.args.level) c.loop-done.done c.loop-done.invariant.0 c.in_ok-skip.ensures.passes.0 (option_copied c.loop-done.previous) c.args.self.now c.loop-done.self c.key.new.self c.skip.new.self (part_of c.in_ok-key.key.item) c.in_ok-key.key.bytes.now c.loop-done.invariant.1 c.in_ok-key.ensures.gives c.in_ok-skip.ensures.passes.1)
+    (_, given_more (5 - c.args.level) c.loop-done.done c.loop-done.invariant.0 c.in_ok-skip.ensures.passes.0 (option_copied c.loop-done.previous) c.args.self.now c.loop-done.self c.key.new.self c.skip.new.self (to_part c.in_ok-key.key.item) c.in_ok-key.key.bytes.now c.loop-done.invariant.1 c.in_ok-key.ensures.gives c.in_ok-skip.ensures.passes.1)
 
 pub skip_content-returns-in-Array-clause-onward : goal.skip_content-returns-in-Array-clause-onward
 skip_content-returns-in-Array-clause-onward t c = grind arith

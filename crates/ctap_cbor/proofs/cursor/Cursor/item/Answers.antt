@@ -1,18 +1,18 @@
 use Rattle.std.proofs.Common.{◌-◌, ◌≡◌, ap, subst, Err}
-use Rattle.ctap_cbor.specs.{Views.part_of, Faults.AnItem, Parts.read}
+use Rattle.ctap_cbor.specs.{Views.to_part, Faults.AnItem, Parts.read}
 use Rattle.ctap_cbor.proofs.{Taking.item_taken, Taking.item_refused, Taking.read_taken, Only.item_only, Only.item_never}
 use Rattle.ctap_cbor.proofs.cursor.Cursor.item.Goals as goal
 
 pub returns-in-Ok : goal.returns-in-Ok
 returns-in-Ok c = record {
   takes = item_taken (5 - c.args.level) c.args.self.now c.pass.new.self c.rest-rest.result.now
-      (part_of c.in-Ok.item) c.in-Ok.len c.rest-rest.ensures.rest c.rest-rest.ensures.bytes c.in-Ok.ensures
+      (to_part c.in-Ok.item) c.in-Ok.len c.rest-rest.ensures.rest c.rest-rest.ensures.bytes c.in-Ok.ensures
       c.pass.ensures;
   exact = read_taken (5 - c.args.level) c.args.self.now c.pass.new.self c.rest-rest.result.now
-      (part_of c.in-Ok.item) c.in-Ok.len c.rest-rest.ensures.rest c.in-Ok.ensures.0 c.pass.ensures;
+      (to_part c.in-Ok.item) c.in-Ok.len c.rest-rest.ensures.rest c.in-Ok.ensures.0 c.pass.ensures;
   only = item_only (5 - c.args.level) c.args.self.now c.pass.new.self c.in-Ok.item
       (read_taken (5 - c.args.level) c.args.self.now c.pass.new.self c.rest-rest.result.now
-      (part_of c.in-Ok.item) c.in-Ok.len c.rest-rest.ensures.rest c.in-Ok.ensures.0 c.pass.ensures);
+      (to_part c.in-Ok.item) c.in-Ok.len c.rest-rest.ensures.rest c.in-Ok.ensures.0 c.pass.ensures);
 }
 
 pub returns-in-Err : goal.returns-in-Err

@@ -1,6 +1,6 @@
 use Rattle.std.proofs.Common.{◌-◌, true, refl, sym, ap, ◌∙◌, arith, rules, Ok}
 use Rattle.std.specs.Prelude.{is_some, pos}
-use Rattle.ctap_cbor.specs.{Tree.Int, Views.part_of}
+use Rattle.ctap_cbor.specs.{Tree.Int, Views.to_part}
 use Rattle.ctap_message.specs.{Walks.typed, Members.map_of, Members.array_of}
 use Rattle.ctap_message.specs.MakeCredential.{rp_types, user_types, make_types}
 use Rattle.ctap_message.specs.Descriptors.{parameter_types, descriptor_types, option_types}
@@ -16,7 +16,7 @@ pub returns-in-Int-eq2 : goal.returns-in-Int-eq2
 returns-in-Int-eq2 c =
     let x = to_make_parameters c.args.self.now in
     adds_read to_make_parameters make_types make_in make_next (typed (map_of rp_types) rp_in)
-    (to_rp c.read_members.new.members) (5 - c.args.level) (part_of c.args.key) (Int (pos 2)) c.args.self.now
+    (to_rp c.read_members.new.members) (5 - c.args.level) (to_part c.args.key) (Int (pos 2)) c.args.self.now
     (record c.args.self.now { rp = c.read_members.new.members }) c.args.cursor.now c.read_members.new.cursor
     c.read_members.result make_grows (search rules) (λ v. refl) (λ v e. ap (λ w. (record x.0 { rp_id = w }, x.1)) e)
     (maps_read to_rp rp_types rp_in (5 - c.args.level) c.read_members.result _ c.read_members.new.members
@@ -26,7 +26,7 @@ pub returns-in-Int-eq3 : goal.returns-in-Int-eq3
 returns-in-Int-eq3 c =
     let x = to_make_parameters c.args.self.now in
     adds_read to_make_parameters make_types make_in make_next (typed (map_of user_types) user_in)
-    (to_user c.read_members-in-Int-eq3.new.members) (5 - c.args.level) (part_of c.args.key) (Int (pos 3))
+    (to_user c.read_members-in-Int-eq3.new.members) (5 - c.args.level) (to_part c.args.key) (Int (pos 3))
     c.args.self.now (record c.args.self.now { user = c.read_members-in-Int-eq3.new.members }) c.args.cursor.now
     c.read_members-in-Int-eq3.new.cursor c.read_members-in-Int-eq3.result make_grows (search rules) (λ v. refl)
     (λ v e. ap (λ w. (record x.0 { user = w }, x.1)) e)
@@ -38,7 +38,7 @@ pub returns-in_ok-read_array-in-Int-eq4 : goal.returns-in_ok-read_array-in-Int-e
 returns-in_ok-read_array-in-Int-eq4 c =
     let x = to_make_parameters c.args.self.now in
     adds_read to_make_parameters make_types make_in make_next (typed (array_of (map_of parameter_types)) parameters_in)
-    (to_parameters c.read_array.new.entries) (5 - c.args.level) (part_of c.args.key) (Int (pos 4)) c.args.self.now
+    (to_parameters c.read_array.new.entries) (5 - c.args.level) (to_part c.args.key) (Int (pos 4)) c.args.self.now
     (record c.args.self.now { has_parameters = true; parameters = c.read_array.new.entries }) c.args.cursor.now
     c.read_array.new.cursor (Ok c.unwrap_or.result) make_grows (search rules) (λ v. refl)
     (λ v e. ap (λ w. (record x.0 { has_parameters = true; parameters = w }, x.1)) e)
@@ -50,7 +50,7 @@ pub returns-in-Int-eq5 : goal.returns-in-Int-eq5
 returns-in-Int-eq5 c =
     let x = to_make_parameters c.args.self.now in
     adds_read to_make_parameters make_types make_in make_next (typed (array_of (map_of descriptor_types)) list_in)
-    (to_descriptor_list c.read_list.new.list) (5 - c.args.level) (part_of c.args.key) (Int (pos 5)) c.args.self.now
+    (to_descriptor_list c.read_list.new.list) (5 - c.args.level) (to_part c.args.key) (Int (pos 5)) c.args.self.now
     (record c.args.self.now { exclude = c.read_list.new.list }) c.args.cursor.now c.read_list.new.cursor
     c.read_list.result make_grows (search rules) (λ v. refl)
     (λ v e. ap (λ w. (record x.0 { exclude_list = w.0 }, w.1)) e) c.read_list.ensures
@@ -59,7 +59,7 @@ pub returns-in-Int-eq7 : goal.returns-in-Int-eq7
 returns-in-Int-eq7 c =
     let x = to_make_parameters c.args.self.now in
     adds_read to_make_parameters make_types make_in make_next (typed (map_of option_types) options_in)
-    (to_options c.read_members-in-Int-eq7.new.members) (5 - c.args.level) (part_of c.args.key) (Int (pos 7))
+    (to_options c.read_members-in-Int-eq7.new.members) (5 - c.args.level) (to_part c.args.key) (Int (pos 7))
     c.args.self.now (record c.args.self.now { options = c.read_members-in-Int-eq7.new.members }) c.args.cursor.now
     c.read_members-in-Int-eq7.new.cursor c.read_members-in-Int-eq7.result make_grows (search rules) (λ v. refl)
     (λ v e. ap (λ w. (record x.0 { options = w }, x.1)) e)
@@ -70,8 +70,8 @@ returns-in-Int-eq7 c =
 pub returns-in-Int-eq1 : goal.returns-in-Int-eq1
 returns-in-Int-eq1 c =
     let x = to_make_parameters c.args.self.now in
-    adds_put to_make_parameters make_types make_in make_next (5 - c.args.level) (part_of c.args.key) (Int (pos 1))
-    (part_of c.in_ok-value-in_default.value) c.is_some.result c.args.self.now
+    adds_put to_make_parameters make_types make_in make_next (5 - c.args.level) (to_part c.args.key) (Int (pos 1))
+    (to_part c.in_ok-value-in_default.value) c.is_some.result c.args.self.now
     (record c.args.self.now { hash = c.as_bytes-self.result }) c.args.cursor.now c.read_whole_item.new.self make_grows
     (search rules) (make_heads (parameter_key 1) refl refl refl refl refl) c.in_ok-value-in_default.ensures
     (c.is_some.ensures ∙ sym (copied_some c.as_bytes-self.result) ∙ ap is_some c.as_bytes-self.ensures)
@@ -79,16 +79,16 @@ returns-in-Int-eq1 c =
 
 pub returns-in-Int-eq6 : goal.returns-in-Int-eq6
 returns-in-Int-eq6 c =
-    adds_put to_make_parameters make_types make_in make_next (5 - c.args.level) (part_of c.args.key) (Int (pos 6))
-    (part_of c.in_ok-value-in_default.value) c.expect_map.result c.args.self.now c.args.self.now c.args.cursor.now
+    adds_put to_make_parameters make_types make_in make_next (5 - c.args.level) (to_part c.args.key) (Int (pos 6))
+    (to_part c.in_ok-value-in_default.value) c.expect_map.result c.args.self.now c.args.self.now c.args.cursor.now
     c.read_whole_item.new.self make_grows (search rules) (make_heads (parameter_key 6) refl refl refl refl refl)
     c.in_ok-value-in_default.ensures (c.expect_map.ensures) refl
 
 pub returns-in-Int-eq8 : goal.returns-in-Int-eq8
 returns-in-Int-eq8 c =
     let x = to_make_parameters c.args.self.now in
-    adds_put to_make_parameters make_types make_in make_next (5 - c.args.level) (part_of c.args.key) (Int (pos 8))
-    (part_of c.in_ok-value-in_default.value) c.is_some-in-Int-eq8.result c.args.self.now
+    adds_put to_make_parameters make_types make_in make_next (5 - c.args.level) (to_part c.args.key) (Int (pos 8))
+    (to_part c.in_ok-value-in_default.value) c.is_some-in-Int-eq8.result c.args.self.now
     (record c.args.self.now { pin_uv_auth_param = c.as_bytes-self-in-Int-eq8.result }) c.args.cursor.now
     c.read_whole_item.new.self make_grows (search rules) (make_heads (parameter_key 8) refl refl refl refl refl)
     c.in_ok-value-in_default.ensures
@@ -98,16 +98,16 @@ returns-in-Int-eq8 c =
 
 pub returns-in-Int-eq9 : goal.returns-in-Int-eq9
 returns-in-Int-eq9 c =
-    adds_put to_make_parameters make_types make_in make_next (5 - c.args.level) (part_of c.args.key) (Int (pos 9))
-    (part_of c.in_ok-value-in_default.value) c.is_some-in-Int-eq9.result c.args.self.now c.args.self.now
+    adds_put to_make_parameters make_types make_in make_next (5 - c.args.level) (to_part c.args.key) (Int (pos 9))
+    (to_part c.in_ok-value-in_default.value) c.is_some-in-Int-eq9.result c.args.self.now c.args.self.now
     c.args.cursor.now c.read_whole_item.new.self make_grows (search rules) (make_heads (parameter_key 9) refl refl refl refl refl)
     c.in_ok-value-in_default.ensures (c.is_some-in-Int-eq9.ensures ∙ ap is_some c.as_uint.ensures) refl
 
 pub returns-in-Int-eq10 : goal.returns-in-Int-eq10
 returns-in-Int-eq10 c =
     let x = to_make_parameters c.args.self.now in
-    adds_put to_make_parameters make_types make_in make_next (5 - c.args.level) (part_of c.args.key) (Int (pos 10))
-    (part_of c.in_ok-value-in_default.value) c.is_some-in-Int-eq10.result c.args.self.now
+    adds_put to_make_parameters make_types make_in make_next (5 - c.args.level) (to_part c.args.key) (Int (pos 10))
+    (to_part c.in_ok-value-in_default.value) c.is_some-in-Int-eq10.result c.args.self.now
     (record c.args.self.now { enterprise_attestation = c.as_uint-self.result }) c.args.cursor.now c.read_whole_item.new.self
     make_grows (search rules) (make_heads (parameter_key 10) refl refl refl refl refl) c.in_ok-value-in_default.ensures
     (c.is_some-in-Int-eq10.ensures ∙ ap is_some c.as_uint-self.ensures)
@@ -115,15 +115,15 @@ returns-in-Int-eq10 c =
 
 pub returns-in_default-key : goal.returns-in_default-key
 returns-in_default-key c =
-    make_other (5 - c.args.level) (part_of c.args.key) (part_of c.in_ok-value-in_default.value) c.args.self.now
+    make_other (5 - c.args.level) (to_part c.args.key) (to_part c.in_ok-value-in_default.value) c.args.self.now
     c.args.cursor.now c.read_whole_item.new.self (grind arith) c.in_ok-value-in_default.ensures
 
 pub returns-in_default-key-4 : goal.returns-in_default-key-4
 returns-in_default-key-4 c =
-    make_other (5 - c.args.level) (part_of c.args.key) (part_of c.in_ok-value-in_default.value) c.args.self.now
+    make_other (5 - c.args.level) (to_part c.args.key) (to_part c.in_ok-value-in_default.value) c.args.self.now
     c.args.cursor.now c.read_whole_item.new.self (grind arith) c.in_ok-value-in_default.ensures
 
 pub returns-in_default-key-5 : goal.returns-in_default-key-5
 returns-in_default-key-5 c =
-    make_other (5 - c.args.level) (part_of c.args.key) (part_of c.in_ok-value-in_default.value) c.args.self.now
+    make_other (5 - c.args.level) (to_part c.args.key) (to_part c.in_ok-value-in_default.value) c.args.self.now
     c.args.cursor.now c.read_whole_item.new.self (grind arith) c.in_ok-value-in_default.ensures

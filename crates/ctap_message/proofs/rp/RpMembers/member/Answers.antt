@@ -1,24 +1,24 @@
 use Rattle.std.proofs.Common.{◌-◌, true, rules}
-use Rattle.ctap_cbor.specs.Views.{part_of}
+use Rattle.ctap_cbor.specs.Views.{to_part}
 use Rattle.ctap_message.proofs.Growing.{rp_adds}
 use Rattle.ctap_message.proofs.rp.RpMembers.member.Goals as goal
 
 pub returns-in-Text-id : goal.returns-in-Text-id
-returns-in-Text-id c = rp_adds (5 - c.args.level) (part_of c.args.key) (part_of c.in_ok-value.value)
+returns-in-Text-id c = rp_adds (5 - c.args.level) (to_part c.args.key) (to_part c.in_ok-value.value)
     c.is_some-typed.result c.args.self.now (record c.args.self.now { id = c.as_text-self.result }) c.args.cursor.now
     c.read_whole_item.new.self c.in_ok-value.ensures (search rules) (search rules)
 
 pub returns-in-Text-name : goal.returns-in-Text-name
-returns-in-Text-name c = rp_adds (5 - c.args.level) (part_of c.args.key) (part_of c.in_ok-value.value)
+returns-in-Text-name c = rp_adds (5 - c.args.level) (to_part c.args.key) (to_part c.in_ok-value.value)
     c.is_some-typed-in-Text-name.result c.args.self.now c.args.self.now c.args.cursor.now c.read_whole_item.new.self
     c.in_ok-value.ensures (search rules) (search rules)
 
 pub returns-in_default : goal.returns-in_default
-returns-in_default c = rp_adds (5 - c.args.level) (part_of c.args.key) (part_of c.in_ok-value.value) true
+returns-in_default c = rp_adds (5 - c.args.level) (to_part c.args.key) (to_part c.in_ok-value.value) true
     c.args.self.now c.args.self.now c.args.cursor.now c.read_whole_item.new.self c.in_ok-value.ensures (search rules)
     (search rules)
 
 pub returns-in_default-2 : goal.returns-in_default-2
-returns-in_default-2 c = rp_adds (5 - c.args.level) (part_of c.args.key) (part_of c.in_ok-value.value) true
+returns-in_default-2 c = rp_adds (5 - c.args.level) (to_part c.args.key) (to_part c.in_ok-value.value) true
     c.args.self.now c.args.self.now c.args.cursor.now c.read_whole_item.new.self c.in_ok-value.ensures (search rules)
     (search rules)

@@ -1,5 +1,5 @@
 use Rattle.std.proofs.Common.{◌-◌, length, ap₂, ◌∙◌, arith}
-use Rattle.hid_packet.specs.Queue.{overwritten}
+use Rattle.hid_packet.specs.Queue.{with_overwritten}
 use Rattle.hid_packet.proofs.Filling.{put_around, straight_put, round_put}
 use Rattle.hid_packet.proofs.ring.RingBuffer.put.Goals as goal
 
@@ -18,4 +18,4 @@ returns c =
     _ c.self.invariant.0 c.self.invariant.1 c.self.invariant.2 c.self.view_is c.requires c.wrap_index-end.ensures
     (omega arith)
     (round_put c.wrap_index-end.result _ _ ring.bytes _ _ c.write_at-2.ensures c.write_at-3.ensures ∙ ap₂ (λ front back.
-    overwritten c.wrap_index-end.result front back ring.bytes) c.split_at.ensures.front c.split_at.ensures.back)
+    with_overwritten c.wrap_index-end.result front back ring.bytes) c.split_at.ensures.front c.split_at.ensures.back)

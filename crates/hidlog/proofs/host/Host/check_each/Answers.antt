@@ -1,5 +1,5 @@
 use Rattle.std.proofs.Common.{◌∙◌, sym}
-use Rattle.hidlog.{specs.CommandLine.path_of, proofs.Compared.next_same}
+use Rattle.hidlog.{specs.CommandLine.to_path, proofs.Compared.next_same}
 use Rattle.hidlog.proofs.host.Host.check_each.{Goals.then-has_failed, Goals.else-has_failed, Invariants.model}
 use Rattle.hidlog.proofs.host.Host.check_each.Goals as goal
 
@@ -9,7 +9,7 @@ loop-path-preserved g c = (
   λ none. elim c.if-has_failed.branch [
     | then-has_failed w ↦ cc
     | else-has_failed w ↦
-        next_same (model g) (path_of c.args.wished.now.load) c.args.self.now.files c.loop-path.self.files
+        next_same (model g) (to_path c.args.wished.now.load) c.args.self.now.files c.loop-path.self.files
         c.args.paths.now c.loop-path.path-index _
         c.check_one-one.result c.args.self.now.input c.loop-path.self.input c.check_one-one.new.self.input
         c.loop-path-test.true c.loop-path.invariant.0

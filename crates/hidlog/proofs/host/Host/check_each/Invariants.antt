@@ -1,5 +1,5 @@
 use Rattle.std.proofs.Common.{◌≡◌, false, take}
-use Rattle.hidlog.specs.{CommandLine.path_of, CommandLine.to_texts, Model.Model, Several.AreSame}
+use Rattle.hidlog.specs.{CommandLine.to_path, CommandLine.to_texts, Model.Model, Several.AreSame}
 use Rattle.hidlog.proofs.host.Host.check_each.Given as goal
 
 -- what is said of the host
@@ -25,5 +25,5 @@ model g = record {
 -- The files stay, and where none has failed the logs so far are the same.
 abbrev pub invariant-loop-path : goal.invariant-loop-path
 invariant-loop-path g l = (l.self.files ≡ l.fn.self.files)
-    × (l.has_failed ≡ false → AreSame (model g) (path_of l.fn.wished.load) l.fn.self.files
+    × (l.has_failed ≡ false → AreSame (model g) (to_path l.fn.wished.load) l.fn.self.files
     (to_texts (take l.path-index l.fn.paths)) (l.fn.self.input, l.self.input))

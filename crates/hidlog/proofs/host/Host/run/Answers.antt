@@ -1,6 +1,6 @@
 use Rattle.std.proofs.Common.{inl, sym}
 use Rattle.clap.specs.Words.{kind_of}
-use Rattle.hidlog.specs.{CommandLine.task_and_verbosity, CommandLine.to_texts, Fault.result_of}
+use Rattle.hidlog.specs.{CommandLine.task_and_verbosity, CommandLine.to_texts, Fault.to_result}
 use Rattle.hidlog.proofs.Asked.{done, unasked}
 use Rattle.hidlog.proofs.host.Host.run.Goals as goal
 
@@ -19,7 +19,7 @@ pub returns-clause-answered : goal.returns-clause-answered
 returns-clause-answered g c =
     done _ _ (to_texts c.args.words.now) (task_and_verbosity c.in-Ok.asked) c.in-Ok.ensures.task
     (inl (rw (c.in-Show.is, sym c.explains-explains.ensures, sym c.explains-is_worded.ensures) (
-      result_of c.show_log-came.result,
+      to_result c.show_log-came.result,
       c.show_log-came.new.self,
       c.show_log-came.ensures,
       c.report_result.ensures.reports,

@@ -12,6 +12,6 @@ returns c =
     let counted : c.credentials.result ≡ length c.args.self.now.session.machine.core.state.rows =
     subst (λ (d : DeviceState). c.credentials.result ≡ length d.session.machine.core.state.rows) c.self.view_is
     c.credentials.ensures.value in (
-      (λ within. ((row, subst found c.self.view_is inside, c.credential_of.ensures), refl)),
+      (λ within. ((row, subst found c.self.view_is inside, c.to_c_credential.ensures), refl)),
       (λ beyond. absurd (omega (arith, counted))),
     )

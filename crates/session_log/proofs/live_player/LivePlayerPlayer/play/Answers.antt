@@ -1,5 +1,5 @@
 use Rattle.std.proofs.Common.{◌≡◌, Bool, cond, Some, [], flat_map, ◌++◌, refl, sym, ◌∙◌, ap, subst}
-use Rattle.authn_core.specs.{Needs.IsNeed, Views.needed_reply}
+use Rattle.authn_core.specs.{Needs.IsValidNeed, Views.to_needed}
 use Rattle.token_session.specs.Meters.{stepped}
 use Rattle.session_log.specs.{Session.live_machine, Session.session_needs, Needs.need_lines, Parsed.parsed}
 use Rattle.session_log.specs.Text.{ArePackets, with_line_feed, sent_text}
@@ -13,13 +13,13 @@ returns-in-Input g c =
     let line = c.args.line.now in
     let x = c.in-Input.timed in
     let is : parsed line ≡ Some (Input x) = c.requires.means ∙ ap Some c.in-Input.is in
-    let need : needed_reply c.need.result ≡ session_needs (stepped s x) =
+    let need : to_needed c.need.result ≡ session_needs (stepped s x) =
     c.need.ensures.value ∙ ap session_needs c.step.ensures.state in
     let text =
-    c.args.text.now ++ flat_map sent_text c.step.new.outbox ++ flat_map with_line_feed (need_lines (needed_reply c.need.result)) in
+    c.args.text.now ++ flat_map sent_text c.step.new.outbox ++ flat_map with_line_feed (need_lines (to_needed c.need.result)) in
     writes_for live_machine g.T.Target.taken g.T.Target.failed c.args._number s c.step.new.self line (Input x)
     (c.args.writer.now, c.put_response.new.writer) c.put_response.result text is refl c.step.ensures.state
-    (subst ArePackets c.step.ensures.packets c.put_response.ensures.packets, subst IsNeed need c.need.ensures.sized)
+    (subst ArePackets c.step.ensures.packets c.put_response.ensures.packets, subst IsValidNeed need c.need.ensures.sized)
     (λ i. c.requires.ended i ++ flat_map sent_text (c.step.ensures.packets i) ++ flat_map with_line_feed (need_lines (need i)))
     c.put_response.ensures.puts c.put_response.ensures.empty
 

@@ -1,5 +1,5 @@
 use Rattle.std.proofs.Common.{◌≡◌, Some, None, refl, append-nil, arith}
-use Rattle.authn_core.specs.Views.{event_of}
+use Rattle.authn_core.specs.Views.{to_event}
 use Rattle.token_session.specs.{Replies.answer_packets, Machine.response_sends_keepalive, Effects.request_in}
 use Rattle.token_session.{specs.Meters.AreBounded, specs.Meters.counted, proofs.Metering.counted_bounded}
 use Rattle.token_session.proofs.Sizes.{core_held, table_held}
@@ -14,7 +14,7 @@ returns-in-Request-clause-bounded g c =
 pub returns-in-Some-clause-meters : goal.returns-in-Some-clause-meters
 unfolding counted
 returns-in-Some-clause-meters g c =
-    let none : request_in (Some (event_of c.args.event.now)) ≡ None = grind (arith, c.in-Presence.is) in
+    let none : request_in (Some (to_event c.args.event.now)) ≡ None = grind (arith, c.in-Presence.is) in
     rw (none, c.send-in-Some.ensures.others) refl
 
 pub returns-in_default-clause-keepalive : goal.returns-in_default-clause-keepalive
@@ -24,7 +24,7 @@ returns-in_default-clause-keepalive g c = grind (arith, c.in-Presence.is, c.work
 pub returns-in_default-clause-meters : goal.returns-in_default-clause-meters
 unfolding counted
 returns-in_default-clause-meters g c =
-    let none : request_in (Some (event_of c.args.event.now)) ≡ None = grind (arith, c.in-Presence.is) in
+    let none : request_in (Some (to_event c.args.event.now)) ≡ None = grind (arith, c.in-Presence.is) in
     rw none refl
 
 pub returns-in_default-clause-packets : goal.returns-in_default-clause-packets

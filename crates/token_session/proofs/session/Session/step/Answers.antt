@@ -5,7 +5,7 @@ use Rattle.token_session.proofs.Metering.{stepped_is, stands_longer, machine_aft
 use Rattle.token_session.specs.{declared.input.Timed.Timed, Effects.request_in, Machine.MachineTurn}
 use Rattle.token_session.specs.Meters.{SessionState, counted}
 use Rattle.token_session.specs.Machine.{time_passed}
-use Rattle.token_session.specs.Causes.{time_cause, served_cause, causes_of, causes_after}
+use Rattle.token_session.specs.Causes.{time_cause, input_cause, causes_of, causes_after}
 use Rattle.token_session.proofs.Sizes.{core_within, table_within}
 use Rattle.token_session.proofs.session.Session.step.Goals as goal
 
@@ -69,7 +69,7 @@ returns-clause-why g c =
     let at : c.max-now.result ≡ max (c.args.self.now).machine.now c.args.at =
     c.max-now.ensures ∙ ap (λ (s : SessionState). max s.machine.now c.args.at) c.self.view_is in
     let time = c.pass_time-time.ensures.why ∙ ap (time_cause (c.args.self.now).machine.current) at in
-    let input = c.serve-why.ensures.why ∙ ap (λ m. served_cause m c.args.input)
+    let input = c.serve-why.ensures.why ∙ ap (λ m. input_cause m c.args.input)
     (c.pass_time-time.ensures.state ∙ ap (λ t. (time_passed (c.args.self.now).machine t).state) at) in
     λ i. record { time = time i; input = input i }
 

@@ -1,7 +1,7 @@
 use Rattle.std.proofs.Common.{◌∙◌, ap}
 use Rattle.clap.specs.Matches.{found_of}
 use Rattle.hidlog.{specs.CommandLine.to_texts, proofs.CommandLine.logs_are, proofs.CommandLine.no_logs}
-use Rattle.hidlog.proofs.args.logs_in.Goals as goal
+use Rattle.hidlog.proofs.args.parse_logs.Goals as goal
 
 pub returns-in_ok-logs-in-Some : goal.returns-in_ok-logs-in-Some
 returns-in_ok-logs-in-Some c =

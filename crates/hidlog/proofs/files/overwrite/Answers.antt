@@ -1,6 +1,6 @@
 use Rattle.std.proofs.Common.{rules, ◌≡◌, min, length}
 use Rattle.hidlog.proofs.Over.{where_sized, written_over}
-use Rattle.hidlog.proofs.files.write_over.Goals as goal
+use Rattle.hidlog.proofs.files.overwrite.Goals as goal
 
 pub returns-clause-bytes : goal.returns-clause-bytes
 returns-clause-bytes g c =
