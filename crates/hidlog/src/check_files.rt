@@ -178,7 +178,7 @@ impl<D: Files, L: Logs, O: Output, E: Target> Host<D, L, O, E> {
                 }
             }
         } else {
-            self.tell(fault, wish.explains);
+            self.report(fault, wish.explains);
             if !wish.explains
                 && let Some(notice) = fault.notice()
             {

@@ -2,7 +2,7 @@
 ghost use Rattle.std.specs.Prelude.{◌≡◌, ◌⊎◌};
 
 use crate::escape::write_display;
-use crate::files::{COPY_SUFFIX, DAMAGED_REASON, HELD, SaveError};
+use crate::files::{COPY_SUFFIX, DAMAGED_REASON, LOCKED_REASON, SaveError};
 use cred_table::SnapshotFault;
 use session_log::{CAPACITY, LogFault};
 use session_show::{TextBuf, Written, write_escaped};
@@ -89,7 +89,7 @@ impl Written for Notice {
     fn write(&self, buf: &mut TextBuf) {
         buf.text("  ");
         buf.text(match self {
-            Notice::Held => HELD,
+            Notice::Held => LOCKED_REASON,
             Notice::Damaged => DAMAGED_REASON,
         });
         buf.text("\n");

@@ -4,7 +4,7 @@ ghost use Rattle.hidlog.specs.Program.{IsWrittenTo, IsReported, no_memory as no_
 
 use crate::fault::ErrorDetail;
 use session_log::{Target, put_all};
-use session_show::{Detail, TextBuf, Written, put_parts};
+use session_show::{Detail, TextBuf, Written, put_chunks};
 use std::env;
 use std::io::ErrorKind;
 
@@ -26,7 +26,7 @@ pub fn write_error_message<E: Target, W: Written>(faults: &mut E, what: &W) -> b
     if faults.failures() == u64::MAX {
         return false;
     }
-    put_parts(faults, &mut TextBuf::new(Detail::Explained), what).is_ok()
+    put_chunks(faults, &mut TextBuf::new(Detail::Explained), what).is_ok()
 }
 
 /// Writes an error message to standard error and, if errors are explained, the line with the details.

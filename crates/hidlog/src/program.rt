@@ -188,7 +188,7 @@ impl<D: Files, L: Logs, O: Output, E: Target> Host<D, L, O, E> {
         let Err(fault) = came else {
             return RunOutcome::of(Ok(()), explains);
         };
-        self.tell(fault, explains);
+        self.report(fault, explains);
         let mut outcome = RunOutcome::of(Err(fault.status()), explains);
         if let ProgramFault::Log(fault) = fault {
             outcome.fault = Some(*fault);

@@ -5,7 +5,7 @@ ghost use Rattle.session_show.specs.Written.{Writes};
 use crate::split::{DIGITS, Pieces, count_leading, skip_front};
 use memchr::{memmem, memrchr};
 use session_log::{Failed, Target, put_all};
-use session_show::{Detail, TextBuf, Written, put_parts};
+use session_show::{Detail, TextBuf, Written, put_chunks};
 
 const PLAIN: &[u8] = b"\x1b[0m";
 
@@ -128,7 +128,7 @@ fn put_styled<T: Target>(target: &mut T, lines: &StyledLines<'_>) -> Result<(), 
     requires { T.failed target.old < 2 ^ 64 - 1 }
     ensures { Writes T.taken T.failed (target.old, target.new) result }
 {
-    put_parts(target, &mut TextBuf::new(Detail::Fixed), lines)
+    put_chunks(target, &mut TextBuf::new(Detail::Fixed), lines)
 }
 
 impl<T: Target> Target for Screen<T> {

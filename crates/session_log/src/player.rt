@@ -49,7 +49,7 @@ pub trait Player<const C: usize> {
         requires write { T.failed writer.old < 2 ^ 64 - 1 }
         requires means { parsed line.now ≡ Some meaning }
         requires short { length line.now < 256 }
-        requires with_line_feed { text.now ≡ with_line_feed line.now }
+        requires ended { text.now ≡ with_line_feed line.now }
         requires few { number < 2 ^ 32 }
         requires ready { IsReady self.old number }
         ensures played { PlaysLine world T.taken T.failed number (state self.old session.old)
@@ -78,7 +78,7 @@ fn parse_and_process_line<P: Player<C>, T: Target, const C: usize>(
 ) -> Result<(), LogFault>
     requires write { T.failed writer.old < 2 ^ 64 - 1 }
     requires short { length line.now < 256 }
-    requires with_line_feed { text.now ≡ with_line_feed line.now }
+    requires ended { text.now ≡ with_line_feed line.now }
     requires few { number < 2 ^ 32 }
     requires ready { P.IsReady player.old number }
     ensures played { PlaysLine P.world T.taken T.failed number (P.state player.old session.old)

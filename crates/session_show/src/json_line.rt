@@ -90,7 +90,7 @@ fn write_message(buf: &mut TextBuf, own: &LineEntry<'_>, channel: u32, message: 
         &[line, began, channel, code, code],
     );
     if message.is_request && checked.is_ok() {
-        write_string(buf, "rpId", RpId::request_sentence(*first, item).text());
+        write_string(buf, "rpId", RpId::of_request(*first, item).text());
     }
     if let Some(exchange) = message.exchange
         && let Some(command) = exchange.transaction.command

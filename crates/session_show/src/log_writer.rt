@@ -7,15 +7,15 @@ ghost use Rattle.session_show.specs.Shown.{Shows, ShowsLine, WritesEnd, WritesLi
 ghost use Rattle.session_show.specs.Written.{Writes};
 
 use crate::chunked::{Written, put_chunks, put_with_line_number};
-use crate::counts::{Counts, LINES, OBJECT};
+use crate::counts::{Counts, TEXT_FORMATS, JSON_FORMATS};
 use crate::detail::Detail;
 use crate::entry::{write_ended, write_entry, write_page};
 use crate::json_line::{write_line, write_transaction};
-use crate::summary_row::{HEAD, write_row};
+use crate::summary_row::{TABLE_HEADER, write_row};
 use crate::text_buf::TextBuf;
 use crate::transcript::PlainTranscript;
 use session_log::{Failed, Line, LogFault, Source, Target, Window, next_line, parse_line};
-use session_walk::{Ended, Entry, OPEN, TransactionTracker};
+use session_walk::{Ended, Entry, MAX_OPEN_TRANSACTIONS, TransactionTracker};
 
 /// An output format.
 #[derive(Clone, Copy)]
@@ -111,7 +111,7 @@ impl LogWriter {
     }
 
     /// Writes the output for the next line.
-    fn tell<T: Target>(&mut self, number: u64, line: &[u8], writer: &mut T) -> Result<(), LogFault>
+    fn write_next_line<T: Target>(&mut self, number: u64, line: &[u8], writer: &mut T) -> Result<(), LogFault>
         requires { T.failed writer.old < 2 ^ 64 - 1 }
         ensures format { self.new.format ≡ self.old.format }
         ensures shown { ShowsLine number line.now (T.failed writer.old, T.failed writer.new) (ending_of result) }
@@ -258,7 +258,7 @@ fn write_end(buf: &mut TextBuf, format: OutputFormat, number: u64, ended: &Ended
         }
         OutputFormat::Table => {
             if !has_head {
-                buf.text(HEAD);
+                buf.text(TABLE_HEADER);
             }
             write_row(buf, ended);
         }
@@ -289,7 +289,7 @@ impl Written for LogEnd<'_> {
             write_line(buf, deferred);
         }
         let mut line = 0;
-        for _ in 0..OPEN {
+        for _ in 0..MAX_OPEN_TRANSACTIONS {
             let Some(open) = self.walk.channels.first_open_after(line) else {
                 break;
             };
@@ -303,8 +303,8 @@ impl Written for LogEnd<'_> {
             line = open.exchange.transaction.line;
         }
         match self.format {
-            OutputFormat::Table => self.counts.write(buf, &LINES),
-            OutputFormat::Summary => self.counts.write(buf, &OBJECT),
+            OutputFormat::Table => self.counts.write(buf, &TEXT_FORMATS),
+            OutputFormat::Summary => self.counts.write(buf, &JSON_FORMATS),
             OutputFormat::Text(_) | OutputFormat::Page | OutputFormat::Objects => {}
         }
     }

@@ -1,7 +1,7 @@
 //! A log that is replayed on a session, with trackers for the log's packets and the session's packets.
 
 use crate::difference::Difference;
-use crate::signed_bytes::Signed;
+use crate::signed_bytes::SignedComments;
 use hid_packet::command::KEEPALIVE;
 use hid_packet::{Outbox, Packet, View};
 use session_log::{CAPACITY, Line};

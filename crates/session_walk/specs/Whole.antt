@@ -176,7 +176,7 @@ error_result code input c ended =
     let place = refused_init code input c in
     if nat_lt place (length c.pending_inits.items) then init_refused code (init_at place c) (without_init_at place c) ended
     else if is_owner_undecided input c
-    then record { channel = record (both_unidentified c) { last_asserted_rp = unnamed.rp_id }; ended = with_unknown_ends c ended; transaction = None; deferred = false }
+    then record { channel = record (both_unidentified c) { last_asserted_rp = no_names.rp_id }; ended = with_unknown_ends c ended; transaction = None; deferred = false }
     else if c.last_was_init && is_some c.current || (not c.last_was_init && (is_some c.contender || is_some c.current)) then refused_message code (if c.last_was_init then None else c.contender) c ended
     else if c.last_was_stray then record { channel = c; ended = ended; transaction = None; deferred = false }
     else last_init code c ended
@@ -211,7 +211,7 @@ contender_timed_out ambiguous c ended =
 -- The result of ERROR 05 if it is unknown which message timed out.
 abbrev pub both_lost_by_timeout : Channel → List Ended → PacketResult
 both_lost_by_timeout c ended = record {
-  channel = record (both_unidentified c) { last_asserted_rp = unnamed.rp_id };
+  channel = record (both_unidentified c) { last_asserted_rp = no_names.rp_id };
   ended = with_unknown_ends c ended;
   transaction = None;
   deferred = false;
@@ -278,7 +278,7 @@ message_answered answer c ended =
     let is_asked = is_for_contender answer c in
     if not is_held && not is_asked then record { channel = c; ended = ended; transaction = None; deferred = false }
     else if is_owner_unknown c || is_held && is_asked
-    then record { channel = record (both_unidentified c) { last_asserted_rp = unnamed.rp_id }; ended = with_unknown_ends c ended; transaction = None; deferred = false }
+    then record { channel = record (both_unidentified c) { last_asserted_rp = no_names.rp_id }; ended = with_unknown_ends c ended; transaction = None; deferred = false }
     else if is_asked && is_served_uncancelled c.current
     then record { channel = record c { contender = None }; ended = ended; transaction = c.contender; deferred = false }
     else if is_asked then record {

@@ -27,7 +27,7 @@ mod tracker;
 mod transaction;
 
 pub use awaited::AwaitedReply;
-pub use channels::OPEN;
+pub use channels::MAX_OPEN_TRANSACTIONS;
 pub use collector::Collector;
 pub use command_names::{Names, name_in};
 pub use credentials::{Excluded, FLAG_AT};

@@ -10,5 +10,5 @@ given taken failed target (Ok x) w = (w.0.0, inl (w.0.1, w.1))
 given taken failed target (Err e) w = (w.0.0 ++ 0 ∷ [], inr ((w.0.0, 0 ∷ [], refl, search rules, w.0.1), w.1))
 
 pub returns : goal.returns
-returns g c = λ _. given g.E.Target.taken g.E.Target.failed (c.args.faults.now, c.put_parts.new.writer)
-    c.put_parts.result c.put_parts.ensures
+returns g c = λ _. given g.E.Target.taken g.E.Target.failed (c.args.faults.now, c.put_chunks.new.writer)
+    c.put_chunks.result c.put_chunks.ensures

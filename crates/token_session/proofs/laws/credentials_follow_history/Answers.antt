@@ -8,7 +8,7 @@ returns c = record {
   rows = λ start h. rw (core_is start (received start h)) (c.rows_follow_history.ensures.rows _ _ (orderly start h));
   lawful = λ start h l. rw (core_is start (received start h)) (c.rows_follow_history.ensures.lawful _ _
       (first_ready start) l);
-  texts = λ start h l. c.signed_bytes_differ.ensures.differ _ _ (first_ready start) l (orderly start h);
+  signed_assertions = λ start h l. c.signed_bytes_differ.ensures.differ _ _ (first_ready start) l (orderly start h);
   rise = λ start h l. c.signed_bytes_differ.ensures.rise _ _ (first_ready start) l (orderly start h);
   newest = λ start h id l e.
       let k = core_is start (received start h) in
