@@ -130,7 +130,7 @@ class StatusJudge:
         if status == LIMIT_MS and self.has_long_list(asked.get(5 if transaction.data[0] == MAKE else 3, [])):
             return
         strange = unknown_parts(transaction.data[0], asked)
-        # PINs, enterprise attestation and unsupported options have errors of their own.
+        # PINs, enterprise attestation and unsupported options have specific errors.
         own = {8, 9, 10} if transaction.data[0] == MAKE else {6, 7}
         rk_is_open = options.get("rk") and not self.answers.info.get(4, {}).get("rk")
         if own & set(asked) or rk_is_open or options.get("uv"):

@@ -26,7 +26,7 @@ MISSING, UNKNOWN, FORM = "missing", "unknown", "form"
 
 @dataclass
 class Fault:
-    """An error in a request: its kind, its section if not the command's, and what was expected and came."""
+    """An error in a request: its kind, its section if not the command's, and what was expected and found."""
 
     kind: str
     expected: str

@@ -142,7 +142,7 @@ def play_one(
         first = adjust_outcome(outcome, options, device_info)
         return second if second.status in FAILED else mark_unstable(first, second, late)
     if front and outcome.status == "skip":
-        # No space beside the credentials of other cases.
+        # The device is full, because of other cases' credentials.
         return play_one(device, session, options, device_info)
     return adjust_outcome(outcome, options, device_info)
 
