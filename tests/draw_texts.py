@@ -5,7 +5,7 @@
     tests/draw_texts.py --count                   how many of each kind there are, by language
 
 Each item has its file and line. The language of an item is drawn first, then the item, so that each language is seen.
-Generated files, proofs and tests' data are left out. The same seed and sources give the same list.
+Generated files, proofs and test data are excluded. The same seed and sources give the same list.
 """
 
 from __future__ import annotations
@@ -47,7 +47,7 @@ ERROR_CALL = re.compile(
     r"\braise\b|\bthrow\b|\w*Error\(|\bErr\(|\bfail(?:ed)?\(|\bdie\b|>&2|stderr|errors\.New|Errorf|\bpanic!?\(|\bFatal"
     r"|\.error\(|\breject\(|\breport\w*\(|_error\b|\bcheck\("
 )
-# Rust's and C's single quotes are those of lifetimes and letters.
+# In Rust and C, single quotes are for lifetimes and characters, not strings.
 SINGLE_QUOTED = (".py", ".js", ".mjs", ".sh")
 DOUBLE_QUOTED = re.compile(r'"((?:[^"\\\n]|\\.)*)"')
 STRING = re.compile(r'"((?:[^"\\\n]|\\.)*)"' + r"|'((?:[^'\\\n]|\\.)*)'" + r"|`((?:[^`\\\n]|\\.)*)`")
@@ -92,7 +92,7 @@ def read_sources() -> List[Tuple[str, str]]:
 
 def to_plain_text(text: str) -> str:
     """Returns a comment's text in one line, without its marks."""
-    lines = [re.sub(r"^\s*(?:///?|//!|/\*+|\*+/|\*|--|#)!? ?", "", line) for line in text.splitlines()]
+    lines = [re.sub(r"^\s*(?:///?|//!|/\*+|\*+/|\*|--(?= |$)|#)!? ?", "", line) for line in text.splitlines()]
     return " ".join(" ".join(lines).replace("*/", "").split())
 
 

@@ -68,7 +68,7 @@ class Sampler:
             self.stopped.wait(1.0)
 
     def sample(self) -> None:
-        """Adds the processor time of the current processes."""
+        """Records the processor time of the current processes."""
         running = [found for name in os.listdir("/proc") if name.isdigit() and (found := Process.read(int(name)))]
         parents = {process.pid: process.parent for process in running}
         for process in running:

@@ -135,7 +135,7 @@ class Definition:
         kept = (line for line in self.code() if not line.strip().startswith(dropped))
         text = FIELDS.sub(" ", "\n".join(line.split(" -- ")[0] for line in kept))
         equations = re.split(rf"^(?= *{re.escape(self.name)}(?: |$))", text, flags=re.MULTILINE)
-        return {word for equation in equations for word in free_words(equation)}
+        return {word for equation in equations for word in list_free_words(equation)}
 
     def makes(self) -> set[str]:
         """Returns the constructors of a data type."""
@@ -169,14 +169,14 @@ class Definition:
             return []
         split = [line.strip().removeprefix("pub ").partition(" : ") for line in self.lines[1:]]
         if head[1] == "data":
-            parts = (" ".join([name, *arguments(of)]) for name, _, of in split)
+            parts = (" ".join([name, *parse_arguments(of)]) for name, _, of in split)
             notes = (line.strip() for line in self.lines[1:])
-            return one_of(
+            return format_data_type(
                 f"data {head[2]}:", [note if note.startswith("--") else part for note, part in zip(notes, parts)]
             )
         if any(STATES.search(of) for _, _, of in split):
             return []
-        return wrapped(" ".join([f"record {head[2]}:", *named([(name, of) for name, _, of in split])]))
+        return wrap_lines(" ".join([f"record {head[2]}:", *group_fields([(name, of) for name, _, of in split])]))
 
     def equations(self) -> list[str]:
         """Returns the lines shown on the page, without comments."""
@@ -188,7 +188,7 @@ class Definition:
         return next((place for place, line in enumerate(self.lines) if equation.match(line)), 0)
 
 
-def named(fields: list[tuple[str, str]]) -> list[str]:
+def group_fields(fields: list[tuple[str, str]]) -> list[str]:
     """Returns fields or named arguments, grouped by type, with the type if it isn't plain."""
     found = list[str]()
     for of, group in groupby(
@@ -199,36 +199,36 @@ def named(fields: list[tuple[str, str]]) -> list[str]:
     return found
 
 
-def arguments(of: str) -> list[str]:
+def parse_arguments(of: str) -> list[str]:
     """Returns the arguments of a constructor, from its type."""
     found = list[str]()
     for part in of.split(" → ")[:-1]:
         for group in re.findall(r"\([^()]* : (?:[^()]|\([^()]*\))*\)", part) or [part]:
             names, _, kind = group[1:-1].partition(" : ")
             if group.startswith("(") and kind:
-                found += named([(name, kind) for name in names.split()])
+                found += group_fields([(name, kind) for name in names.split()])
             else:
                 found.append(f"({group})" if " " in group else group)
     return found
 
 
-def wrapped(text: str) -> list[str]:
+def wrap_lines(text: str) -> list[str]:
     """Returns the text in lines, all but the first indented."""
     return textwrap.wrap(text, 113, subsequent_indent="    ", break_on_hyphens=False)
 
 
-def one_of(head: str, lines: list[str]) -> list[str]:
+def format_data_type(head: str, lines: list[str]) -> list[str]:
     """Returns a data type, from its constructors. A comment is above its constructor."""
     found, text, between = list[str](), head, ""
     for line in lines:
         if line.startswith("--"):
-            found, text = [*found, *wrapped(text), f"  {line}"], " "
+            found, text = [*found, *wrap_lines(text), f"  {line}"], " "
         else:
             text, between = f"{text} {between}{line}", "| "
-    return [*found, *wrapped(text)]
+    return [*found, *wrap_lines(text)]
 
 
-def free_words(equation: str) -> set[str]:
+def list_free_words(equation: str) -> set[str]:
     """Returns the words of an equation or a type, without the names bound in it: lower-case parameters, and the names
     that `λ` and `let` bind."""
     left = equation.partition(" =")[0] if not re.match(r" *(?:\w+ )*\S+ :", equation) else ""
@@ -252,7 +252,7 @@ class File:
         return next((definition for definition in self.definitions.values() if name in definition.makes()), None)
 
 
-def take_uses(found: File, line: str) -> bool:
+def handle_use_line(found: File, line: str) -> bool:
     """Processes a `use` line. Returns False if the line isn't one."""
     use = USE.match(line)
     if use is None:
@@ -266,7 +266,7 @@ def take_uses(found: File, line: str) -> bool:
 
 
 @cache
-def read(path: Path) -> File:
+def read_definitions(path: Path) -> File:
     """Returns the definitions of a file. In a `mutual` block definitions are indented."""
     found, comment, current, indent = File(), list[str](), None, ""
     for line in path.read_text(encoding="utf-8").splitlines():
@@ -277,7 +277,7 @@ def read(path: Path) -> File:
             comment.append(text[2:].strip())
         elif re.fullmatch(r"(\w+ )?mutual", line):
             indent = "  "
-        elif not take_uses(found, line):
+        elif not handle_use_line(found, line):
             indent = indent if line.startswith(" ") else ""
             if not line.startswith((indent + " ", indent + "}")):
                 name = DECLARES.match(text).group(1)  # type: ignore[union-attr]
@@ -288,9 +288,9 @@ def read(path: Path) -> File:
     return found
 
 
-def held(name: Name) -> Definition:
+def find_definition(name: Name) -> Definition:
     """Returns the definition with this name."""
-    return read(name.path).definitions[name.name]
+    return read_definitions(name.path).definitions[name.name]
 
 
 def check_path(module: str) -> Path | None:
@@ -302,7 +302,7 @@ def check_path(module: str) -> Path | None:
     return path if path.is_file() else None
 
 
-def declared(module: str, name: str) -> Name | None:
+def find_code_item(module: str, name: str) -> Name | None:
     """Returns the type or constant of the code that a `use` of this name refers to; for a constructor its type."""
     found = DECLARED.fullmatch(module)
     if found is None:
@@ -312,11 +312,11 @@ def declared(module: str, name: str) -> Name | None:
     return Name(path, kind) if path.is_file() else None
 
 
-def statement(path: Path, clause: re.Pattern[str], what: str) -> list[Name]:
+def read_clause_names(path: Path, clause: re.Pattern[str], what: str) -> list[Name]:
     """Returns the definitions that a clause of the code names."""
     code, uses = path.read_text(encoding="utf-8"), File()
     for line in code.splitlines():
-        take_uses(uses, line.removeprefix("ghost "))
+        handle_use_line(uses, line.removeprefix("ghost "))
     found = clause.search(code)
     if found is None:
         raise SystemExit(f"tests/reading.py: {path.relative_to(TOP)} has no {what}")
@@ -341,7 +341,7 @@ class Walk:
         self.faults: list[str] = []
         for clause in clauses:
             pattern = re.compile(CLAUSE.format(clause), re.DOTALL)
-            for name in statement(HEADLINE, pattern, f"clause `{clause}` of `drive_new`"):
+            for name in read_clause_names(HEADLINE, pattern, f"clause `{clause}` of `drive_new`"):
                 self.visit(name)
 
     def visit(self, name: Name) -> None:
@@ -349,7 +349,7 @@ class Walk:
         if name.name in self.laws:
             self.visit_law(name)
             return
-        here = read(name.path)
+        here = read_definitions(name.path)
         definition = here.holding(name.name)
         if definition is None:
             raise SystemExit(f"tests/reading.py: {name.path.relative_to(TOP)} doesn't define {name.name}")
@@ -364,12 +364,12 @@ class Walk:
         """Processes what a word of a definition in this file refers to, if anything."""
         if word in self.aside:
             return
-        here = read(path)
+        here = read_definitions(path)
         if here.holding(word):
             self.visit(Name(path, word))
         elif word in here.uses:
             module, other = here.uses[word]
-            there, code = check_path(module), declared(module, other)
+            there, code = check_path(module), find_code_item(module, other)
             if there:
                 self.visit(Name(there, other))
             elif code:
@@ -382,8 +382,8 @@ class Walk:
         law = self.laws[name.name]
         path = name.path.parent.parent / "src" / "laws.rt"
         clause = re.compile(rf"pub fn {law}\(\)\s+ensures (?:\w+ )?\{{(.*?)\}}", re.DOTALL)
-        named = statement(path, clause, f"law {law}")
-        said = {word for of in named if of.name not in PREMISES for word in held(of).words()}
+        named = read_clause_names(path, clause, f"law {law}")
+        said = {word for of in named if of.name not in PREMISES for word in find_definition(of).words()}
         if name.name not in said:
             self.faults.append(f"{path.relative_to(TOP)}: the statement of {law} doesn't contain {name.name}")
         for of in named:
@@ -412,36 +412,36 @@ class Needs:
         walks.append(Walk(both, (), LAWS, {}))
         self.parts = [Part("on the pages", statement_alone.needed, statement_alone.declared)]
         # The record of bounds itself, and the law for its fields, are in the introduction of the third page.
-        head = Part("in the introduction of the third page", *without(walks[0], statement_alone))
+        head = Part("in the introduction of the third page", *subtract_needs(walks[0], statement_alone))
         self.parts.append(head)
         for name, before, walk in zip((*APART, *ASIDE), walks, walks[1:]):
-            self.parts.append(Part(f"in the section of `{name}`", *without(walk, before)))
-        self.faults = [*walks[-1].faults, *read_aside(statement_alone.needed)]
+            self.parts.append(Part(f"in the section of `{name}`", *subtract_needs(walk, before)))
+        self.faults = [*walks[-1].faults, *find_aside_errors(statement_alone.needed)]
         self.library = walks[-1].library
         page_laws = {name: law for name, law in LAWS.items() if name in PAGE_LAWS}
-        self.more = {law: more_than(statement_alone, (STATEMENT,), law, page_laws) for law in page_laws.values()}
+        self.more = {law: count_saved(statement_alone, (STATEMENT,), law, page_laws) for law in page_laws.values()}
         for law in dict.fromkeys(law for name, law in LAWS.items() if name not in PAGE_LAWS):
-            self.more[law] = more_than(whole, both, law, LAWS)
+            self.more[law] = count_saved(whole, both, law, LAWS)
 
 
-def without(walk: Walk, before: Walk) -> tuple[set[Name], set[Name]]:
+def subtract_needs(walk: Walk, before: Walk) -> tuple[set[Name], set[Name]]:
     """Returns the definitions, and the types and constants of the code, that `walk` needs and `before` doesn't."""
     return walk.needed - before.needed, walk.declared - before.declared
 
 
-def more_than(walk: Walk, clauses: tuple[str, ...], law: str, laws: dict[str, str]) -> int:
+def count_saved(walk: Walk, clauses: tuple[str, ...], law: str, laws: dict[str, str]) -> int:
     """Returns the number of additional definitions that a walk needs without a law."""
     others = {name: other for name, other in laws.items() if other != law}
     return len(Walk(clauses, (), others, ASIDE).needed - walk.needed)
 
 
-def read_aside(needed: set[Name]) -> list[str]:
+def find_aside_errors(needed: set[Name]) -> list[str]:
     """Returns errors: definitions that use a name of ASIDE other than to store it in its field."""
     found = list[str]()
     for word, name in ASIDE.items():
         other = re.compile(rf"(?<![\w.])(?<!\b{name} = ){word}(?![\w.])|(?<!\b{name} = )(?<![\w.])\w+\.{name}\b")
         for reader in sorted(needed):
-            if other.search("\n".join(line.split(" -- ")[0] for line in held(reader).code())):
+            if other.search("\n".join(line.split(" -- ")[0] for line in find_definition(reader).code())):
                 found.append(f"{reader} reads {word} or the field {name}, but no packet may depend on it")
     return found
 
@@ -455,7 +455,7 @@ class Block:
     names: list[str]
 
 
-def block_of(found: re.Match[str]) -> Block:
+def parse_block(found: re.Match[str]) -> Block:
     """Returns a block. If its comment has no names, the first line names the file, and each definition whose name
     begins a line is shown."""
     if found[2]:
@@ -463,34 +463,34 @@ def block_of(found: re.Match[str]) -> Block:
     lines = found[4].strip("\n").splitlines()
     path = TOP / lines[0].strip().removeprefix("-- ")
     begun = (BEGINS.match(line) for line in lines[1:])
-    names = dict.fromkeys(match[1] for match in begun if match and match[1] in read(path).definitions)
+    names = dict.fromkeys(match[1] for match in begun if match and match[1] in read_definitions(path).definitions)
     return Block(found[1], path, list(names))
 
 
-def filled(found: re.Match[str]) -> str:
+def fill_block(found: re.Match[str]) -> str:
     """Returns a block with its current text."""
-    block = block_of(found)
-    return found[0].partition("\n")[0] + "\n" + shown(block.kind, block.path, block.names)
+    block = parse_block(found)
+    return found[0].partition("\n")[0] + "\n" + format_block(block.kind, block.path, block.names)
 
 
-def shown(kind: str, path: Path, names: list[str]) -> str:
+def format_block(kind: str, path: Path, names: list[str]) -> str:
     """Returns the text of a block: a line with the file, and the content."""
     if kind == "definitions":
-        found = read(path).definitions
+        found = read_definitions(path).definitions
         parts = [found[name].shown() if name in found else [f"({name} isn't defined)"] for name in names]
-        blocks = joined(parts)
+        blocks = join_parts(parts)
     elif kind == "clauses":
-        blocks = clauses(path, names[0], names[1:])
+        blocks = read_clauses(path, names[0], names[1:])
     elif kind == "documented":
-        blocks = joined([declaration(path, name) for name in names])
+        blocks = join_parts([read_declaration(path, name) for name in names])
     else:
-        blocks = joined([short_declaration(path, name) for name in names])
+        blocks = join_parts([format_declaration(path, name) for name in names])
     mark = "//" if kind in ("clauses", "documented") else "--"
     lines = [f"{mark} {path.relative_to(TOP)}", *blocks]
     return "\n" + "".join(f"    {line}\n" if line else "\n" for line in lines) + "\n"
 
 
-def joined(parts: list[list[str]]) -> list[str]:
+def join_parts(parts: list[list[str]]) -> list[str]:
     """Returns the lines of the parts, separated by blank lines except between short ones without comments."""
     found, is_short = list[str](), True
     for part in parts:
@@ -499,7 +499,7 @@ def joined(parts: list[list[str]]) -> list[str]:
     return found
 
 
-def declaration(path: Path, name: str) -> list[str]:
+def read_declaration(path: Path, name: str) -> list[str]:
     """Returns the declaration of a type or a constant of the code, without attributes and links."""
     code = path.read_text(encoding="utf-8")
     kinds = rf"const {name}: [^;]*;|(?:enum|struct) {name}\b(?:\(.*?\);|[^{{;(]*\{{.*?^\}})"
@@ -510,39 +510,39 @@ def declaration(path: Path, name: str) -> list[str]:
     return [line for line in plain.splitlines() if not line.strip().startswith("#[")]
 
 
-def code_type(of: str) -> str:
+def to_definition_type(of: str) -> str:
     """Returns a type of the code in the notation of definitions; plain types as ℕ."""
     kind = of.strip()
     return "ℕ" if PLAIN_CODE.fullmatch(kind) else re.sub(r"^Option<(.*)>$", r"Option \1", kind)
 
 
-def short_declaration(path: Path, name: str) -> list[str]:
+def format_declaration(path: Path, name: str) -> list[str]:
     """Returns a type or a constant of the code in the form of definitions: its fields or variants, or its value."""
-    lines = [line for line in declaration(path, name) if not line.strip().startswith("//")]
+    lines = [line for line in read_declaration(path, name) if not line.strip().startswith("//")]
     constant = re.fullmatch(r"pub const (\w+): \w+ = (.*);", lines[0])
     if constant:
         return [f"{constant[1]} = {constant[2]}"]
     inside = [line.strip().removeprefix("pub ").removesuffix(",") for line in lines[1:-1]]
     if lines[0] == f"pub struct {name} {{":
-        fields = [(field, code_type(of)) for field, _, of in (line.partition(": ") for line in inside)]
-        return wrapped(" ".join([f"record {name}:", *named(fields)]))
+        fields = [(field, to_definition_type(of)) for field, _, of in (line.partition(": ") for line in inside)]
+        return wrap_lines(" ".join([f"record {name}:", *group_fields(fields)]))
     found = [re.fullmatch(r"(\w+)(?:\((\w.*)\)| \{ (.*) \})?", line) for line in inside]
     if lines[0] != f"pub enum {name} {{" or None in found:
         return lines
-    return one_of(f"data {name}:", [variant(entry) for entry in found if entry])
+    return format_data_type(f"data {name}:", [format_variant(entry) for entry in found if entry])
 
 
-def variant(found: re.Match[str]) -> str:
+def format_variant(found: re.Match[str]) -> str:
     """Returns a variant of an enum of the code in the notation of a constructor."""
     name, of, fields = found.groups()
     if of:
-        kind = code_type(of)
+        kind = to_definition_type(of)
         return f"{name} ({kind})" if " " in kind else f"{name} {kind}"
     split = (field.partition(": ") for field in (fields or "").split(", ") if field)
-    return " ".join([name, *named([(field, code_type(kind)) for field, _, kind in split])])
+    return " ".join([name, *group_fields([(field, to_definition_type(kind)) for field, _, kind in split])])
 
 
-def clauses(path: Path, function: str, names: list[str]) -> list[str]:
+def read_clauses(path: Path, function: str, names: list[str]) -> list[str]:
     """Returns clauses of a function's contract."""
     code = path.read_text(encoding="utf-8")
     found = re.search(rf"^( *)pub fn {function}\b(?:.|\n)*?\n\1\{{", code, re.MULTILINE)
@@ -568,45 +568,45 @@ def is_public(name: Name) -> bool:
     return bool(re.search(EXPORTED.format(module, name.name, name.name, module), root, re.M))
 
 
-def count(names: set[Name]) -> str:
-    lines, files = sum(len(held(name).equations()) for name in names), len({name.path for name in names})
+def format_count(names: set[Name]) -> str:
+    lines, files = sum(len(find_definition(name).equations()) for name in names), len({name.path for name in names})
     return f"**{len(names)} definitions, {lines:,} lines, {files} {'files' if files > 1 else 'file'}**"
 
 
-def written(needs: Needs, page: str) -> str:
+def update_page(needs: Needs, page: str) -> str:
     """Returns the pages with current definitions and counts."""
-    page = BLOCK.sub(filled, page)
-    counts = iter([count(part.definitions) for part in needs.parts])
-    page = COUNTS.sub(lambda match: with_numbers(match[0], next(counts, match[0])), page)
+    page = BLOCK.sub(fill_block, page)
+    counts = iter([format_count(part.definitions) for part in needs.parts])
+    page = COUNTS.sub(lambda match: replace_numbers(match[0], next(counts, match[0])), page)
     return MORE.sub(lambda match: re.sub(r"\d+", str(needs.more.get(match[1], 0)), str(match[0]), count=1), page)
 
 
-def with_numbers(text: str, counted: str) -> str:
+def replace_numbers(text: str, counted: str) -> str:
     """Returns the text with the numbers of `counted`, keeping its line breaks."""
     numbers: Iterator[str] = iter(re.findall(r"[\d,]*\d", counted))
     return re.sub(r"[\d,]*\d", lambda match: next(numbers), text)
 
 
-def names_on(page: str, *kinds: str) -> list[Name]:
-    blocks = (block_of(match) for match in BLOCK.finditer(page))
+def list_names(page: str, *kinds: str) -> list[Name]:
+    blocks = (parse_block(match) for match in BLOCK.finditer(page))
     return [Name(block.path, name) for block in blocks if block.kind in kinds for name in block.names]
 
 
-def differences(where: str, has: list[Name], needs: set[Name]) -> list[str]:
+def find_differences(where: str, has: list[Name], needs: set[Name]) -> list[str]:
     """Returns errors: names that are missing, not needed or shown twice."""
     found = [f"{name} is needed but isn't {where}" for name in sorted(needs - set(has))]
     found += [f"{name} is {where} but isn't needed" for name in sorted(set(has) - needs)]
     return found + [f"{name} is {where} twice" for name in sorted({name for name in has if has.count(name) > 1})]
 
 
-def unsaid(needs: Needs, page: str) -> list[str]:
+def find_unexplained(needs: Needs, page: str) -> list[str]:
     """Returns errors: lower-case constructors missing in the section Notation, and library names missing in the
     prose."""
     made = {
         symbol
         for part in needs.parts
         for name in part.definitions
-        for symbol in held(name).makes()
+        for symbol in find_definition(name).makes()
         if symbol[0].islower()
     }
     notation = set(TOKEN.findall(page.partition("## Notation")[2].partition("\n## ")[0]))
@@ -615,60 +615,60 @@ def unsaid(needs: Needs, page: str) -> list[str]:
     return found + [f"the library's {name} isn't explained" for name in sorted(needs.library - prose)]
 
 
-def extent(page: str) -> int:
+def count_words(page: str) -> int:
     """Returns the number of words of a page, separated by spaces, including numbers and symbols."""
     return sum(len(line.split()) for line in page.splitlines() if not HIDDEN.fullmatch(line))
 
 
-def overlong(path: Path, page: str) -> list[str]:
+def find_long_pages(path: Path, page: str) -> list[str]:
     """Returns errors: a page has more words than it states, or states more than MAX_WORDS."""
     name, stated = path.name, WORDS.search(page)
     if stated is None:
         return [f"{name} doesn't state its maximum number of words"]
-    words, limit = extent(page), int(stated[1].replace(",", ""))
+    words, limit = count_words(page), int(stated[1].replace(",", ""))
     found = [f"{name} has {words} words, but at most {limit} are allowed"] if words > limit else []
     return found + ([f"{name} allows {limit} words, more than {MAX_WORDS}"] if limit > MAX_WORDS else [])
 
 
-def faults(needs: Needs, pages: list[str], more: str) -> list[str]:
+def find_errors(needs: Needs, pages: list[str], more: str) -> list[str]:
     """Returns the errors of the pages."""
     both = END.join(pages)
     texts, found = [both, *SECTION.split(more)], [*needs.faults]
     if len(texts) != len(needs.parts):
         return [*found, f"the third page has {len(texts) - 2} sections, not {len(needs.parts) - 2}"]
     for part, text in zip(needs.parts, texts):
-        found += differences(part.title, names_on(text, "definitions"), part.definitions)
-        found += differences(part.title, names_on(text, "code", "documented"), part.code)
+        found += find_differences(part.title, list_names(text, "definitions"), part.definitions)
+        found += find_differences(part.title, list_names(text, "code", "documented"), part.code)
     code = sorted(name for part in needs.parts for name in part.code)
     found += [f"{name} is used by a definition but isn't public" for name in code if not is_public(name)]
-    found += unsaid(needs, END.join(texts))
-    found += [fault for path, page in zip(PAGES, pages) for fault in overlong(path, page)]
+    found += find_unexplained(needs, END.join(texts))
+    found += [fault for path, page in zip(PAGES, pages) for fault in find_long_pages(path, page)]
     whole = END.join([both, more])
     if len(COUNTS.findall(whole)) != len(needs.parts) or {m[1] for m in MORE.finditer(whole)} != set(LAWS.values()):
         found.append("the pages don't have each count exactly once")
-    if written(needs, whole).split(END)[: len(PAGES)] != pages:
+    if update_page(needs, whole).split(END)[: len(PAGES)] != pages:
         found.append("a definition or a count on a page is out of date: run tests/reading.py --write")
     return found
 
 
-def comments() -> dict[Path, dict[str, str]]:
+def read_comments() -> dict[Path, dict[str, str]]:
     """Returns the comment above each definition of the repository, by file."""
-    files = {path: read(path) for path in sorted((TOP / "crates").glob("*/specs/**/*.antt"))}
+    files = {path: read_definitions(path) for path in sorted((TOP / "crates").glob("*/specs/**/*.antt"))}
     return {
         path: {definition.name: definition.comment for definition in file.definitions.values()}
         for path, file in files.items()
     }
 
 
-def listing(needs: Needs) -> str:
+def format_list(needs: Needs) -> str:
     """Returns what is needed, by part and file: the definitions in order, and the types and constants of the code."""
     lines = list[str]()
     for part in needs.parts:
         for path in sorted({definition.path for definition in part.definitions}):
-            kept = [name for name in read(path).definitions if Name(path, name) in part.definitions]
+            kept = [name for name in read_definitions(path).definitions if Name(path, name) in part.definitions]
             lines.append(f"{part.title}: {path.relative_to(TOP)}: {' '.join(kept)}")
         lines += [f"{part.title}: {line}" for line in sorted(part.code)]
-    return "\n".join([*lines, *(count(part.definitions) for part in needs.parts), str(needs.more)])
+    return "\n".join([*lines, *(format_count(part.definitions) for part in needs.parts), str(needs.more)])
 
 
 def main() -> int:
@@ -676,23 +676,23 @@ def main() -> int:
     pages, more = [path.read_text(encoding="utf-8") for path in PAGES], MORE_PAGE.read_text(encoding="utf-8")
     needs, whole = Needs(), END.join([*pages, more])
     if sys.argv[1:] == ["--list"]:
-        print(listing(needs))
+        print(format_list(needs))
         return 0
     if sys.argv[1:] == ["--more"]:
-        print(written(needs, whole).split(END)[-1], end="")
+        print(update_page(needs, whole).split(END)[-1], end="")
         return 0
     if sys.argv[1:] == ["--index"]:
-        print(definitions.build_page(comments()), end="")
+        print(definitions.build_page(read_comments()), end="")
         return 0
     if sys.argv[1:] == ["--write"]:
-        for path, text in zip(PAGES, written(needs, whole).split(END)):
+        for path, text in zip(PAGES, update_page(needs, whole).split(END)):
             path.write_text(text, encoding="utf-8")
         return 0
-    found = faults(needs, pages, more)
+    found = find_errors(needs, pages, more)
     for line in found:
         print(line)
-    counted = count(needs.parts[0].definitions).strip("*")
-    words = " and ".join(f"{path.name} {extent(page)}" for path, page in zip(PAGES, pages))
+    counted = format_count(needs.parts[0].definitions).strip("*")
+    words = " and ".join(f"{path.name} {count_words(page)}" for path, page in zip(PAGES, pages))
     print(f"one statement, {counted}; words: {words}; {len(found)} errors")
     return 1 if found else 0
 

@@ -1,7 +1,7 @@
 #!/usr/bin/env python3
 """Compares the wheel of python/wheel.py with hatchling's: wheels_same.py OWN HATCHLING
 
-The same files and bytes, and the same facts: version, requirements, tags and entry points. Ends with 1 at a difference.
+Both must have the same files and bytes, version, requirements, tags and entry points. Exit status: 1 if they differ.
 """
 
 from __future__ import annotations

@@ -45,11 +45,11 @@
         const walk = makeWalk(await globalThis.hidlog.load());
         const rules = () => python.module("judged_log").judge(new python.Bytes(bytes), walk);
         const { found, unsure } = await globalThis.hidlogVerified(rules);
-        const notes = report.notes_of(found);
+        const notes = report.list_notes(found);
         if (unsure) {
             notes.push(`${unsure} signatures were not verified: this browser does not support their algorithm`);
         }
-        return { findings: found.findings.map(toFinding), notes, total: report.total(found) };
+        return { findings: found.findings.map(toFinding), notes, total: report.format_total(found) };
     };
 
     // ---- display

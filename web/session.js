@@ -33,7 +33,7 @@
     };
 
     /** Reads the lines of a log, a slice at a time. */
-    class Reader {
+    class LineReader {
         constructor(bytes) {
             this.bytes = bytes;
             this.log = new Log(bytes);
@@ -197,7 +197,7 @@
 
     /** Reads a log at once, with its transactions. */
     const readSession = (bytes, core) => {
-        const reader = new Reader(bytes);
+        const reader = new LineReader(bytes);
         reader.readUntil(Infinity);
         new TableFiller(reader.log, core.run("transactions", bytes).text).fillUntil(Infinity);
         return reader.session();
@@ -214,5 +214,5 @@
         return bytes.subarray(0, end);
     };
 
-    globalThis.hidlogSession = { Reader, readSession, firstLines, BROADCAST };
+    globalThis.hidlogSession = { LineReader, readSession, firstLines, BROADCAST };
 })();

@@ -14,7 +14,7 @@
     const SHOWN_KINDS = ["host", "key", "comment", "need"];
     const ARROWS = { host: "→", key: "←", caller: "⇠", need: "?", time: "·", comment: "#", fault: "!" };
     const { KIND } = globalThis.hidlogLog;
-    const { Reader, firstLines, readSession } = globalThis.hidlogSession;
+    const { LineReader, firstLines, readSession } = globalThis.hidlogSession;
     const { TableFiller } = globalThis.hidlogTransactions;
     const { makeRows } = globalThis.hidlogRows;
     const { runGenerator, runInWorker } = globalThis.hidlogBackground;
@@ -247,7 +247,7 @@
 
     /** Reads a log a slice at a time, and then fills in its transactions, which the core finds meanwhile. */
     const readInSlices = function* reading(bytes) {
-        const reader = new Reader(bytes);
+        const reader = new LineReader(bytes);
         const { outcome, end } = findTransactions(bytes);
         try {
             while (!reader.isDone) {

@@ -37,7 +37,7 @@ RUNNING: Set["subprocess.Popen[Any]"] = set()
 
 
 def start_command(words: List[str], **more: Any) -> "subprocess.Popen[Any]":
-    """Starts a command with pipes, in a session of its own: Ctrl-C reaches the runner alone."""
+    """Starts a command with pipes, in a new session, so that Ctrl-C reaches only the runner."""
     pipe = subprocess.PIPE
     process = subprocess.Popen(words, stdin=pipe, stdout=pipe, start_new_session=True, **more)
     RUNNING.add(process)
@@ -97,7 +97,7 @@ class Device:
     fresh = False
     # Whether it makes keys and signatures itself, and so responds before the session's k and s lines.
     makes_keys = True
-    # The `needs` of sessions that this kind of device can meet.
+    # The `needs` of sessions that this kind of device provides.
     features: Tuple[str, ...] = ("touch", "two channels")
     # Whether it is the same device in the next session.
     lasting = False

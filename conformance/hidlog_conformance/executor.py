@@ -38,15 +38,17 @@ def connect(executor: str, folders: Sequence[str]) -> Any:
     return client
 
 
-def play_block(play: Callable[[Any], Any], block: List[Any]) -> List[Any]:
+def play_batch(play: Callable[[Any], Any], block: List[Any]) -> List[Any]:
     """Runs some tasks, in a worker."""
     return [play(item) for item in block]
 
 
-def results(executor: str, folders: Sequence[str], play: Callable[[Any], Any], tasks: Iterable[Any]) -> Iterator[Any]:
+def iter_results(
+    executor: str, folders: Sequence[str], play: Callable[[Any], Any], tasks: Iterable[Any]
+) -> Iterator[Any]:
     """Yields the result of each task, in order."""
     listed = list(tasks)
     with connect(executor, folders) as client:
         blocks = [listed[at : at + BATCH_SIZE] for at in range(0, len(listed), BATCH_SIZE)]
-        for future in client.map(partial(play_block, play), blocks, pure=False):
+        for future in client.map(partial(play_batch, play), blocks, pure=False):
             yield from future.result()

@@ -10,7 +10,7 @@ from typing import Optional
 # The exit status of a run that was interrupted, as shells report SIGINT.
 INTERRUPTED = 130
 SIGNALS = (signal.SIGINT, signal.SIGTERM)
-# Seconds in which another signal is of the same interrupt: `timeout` sends two.
+# Seconds within which a second signal counts as the same interrupt, since `timeout` sends two.
 SAME = 1.0
 
 
@@ -44,7 +44,7 @@ def wait_for_end(status: Optional[int]) -> None:
 
 
 def hold() -> None:
-    """Ignores the signals from now on, if they were handled, so that the report is written whole."""
+    """Ignores the signals from now on, if they were handled, so that the report is written completely."""
     for number in SIGNALS:
         if isinstance(signal.getsignal(number), Interrupts):
             signal.signal(number, signal.SIG_IGN)

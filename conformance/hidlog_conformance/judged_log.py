@@ -34,7 +34,7 @@ _CUT = re.compile(rb"# cut to \d+ bytes: ([<>]) (\d{1,20}) ((?:[0-9a-f]{2}){8,63
 
 @dataclass
 class Finding:
-    """A violated rule: its line and side, and what was expected and came."""
+    """A violated rule: its line and side, and what was expected and found."""
 
     line: int
     side: str

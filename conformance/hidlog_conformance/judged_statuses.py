@@ -9,7 +9,16 @@ from hidlog_conformance.answers import GET, INFO, MAKE, NEXT, RESET, SELECTION, 
 from hidlog_conformance.judged_log import KEY, SHOULD
 from hidlog_conformance.judged_parts import OTHERWISE, USER_TOKEN, ExtensionMismatch, KnownCredential, UncertainMismatch
 from hidlog_conformance.quantity import quantity
-from hidlog_conformance.requests import FORM, MISSING, PIN, UNKNOWN, Fault, find_fault, decode_parameters, unknown_parts
+from hidlog_conformance.requests import (
+    FORM,
+    MISSING,
+    PIN,
+    UNKNOWN,
+    Fault,
+    find_fault,
+    decode_parameters,
+    list_unknown_parts,
+)
 from hidlog_conformance.transactions import NO_TIME_OUT, Entry, Transaction
 
 if TYPE_CHECKING:
@@ -129,8 +138,8 @@ class StatusJudge:
             return
         if status == LIMIT_MS and self.has_long_list(asked.get(5 if transaction.data[0] == MAKE else 3, [])):
             return
-        strange = unknown_parts(transaction.data[0], asked)
-        # PINs, enterprise attestation and unsupported options have errors of their own.
+        strange = list_unknown_parts(transaction.data[0], asked)
+        # PINs, enterprise attestation and unsupported options have specific errors.
         own = {8, 9, 10} if transaction.data[0] == MAKE else {6, 7}
         rk_is_open = options.get("rk") and not self.answers.info.get(4, {}).get("rk")
         if own & set(asked) or rk_is_open or options.get("uv"):

@@ -1,4 +1,4 @@
-"""Paths of the data: beside the package in the repository, inside it if installed."""
+"""Paths of the data: next to the package in the repository, inside it if installed."""
 
 from __future__ import annotations
 

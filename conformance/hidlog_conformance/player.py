@@ -44,13 +44,13 @@ class Player(ResponseReader):
                 # A user who was present for a token need not touch again.
                 early = early or ("uv token" in self.session.uses and after is not None and after.kind == "p")
                 if self.device.virtual and not early:
-                    self.check_rest()
+                    self.check_remaining_packets()
             if not self.device.virtual:
                 self.check_end()
         except CaseSkipped as unplayable:
             return Outcome(self.session, "skip", str(unplayable))
         except Mismatch as differs:
-            if self.hides():
+            if self.is_hidden_by_cred_protect():
                 return Outcome(self.session, "skip", "the device applies credProtect unasked")
             return self.failed(differs.expected, differs.actual, step)
         except (KeyError, TypeError, ValueError, IndexError, AttributeError) as fault:
@@ -59,7 +59,7 @@ class Player(ResponseReader):
         except OSError as fault:
             return self.failed(GOES_ON, str(fault), step)
         finally:
-            self.leave()
+            self.cancel_pending_requests()
             self.device.close()
         return Outcome(self.session, "ok")
 
@@ -87,14 +87,14 @@ class Player(ResponseReader):
         line = step.line if step else 0
         return Outcome(self.session, "not ok", "", expected, actual, line, broken, expected == IN_TIME)
 
-    def hides(self) -> bool:
+    def is_hidden_by_cred_protect(self) -> bool:
         """Returns whether a sign-in found no credential because the device applies credProtect unasked."""
         found = self.actual is not None and self.actual.command == hid.CBOR and self.actual.data == b"\x2e"
         if not found or self.request[:1] != b"\2" or self.facts.protection < 2:
             return False
         return self.facts.protection >= (3 if answers.decode_parameters(self.request).get(3) else 2)
 
-    def leave(self) -> None:
+    def cancel_pending_requests(self) -> None:
         """Cancels pending requests of a device that keeps running."""
         if not self.device.lasting:
             return
@@ -107,7 +107,7 @@ class Player(ResponseReader):
         except OSError:
             pass
 
-    def check_rest(self) -> None:
+    def check_remaining_packets(self) -> None:
         """Checks that only KEEPALIVEs of pending requests are left."""
         self.expected = "rest"
         while True:

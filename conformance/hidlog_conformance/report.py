@@ -85,7 +85,7 @@ def format_details(outcome: Outcome) -> List[str]:
     return [escape_text(line) for line in lines]
 
 
-def progress(outcome: Outcome) -> None:
+def print_failure(outcome: Outcome) -> None:
     """Writes a failure or a warning to standard error when its case ends; the report has it again."""
     if outcome.status in (*FAILED, "warn"):
         text = f"{report_page.STATUS_WORDS[outcome.status]} {outcome.session.name}"
@@ -103,7 +103,7 @@ def count_violated_rules(outcomes: List[Outcome]) -> List[str]:
     return [f"violated  {TITLES[rule]}: {quantity(count, 'failed case')}" for rule, count in sorted(counts.items())]
 
 
-def text(outcomes: List[Outcome], header: Header) -> None:
+def write_text(outcomes: List[Outcome], header: Header) -> None:
     """Writes skipped, warned and failed cases, and the totals."""
     for outcome in outcomes:
         if outcome.status == "skip":
@@ -121,7 +121,7 @@ def text(outcomes: List[Outcome], header: Header) -> None:
     print(format_totals(outcomes))
 
 
-def to_tap(outcomes: List[Outcome], header: Header) -> None:
+def write_tap(outcomes: List[Outcome], header: Header) -> None:
     """Writes TAP, version 13; a warning is a TODO test."""
     print(f"TAP version 13\n1..{len(outcomes)}")
     for name, value in header.items():
@@ -138,18 +138,18 @@ def to_tap(outcomes: List[Outcome], header: Header) -> None:
     print(f"# {format_totals(outcomes)}")
 
 
-def to_junit(outcomes: List[Outcome], header: Header) -> None:
+def write_junit(outcomes: List[Outcome], header: Header) -> None:
     """Writes JUnit XML; a warning is in the case's output."""
     failed = sum(outcome.status in FAILED for outcome in outcomes)
     skipped = sum(outcome.status == "skip" for outcome in outcomes)
     print('<?xml version="1.0" encoding="UTF-8"?>')
     print(f'<testsuite name="CTAP 2.1" tests="{len(outcomes)}" failures="{failed}" skipped="{skipped}">')
-    properties("  ", list(header.items()))
+    write_properties("  ", list(header.items()))
     for outcome in outcomes:
         chapter, _, name = outcome.session.name.partition("/")
         print(f"  <testcase classname={quoteattr(chapter)} name={quoteattr(name)}>")
         head = outcome.session.head
-        properties("    ", [(word, head[word]) for word in ("rule", "requirement")])
+        write_properties("    ", [(word, head[word]) for word in ("rule", "requirement")])
         if outcome.status == "skip":
             print(f"    <skipped message={quoteattr(escape_text(outcome.reason))}/>")
         if outcome.status in (*FAILED, "warn"):
@@ -162,7 +162,7 @@ def to_junit(outcomes: List[Outcome], header: Header) -> None:
     print(f"</testsuite>\n<!-- {format_totals(outcomes)} -->")
 
 
-def properties(margin: str, pairs: List["tuple[str, str]"]) -> None:
+def write_properties(margin: str, pairs: List["tuple[str, str]"]) -> None:
     """Writes JUnit's properties."""
     print(f"{margin}<properties>")
     for name, value in pairs:
@@ -182,9 +182,9 @@ def to_rows(outcomes: List[Outcome]) -> List[report_page.Row]:
 
 
 WRITERS: Dict[str, Callable[[List[Outcome], Header], None]] = {
-    "text": text,
-    "tap": to_tap,
-    "junit": to_junit,
+    "text": write_text,
+    "tap": write_tap,
+    "junit": write_junit,
     "json": lambda outcomes, header: report_page.json_report(to_rows(outcomes), header, DISCLAIMER),
     "html": lambda outcomes, header: report_page.html_report(to_rows(outcomes), header, DISCLAIMER),
 }

@@ -26,7 +26,7 @@ MISSING, UNKNOWN, FORM = "missing", "unknown", "form"
 
 @dataclass
 class Fault:
-    """An error in a request: its kind, its section if not the command's, and what was expected and came."""
+    """An error in a request: its kind, its section if not the command's, and what was expected and found."""
 
     kind: str
     expected: str
@@ -179,7 +179,7 @@ def find_member_fault(command: int, item: Dict[Any, Any]) -> Optional[Fault]:
     return Fault(MISSING, lacking[0], ctap_cbor.to_diagnostic(item)) if lacking else None
 
 
-def unknown_parts(command: int, item: Dict[Any, Any]) -> List[str]:
+def list_unknown_parts(command: int, item: Dict[Any, Any]) -> List[str]:
     """Returns the unknown parts of a request, which a key must ignore: members, options, extensions."""
     found = [f"the member {key!r}" for key in item if key not in MEMBERS.get(command, {})]
     options = item.get(7 if command == MAKE else 5, {})

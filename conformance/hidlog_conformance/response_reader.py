@@ -64,7 +64,7 @@ class ResponseReader:
         # The RP ID hash whose credentials are being enumerated.
         self.listed_rp = b""
         self.deadline = time.monotonic() + seconds + (session.steps[-1].at if session.steps else 0) / 1000
-        # Messages that came early, the channels in use, and whether the device asked for a touch.
+        # Messages received early, the channels in use, and whether the device asked for a touch.
         self.early: List[Message] = []
         self.used: Set[int] = {hid.BROADCAST}
         self.nonces: Set[bytes] = set()
@@ -89,7 +89,7 @@ class ResponseReader:
         self.host = hid.Collector(of_host=True)
         self.guest = hid.Collector()
         self.last: Optional[Message] = None
-        # The current expectation, and what came.
+        # The current expectation, and the actual response.
         self.expected = ""
         self.actual: Optional[Message] = None
         # The packets so far, as lines of a log.
@@ -259,7 +259,7 @@ class ResponseReader:
         return channel not in self.used and channel not in self.allocated
 
     def nothing(self) -> str:
-        """Describes that no response came."""
+        """Describes a missing response."""
         if not self.others:
             return "nothing"
         return f"nothing (skipped {quantity(self.others, 'packet')} for other hosts)"

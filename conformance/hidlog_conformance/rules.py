@@ -47,7 +47,7 @@ REPLY_COMMANDS = (hid.CBOR, hid.ERROR, hid.KEEPALIVE)
 
 @dataclass
 class Seen:
-    """An expectation, and what came instead."""
+    """An expectation, and the actual response."""
 
     # The rule that the session is about.
     own: str
@@ -66,12 +66,12 @@ class Seen:
 
     @property
     def refusal(self) -> str:
-        """The code of the ERROR that came, or empty."""
+        """The code of the ERROR received, or empty."""
         return self.actual.data.hex() if self.actual is not None and self.actual.command == hid.ERROR else ""
 
     @property
     def answered(self) -> bytes:
-        """The CBOR response that came, or empty."""
+        """The CBOR response received, or empty."""
         return self.actual.data if self.actual is not None and self.actual.command == hid.CBOR else b""
 
 
@@ -123,6 +123,6 @@ def find_response_section(kind: str, seen: Seen) -> str:
     if kind in MAPS and (success or seen.own.startswith("6.")):
         return seen.of_request
     if kind == "status" and seen.answered and not success and seen.own.startswith("6."):
-        # One status instead of another.
+        # A status other than the expected one.
         return seen.of_request
     return seen.own

@@ -142,7 +142,7 @@ def play_one(
         first = adjust_outcome(outcome, options, device_info)
         return second if second.status in FAILED else mark_unstable(first, second, late)
     if front and outcome.status == "skip":
-        # No space beside the credentials of other cases.
+        # The device is full, because of other cases' credentials.
         return play_one(device, session, options, device_info)
     return adjust_outcome(outcome, options, device_info)
 
@@ -176,7 +176,7 @@ def play_on_cluster(
     """Plays sessions on the workers of --executor."""
     tasks = [(session, options, device_info) for session in sessions]
     folder = os.path.dirname(os.path.dirname(os.path.abspath(__file__)))
-    for number, outcome in enumerate(executor.results(options.executor, [folder], play_in_worker, tasks)):
+    for number, outcome in enumerate(executor.iter_results(options.executor, [folder], play_in_worker, tasks)):
         results.add(number, outcome)
 
 
@@ -203,7 +203,7 @@ def play_all(
         with lock:
             hangs[0] += outcome.hung
         if options.report == "text" and not results.is_closed:
-            report.progress(outcome)
+            report.print_failure(outcome)
         return outcome
 
     alone = not isinstance(device, PipeDevice) or options.persistent or asks
@@ -221,7 +221,7 @@ def play_all(
         collect(lambda session: play(session, make_device(options)), sessions, options.jobs, results)
 
 
-def device_words(parser: argparse.ArgumentParser) -> None:
+def add_device_options(parser: argparse.ArgumentParser) -> None:
     """Adds the options about the device."""
     parser.add_argument("--device", help="a command line, or /dev/hidrawN")
     parser.add_argument("--touch", action="store_true", help="ask a person to touch the device")
@@ -245,7 +245,7 @@ def parse_options(arguments: List[str]) -> argparse.Namespace:
         prog="hidlog-conformance",
         description="Run the CTAP 2.1 conformance tests against an authenticator or a client.",
     )
-    device_words(parser)
+    add_device_options(parser)
     parser.add_argument("--warnings-as-errors", action="store_true", help="count SHOULD violations as failures")
     parser.add_argument(
         "--profile-choices", action="store_true", help="test the choices of this project's profile, too"
@@ -290,7 +290,9 @@ def results_so_far(results: "Results[Result]") -> "List[Result]":
     return found
 
 
-def finish(options: argparse.Namespace, outcomes: List[Outcome], header: Dict[str, str], interrupted: int = 0) -> int:
+def report_results(
+    options: argparse.Namespace, outcomes: List[Outcome], header: Dict[str, str], interrupted: int = 0
+) -> int:
     """Writes the report, compares it with the expected failures, and returns the exit status. `interrupted` is the
     number of cases of a run that was interrupted, or 0."""
     if interrupted:
@@ -325,10 +327,10 @@ def play_to_client(options: argparse.Namespace) -> int:
     if options.logs:
         write_failed_logs(options.logs, played)
     header = report.make_client_header(options.client)
-    return finish(options, [outcome for outcome, _ in played], header, len(paths) if interrupted else 0)
+    return report_results(options, [outcome for outcome, _ in played], header, len(paths) if interrupted else 0)
 
 
-def listed(options: argparse.Namespace) -> int:
+def print_list(options: argparse.Namespace) -> int:
     """Lists the cases."""
     if options.client:
         sessions = [read_client_session(path)[0] for path in client_sessions(options.only)]
@@ -364,7 +366,7 @@ def play_to_device(options: argparse.Namespace) -> int:
             print("the device may have a PIN and credentials of the interrupted case", file=sys.stderr)
     outcomes = results_so_far(results)
     header = report.make_device_header(options.device or "release/hidlog live", device_info)
-    return finish(options, outcomes, header, len(sessions) if interrupted else 0)
+    return report_results(options, outcomes, header, len(sessions) if interrupted else 0)
 
 
 def main(arguments: List[str]) -> int:
@@ -372,7 +374,7 @@ def main(arguments: List[str]) -> int:
     options = parse_options(arguments)
     try:
         if options.list:
-            return listed(options)
+            return print_list(options)
         return play_to_client(options) if options.client else play_to_device(options)
     except BrokenPipeError:
         raise
@@ -397,6 +399,6 @@ def command(arguments: List[str]) -> int:
         return 141
 
 
-def installed() -> int:
+def main_installed() -> int:
     """Entry point of the installed command."""
     return command(sys.argv[1:])

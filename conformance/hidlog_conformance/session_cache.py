@@ -87,7 +87,7 @@ def remove_own(folder: str, process: int) -> None:
         shutil.rmtree(folder, ignore_errors=True)
 
 
-def is_copied(folder: str) -> bool:
+def is_current_copy(folder: str) -> bool:
     """Returns whether conformance/sessions is a copy of the folder."""
     try:
         with open(os.path.join(SESSIONS, COPY_OF), encoding="utf-8") as file:
@@ -96,9 +96,9 @@ def is_copied(folder: str) -> bool:
         return False
 
 
-def copy(folder: str) -> None:
+def copy_sessions(folder: str) -> None:
     """Replaces conformance/sessions by a copy of the folder, unless it is one."""
-    if is_copied(folder):
+    if is_current_copy(folder):
         return
     work = os.path.join(CACHE, f".{PREFIX}{secrets.token_hex(8)}")
     old = work + "-old"
@@ -136,7 +136,7 @@ def sessions_folder() -> str:
             return write_temporary()
     with contextlib.suppress(OSError):
         os.utime(folder)
-        copy(folder)
+        copy_sessions(folder)
         remove_unused(folder)
     return folder
 

@@ -48,10 +48,10 @@ an authenticator or a client, and reports violations.
 The tests were written from knowledge of the standard and have not been checked against its text line by line. This is
 not a FIDO certification, whose tools test more: metadata, biometric enrolment, configuration, NFC, BLE and others.
 """
-SCRIPT = "#!/usr/bin/python3\nimport sys\n\nfrom hidlog_conformance.run import installed\n\nsys.exit(installed())\n"
+SCRIPT = "#!/usr/bin/python3\nimport sys\n\nfrom hidlog_conformance.run import main_installed\n\nsys.exit(main_installed())\n"
 
 
-def files() -> Dict[str, bytes]:
+def list_files() -> Dict[str, bytes]:
     """Returns the package's files, by path: modules, sessions, which are generated here, and client sessions."""
     found = {f"hidlog_conformance/sessions/{name}.log": text.encode() for name, text in build_session_texts().items()}
     folders = {
@@ -72,21 +72,21 @@ def files() -> Dict[str, bytes]:
     return dict(sorted(found.items()))
 
 
-def read(name: str) -> bytes:
+def read_file(name: str) -> bytes:
     """Returns a file of the repository."""
     with open(os.path.join(TOP, name), "rb") as file:
         return file.read()
 
 
-def wheel(folder: str) -> str:
+def build_wheel(folder: str) -> str:
     """Writes the wheel."""
     info = f"hidlog_conformance-{__version__}.dist-info"
-    found = files()
+    found = list_files()
     found[f"{info}/METADATA"] = (METADATA + DESCRIPTION).encode()
     found[f"{info}/WHEEL"] = b"Wheel-Version: 1.0\nGenerator: hidlog\nRoot-Is-Purelib: true\nTag: py3-none-any\n"
-    found[f"{info}/entry_points.txt"] = b"[console_scripts]\nhidlog-conformance = hidlog_conformance.run:installed\n"
+    found[f"{info}/entry_points.txt"] = b"[console_scripts]\nhidlog-conformance = hidlog_conformance.run:main_installed\n"
     for name in ("LICENSE-APACHE", "LICENSE-MIT"):
-        found[f"{info}/{name}"] = read(name)
+        found[f"{info}/{name}"] = read_file(name)
     record = []
     for name, data in found.items():
         digest = base64.urlsafe_b64encode(hashlib.sha256(data).digest()).rstrip(b"=").decode()
@@ -101,7 +101,7 @@ def wheel(folder: str) -> str:
     return path
 
 
-def put(root: str, name: str, data: bytes, mode: int = 0o644) -> None:
+def write_file(root: str, name: str, data: bytes, mode: int = 0o644) -> None:
     """Writes a file of the Debian package."""
     path = os.path.join(root, name)
     os.makedirs(os.path.dirname(path), exist_ok=True)
@@ -110,36 +110,36 @@ def put(root: str, name: str, data: bytes, mode: int = 0o644) -> None:
     os.chmod(path, mode)
 
 
-def documents(root: str) -> None:
+def write_documents(root: str) -> None:
     """Writes the licence and the changelog of the Debian package."""
     start = "Format: https://www.debian.org/doc/packaging-manuals/copyright-format/1.0/\nUpstream-Name: hidlog-conformance\n\n"
     who = "Files: *\nCopyright: 2026 Cogtzil maintainers\nLicense: Apache-2.0 or Expat\n\n"
     apache = "License: Apache-2.0\n On Debian systems the text is in /usr/share/common-licenses/Apache-2.0.\n\n"
-    text = read("LICENSE-MIT").decode().splitlines()[4:]
+    text = read_file("LICENSE-MIT").decode().splitlines()[4:]
     expat = "License: Expat\n" + "".join(f" {line or '.'}\n" for line in text)
     place = "usr/share/doc/hidlog-conformance"
-    put(root, f"{place}/copyright", (start + who + apache + expat).encode())
+    write_file(root, f"{place}/copyright", (start + who + apache + expat).encode())
     change = f"hidlog-conformance ({__version__}) unstable; urgency=low\n\n  * Version {__version__}.\n\n"
     change += f" -- {MAINTAINER}  Thu, 26 Nov 2026 00:00:00 +0000\n"
-    put(root, f"{place}/changelog.gz", gzip.compress(change.encode(), 9, mtime=0))
+    write_file(root, f"{place}/changelog.gz", gzip.compress(change.encode(), 9, mtime=0))
 
 
-def deb(folder: str) -> str:
+def build_deb(folder: str) -> str:
     """Writes the Debian package."""
     path = os.path.join(folder, f"hidlog-conformance_{__version__}_all.deb")
     with tempfile.TemporaryDirectory() as root:
-        found = files()
+        found = list_files()
         for name, data in found.items():
-            put(root, f"usr/lib/python3/dist-packages/{name}", data)
-        put(root, "usr/bin/hidlog-conformance", SCRIPT.encode(), 0o755)
-        documents(root)
+            write_file(root, f"usr/lib/python3/dist-packages/{name}", data)
+        write_file(root, "usr/bin/hidlog-conformance", SCRIPT.encode(), 0o755)
+        write_documents(root)
         size = sum(map(len, found.values())) // 1024
         control = f"Package: hidlog-conformance\nVersion: {__version__}\nArchitecture: all\nMaintainer: {MAINTAINER}\n"
         control += f"Section: utils\nPriority: optional\nInstalled-Size: {size}\n"
         control += "Depends: python3 (>= 3.9), python3-cryptography\n"
         control += f"Description: {SUMMARY.lower().replace('ctap', 'CTAP').replace('usb hid', 'USB HID')}\n"
         control += "".join(f" {line or '.'}\n" for line in DESCRIPTION.splitlines())
-        put(root, "DEBIAN/control", control.encode())
+        write_file(root, "DEBIAN/control", control.encode())
         for place, folders, names in os.walk(root):
             os.chmod(place, 0o755)
             for name in folders + names:
@@ -156,9 +156,9 @@ def main(words: List[str]) -> int:
         print(__doc__, file=sys.stderr)
         return 2
     os.makedirs(words[0], exist_ok=True)
-    print(wheel(words[0]))
+    print(build_wheel(words[0]))
     if shutil.which("dpkg-deb"):
-        print(deb(words[0]))
+        print(build_deb(words[0]))
     return 0
 
 

@@ -170,7 +170,7 @@ def compile_fake_udev(room: str) -> str:
     return library
 
 
-def record(name: str, steps: str, room: str) -> List[str]:
+def record_browser(name: str, steps: str, room: str) -> List[str]:
     """Runs some steps in a browser; returns the recording."""
     terminal = Terminal()
     server: Any = ThreadingHTTPServer(("127.0.0.1", 0), Handler)
@@ -210,7 +210,7 @@ def main(words: List[str]) -> int:
             continue
         for run, steps in RUNS.items():
             with tempfile.TemporaryDirectory(ignore_cleanup_errors=True) as room:
-                lines = trim_recording(record(name, steps, room))
+                lines = trim_recording(record_browser(name, steps, room))
             os.makedirs(words[0], exist_ok=True)
             with open(os.path.join(words[0], f"{name}_{run}.log"), "w", encoding="utf-8") as file:
                 file.write("\n".join(lines) + "\n")

@@ -238,11 +238,11 @@ struct udev_device *udev_monitor_receive_device(struct udev_monitor *monitor) {
 }
 
 // Reads the report descriptor; returns its size, or 0 if there is none.
-static size_t read_descriptor(unsigned char *to, size_t room) {
+static size_t read_descriptor(unsigned char *to, size_t capacity) {
     char path[300];
     snprintf(path, sizeof path, "%s/report_descriptor", setting("FAKE_SYSFS"));
     FILE *file = fopen(path, "rb");
-    size_t len = file == NULL ? 0 : fread(to, 1, room, file);
+    size_t len = file == NULL ? 0 : fread(to, 1, capacity, file);
     if (file != NULL) {
         fclose(file);
     }

@@ -50,13 +50,13 @@ class Clone:
         return sorted(os.listdir(os.path.join(self.folder, "out")))
 
 
-def recorded() -> int:
+def count_recorded_sums() -> int:
     """Returns how many sessions sessions.sha256 has."""
     with open(os.path.join(CORPUS, "sessions.sha256"), encoding="utf-8") as file:
         return len(file.readlines())
 
 
-def whole() -> None:
+def test_new_clone() -> None:
     """The sessions of a new clone are those of sessions.sha256, also by their paths in reports, from any folder."""
     with tempfile.TemporaryDirectory() as room:
         clone = Clone(room)
@@ -64,7 +64,7 @@ def whole() -> None:
         assert named.startswith("ping/bytes_0001: CTAP 2.1"), named
         sums = ["sha256sum", "--quiet", "--check", os.path.join(clone.folder, "sessions.sha256")]
         subprocess.run(sums, check=True, cwd=os.path.join(clone.folder, "sessions"))
-        assert len(clone.output("run.py", "--list").splitlines()) == recorded()
+        assert len(clone.output("run.py", "--list").splitlines()) == count_recorded_sums()
         assert len(clone.folders()) == 1, clone.folders()
         links = [path for path in Path(clone.folder).rglob("*") if path.is_symlink()]
         assert not links, f"rt ci refuses a repository with links: {links}"
@@ -74,7 +74,7 @@ def whole() -> None:
     print("generated sessions: those of sessions.sha256")
 
 
-def current() -> None:
+def test_changed_table() -> None:
     """A change of a case table is in the next run, and make.py --check names the session."""
     with tempfile.TemporaryDirectory() as room:
         clone = Clone(room)
@@ -96,33 +96,35 @@ def current() -> None:
     print("generated sessions: current after a change of the sources")
 
 
-def together() -> None:
+def test_several_processes() -> None:
     """Several processes that generate at once each see all sessions, and leave one folder."""
     with tempfile.TemporaryDirectory() as room:
         clone = Clone(room)
         processes = [clone.start("-c", COUNT) for _ in range(6)]
         lines = {process.communicate()[0] for process in processes}
         (folder,) = clone.folders()
-        assert lines == {f"{os.path.join(clone.folder, 'out', folder)} {recorded()}\n"}, lines
+        assert lines == {f"{os.path.join(clone.folder, 'out', folder)} {count_recorded_sums()}\n"}, lines
     print("generated sessions: whole in six processes at once")
 
 
-def read_only() -> None:
+def test_read_only_clone() -> None:
     """A clone that cannot be written to has its sessions in a temporary folder, which is removed."""
     with tempfile.TemporaryDirectory() as room:
         clone = Clone(room)
         # As root, permissions do not apply: a file is in the place of the cache.
         open(os.path.join(clone.folder, "out"), "w", encoding="utf-8").close()
         folder, count = clone.output("-c", COUNT).split()
-        assert int(count) == recorded() and not folder.startswith(clone.folder) and not os.path.exists(folder)
+        assert (
+            int(count) == count_recorded_sums() and not folder.startswith(clone.folder) and not os.path.exists(folder)
+        )
         named = clone.output("run.py", "--list", "sessions/ping/bytes_0001.log")
         assert named.startswith("ping/bytes_0001: CTAP 2.1"), named
     print("generated sessions: in a temporary folder if the clone is read-only")
 
 
 TESTS: Dict[str, Test] = {
-    "generated/whole": whole,
-    "generated/current": current,
-    "generated/together": together,
-    "generated/read_only": read_only,
+    "generated/whole": test_new_clone,
+    "generated/current": test_changed_table,
+    "generated/together": test_several_processes,
+    "generated/read_only": test_read_only_clone,
 }

@@ -63,7 +63,7 @@ def check_none_left() -> None:
     assert not list_running_commands(), list_running_commands()
 
 
-def text() -> None:
+def test_text_report() -> None:
     """The text report of an interrupted run has the cases so far, none of which failed."""
     for number in (signal.SIGINT, signal.SIGTERM):
         status, out, heard = interrupt(
@@ -77,7 +77,7 @@ def text() -> None:
     print("interrupted runs: a whole report in text")
 
 
-def formats() -> None:
+def test_other_reports() -> None:
     """The JSON and JUnit reports of an interrupted run are whole; so is that of this repository's program."""
     no_device: List[str] = []
     for device in (make_device_arguments(f"plain {MARK}"), no_device):
@@ -92,7 +92,7 @@ def formats() -> None:
     print("interrupted runs: whole reports in JSON and JUnit")
 
 
-def before() -> None:
+def test_before_first_case() -> None:
     """A run that is interrupted before its first case has a report without cases."""
     status, out, heard = interrupt(["--device", "sleep 29.4321"], 1)
     assert status == ENDED and "Traceback" not in heard, (status, heard)
@@ -100,7 +100,7 @@ def before() -> None:
     print("interrupted runs: a report before the first case")
 
 
-def of_client() -> None:
+def test_client_report() -> None:
     """The report of an interrupted run of a client has the cases so far."""
     status, out, heard = interrupt(["--client", f"{sys.executable} {CLIENT}", "--report", "json"], 7)
     report = json.loads(out)
@@ -109,8 +109,8 @@ def of_client() -> None:
 
 
 TESTS: Dict[str, Test] = {
-    "interrupted/text": text,
-    "interrupted/formats": formats,
-    "interrupted/before": before,
-    "interrupted/client": of_client,
+    "interrupted/text": test_text_report,
+    "interrupted/formats": test_other_reports,
+    "interrupted/before": test_before_first_case,
+    "interrupted/client": test_client_report,
 }

@@ -52,7 +52,7 @@ class KeptKey(ReferenceDevice):
         super().presence(max(0, self.clock + at), word)
 
 
-def played(words: List[str]) -> Tuple[Dict[str, str], KeptKey]:
+def run_cases(words: List[str]) -> Tuple[Dict[str, str], KeptKey]:
     """Runs cases; returns their outcomes, and the key."""
     options = run.parse_options(["--device", "reference", "--touch", *words])
     device = KeptKey()
@@ -65,12 +65,12 @@ def played(words: List[str]) -> Tuple[Dict[str, str], KeptKey]:
     return {outcome.session.name: outcome.status for outcome in results.close()}, device
 
 
-def spared() -> None:
+def test_reused_credentials() -> None:
     """Reusing credentials gives the same outcomes with fewer touches and less unplugging."""
     runs: List[List[str]] = [[], ["--reset", "--only", "lists/"], ["--reset", "--only", "blobs/"]]
     for words in runs:
-        reuse, device = played(words)
-        alone, other = played([*words, "--isolated"])
+        reuse, device = run_cases(words)
+        alone, other = run_cases([*words, "--isolated"])
         assert reuse == alone, {name: status for name, status in reuse.items() if alone[name] != status}
         assert "not ok" not in reuse.values(), [name for name, status in reuse.items() if status == "not ok"]
         assert device.touches < other.touches and device.unplugged <= other.unplugged
@@ -78,4 +78,4 @@ def spared() -> None:
         print(f"{' '.join(words) or 'all without --reset'}: {text} {other.unplugged}")
 
 
-TESTS = {"spared": spared}
+TESTS = {"spared": test_reused_credentials}

@@ -23,21 +23,21 @@ CLIENTS = {
 }
 
 
-def verdicts() -> None:
+def test_verdicts() -> None:
     """Each client gets its verdict."""
     for command, verdict in CLIENTS.items():
         status, out, _ = run_command(["--client", command, "--only", "plain/info", "--deadline", "5"])
         assert status == 1 and f": {verdict}" in out, (command, out)
 
 
-def refusal_by_crash() -> None:
+def test_crash_is_no_refusal() -> None:
     """A crash at a response that must be refused does not count as a refusal."""
     for only in ("status/get_none", "packets/begins_twice"):
         status, out, _ = run_command(["--client", f"{ODD} crashes", "--only", only, "--deadline", "5"])
         assert status == 1 and "0 passed" in out, (only, out)
 
 
-def children() -> None:
+def test_child_processes() -> None:
     """A client's child processes are killed."""
     seconds = "39.4321"
     run_command(["--client", f"sh -c 'sleep {seconds}; true'", "--only", "plain/info", "--deadline", "1"])
@@ -47,12 +47,12 @@ def children() -> None:
 
 TESTS: Dict[str, Test] = {
     "client/verdicts": check_detected(
-        verdicts,
+        test_verdicts,
         (client_runner.Conversation, "crash", lambda self: "refused the command ended"),
         (client_runner.Conversation, "waiting", lambda self: "waits"),
     ),
     "client/refusal_by_crash": check_detected(
-        refusal_by_crash, (client_runner.Conversation, "crash", lambda self: "refused the command ended")
+        test_crash_is_no_refusal, (client_runner.Conversation, "crash", lambda self: "refused the command ended")
     ),
-    "client/children": children,
+    "client/children": test_child_processes,
 }

@@ -26,7 +26,7 @@ EVIL = "\x1b[31mred\u202e\u0001"
 START = time.monotonic()
 
 
-def now() -> int:
+def now_ms() -> int:
     """Returns the time in milliseconds."""
     return int((time.monotonic() - START) * 1000)
 
@@ -52,7 +52,7 @@ class OddKey:
     def take(self, line: bytes) -> None:
         """Processes a line of the host."""
         if line == b"touch":
-            self.key.hid.touch(now())
+            self.key.hid.touch(now_ms())
             return
         packet = bytes.fromhex(line.decode())
         channel, is_cbor = int.from_bytes(packet[:4], "big"), packet[4] == 0x80 | hid.CBOR
@@ -63,23 +63,23 @@ class OddKey:
                 self.keepalive(channel)
                 time.sleep(0.1)
         if self.kind == "busy" and is_cbor and packet[7] == 11:
-            self.kept.append((now() + WORK, packet))
+            self.kept.append((now_ms() + WORK, packet))
             return
         if self.kind == "full" and is_cbor and packet[7] == 1:
             self.say(hid.fragment_message(channel, hid.CBOR, b"\x28")[0])
             return
-        self.key.hid.packet(now(), packet)
+        self.key.hid.packet(now_ms(), packet)
 
     def tick(self) -> None:
         """Lets time pass."""
         for ready, packet in self.kept[:]:
-            if now() >= ready:
+            if now_ms() >= ready:
                 self.kept.remove((ready, packet))
-                self.key.hid.packet(now(), packet)
-            elif now() >= self.due:
-                self.due = now() + 100
+                self.key.hid.packet(now_ms(), packet)
+            elif now_ms() >= self.due:
+                self.due = now_ms() + 100
                 self.keepalive(int.from_bytes(packet[:4], "big"))
-        self.key.hid.tick(now())
+        self.key.hid.tick(now_ms())
 
     def wrong_once(self, packet: bytes) -> bytes:
         """Returns a packet after 80 ms; the first PING of all processes is wrong."""
@@ -102,7 +102,7 @@ class OddKey:
         self.key.hid.out.clear()
 
 
-def out_of_order(kind: str) -> None:
+def write_out_of_order(kind: str) -> None:
     """Writes a flood of packets, or a line without a newline."""
     packet = hid.fragment_message(hid.BROADCAST, hid.KEEPALIVE, b"\1")[0].hex().encode() + b"\n"
     piece = {"flood": packet * 100, "no_line_feed": b"0" * 4096}[kind]
@@ -113,7 +113,7 @@ def out_of_order(kind: str) -> None:
 def main(words: List[str]) -> int:
     """Runs until the end of input."""
     if words[0] in ("flood", "no_line_feed"):
-        out_of_order(words[0])
+        write_out_of_order(words[0])
     if words[0] == "with_a_child":
         subprocess.Popen(["sleep", words[1]])
     odd, rest = OddKey(words[0], words[1:]), b""

@@ -37,7 +37,7 @@ class SharedTerminal(ways.Terminal):
         os.write(self.master, packet)
 
 
-def other_hosts() -> None:
+def test_other_hosts() -> None:
     """Cases pass on a device shared with another host."""
     terminal = SharedTerminal()
     try:
@@ -49,19 +49,19 @@ def other_hosts() -> None:
         terminal.thread.join()
 
 
-def keepalive_first() -> None:
+def test_keepalive_first() -> None:
     """A KEEPALIVE before getInfo's response does not change the supported features."""
     status, out, _ = run_command([*make_device_arguments("keepalive_first"), "--reset", "--only", "lists/allow_empty"])
     assert status == 0 and "1 passed, 0 failed" in out, out
 
 
-def skip_names_info() -> None:
+def test_skip_reason() -> None:
     """A case skipped for a missing feature prints the getInfo response."""
     _, out, _ = run_command([*make_device_arguments("plain"), "--only", "ping/bytes_7609"])
     assert "does not support: messages of 7609 (getInfo: {1: " in out, out
 
 
-def busy() -> None:
+def test_busy_device() -> None:
     """A device that asks for a touch only after 3.5 seconds passes."""
     status, out, _ = run_command([*make_device_arguments("busy"), "--only", "selection/granted", "--deadline", "12"])
     assert status == 0 and "1 passed" in out, out
@@ -71,7 +71,7 @@ def never_asked(player: Player) -> None:
     """Does not wait before the touch."""
 
 
-def for_ever() -> None:
+def test_endless_keepalives() -> None:
     """Endless KEEPALIVEs fail at the deadline, and after three such cases the run stops."""
     words = [*make_device_arguments("keepalive_for_ever"), "--deadline", "2", "--jobs", "1", "--only", "cancel/of"]
     status, out, _ = run_command(words)
@@ -82,31 +82,31 @@ def for_ever() -> None:
     assert out.count("not played: 3 cases reached their deadline") > 3, out
 
 
-def without_line_feed() -> None:
+def test_line_without_newline() -> None:
     """A line without a newline is reported."""
     status, _, heard = run_command(make_device_arguments("no_line_feed"))
     assert status == 2 and "a line without a newline" in heard, heard
 
 
-def flood() -> None:
+def test_flood() -> None:
     """A flood of packets is reported."""
     status, _, heard = run_command(make_device_arguments("flood"))
     assert status == 2 and "does not respond to INIT" in heard, heard
 
 
-def zeros() -> None:
+def test_dev_zero() -> None:
     """/dev/zero is reported as a device that never stops sending."""
     status, _, heard = run_command(["--device", "/dev/zero"])
     assert status == 2 and "never stops sending" in heard, heard
 
 
-def full() -> None:
+def test_full_device() -> None:
     """A case is skipped if the device may have been full before."""
     _, out, _ = run_command([*make_device_arguments("full"), "--only", "make/answer"])
     assert "1 skipped" in out and "the device is full (28)" in out, out
 
 
-def children() -> None:
+def test_child_processes() -> None:
     """A command's child processes are killed."""
     seconds = "38.4321"
     run_command([*make_device_arguments(f"with_a_child {seconds}"), "--only", "init/nonce_count"])
@@ -114,7 +114,7 @@ def children() -> None:
     assert f"sleep {seconds}" not in found, found
 
 
-def evil_text() -> None:
+def test_escaped_text() -> None:
     """Text of a device is escaped for terminals and XML."""
     for kind in ("text", "junit", "tap", "json", "html"):
         _, out, _ = run_command([*make_device_arguments("evil_text"), "--only", "ping/bytes_7609", "--report", kind])
@@ -123,13 +123,13 @@ def evil_text() -> None:
             xml.fromstring(out)
 
 
-def behind() -> None:
+def test_late_packet() -> None:
     """In real time, too, a packet after the last response is detected."""
     status, out, _ = run_command([*make_device_arguments("continues"), "--only", "ping/bytes_0057"])
     assert status == 1 and "a continuation packet" in out, out
 
 
-def unplugged() -> None:
+def test_nobody_unplugs() -> None:
     """Cases with power cycles are skipped if nobody unplugs the device."""
     with tempfile.NamedTemporaryFile() as file:
         device = HidrawDevice(file.name, False)
@@ -154,14 +154,14 @@ def unplugged() -> None:
         assert outcome == "nobody unplugged the device within a minute", outcome
 
 
-def reader_ends() -> None:
+def test_closed_output() -> None:
     """The command exits without a traceback if its output is closed."""
     words = f"{sys.executable} {os.path.join(HERE, '..', 'run.py')} --report tap | head -1"
     ended = subprocess.run(words, shell=True, capture_output=True, text=True, check=True)
     assert ended.stdout == "TAP version 13\n" and "Traceback" not in ended.stderr, ended.stderr
 
 
-def results() -> None:
+def test_warnings() -> None:
     """SHOULD violations are warnings, or failures with --warnings-as-errors; choices count with --profile-choices."""
     words = [*make_device_arguments("plain"), "--only", "cbor/uint_in_1_level_2"]
     assert run_command(words)[:1] == (0,) and "0 failed, 1 warned" in run_command(words)[1], run_command(words)
@@ -173,7 +173,7 @@ def results() -> None:
     assert run_command([*words, "--profile-choices"])[0] == 1, "--profile-choices"
 
 
-def known() -> None:
+def test_expected_failures() -> None:
     """An expected failure does not count, and an unexpected success is reported."""
     words = [*make_device_arguments("plain"), "--only", "cbor/break_alone_level_"]
     names = [f"cbor/break_alone_level_{level}" for level in (2, 3, 4)]
@@ -194,7 +194,7 @@ def known() -> None:
         assert "unexpected success" in heard, heard
 
 
-def unstable() -> None:
+def test_unstable_case() -> None:
     """A case that failed and then passed fails the run, with both recordings."""
     for kind in ("text", "junit", "tap", "json", "html"):
         with tempfile.TemporaryDirectory() as room:
@@ -211,7 +211,7 @@ def unstable() -> None:
             assert case["result"] == "unstable" and first.count("< ") == second.count("< ") and first != second, case
 
 
-def lists() -> None:
+def test_listing() -> None:
     """--list, --skip and --version."""
     everything, some = (
         run_command(["--list"])[1].splitlines(),
@@ -237,22 +237,22 @@ def skips(self: Any, session: Session, device: Any, touch: bool, reset: bool) ->
 
 
 TESTS: Dict[str, Test] = {
-    "device/other_hosts": check_detected(other_hosts, (Player, "for_others", lambda self, packet: False)),
-    "device/keepalive_first": check_detected(keepalive_first, (device_info, "read_message", first_message)),
-    "device/skip_names_info": check_detected(skip_names_info, (device_info.DeviceInfo, "lacking", skips)),
-    "device/busy": check_detected(busy, (Player, "until_asked", never_asked)),
-    "device/for_ever": for_ever,
-    "device/without_line_feed": without_line_feed,
-    "device/flood": flood,
-    "device/zeros": zeros,
-    "device/full": check_detected(full, (devices.Device, "fresh", True)),
-    "device/children": check_detected(children, (devices.os, "killpg", lambda process, number: None)),
-    "device/evil_text": check_detected(evil_text, (report, "escape_text", str)),
-    "device/behind": check_detected(behind, (Player, "check_end", lambda self: None)),
-    "device/unplugged": unplugged,
-    "device/reader_ends": reader_ends,
-    "report/results": results,
-    "report/known": known,
-    "report/lists": lists,
-    "report/unstable": check_detected(unstable, (run, "mark_unstable", lambda first, second, late: second)),
+    "device/other_hosts": check_detected(test_other_hosts, (Player, "for_others", lambda self, packet: False)),
+    "device/keepalive_first": check_detected(test_keepalive_first, (device_info, "read_message", first_message)),
+    "device/skip_names_info": check_detected(test_skip_reason, (device_info.DeviceInfo, "lacking", skips)),
+    "device/busy": check_detected(test_busy_device, (Player, "until_asked", never_asked)),
+    "device/for_ever": test_endless_keepalives,
+    "device/without_line_feed": test_line_without_newline,
+    "device/flood": test_flood,
+    "device/zeros": test_dev_zero,
+    "device/full": check_detected(test_full_device, (devices.Device, "fresh", True)),
+    "device/children": check_detected(test_child_processes, (devices.os, "killpg", lambda process, number: None)),
+    "device/evil_text": check_detected(test_escaped_text, (report, "escape_text", str)),
+    "device/behind": check_detected(test_late_packet, (Player, "check_end", lambda self: None)),
+    "device/unplugged": test_nobody_unplugs,
+    "device/reader_ends": test_closed_output,
+    "report/results": test_warnings,
+    "report/known": test_expected_failures,
+    "report/lists": test_listing,
+    "report/unstable": check_detected(test_unstable_case, (run, "mark_unstable", lambda first, second, late: second)),
 }

@@ -121,7 +121,7 @@ class Channel:
 Message = TypeVar("Message", bound=Part)
 
 
-def works(transaction: Optional[Transaction]) -> bool:
+def may_send_keepalives(transaction: Optional[Transaction]) -> bool:
     """Returns whether a key may send KEEPALIVEs for it: a complete message, except PING and INIT."""
     return transaction is not None and transaction.whole and transaction.command not in (PING, INIT)
 
@@ -201,7 +201,11 @@ class Walk:
         """Processes an initialization packet of a host."""
         channel.stray = entry.packet[4] & 0x7F == CANCEL
         if channel.stray:
-            waiting = [element for element in (channel.held, channel.asked) if element is not None and works(element)]
+            waiting = [
+                element
+                for element in (channel.held, channel.asked)
+                if element is not None and may_send_keepalives(element)
+            ]
             fresh = [item for item in waiting if not item.cancelled] or waiting
             entry.part, entry.transaction = "cancel", fresh[0] if fresh else None
             if entry.transaction:
@@ -259,7 +263,9 @@ class Walk:
         channel.asked = None
         if old:
             self.ended(old, "dropped" if old.cancelled else "replaced", by=old.cancelled or asked.line)
-            asked.keepalives = [item for item in old.keepalives if works(asked) and item.line > asked.lines[-1]]
+            asked.keepalives = [
+                item for item in old.keepalives if may_send_keepalives(asked) and item.line > asked.lines[-1]
+            ]
             old.keepalives = old.keepalives[: len(old.keepalives) - len(asked.keepalives)]
             for keepalive in asked.keepalives:
                 keepalive.transaction = asked
@@ -291,10 +297,10 @@ class Walk:
 
     def keepalive(self, entry: Entry, channel: Channel) -> Optional[Transaction]:
         """Returns the transaction of a KEEPALIVE."""
-        if works(channel.asked) and not works(channel.held):
+        if may_send_keepalives(channel.asked) and not may_send_keepalives(channel.held):
             self.settle(channel)
         held = channel.held
-        if held is None or not works(held):
+        if held is None or not may_send_keepalives(held):
             return None
         entry.why = "time" if channel.status == entry.packet[7] else "status"
         channel.status = entry.packet[7]
@@ -388,12 +394,12 @@ def walk_log(log: bytes) -> Walk:
     """Processes the lines of a log; ignores those that are not packets, ticks or replies."""
     walk = Walk()
     for number, line in enumerate(log.split(b"\n"), 1):
-        take_line(walk, number, line)
+        handle_line(walk, number, line)
     walk.finish()
     return walk
 
 
-def take_line(walk: Walk, number: int, line: bytes) -> Optional[Entry]:
+def handle_line(walk: Walk, number: int, line: bytes) -> Optional[Entry]:
     """Processes a line of a log."""
     word, _, rest = line.partition(b" ")
     if word == b"<" and len(rest) == 128:
@@ -408,7 +414,7 @@ def take_line(walk: Walk, number: int, line: bytes) -> Optional[Entry]:
     return None
 
 
-def packets_in(log: bytes) -> List[Tuple[bool, bytes]]:
+def list_packets(log: bytes) -> List[Tuple[bool, bytes]]:
     """Returns the packets of a log, and whether the host sent each."""
     lines = [line for line in log.split(b"\n") if line[:2] in (b"> ", b"< ")]
     return [(line[:1] == b">", bytes.fromhex(line.split(b" ")[-1].decode())) for line in lines]

@@ -74,7 +74,7 @@ def list_recorded_logs() -> List[Tuple[str, bytes]]:
     return found
 
 
-def both_walks_agree() -> None:
+def test_both_walks_agree() -> None:
     """The transactions of each log have the same packets and ends."""
     count = 0
     for path, log in list_recorded_logs():
@@ -85,7 +85,7 @@ def both_walks_agree() -> None:
     assert count > 300, f"only {count} transactions were compared"
 
 
-def lines_are_read_in_pieces() -> None:
+def test_block_sizes() -> None:
     """Text is split only at line feeds, whatever the block size."""
     text = b"\n".join(b"x" * (number % 300) for number in range(3000))
     found: List[bytes] = []
@@ -99,10 +99,10 @@ def lines_are_read_in_pieces() -> None:
 
 TESTS = {
     "walks/agree": check_detected(
-        both_walks_agree,
+        test_both_walks_agree,
         (Transactions, "leave_late", lambda *words: None),
         (Transactions, "ended", lambda *words: None),
         (Transactions, "cancel", lambda *words: None),
     ),
-    "walks/pieces": lines_are_read_in_pieces,
+    "walks/pieces": test_block_sizes,
 }

@@ -68,7 +68,7 @@ class Terminal:
         os.write(self.master, packet)
 
 
-def output_of(words: List[str]) -> str:
+def get_output(words: List[str]) -> str:
     """Returns the output of run.py."""
     out = io.StringIO()
     with redirect_stdout(out), redirect_stderr(io.StringIO()):
@@ -76,11 +76,11 @@ def output_of(words: List[str]) -> str:
     return out.getvalue()
 
 
-def hidraw() -> None:
+def test_hidraw() -> None:
     """Runs some cases as with /dev/hidrawN."""
     terminal = Terminal()
     for only in ("init/", "reset/"):
-        text = output_of(["--device", terminal.path, "--only", only])
+        text = get_output(["--device", terminal.path, "--only", only])
         print(f"by a terminal, {only}: {text.splitlines()[-1]}")
         assert " 0 failed" in text, text
     terminal.ended = True
@@ -89,40 +89,40 @@ def hidraw() -> None:
     assert terminal.resets == 0, "a reset without --reset"
 
 
-def pipe() -> None:
+def test_pipe() -> None:
     """Runs some cases over a pipe, with touches and resets."""
     command = f"{sys.executable} {os.path.join(HERE, 'others', 'python_key.py')}"
-    text = output_of(["--device", command, "--touch-line", "touch", "--reset", "--only", "selection/"])
+    text = get_output(["--device", command, "--touch-line", "touch", "--reset", "--only", "selection/"])
     print(f"by a pipe, selection/: {text.splitlines()[-1]}")
     assert " 0 failed" in text, text
 
 
-def power() -> None:
+def test_power_cycles() -> None:
     """Runs power cycles over a pipe: the command is restarted with its credentials."""
     with tempfile.TemporaryDirectory() as room:
         command = f"{sys.executable} {os.path.join(HERE, 'others', 'kept_key.py')} {room}/state"
         words = ["--device", command, "--touch-line", "touch", "--only", "power/c"]
-        text = output_of([*words, "--persistent"])
+        text = get_output([*words, "--persistent"])
         print(f"by a pipe, power/c*: {text.splitlines()[-1]}")
         count = len(glob.glob(os.path.join(sessions_folder(), "power", "c*.log")))
         assert count >= 4 and text.endswith(f"\n{count} passed, 0 failed, 0 warned, 0 skipped\n"), text
-        text = output_of(words)
+        text = get_output(words)
         assert text.endswith(f"\n0 passed, 0 failed, 0 warned, {count} skipped\n"), text
 
 
-def reports() -> None:
+def test_reports() -> None:
     """Parses the JUnit and TAP reports."""
-    found = xml.fromstring(output_of(["--only", "ping/", "--report", "junit"]))
+    found = xml.fromstring(get_output(["--only", "ping/", "--report", "junit"]))
     cases = found.findall("testcase")
     assert cases and len(cases) == int(found.attrib["tests"]), "the number of cases in JUnit"
     assert all(len(case.findall("properties/property")) == 2 for case in cases), "a case without its rule"
-    lines = output_of(["--only", "ping/", "--report", "tap"]).splitlines()
+    lines = get_output(["--only", "ping/", "--report", "tap"]).splitlines()
     assert lines[:2] == ["TAP version 13", f"1..{len(cases)}"], "TAP's plan"
     assert sum(line.startswith("# rule: ") for line in lines) == len(cases), "a case without its rule"
     print(f"reports: JUnit and TAP, {len(cases)} cases with their rules")
 
 
-def sentences() -> None:
+def test_sentence_table() -> None:
     """Checks that each case in the table of requirements exists."""
     words = [sys.executable, os.path.join(HERE, "make.py"), "--sentences"]
     output = subprocess.run(words, capture_output=True, check=True, text=True).stdout
@@ -138,7 +138,7 @@ def sentences() -> None:
     print(f"the table names {count} cases, all exist")
 
 
-def mistakes() -> None:
+def test_invalid_devices() -> None:
     """Invalid devices are reported at once."""
     wrong = {
         "./nothing": "No such file",
@@ -156,14 +156,14 @@ def mistakes() -> None:
     print(f"{len(wrong)} invalid devices are reported")
 
 
-def help_text() -> None:
+def test_help() -> None:
     """Checks --help."""
     shown = subprocess.run([sys.executable, os.path.join(HERE, "run.py"), "--help"], capture_output=True, check=True)
     for word in (b"--touch", b"--reset", b"--client", b"--report"):
         assert word in shown.stdout, word
 
 
-def order() -> None:
+def test_order() -> None:
     """Cases that need no touch run before the first request for one."""
     sessions = run.all_sessions()
     with redirect_stderr(io.StringIO()):
@@ -188,7 +188,7 @@ class LateDevice(PipeDevice):
         super().write(packet)
 
 
-def late_runner() -> None:
+def test_late_runner() -> None:
     """A case that failed while the runner was late is repeated, and unstable if it then passes."""
     command = f"env PYTHONPATH={os.path.abspath(HERE)} {sys.executable} -m hidlog_conformance.reference"
     (session,) = run.all_sessions("ping/bytes_0058")
@@ -201,13 +201,13 @@ def late_runner() -> None:
 
 
 TESTS = {
-    "ways/late": late_runner,
-    "ways/order": order,
-    "ways/hidraw": hidraw,
-    "ways/pipe": pipe,
-    "ways/power": power,
-    "ways/reports": reports,
-    "ways/mistakes": mistakes,
-    "ways/help": help_text,
-    "ways/sentences": sentences,
+    "ways/late": test_late_runner,
+    "ways/order": test_order,
+    "ways/hidraw": test_hidraw,
+    "ways/pipe": test_pipe,
+    "ways/power": test_power_cycles,
+    "ways/reports": test_reports,
+    "ways/mistakes": test_invalid_devices,
+    "ways/help": test_help,
+    "ways/sentences": test_sentence_table,
 }

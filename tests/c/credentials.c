@@ -145,7 +145,7 @@ int main(int count, char **words) {
     struct hidlog_key key = {0};
     struct hidlog_need need;
     if (count != 2 || (key.memory = aligned_alloc(16, (hidlog_key_size() + 15) / 16 * 16)) == NULL) {
-        fail("missing argument SNAPSHOT, or out of memory");
+        fail("usage: credentials SNAPSHOT < LOG, or out of memory");
     }
     test_busy_key(&key, HIDLOG_KEY_ERR_NOT_INITIALIZED);
     expect(hidlog_key_save_snapshot(&key, snapshot, sizeof snapshot), HIDLOG_KEY_ERR_NOT_INITIALIZED,

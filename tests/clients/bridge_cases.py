@@ -131,7 +131,7 @@ def test_planted_link_is_not_overwritten(work_dir: Path) -> None:
 
 
 def test_link_planted_meanwhile_is_not_overwritten(work_dir: Path) -> None:
-    """Nor if the link is created just before the file: the call before takes half a second here."""
+    """Not even if the link is created just before the file; the preceding call is delayed by half a second here."""
     state, old = make_state(work_dir)
     other, link, is_over = work_dir / "other", work_dir / "key.state.new", threading.Event()
     other.write_bytes(b"another's")
@@ -334,7 +334,7 @@ class Flood:
 
 
 def make_floods(channel: bytes) -> dict[str, list[bytes]]:
-    """Returns the kinds of floods: on a channel of their own, on none, on all."""
+    """Returns the kinds of floods: on one allocated channel, on an unallocated one, or on all."""
     ping = encode_packet(channel, PING, b"flood")
     return {
         "PING": [ping],

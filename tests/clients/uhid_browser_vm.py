@@ -83,7 +83,7 @@ def browser_command(browser: str) -> list[str]:
     home.mkdir(exist_ok=True)
     os.chown(home, 1234, 1234)
     if browser == "chromium":
-        # Emulated, its network process is ended for being slow to begin, and the first page is lost with it.
+        # Under emulation, Chromium kills its network process for starting slowly, and the first page is lost.
         words = ["chromium", "--headless=new", "--no-sandbox", "--disable-gpu", "--no-first-run"]
         words += ["--enable-features=NetworkServiceInProcess2", "--remote-debugging-port=9222"]
         return [

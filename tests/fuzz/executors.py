@@ -23,10 +23,10 @@ def make_runner(executor: str, jobs: int) -> Iterator[Played]:
             yield lambda play, tasks: pool.imap_unordered(play, tasks, chunksize=BATCH_SIZE)
         return
     sys.path.insert(0, str(CONFORMANCE))
-    from hidlog_conformance.executor import results
+    from hidlog_conformance.executor import iter_results
 
     folders = [str(HERE), str(CONFORMANCE)]
     try:
-        yield lambda play, tasks: results(executor, folders, play, tasks)
+        yield lambda play, tasks: iter_results(executor, folders, play, tasks)
     except ValueError as fault:
         sys.exit(f"{Path(sys.argv[0]).name}: {fault}")

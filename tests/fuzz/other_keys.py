@@ -190,7 +190,7 @@ class Key:
         return None if self.behavior.time_out is None else self.held.last + self.behavior.time_out
 
     def advance_to(self, moment: int) -> None:
-        """Lets time pass, and sends what becomes due, each after a line `t`."""
+        """Advances the time, and sends packets as they become due, each after a line `t`."""
         while (then := self.next_due_time()) is not None and then <= moment:
             self.now = max(self.now, then)
             self.send_due()

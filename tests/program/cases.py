@@ -94,7 +94,8 @@ def make_snapshot(version: int, head: int, end: bytes) -> bytes:
 
 
 def check_saved(work_dir: Path, old: bytes, case: str, new: bytes) -> None:
-    """A snapshot of version 1 is loaded, a host signs in, and one of version 2 is saved. Loaded again, it stays."""
+    """A snapshot of version 1 is loaded, a host signs in, and one of version 2 is saved. Loading and saving that does
+    not change it."""
     wanted = make_snapshot(2, 0xA8, new)
     (work_dir / "old").write_bytes(make_snapshot(1, 0xA7, old))
     Case(case, has_more=True).run(work_dir)

@@ -71,7 +71,8 @@ class Run:
     output: str = ""
     # Whether strace follows the processes that it starts.
     follows: bool = True
-    # Whether a failure may show on standard output: of one recording among others, or as a log that isn't the shortest.
+    # Whether a failure may appear on standard output: for one recording of several, or as a log that is not the
+    # shortest.
     reports: bool = False
 
     def start(self, folder: Path, trace: Sequence[str]) -> "subprocess.CompletedProcess[bytes]":
@@ -166,7 +167,7 @@ def list_places(log: Path) -> List[Place]:
         if own.get(name, 0) == base.get(name, 0) and not others.get(name):
             continue
         faults = (*injection.FAULTS.get(name, injection.OTHER_ERRORS), "KILL")
-        # Python itself waits for ever for a thread that has no memory to begin.
+        # Python itself waits forever for a thread that has no memory to start.
         starts = range(1, others.get(name, 0) + 1) if "ENOMEM" in faults else ()
         found += [Place(name, number, fault) for fault in faults for number in sorted(numbers.difference(starts))]
     return found

@@ -12,7 +12,7 @@ from typing import Callable, Sequence
 
 from running import EXAMPLES, INIT, PROGRAM, SIGN_IN_AGAIN, check_result, run, run_explained, run_in_parts
 
-# ---- what differs, for a person
+# ---- explained differences
 
 
 def pad_packet(digits: str) -> str:
@@ -20,7 +20,7 @@ def pad_packet(digits: str) -> str:
 
 
 def check_beginnings(said: bytes, wanted: Sequence[str]) -> None:
-    """Fails unless there are as many lines as wanted, each with the beginning that is."""
+    """Fails unless there are as many lines as expected, each with the expected beginning."""
     lines = said.decode().splitlines()
     assert len(lines) == len(wanted), f"{len(lines)} lines and not {len(wanted)}:\n{said.decode()}"
     for line, front in zip(lines, wanted):
@@ -28,7 +28,7 @@ def check_beginnings(said: bytes, wanted: Sequence[str]) -> None:
 
 
 def format_hex_row(line: str, start: int) -> str:
-    """Returns sixteen bytes of the packet that a line of a log has."""
+    """Returns the hex digits of sixteen bytes of the packet on a line of a log."""
     return bytes.fromhex(line.split(" ")[-1])[start : start + 16].hex(" ")
 
 
@@ -61,7 +61,7 @@ def test_counter_is_named(_: Path) -> None:
         "  the messages differ first in signCount of 2 authData",
     ]
     check_beginnings(said.stderr, wanted)
-    # The same by standard input, from a file and from a pipe.
+    # The same for standard input, from a file and from a pipe.
     assert run_explained(["check"], stdin=log).stderr == said.stderr
     assert run_explained(["check"], log.read_bytes()).stderr == said.stderr
     assert run_explained(["check", "-"], log.read_bytes()).stderr == said.stderr
@@ -111,7 +111,7 @@ def test_missing_snapshot_is_noted(work_dir: Path) -> None:
 
 
 def test_long_pipe_is_noted(work_dir: Path) -> None:
-    """Of a log on a pipe, 1 MiB is kept; for a longer one, a note says how to see the packets."""
+    """The program keeps 1 MiB of a log on a pipe; for a longer one, a note says how to see the packets."""
     line = b"#" + b" " * 62 + b"\n"
     for more, is_kept in ((-64, True), (0, True), (64, False)):
         front = line * ((1 << 14) - 3 + more // 64)
@@ -147,7 +147,8 @@ def test_all_differences_are_counted(work_dir: Path) -> None:
     check_result(run_explained(["check", "--all"], right), 0, b"", b"same 31 inputs 31 packets\n")
     lines = right.decode().splitlines()
     wrong = list(lines)
-    # Three kinds: a packet that differs, one that is missing (of the seventh input), and one too many at the end.
+    # Three kinds of differences: a packet that differs, a missing one (of the seventh input), and an additional one at
+    # the end.
     wrong[5] = wrong[5][:-1] + "1"
     wrong.append(f"< {ping}")
     del wrong[13]
@@ -164,7 +165,7 @@ def test_all_differences_are_counted(work_dir: Path) -> None:
     assert said.stderr.endswith(b"\nhidlog: 1 input with differences\n"), said
     said = run_explained(["check"], "\n".join(wrong).encode())
     assert b"hidlog: line 13" not in said.stderr and b"inputs with" not in said.stderr, said
-    # A packet that is missing is found at the next input, whose own are compared.
+    # A missing packet is reported at the next input, whose packets are compared.
     assert (
         b"  the log has no packet here, up to line 14\n"
         in run_explained(["check", "--all"], "\n".join(wrong).encode()).stderr
@@ -174,7 +175,7 @@ def test_all_differences_are_counted(work_dir: Path) -> None:
     faults = [line for line in said.stderr.decode().splitlines() if line.startswith("hidlog: ")]
     assert len(faults) == 21 and faults[-1] == "hidlog: 25 inputs with differences, the first 20 are shown", faults
     assert said.stderr.decode().count("  the key sends:\n") == 20
-    # A bad line ends it, with its reason, and several logs are counted each.
+    # An invalid line ends it, with a reason; differences are counted for each of several logs.
     said = run_explained(["check", "--all"], many + b"t 5x\n")
     bad = ["hidlog: line 53: not a log line", "  byte 4 is 'x': expected the end of the line"]
     assert said.stderr.decode().splitlines()[-3:] == [*bad, faults[-1]], said

@@ -1,5 +1,6 @@
 #!/usr/bin/env python3
-"""Makes each system call of the program fail, or kills the program there; so for the Python package when it saves.
+"""Makes each system call of the program fail, or kills the program there; likewise for the Python package when it
+saves.
 
     tests/program/faults.py [PROGRAM] [--only NAME ..] [--jobs N] [--every]    PROGRAM [default: release/hidlog]
 
@@ -33,8 +34,7 @@ EXAMPLES = TOP / "examples"
 SNAPSHOT, AGAIN = EXAMPLES / "example_com.snapshot", EXAMPLES / "sign_in_again.log"
 # libc makes these calls before main, and exits without a message if one fails.
 STARTUP_CALLS = {"brk", "mprotect", "arch_prctl", "set_tid_address", "set_robust_list", "rseq", "prlimit64", "readlink"}
-# Calls whose failure means that the file isn't on the disk, however it looks.
-# What fsync took is there when closing fails.
+# Calls whose failure means that the file may not be on disk; not close, which comes after fsync.
 WRITE_CALLS = {"write", "pwrite64", "ftruncate", "fsync", "fdatasync", "rename", "openat"}
 
 # Known failures: for each loop, patterns of places, and the reason. A known failure that passes is reported.

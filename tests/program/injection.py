@@ -42,7 +42,7 @@ class Place:
         """Returns the strace command prefix that injects it."""
         how = "signal=KILL" if self.fault == "KILL" else f"error={self.fault}"
         if how == "error=ENOMEM" and self.call == "brk":
-            how = "retval=0"  # it returns no error: where memory is short, the end that there was
+            how = "retval=0"  # brk returns no error; without memory, it returns the old end of the heap
         inject = f"inject={self.call}:{how}:when={self.number}"
         trace = f"trace=openat,{self.call}"  # the first, to know which file was closed
         # With its filter strace is many times as fast, and sends no signal.
@@ -94,9 +94,9 @@ def count_calls(run: Callable[[Sequence[str]], object], folder: Path) -> dict[st
 
 
 def list_places(counts: dict[str, int], only: Optional[Iterable[str]] = None) -> list[Place]:
-    """Returns the places of a run with the faults of each, limited to some calls if any are named."""
+    """Returns the places of a run with the faults of each, only of the named calls if any are named."""
     names = [call for call in sorted(counts) if call not in NEVER_INJECTED and (only is None or call in only)]
-    # One more than were counted, since a run may make one more: then nothing is injected, and nothing is wrong.
+    # One more than was counted, since a run may make one more call; otherwise nothing is injected there.
     return [
         Place(name, number, fault)
         for name in names

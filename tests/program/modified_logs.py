@@ -72,7 +72,8 @@ class LiveResult:
     counts: list[int]
 
     def check_limits(self, rows: int) -> None:
-        """Fails unless as many credentials were held at most, and reading took 4 steps a byte and 2 a request."""
+        """Fails unless the peaks are within the limits, and decoding took at most 4 steps per byte and 2 per
+        request."""
         _, most, _, requests, size, steps = self.counts
         assert most == rows, f"{most} credentials were held"
         assert steps <= 4 * size + 2 * requests, f"{requests} requests of {size} bytes took {steps} steps"
@@ -106,7 +107,8 @@ def compare_sessions(work_dir: Path, logs: Sequence[list[bytes]]) -> None:
 
 
 def test_truncated_registration_is_refused(work_dir: Path) -> None:
-    """A registration that is cut after 1 to 90 bytes is not CBOR: 12. To read 1 takes a step, to read 90 takes 99."""
+    """A registration that is truncated to 1 to 90 bytes is not CBOR: status 12. Decoding 1 byte takes one step, 90
+    bytes take 99."""
     greeted = [*format_host_packets(INIT_PACKETS), *format_key_packets([init_response(1)])]
     logs = [
         [
@@ -174,7 +176,7 @@ def check_each_byte_changed(request: bytes, after: list[bytes], *options: str) -
 
 
 def check_each_packet_changed(request: bytes, after: list[bytes], *options: str) -> None:
-    """Fails unless the key serves its replies after each changed packet, and then greets a host."""
+    """Fails unless the key handles replies after each changed packet, and then responds to a host's INIT."""
     whole, host = packets(1, CBOR, request), format_host_packets(INIT_PACKETS)
     groups: list[list[bytes]] = []
     for number, packet in enumerate(whole):
@@ -205,10 +207,9 @@ def check_each_packet_changed(request: bytes, after: list[bytes], *options: str)
 
 
 def test_three_hosts_in_every_order(work_dir: Path) -> None:
-    """Three hosts send a PING of 100 bytes in two packets each, in all 90 orders.
-
-    One that begins while no message is open is served: its second packet gets its bytes again. Another one gets ERROR
-    06 for its first packet, and nothing for its second.
+    """Three hosts send a PING of 100 bytes in two packets each, in all 90 orders. A PING that begins while no message
+    is open gets its response after the second packet. Any other one gets ERROR 06 for its first packet, and nothing
+    for its second.
     """
     orders = sorted(set(itertools.permutations((1, 1, 2, 2, 3, 3))))
     assert len(orders) == 90

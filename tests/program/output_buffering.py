@@ -14,7 +14,7 @@ COMMANDS = ("replay", "quiet", "live", "show")
 
 
 def trace_writes(words: list[str], log: Path) -> tuple[int, bytes]:
-    """Returns how often the program writes to standard output, and what."""
+    """Returns the number of writes to standard output, and the output."""
     calls = log.with_name("calls")
     said = run(words, stdin=log, trace=["-o", str(calls), "-e", "trace=write"])
     check_result(said, 0, b"")
@@ -38,7 +38,7 @@ def test_many_lines_take_few_writes(work_dir: Path) -> None:
         (work_dir / "log").write_bytes(log)
         count, text = trace_writes(words, work_dir / "log")
         assert text == wanted, f"{words} wrote something else"
-        # Two for each 4096 bytes that are read, one for 8192 that are held, and the counts.
+        # Two writes per 4096 bytes read, one per 8192 bytes buffered, and one for the counts.
         most = 3 * (len(log) // 4096 + 1) + len(text) // 4096 + 2
         assert count <= most, f"{words}: {count} writes and not {most}"
 
@@ -57,7 +57,7 @@ def read_until(program: subprocess.Popen[bytes], part: bytes) -> bytes:
 
 
 def to_live_output(text: bytes) -> bytes:
-    """Returns what `live` writes where `replay` writes ticks and comments."""
+    """Returns the output of `live` for ticks and comments that `replay` copies."""
     need = b"# need nothing\n"
     return b"".join(line + need if line.startswith(b"t") else line for line in text.splitlines(keepends=True))
 

@@ -138,7 +138,7 @@ def test_replay_reports_save_last(work_dir: Path) -> None:
 
 
 def test_log_is_not_overwritten(work_dir: Path) -> None:
-    """--save onto the log that is read, or onto the result, is refused."""
+    """--save onto the log that is read, or to the file of standard output, is refused."""
     log = work_dir / "log"
     log.write_bytes(INIT)
     lost = check_no_file(work_dir, str(log), "it is the input log")
@@ -397,7 +397,7 @@ def test_invalid_lines_are_located(_: Path) -> None:
 
 
 def test_other_errors_have_no_reason(_: Path) -> None:
-    """Errors of other kinds do not mention the lines that were not played."""
+    """Other kinds of errors do not mention the lines that were not played."""
     said = (
         b"  the log has in line 1:\n    < 00000000 +0\n  the key sends no packet here\n"
         b"  no input comes before this packet\n"
@@ -423,7 +423,7 @@ def test_closed_pipe_is_reported(work_dir: Path) -> None:
         said = subprocess.run([PROGRAM, *words], input=INIT * 9, stdout=writer, stderr=subprocess.PIPE)
         os.close(writer)
         check_result(said, status, WRITING_FAILED)
-    # In the midst of its output, too.
+    # Also in the middle of its output.
     script = '"$0" replay 2>"$1" <"$2" | head -1 >/dev/null; echo "${PIPESTATUS[0]}"'
     (work_dir / "log").write_bytes(INIT * 40_000)
     words = ["bash", "-c", script, PROGRAM, str(work_dir / "faults"), str(work_dir / "log")]
@@ -485,7 +485,7 @@ def test_failed_calls_are_not_repeated(_: Path) -> None:
         said = run(["replay"], log, trace=["-e", f"inject=read:error={error}:when=1"])
         check_result(said, 1, b"hidlog: line 1: reading failed\n", b"")
         said = run(["replay"], log, trace=["-e", f"inject=read:error={error}:when=2"])
-        # All lines were read before, and each was played; only the counts are missing.
+        # All lines were read and played before; only the counts are missing.
         lines = log.splitlines(keepends=True)[:-1]
         inputs = log.rpartition(b"= held")[0]
         check_result(said, 1, f"hidlog: line {len(lines) + 2}: reading failed\n".encode(), inputs)
@@ -495,7 +495,7 @@ def test_failed_calls_are_not_repeated(_: Path) -> None:
         check_result(said, 1, f"hidlog: line 1: reading failed\n  standard input: {name}\n".encode(), b"")
 
 
-# ---- logs by their names
+# ---- logs as file arguments
 
 
 def test_file_arguments(work_dir: Path) -> None:
@@ -702,7 +702,7 @@ def test_many_files_need_no_memory(work_dir: Path) -> None:
 
 
 def test_named_log_is_not_overwritten(work_dir: Path) -> None:
-    """--save onto the log that is named is refused, also by another name of it."""
+    """--save onto a log argument is refused, also under another name of the file."""
     log, link = work_dir / "log", work_dir / "link"
     log.write_bytes(INIT)
     os.symlink(log, link)
@@ -712,7 +712,7 @@ def test_named_log_is_not_overwritten(work_dir: Path) -> None:
         said = run_explained(["replay", "--save", str(path), str(log)])
         assert said.returncode == 2 and said.stderr == lost and said.stdout.startswith(INIT)
         assert log.read_bytes() == INIT
-    # What isn't the log may be saved to, whatever standard input is.
+    # Any other file may be saved to, whatever standard input is.
     keys = work_dir / "keys"
     keys.write_bytes(b"old")
     check_result(run_explained(["replay", "--save", str(keys), str(log)], stdin=keys), 0, b"")

@@ -17,7 +17,7 @@ SNAPSHOT = EXAMPLES / "example_com.snapshot"
 SIGN_IN_AGAIN = EXAMPLES / "sign_in_again.log"
 INIT = b"> 0 " + b"ffffffff8600080001020304050607".ljust(128, b"0") + b"\n"
 COUNTS = b"= held 0 rows 0 pending 0 requests 0 bytes 0 steps 0\n"
-# What docs/use/LIMITS.md says of the program, with the arguments and the environment that lie on it.
+# The stack in bytes that docs/use/LIMITS.md states, including arguments and environment.
 STACK_BYTES = 144 << 10
 
 Said = subprocess.CompletedProcess[bytes]
@@ -31,7 +31,8 @@ def run(
     trace: Sequence[str] = (),
     before: Optional[Callable[[], None]] = None,
 ) -> Said:
-    """Runs the program with these words on a log, or on a file; under strace where something is to be injected."""
+    """Runs the program with arguments, and a log or a file as standard input; under strace if a fault is to be
+    injected."""
     command = [PROGRAM, *words]
     if trace:
         command = ["strace", "-f", "-qq", "-o", "/dev/null", *trace, *command]
@@ -49,8 +50,8 @@ def run_explained(
     trace: Sequence[str] = (),
     before: Optional[Callable[[], None]] = None,
 ) -> Said:
-    """Runs the program as `run` does, with what it says for people. Fails unless the fixed text of its faults is what is
-    left without that: lines that begin with two spaces, and notes."""
+    """Runs the program as `run` does, with --explain. Fails unless stderr without the explanations (lines that begin
+    with two spaces, and notes) is the plain text."""
     said = run([words[0], "--explain", *words[1:]], log, stdin=stdin, trace=trace, before=before)
     if "--save" not in words and not trace:
         fixed = run(words, log, stdin=stdin, before=before)

@@ -1,4 +1,4 @@
-"""Snapshots that several programs load and save, that are damaged, and whose folder has files of other people."""
+"""Snapshots that several programs load and save, damaged ones, and folders with other users' files."""
 
 from __future__ import annotations
 
@@ -18,12 +18,12 @@ CANNOT_READ, CANNOT_WRITE = b"hidlog: cannot read snapshot\n", b"hidlog: cannot 
 IN_USE_MESSAGE = b"another program has loaded it, and is going to save to it\n"
 DAMAGED_MESSAGE = b"its bytes don't match its .hidlog-sum: it is damaged; else remove that file\n"
 INVALID_SUMS_MESSAGE = b"the file of its name and .hidlog-sum has no sums: remove it\n"
-# The counter in the example's snapshot is its last value but the empty name: 07, and then an integer below 24.
+# The signature counter in the example's snapshot: key 07, and then an integer below 24.
 COUNTER = re.compile(rb"\x06\xf5\x07(\x18.|[\x00-\x17])\x08", re.DOTALL)
 
 
 def load_and_save_arguments(keys: Path | str, command: str = "replay", save: Path | str | None = None) -> list[str]:
-    """Returns the words of a program that loads a snapshot and saves to it, or to another path."""
+    """Returns the arguments to load a snapshot and save to it, or to another path."""
     return [command, "--load", str(keys), "--save", str(save or keys)]
 
 
@@ -34,7 +34,7 @@ def read_counter(keys: Path) -> int:
 
 
 def read_sums(keys: Path) -> list[list[str]]:
-    """Returns the sums beside a snapshot, with the number of the file that each is of."""
+    """Returns the checksums of a snapshot, each with the inode number of the file that it is for."""
     path = keys.with_name(f"{keys.name}.hidlog-sum")
     assert path.exists(), f"{path} is missing"
     text = path.read_text(encoding="ascii")
@@ -43,14 +43,14 @@ def read_sums(keys: Path) -> list[list[str]]:
 
 
 def make_snapshot(work_dir: Path) -> Path:
-    """Returns a snapshot that the program saved, with a folder of its own."""
+    """Returns the path of a snapshot that the program saved in a folder."""
     keys = work_dir / "keys"
     check_result(run(load_and_save_arguments(SNAPSHOT, save=keys), SIGN_IN_AGAIN.read_bytes()), 0, b"")
     return keys
 
 
 def start_program(keys: Path) -> subprocess.Popen[bytes]:
-    """Starts a program that loads and saves a snapshot, and waits until it has it."""
+    """Starts a program that loads and saves a snapshot, and waits until it has locked it."""
     pipe = subprocess.PIPE
     program = subprocess.Popen(
         [PROGRAM, *load_and_save_arguments(keys, "live")], stdin=pipe, stdout=pipe, stderr=pipe, bufsize=0
@@ -76,7 +76,7 @@ def test_second_program_is_refused(work_dir: Path) -> None:
                 )
                 told = CANNOT_READ + f"  {path}: ".encode() + IN_USE_MESSAGE
                 check_result(run_explained(load_and_save_arguments(path, command), INIT), 2, told, b"")
-        # Loading alone is allowed, and saving alone fails at its end, as it does where a program writes just then.
+        # Only loading is allowed; only saving fails at the end of the run, as while another program writes.
         assert run(["replay", "--load", str(keys)]).returncode == 0
         check_result(run(["replay", "--save", str(keys)]), 2, CANNOT_WRITE, COUNTS)
         assert keys.read_bytes() == old
@@ -118,7 +118,7 @@ def test_no_counter_is_lost(work_dir: Path) -> None:
 
 
 def test_other_files_are_kept(work_dir: Path) -> None:
-    """Files and links of other people, under names that copies have, are neither written nor removed."""
+    """Files and links that another user created with the names of temporary copies are neither written nor removed."""
     keys, other = make_snapshot(work_dir), work_dir / "other"
     other.write_bytes(b"another's")
     mine = {f"keys.hidlog-copy{end}": f"mine{end}".encode() for end in ("", ".1", ".part")}
@@ -133,7 +133,7 @@ def test_other_files_are_kept(work_dir: Path) -> None:
     found = {path.name: path.read_bytes() for path in work_dir.iterdir() if path.name in mine}
     assert found == mine and other.read_bytes() == b"another's", found
     assert sorted(os.listdir(work_dir)) == sorted([*before, "new", "new.hidlog-sum"]), os.listdir(work_dir)
-    # The sums are put in place by their name, so a link that somebody put there isn't followed.
+    # The checksum file is renamed into place, so a link at its path is not followed.
     sums = work_dir / "keys.hidlog-sum"
     shutil.copy(sums, other)
     sums.unlink()
@@ -169,7 +169,7 @@ def test_each_bit_of_snapshot_changed(work_dir: Path) -> None:
 
 
 def test_sums_match_file(work_dir: Path) -> None:
-    """The sums are of the bytes before and after, by sha256; a file that was put in the other's place has none."""
+    """The checksums are SHA-256 of the old and the new bytes; a file that replaced the snapshot has none."""
     keys = make_snapshot(work_dir)
     first = keys.read_bytes()
     assert [row[0] for row in read_sums(keys)] == [sha256(first).hexdigest()]
@@ -177,10 +177,10 @@ def test_sums_match_file(work_dir: Path) -> None:
     both = [sha256(data).hexdigest() for data in (first, keys.read_bytes())]
     assert [row[0] for row in read_sums(keys)] == both
     assert {row[1] for row in read_sums(keys)} == {f"{keys.stat().st_ino:016x}"}
-    # What it had before is whole too, as after a write that was cut off before its first byte.
+    # The old contents also match, as after a write that was interrupted before its first byte.
     keys.write_bytes(first)
     check_result(run(load_and_save_arguments(keys), SIGN_IN_AGAIN.read_bytes()), 0, b"")
-    # A different file at the path is loaded, and has sums after the next --save.
+    # Another file at the path is loaded, and gets checksums at the next --save.
     shutil.copy(SNAPSHOT, work_dir / "other")
     os.replace(work_dir / "other", keys)
     check_result(run(load_and_save_arguments(keys), SIGN_IN_AGAIN.read_bytes()), 0, b"")
@@ -190,7 +190,7 @@ def test_sums_match_file(work_dir: Path) -> None:
 
 
 def test_files_without_sums_are_loaded(work_dir: Path) -> None:
-    """A snapshot without sums, of an older version or with its sums removed, is loaded."""
+    """A snapshot without checksums, from an older version or because they were removed, is loaded."""
     keys = make_snapshot(work_dir)
     (work_dir / "keys.hidlog-sum").unlink(missing_ok=True)
     keys.write_bytes(SNAPSHOT.read_bytes())
@@ -199,7 +199,7 @@ def test_files_without_sums_are_loaded(work_dir: Path) -> None:
 
 
 def test_unrelated_sums_file_is_reported(work_dir: Path) -> None:
-    """An unrelated file at the path of the sums is reported, and neither it nor the snapshot is overwritten."""
+    """An unrelated file at the path of the checksums is reported, and neither it nor the snapshot is overwritten."""
     keys = make_snapshot(work_dir)
     old, sums = keys.read_bytes(), work_dir / "keys.hidlog-sum"
     read_sums(keys)
@@ -231,7 +231,7 @@ def test_unrelated_sums_file_is_reported(work_dir: Path) -> None:
 
 
 def test_long_name_has_no_sums(work_dir: Path) -> None:
-    """A file whose name is too long for a file of sums beside it is loaded, and saved without sums."""
+    """A snapshot whose name is too long for a checksum file beside it is loaded, and saved without checksums."""
     keys = work_dir / ("k" * 250)
     keys.write_bytes(SNAPSHOT.read_bytes())
     check_result(run(load_and_save_arguments(keys), SIGN_IN_AGAIN.read_bytes()), 0, b"")

@@ -13,9 +13,10 @@ from typing import Optional, Tuple, Union
 from running import COUNTS, TOP, run, run_explained
 
 NOT_SNAPSHOT, TOO_MANY, ROW_BROKEN = 1, 2, 3
-# The number of a refusal, and how its reason may begin.
+# The number of the error, and the beginning of its reason or reasons.
 Refusal = Tuple[int, Union[str, Tuple[str, ...]]]
-# The SHA-256 hash of `example.com`, the id without its last byte, the coordinates, and the head of a user handle.
+# The SHA-256 hash of `example.com`, the credential ID without its last byte, the coordinates, and the head of a user
+# handle.
 RP_AND_ID = b"\x01\x58\x20" + bytes.fromhex("a379a6f6eeafb9a55e378c118034e2751e682fab9f2d30ab13d2125586ce1947")
 RP_AND_ID += b"\x02\x58\x20" + b"\xaa" * 31
 COORDINATES = b"\x03\x58\x20" + b"\xbb" * 32 + b"\x04\x58\x20" + b"\xcc" * 32 + b"\x05\x41"
@@ -39,8 +40,8 @@ DUPLICATE_ROWS = b"\xa2\x01\x01\x02\x82" + (b"\xa7" + make_row(0xAA, 1, EXHAUSTE
 TOO_MANY_ROWS = b"\xa2\x01\x01\x02\x98\x41" + (b"\xa7" + make_row(0xAA, 1, EXHAUSTED_COUNTER)) * 65
 MESSAGE_SUBJECTS = ("it is", "the snapshot is", "unsupported version")
 NONE, BROKEN = (NOT_SNAPSHOT, MESSAGE_SUBJECTS), (ROW_BROKEN, "credential 1")
-# Snapshots, each with the number of its error and the subject, or None if it is loaded. The last two have
-# names of 64 and 65 bytes.
+# Snapshots, each with the number of its error and the subject of the message, or None if it is valid. The last two
+# have user names of 64 and 65 bytes.
 LOADED: list[tuple[bytes, Optional[Refusal]]] = [
     (b"\xa0", NONE),
     (b"\xa2\x01\x00\x02\x80", NONE),
@@ -58,8 +59,8 @@ LOADED: list[tuple[bytes, Optional[Refusal]]] = [
     (make_snapshot(NAMED, b"\x06\xf5\x07\x00\x08\x78\x40" + b"a" * 64), None),
     (make_snapshot(NAMED, b"\x06\xf5\x07\x00\x08\x78\x41" + b"a" * 65), BROKEN),
 ]
-# Snapshots of a row, and as what each is saved: one of version 1 as one of version 2, which is saved as itself, with a
-# name too.
+# Snapshots of one row, each with the snapshot that is saved after loading it: version 1 becomes version 2, which stays
+# unchanged, also with a name.
 SAVED = [
     (make_snapshot(OLD, EXHAUSTED_COUNTER), make_snapshot(NAMED, EXHAUSTED_COUNTER + b"\x08\x60")),
     (make_snapshot(NAMED, EXHAUSTED_COUNTER + b"\x08\x60"), make_snapshot(NAMED, EXHAUSTED_COUNTER + b"\x08\x60")),
@@ -77,13 +78,13 @@ TWO_ROWS = (
 ROW_BYTES = 151
 # Offsets in a row: the last byte of the credential ID, and the user handle.
 LAST_OF_ID, USER = 70, 143
-# What may be at places of a row: the first and the last place, counted from the row's first byte, the least and the
-# greatest byte, and whether a row may have them. With any other byte the text is not a snapshot.
+# Changes of a byte that give another canonical CBOR item: the first and the last offset in a row, the lowest and the
+# highest byte, and whether a row may have them. With any other byte the file is not a snapshot.
 CHANGES = [
     # The row is an array; the first key is 0.
     (0, 0, 0x90, 0x90, False),
     (1, 1, 0x00, 0x00, False),
-    # The RP, the id, and the two coordinates.
+    # The RP ID hash, the credential ID, and the two coordinates.
     (4, 35, 0x00, 0xFF, True),
     (39, 70, 0x00, 0xFF, True),
     (74, 105, 0x00, 0xFF, True),
@@ -92,7 +93,7 @@ CHANGES = [
     (142, 142, 0x61, 0x61, False),
     (142, 142, 0x81, 0x81, False),
     (143, 143, 0x00, 0xFF, True),
-    # Discoverable or not, or no truth value.
+    # Discoverable or not, or not a boolean.
     (145, 145, 0x00, 0x17, False),
     (145, 145, 0x20, 0x37, False),
     (145, 145, 0x40, 0x40, False),
@@ -101,7 +102,7 @@ CHANGES = [
     (145, 145, 0xA0, 0xA0, False),
     (145, 145, 0xF4, 0xF5, True),
     (145, 145, 0xF6, 0xF6, False),
-    # The counter, or none.
+    # The counter, or not an integer.
     (147, 147, 0x00, 0x17, True),
     (147, 147, 0x20, 0x37, False),
     (147, 147, 0x40, 0x40, False),
@@ -141,7 +142,7 @@ def expected_error(place: int, byte: int) -> Optional[Refusal]:
     if place < len(TWO_ROWS_HEAD):
         return NONE
     number, within = divmod(place - len(TWO_ROWS_HEAD), ROW_BYTES)
-    # The other row has this id, or this user handle.
+    # The other row has the same credential ID, or the same user handle.
     if (within, byte) in ((LAST_OF_ID, 0xAB - number), (USER, 2 - number)):
         return ROW_BROKEN, "credential 2"
     # The name, of one byte.

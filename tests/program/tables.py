@@ -101,7 +101,7 @@ ERRORS = """\
 07
 """
 
-# CTAPHID's commands with what is shown of a message of 65535 bytes that begins with a0.
+# CTAPHID commands, with what is shown of a message of 65535 bytes that begins with a0.
 CTAPHID = {
     0x01: "PING 65535",
     0x03: "MSG 65535",
@@ -114,9 +114,9 @@ CTAPHID = {
     0x3F: "ERROR 65535 a0",
 }
 
-# Texts with the characters at both ends of each range that is escaped, as bytes of CBOR, between those beside them that
-# aren't: control characters, line breaks, Unicode's Default_Ignorable_Code_Point (DerivedCoreProperties.txt), U+2800, and
-# U+FFF9 to U+FFFB, which mark what is beside a text.
+# Texts in CBOR with the first and last character of each range that is escaped, and the characters next to them, which
+# are not: control characters, line breaks, Unicode's Default_Ignorable_Code_Point (DerivedCoreProperties.txt), U+2800,
+# and U+FFF9 to U+FFFB, interlinear annotations.
 INVISIBLE_CHARACTERS = """\
 66c280c29fc2a0 \\u0080\\u009f\u00a0
 66c2acc2adc2ae \u00ac\\u00ad\u00ae
@@ -223,7 +223,7 @@ SHOW_CASES = [
 
 
 def iter_rows(table: str) -> Iterator[tuple[str, str]]:
-    """Yields the first word of each line, and the rest."""
+    """Yields the first word and the rest of each line of a table."""
     for line in table.rstrip("\n").split("\n"):
         first, _, rest = line.partition(" ")
         yield first, rest
@@ -268,7 +268,7 @@ def iter_cases() -> Iterator[str]:
     yield long_message_case(7609, f"+129   answer 00 h'{'0' * 15210}'  CTAP2_OK")
     yield long_message_case(7610, "")
     yield from [*LINE_CASES, *COMMENT_CASES, *SHOW_CASES]
-    # Words that move a terminal's cursor or turn the line around: ESC, and RIGHT-TO-LEFT OVERRIDE.
+    # Arguments that move a terminal's cursor or reverse the line: ESC, and RIGHT-TO-LEFT OVERRIDE.
     yield (
         "2 hidlog --a\x1b[2J\u202eb\n?error: unexpected argument '--a\\u001b[2J\\u202eb' found\n?\n"
         "?Usage: hidlog <COMMAND>\n?\n?For more information, try '--help'."

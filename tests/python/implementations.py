@@ -163,8 +163,8 @@ def to_devtools_options(key: Json) -> Json:
 def run_with_chromium(case: Case, driver: Driver) -> Json:
     """Runs a case with Chromium's own virtual authenticator.
 
-    Chromium makes discoverable credentials only where users are verified. So where a case has them and no verification,
-    its authenticator verifies, and the flag UV isn't compared.
+    Chromium makes discoverable credentials only with user verification. For a case with them and without verification,
+    its authenticator verifies the user, and the flag UV is not compared.
     """
     key = case.get("key", {})
     is_masked = "esidentKey" in json.dumps(case) and "verification" not in key

@@ -212,7 +212,7 @@ def test_the_time_out_of_the_options(make: Make) -> None:
     with pytest.raises(hidlog.NotAllowedError, match="the user did nothing for 250 ms"):
         browser.create(make_creation_options(timeout=250))
     assert 0.2 < time.monotonic() - began < TIMEOUT_SECONDS
-    # A user who takes longer by the key's clock is too late, too, without waiting.
+    # A user who takes longer than the timeout by the key's clock is too late, without real waiting.
     key.presence, key.presence_delay_ms = "granted", 5000
     with pytest.raises(hidlog.NotAllowedError, match="the user did nothing for 1000 ms"):
         browser.create(make_creation_options(timeout=1000))

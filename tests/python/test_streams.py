@@ -1,6 +1,6 @@
 """Every command with a full, closed or broken standard stream: one line of error, and its own exit status.
 
-The commands of the program end as the program does, to the byte, also through the library.
+The program's commands behave exactly as the program, byte for byte, also through the library.
 """
 
 from __future__ import annotations

@@ -227,7 +227,7 @@ def get_verdicts(name: str, cases: list[tuple[str, bool, Case]]) -> list[str]:
     """Returns a library's verdict on each case: "yes", "no: REASON", or "none: REASON" if it fails."""
     cases_json = json.dumps([case for _, _, case in cases])
     with tempfile.TemporaryDirectory() as cache:
-        # Debian's Go packages stand in a GOPATH, and nothing is fetched.
+        # Debian's Go packages are in a GOPATH, and nothing is downloaded.
         more = {"GOPATH": "/usr/share/gocode", "GO111MODULE": "off", "GOFLAGS": "", "GOCACHE": cache}
         ran = subprocess.run(
             LIBRARIES[name].command,

@@ -79,7 +79,7 @@ class Driver:
         self.call("/url", {"url": url})
 
     def window(self):
-        """Returns the handle of the current tab."""
+        """Returns the WebDriver handle of the current tab."""
         return self.call("/window", None)
 
     def open_tab(self):

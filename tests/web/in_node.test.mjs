@@ -1,4 +1,5 @@
-// The key in node: alone, in jsdom as Jest's environment has it, through a bundler, and where something is missing.
+// The key in node: alone, in jsdom as Jest's environment has it, through a bundler, and with missing platform
+// functions.
 import assert from "node:assert/strict";
 import { execFileSync } from "node:child_process";
 import { existsSync, mkdtempSync, readFileSync, rmSync, writeFileSync } from "node:fs";

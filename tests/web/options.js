@@ -28,7 +28,7 @@ export const toBase64url = (bytes) =>
 
 export const P256 = { name: "ECDSA", namedCurve: "P-256" };
 
-export const readSignCount = (used) => new DataView(used.response.authenticatorData).getUint32(33);
+export const readSignCount = (assertion) => new DataView(assertion.response.authenticatorData).getUint32(33);
 
 /** A test with its own key. */
 export const makeKeyTest = (test, options = {}) => async () => {

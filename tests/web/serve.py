@@ -110,7 +110,7 @@ class Handler(SimpleHTTPRequestHandler):
             self.wfile.write(part)
 
     def handle_request(self, path, request):
-        """Answers a request of the page."""
+        """Responds to a request of the page."""
         self.server.last_heard = time.monotonic()
         if path == "/lives":
             return {}
@@ -133,7 +133,7 @@ class Handler(SimpleHTTPRequestHandler):
         return getattr(self.server.relying_party, path.removeprefix("/rp/"))(**request)
 
     def do_POST(self):
-        """Answers a request of the page; an error is answered with its text."""
+        """Responds to a request of the page; to a failing one with the error's text."""
         request = json.loads(self.rfile.read(int(self.headers["Content-Length"])))
         try:
             status, answer = 200, self.handle_request(self.path, request)

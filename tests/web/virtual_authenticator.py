@@ -22,7 +22,7 @@ class ComparingHandler(Handler):
     """Also passes the page's DevTools commands on to the browser."""
 
     def handle_request(self, path, request):
-        """Answers a request of the page."""
+        """Responds to a request of the page."""
         if path == "/devtools":
             return self.server.driver.devtools(request["command"], **request["parameters"])
         return super().handle_request(path, request)

@@ -818,7 +818,7 @@
 
     const assertTrue = (isSo) => {
         if (!isSo) {
-            throw new Error("an assertion of the rules");
+            throw new Error("an assertion in the rules failed");
         }
     };
 
@@ -2065,7 +2065,7 @@ return ($.isTrue(lacking) ? $.apply(Fault, [MISSING, $.getItem(lacking, 0), $.ca
 return null;
 }
 find_member_fault.$names = ["command", "item"];
-function unknown_parts(command, item) {
+function list_unknown_parts(command, item) {
 let extensions, found, options, $t1, $t2, $t3;
 found = (() => { const $r = []; for (const $t1 of $.iter(item)) { let key; key = $t1; if (!(!$.contains($.call(MEMBERS, "get", [command, $.makeDict([])]), key))) { continue; } $r.push(("" + "the member " + $.repr(key))); } return $r; })(); 
 options = $.call(item, "get", [(($.eq(command, MAKE)) ? 7 : 5), $.makeDict([])]); 
@@ -2074,8 +2074,8 @@ extensions = $.call(item, "get", [(($.eq(command, MAKE)) ? 6 : 4), $.makeDict([]
 return $.add(found, (() => { const $r = []; for (const $t3 of $.iter(extensions)) { let name; name = $t3; $r.push(("" + "the extension " + $.format(name, ""))); } return $r; })());
 return null;
 }
-unknown_parts.$names = ["command", "item"];
-return { FORM, Fault, GET, INFO, MAKE, MEMBERS, MISSING, Member, NAMES, NEXT, OTHER_COMMANDS, PIN, RESET, SELECTION, UNKNOWN, decode_parameters, find_fault, find_member_fault, has_names, is_algorithm, is_bytes, is_descriptor, is_hash, is_map, is_number, is_options, is_rp, is_text, is_user, make_list_check, unknown_parts };
+list_unknown_parts.$names = ["command", "item"];
+return { FORM, Fault, GET, INFO, MAKE, MEMBERS, MISSING, Member, NAMES, NEXT, OTHER_COMMANDS, PIN, RESET, SELECTION, UNKNOWN, decode_parameters, find_fault, find_member_fault, has_names, is_algorithm, is_bytes, is_descriptor, is_hash, is_map, is_number, is_options, is_rp, is_text, is_user, list_unknown_parts, make_list_check };
 };
 
 $.modules["transactions"] = () => {
@@ -3570,7 +3570,7 @@ return { BLOBS, BLOB_KEY, COUNT, DELETE, EMPTY_ARRAY, LENGTH, LIST, LIST_RPS, MA
 };
 
 $.modules["judged_statuses"] = () => {
-let ANY_REQUEST_STATUSES, AnswerJudge, CANCELLED, DENIED, EXCLUDED, Entry, ExtensionMismatch, FIT, FORM, Fault, GET, INFO, JITTER_MS, KEY, KnownCredential, LIMIT_MS, MAKE, MALFORMED_STATUSES, MISSING, Mismatch, NEXT, NOT_ALLOWED, NO_CREDENTIALS, NO_TIME_OUT, OTHER, OTHERWISE, PENDING, PIN, RESET, RESET_WITHIN, SELECTION, SHOULD, TIMED_OUT, Transaction, UNKNOWN, UNSUPPORTED, UP, USER_TOKEN, UncertainMismatch, check, decode_parameters, find_fault, quantity, rules, unknown_parts, $t1, $t2, $t3, $t4, $t5, $t6;
+let ANY_REQUEST_STATUSES, AnswerJudge, CANCELLED, DENIED, EXCLUDED, Entry, ExtensionMismatch, FIT, FORM, Fault, GET, INFO, JITTER_MS, KEY, KnownCredential, LIMIT_MS, MAKE, MALFORMED_STATUSES, MISSING, Mismatch, NEXT, NOT_ALLOWED, NO_CREDENTIALS, NO_TIME_OUT, OTHER, OTHERWISE, PENDING, PIN, RESET, RESET_WITHIN, SELECTION, SHOULD, TIMED_OUT, Transaction, UNKNOWN, UNSUPPORTED, UP, USER_TOKEN, UncertainMismatch, check, decode_parameters, find_fault, list_unknown_parts, quantity, rules, $t1, $t2, $t3, $t4, $t5, $t6;
 rules = $.module("rules");
 GET = $.module("answers").GET;
 INFO = $.module("answers").INFO;
@@ -3596,7 +3596,7 @@ UNKNOWN = $.module("requests").UNKNOWN;
 Fault = $.module("requests").Fault;
 find_fault = $.module("requests").find_fault;
 decode_parameters = $.module("requests").decode_parameters;
-unknown_parts = $.module("requests").unknown_parts;
+list_unknown_parts = $.module("requests").list_unknown_parts;
 NO_TIME_OUT = $.module("transactions").NO_TIME_OUT;
 Entry = $.module("transactions").Entry;
 Transaction = $.module("transactions").Transaction;
@@ -3713,7 +3713,7 @@ return null;
 if ((($.eq(status, LIMIT_MS)) && $.isTrue($.call(self, "has_long_list", [$.call(asked, "get", [(($.eq($.getItem($.attribute(transaction, "data"), 0), MAKE)) ? 5 : 3), []])])))) {
 return null;
 }
-strange = $.apply(unknown_parts, [$.getItem($.attribute(transaction, "data"), 0), asked]); 
+strange = $.apply(list_unknown_parts, [$.getItem($.attribute(transaction, "data"), 0), asked]); 
 own = (($.eq($.getItem($.attribute(transaction, "data"), 0), MAKE)) ? $.makeSet([8, 9, 10]) : $.makeSet([6, 7])); 
 rk_is_open = ($.isTrue($t2 = $.call(options, "get", ["rk"])) ? !$.isTrue($.call($.call($.attribute($.getMember(self, "answers"), "info"), "get", [4, $.makeDict([])]), "get", ["rk"])) : $t2); 
 if (($.isTrue($.and(own, $.apply(set, [asked]))) || $.isTrue(rk_is_open) || $.isTrue($.call(options, "get", ["uv"])))) {

@@ -5621,7 +5621,10 @@ const MAX_SESSION_LENGTH_IN_MEMORY = 8 * 1024 * 1024;
 
 /** @typedef {{ index: number, snapshot: Uint8Array, log: string }} RecordedSession */
 /** @typedef {{ index: number, snapshot: string, log: string }} StoredSession its snapshot is base64url */
-/** @typedef {{ ended: StoredSession[], last: StoredSession }} Kept the log of `last` lacks the totals line */
+/**
+ * @typedef {{ ended: StoredSession[], last: StoredSession }} StoredRecordings
+ *     ended sessions and the current one, whose log lacks the totals line
+ */
 
 const toStored = ({ index, snapshot, log }) => ({ index, snapshot: toBase64url(snapshot), log });
 /** The index of a session, which version 0.2 stored as `part`. @param {any} stored @returns {number} */
@@ -5648,7 +5651,7 @@ class Recordings {
     /**
      * @param {Uint8Array} snapshot the initial credentials
      * @param {(passed?: number) => number} clock
-     * @param {Kept | null} kept the stored recordings of these credentials
+     * @param {StoredRecordings | null} kept the stored recordings of these credentials
      * @param {boolean} records whether to record
      */
     constructor(snapshot, clock, kept, records) {
@@ -5691,7 +5694,7 @@ class Recordings {
 
     /**
      * Continues stored recordings, which end with these credentials.
-     * @param {Kept} kept @param {Uint8Array} snapshot
+     * @param {StoredRecordings} kept @param {Uint8Array} snapshot
      */
     take(kept, snapshot) {
         const { last } = kept;
@@ -5748,7 +5751,7 @@ class Recordings {
         }
     }
 
-    /** The recordings to store. @param {Uint8Array} snapshot the current credentials @returns {Kept | undefined} */
+    /** The recordings to store. @param {Uint8Array} snapshot the current credentials @returns {StoredRecordings | undefined} */
     kept(snapshot) {
         if (!this.records) {
             return undefined;
@@ -5825,7 +5828,7 @@ class Authenticator {
      * @param {import("./private_keys.js").PrivateKeys} privateKeys
      * @param {import("./faults.js").Faults} faults
      * @param {(passed?: number) => number} clock
-     * @param {{ snapshot: Uint8Array, kept: import("./recordings.js").Kept | null, records: boolean }} start the
+     * @param {{ snapshot: Uint8Array, kept: import("./recordings.js").StoredRecordings | null, records: boolean }} start the
      * initial credentials, their recordings in storage, and whether to record
      */
     constructor(privateKeys, faults, clock, { snapshot, kept, records }) {
@@ -5852,7 +5855,7 @@ class Authenticator {
 
     /**
      * Continues a recording from storage.
-     * @param {import("./recordings.js").Kept} kept @param {Uint8Array} snapshot
+     * @param {import("./recordings.js").StoredRecordings} kept @param {Uint8Array} snapshot
      */
     take(kept, snapshot) {
         this.#cancel();
@@ -7029,10 +7032,10 @@ const FORMAT = "hidlog web key 1";
 const HASH_BYTES = 32;
 
 /**
- * @typedef {import("./credentials.js").Credential & { rpIdHash: string, coreId?: string }} KeptCredential `coreId` is
+ * @typedef {import("./credentials.js").Credential & { rpIdHash: string, coreId?: string }} StoredCredential `coreId` is
  * the ID that the core has, if different
  */
-/** @typedef {{ format: string, timeMs: number, credentials: KeptCredential[] }} State */
+/** @typedef {{ format: string, timeMs: number, credentials: StoredCredential[] }} State */
 
 /**
  * @param {number} timeMs
@@ -7082,7 +7085,7 @@ const checkCredential = (credential) => {
     checkValues(kept);
 };
 
-/** Rejects duplicate credentials. @param {KeptCredential[]} credentials */
+/** Rejects duplicate credentials. @param {StoredCredential[]} credentials */
 const checkDuplicates = (credentials) => {
     const areUnique = (texts) => new Set(texts).size === texts.length;
     const all = credentials.map(completeCredential);
@@ -7136,9 +7139,9 @@ const STORAGE_KEY = "hidlogKey";
 const POLL_MS = 5;
 const MAX_POLLS = 100;
 
-/** @typedef {Pick<Storage, "getItem" | "setItem">} KeptIn */
+/** @typedef {Pick<Storage, "getItem" | "setItem">} StateStorage */
 /**
- * @typedef {import("./state.js").State & { version: number, recordings?: import("./recordings.js").Kept }} Stored
+ * @typedef {import("./state.js").State & { version: number, recordings?: import("./recordings.js").StoredRecordings }} Stored
  */
 
 /** @param {any} storage */
@@ -7147,7 +7150,7 @@ const checkStorage = (storage) => {
     checkType("storage", storage, isStorage, "a Storage, such as sessionStorage");
 };
 
-/** Whether tabs share a storage. @param {KeptIn | undefined} storage */
+/** Whether tabs share a storage. @param {StateStorage | undefined} storage */
 const isLocalStorage = (storage) => {
     try {
         return storage !== undefined && storage === globalThis.localStorage;
@@ -7182,7 +7185,7 @@ class Store {
     #releaseVersion = () => {};
     #version = 0;
 
-    /** @param {KeptIn | undefined} storage */
+    /** @param {StateStorage | undefined} storage */
     constructor(storage) {
         this.storage = storage;
         this.isShared = isLocalStorage(storage) && Boolean(globalThis.navigator?.locks);
@@ -7217,7 +7220,7 @@ class Store {
     /**
      * Writes a state, if there is storage, and its recordings if they fit. A lock tells other tabs the version.
      * Returns whether the recordings were written.
-     * @param {() => { state: import("./state.js").State, recordings: import("./recordings.js").Kept }} kept
+     * @param {() => { state: import("./state.js").State, recordings: import("./recordings.js").StoredRecordings }} kept
      */
     async write(kept) {
         if (!this.storage) {

@@ -40,7 +40,7 @@ export class Authenticator {
      * @param {import("./private_keys.js").PrivateKeys} privateKeys
      * @param {import("./faults.js").Faults} faults
      * @param {(passed?: number) => number} clock
-     * @param {{ snapshot: Uint8Array, kept: import("./recordings.js").Kept | null, records: boolean }} start the
+     * @param {{ snapshot: Uint8Array, kept: import("./recordings.js").StoredRecordings | null, records: boolean }} start the
      * initial credentials, their recordings in storage, and whether to record
      */
     constructor(privateKeys, faults, clock, { snapshot, kept, records }) {
@@ -67,7 +67,7 @@ export class Authenticator {
 
     /**
      * Continues a recording from storage.
-     * @param {import("./recordings.js").Kept} kept @param {Uint8Array} snapshot
+     * @param {import("./recordings.js").StoredRecordings} kept @param {Uint8Array} snapshot
      */
     take(kept, snapshot) {
         this.#cancel();

@@ -13,7 +13,10 @@ const MAX_SESSION_LENGTH_IN_MEMORY = 8 * 1024 * 1024;
 
 /** @typedef {{ index: number, snapshot: Uint8Array, log: string }} RecordedSession */
 /** @typedef {{ index: number, snapshot: string, log: string }} StoredSession its snapshot is base64url */
-/** @typedef {{ ended: StoredSession[], last: StoredSession }} Kept the log of `last` lacks the totals line */
+/**
+ * @typedef {{ ended: StoredSession[], last: StoredSession }} StoredRecordings
+ *     ended sessions and the current one, whose log lacks the totals line
+ */
 
 const toStored = ({ index, snapshot, log }) => ({ index, snapshot: toBase64url(snapshot), log });
 /** The index of a session, which version 0.2 stored as `part`. @param {any} stored @returns {number} */
@@ -40,7 +43,7 @@ export class Recordings {
     /**
      * @param {Uint8Array} snapshot the initial credentials
      * @param {(passed?: number) => number} clock
-     * @param {Kept | null} kept the stored recordings of these credentials
+     * @param {StoredRecordings | null} kept the stored recordings of these credentials
      * @param {boolean} records whether to record
      */
     constructor(snapshot, clock, kept, records) {
@@ -83,7 +86,7 @@ export class Recordings {
 
     /**
      * Continues stored recordings, which end with these credentials.
-     * @param {Kept} kept @param {Uint8Array} snapshot
+     * @param {StoredRecordings} kept @param {Uint8Array} snapshot
      */
     take(kept, snapshot) {
         const { last } = kept;
@@ -140,7 +143,7 @@ export class Recordings {
         }
     }
 
-    /** The recordings to store. @param {Uint8Array} snapshot the current credentials @returns {Kept | undefined} */
+    /** The recordings to store. @param {Uint8Array} snapshot the current credentials @returns {StoredRecordings | undefined} */
     kept(snapshot) {
         if (!this.records) {
             return undefined;

@@ -10,10 +10,10 @@ const FORMAT = "hidlog web key 1";
 const HASH_BYTES = 32;
 
 /**
- * @typedef {import("./credentials.js").Credential & { rpIdHash: string, coreId?: string }} KeptCredential `coreId` is
+ * @typedef {import("./credentials.js").Credential & { rpIdHash: string, coreId?: string }} StoredCredential `coreId` is
  * the ID that the core has, if different
  */
-/** @typedef {{ format: string, timeMs: number, credentials: KeptCredential[] }} State */
+/** @typedef {{ format: string, timeMs: number, credentials: StoredCredential[] }} State */
 
 /**
  * @param {number} timeMs
@@ -63,7 +63,7 @@ const checkCredential = (credential) => {
     checkValues(kept);
 };
 
-/** Rejects duplicate credentials. @param {KeptCredential[]} credentials */
+/** Rejects duplicate credentials. @param {StoredCredential[]} credentials */
 const checkDuplicates = (credentials) => {
     const areUnique = (texts) => new Set(texts).size === texts.length;
     const all = credentials.map(completeCredential);

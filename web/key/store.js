@@ -8,9 +8,9 @@ const STORAGE_KEY = "hidlogKey";
 const POLL_MS = 5;
 const MAX_POLLS = 100;
 
-/** @typedef {Pick<Storage, "getItem" | "setItem">} KeptIn */
+/** @typedef {Pick<Storage, "getItem" | "setItem">} StateStorage */
 /**
- * @typedef {import("./state.js").State & { version: number, recordings?: import("./recordings.js").Kept }} Stored
+ * @typedef {import("./state.js").State & { version: number, recordings?: import("./recordings.js").StoredRecordings }} Stored
  */
 
 /** @param {any} storage */
@@ -19,7 +19,7 @@ export const checkStorage = (storage) => {
     checkType("storage", storage, isStorage, "a Storage, such as sessionStorage");
 };
 
-/** Whether tabs share a storage. @param {KeptIn | undefined} storage */
+/** Whether tabs share a storage. @param {StateStorage | undefined} storage */
 const isLocalStorage = (storage) => {
     try {
         return storage !== undefined && storage === globalThis.localStorage;
@@ -54,7 +54,7 @@ export class Store {
     #releaseVersion = () => {};
     #version = 0;
 
-    /** @param {KeptIn | undefined} storage */
+    /** @param {StateStorage | undefined} storage */
     constructor(storage) {
         this.storage = storage;
         this.isShared = isLocalStorage(storage) && Boolean(globalThis.navigator?.locks);
@@ -89,7 +89,7 @@ export class Store {
     /**
      * Writes a state, if there is storage, and its recordings if they fit. A lock tells other tabs the version.
      * Returns whether the recordings were written.
-     * @param {() => { state: import("./state.js").State, recordings: import("./recordings.js").Kept }} kept
+     * @param {() => { state: import("./state.js").State, recordings: import("./recordings.js").StoredRecordings }} kept
      */
     async write(kept) {
         if (!this.storage) {

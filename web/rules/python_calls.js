@@ -380,7 +380,7 @@
 
     const assertTrue = (isSo) => {
         if (!isSo) {
-            throw new Error("an assertion of the rules");
+            throw new Error("an assertion in the rules failed");
         }
     };
 

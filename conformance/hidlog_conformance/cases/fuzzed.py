@@ -17,7 +17,7 @@ PROFILE_CHOICE = "the standard does not say which of two errors is reported"
 
 
 class FuzzedCase(NamedTuple):
-    """A finding: its rule, the fault it showed, and the expectations by line."""
+    """A finding: its rule, the fault it detects, and the expectations by line."""
 
     name: str
     fault: str

@@ -1,4 +1,4 @@
-"""Cases about packets with two errors, or that also meet a busy device: which ERROR is sent."""
+"""Cases about packets with two errors, or sent to a busy device: which ERROR is returned."""
 
 from __future__ import annotations
 

@@ -26,7 +26,7 @@ class Connection(Protocol):
 
 
 class Client:
-    """A client on a channel of its own. Threads may share one, or use one each: requests wait for each other."""
+    """A client with its own channel. Threads may share one, or use one each: requests wait for each other."""
 
     def __init__(self, connection: Connection):
         for name in ("write_packet", "read_packet"):

@@ -30,7 +30,7 @@ class DeviceError(CtapError, FidoError):
 
 
 class KeyDevice(CtapDevice):
-    """A device on a channel of its own."""
+    """A device with its own channel."""
 
     def __init__(self, key: Any):
         self._client = Client(key)

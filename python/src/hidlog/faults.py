@@ -1,4 +1,4 @@
-"""Injected faults, to test how a client or a service handles them. They are made outside the core.
+"""Injected faults, to test how a client or a service handles them. They are injected outside the core.
 
     key.faults.bad_signature = True      # from now on
     ...
@@ -74,7 +74,7 @@ class Faults:
     def alter_signed(self, credential: bytes, signed: bytes, flags: int = 0) -> bytes:
         """Returns the bytes to sign instead of these: authenticator data and a hash of 32 bytes, changed by the faults.
 
-        The flags are set, too; they are no fault and have a comment of their own.
+        The flags are set, too; they are not a fault and have a separate comment.
         """
         kept, rest = signed[:-32], signed[-32:]
         flagged = kept[:32] + bytes([kept[32] | flags]) + kept[33:]

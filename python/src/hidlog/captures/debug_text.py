@@ -85,7 +85,7 @@ class _Libfido2:
                 self._start_dump(name, length)
 
     def _start_dump(self, kind: str, length: int) -> None:
-        """Starts to collect a dump."""
+        """Starts collecting a hex dump."""
         self._kind, self._length, self._data = kind, min(length, hid.LONGEST_MESSAGE), b""
         if not length:
             self._finish_dump()
