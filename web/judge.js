@@ -78,9 +78,9 @@
         const entry = document.createElement("li");
         const button = makeElement("button", `Line ${finding.line}`, { title: "Go to the line" });
         button.addEventListener("click", () => goTo(finding.line));
-        const { clean } = globalThis.hidlogPython.module("sanitize");
+        const { escape_text: escapeText } = globalThis.hidlogPython.module("sanitize");
         const violation = `${SIDE_NAMES[finding.side]} violates ${finding.level.toUpperCase()}: ${finding.rule}.`;
-        entry.append(button, ` ${violation} Expected: ${clean(finding.expected)}. Actual: ${clean(finding.actual)}.`);
+        entry.append(button, ` ${violation} Expected: ${escapeText(finding.expected)}. Actual: ${escapeText(finding.actual)}.`);
         return entry;
     };
 

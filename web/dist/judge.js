@@ -1235,7 +1235,7 @@ let argument, info, major, start, $t1, $t2;
 start = $.getMember(self, "place"); 
 $t1 = $.call(self, "read_any_head", []); $t2 = $.unpackItems($t1, 3); major = $t2[0]; info = $t2[1]; argument = $t2[2]; 
 if (((!$.eq(major, 7)) && ($.contains(MIN_ARGUMENT, info)) && ($.lt(argument, $.getItem(MIN_ARGUMENT, info))))) {
-throw $.apply(CborError, [("" + "not the shortest head at " + $.format(start, ""))]);
+throw $.apply(CborError, [("" + "head not in its shortest form at " + $.format(start, ""))]);
 }
 return $.Tuple.of(major, info, argument);
 return null;

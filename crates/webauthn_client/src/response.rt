@@ -7,7 +7,7 @@ ghost use Rattle.webauthn_client.specs.declared.rejection.DomError.TheVariants.{
 
 use crate::base64url::encode;
 use crate::client_data::ClientData;
-use crate::extensions::{extension, inner, is_true};
+use crate::extensions::{extension, inner_member, is_true};
 use crate::options::Abilities;
 use crate::rejection::{Rejection, not_allowed, too_long};
 use crate::text::is_word;
