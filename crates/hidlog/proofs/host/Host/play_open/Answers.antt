@@ -5,10 +5,10 @@ use Rattle.hidlog.proofs.host.Host.play_open.Goals as goal
 pub returns-in-Err : goal.returns-in-Err
 returns-in-Err g c = inl (refl, c.in-Err.ensures.fails)
 
-pub returns-in-Err-look : goal.returns-in-Err-look
-returns-in-Err-look g c =
+pub returns-in-Err-check_writable : goal.returns-in-Err-check_writable
+returns-in-Err-check_writable g c =
     let begun = c.in_default.ensures.begins in
-    inr (begun.0, begun.1, inl (refl, c.in-Err-look.ensures))
+    inr (begun.0, begun.1, inl (refl, c.in-Err-check_writable.ensures))
 
 pub returns-in-Err-flush_then : goal.returns-in-Err-flush_then
 returns-in-Err-flush_then g c =
