@@ -1,12 +1,14 @@
 #!/usr/bin/env python3
-"""Runs the conformance tests against conforming variants of the reference authenticator: none may violate a MUST.
+"""Runs the conformance tests and a walk against conforming variants of the reference authenticator: none may violate a
+MUST.
 
-    conformance/conforming_variants.py [--jobs N] [WORD ..]    the variants whose names contain a word
+    conformance/conforming_variants.py [--jobs N] [--steps N] [WORD ..]    the variants whose names contain a word
 """
 
 from __future__ import annotations
 
 import argparse
+import functools
 import multiprocessing
 import os
 import sys
@@ -22,28 +24,35 @@ from hidlog_conformance.device_info import DeviceInfo  # noqa: E402
 from hidlog_conformance.outcome import Outcome  # noqa: E402
 from hidlog_conformance.reference.device import ReferenceDevice  # noqa: E402
 from hidlog_conformance.run import all_sessions, play_one, parse_options  # noqa: E402
+from hidlog_conformance.walk import walk  # noqa: E402
+
+# The seed of the walks, and their default number of steps.
+SEED, STEPS = 1, 200
 
 
-def run_variant(name: str) -> Tuple[str, List[Outcome]]:
-    """Runs all cases against a variant."""
+def run_variant(name: str, steps: int) -> Tuple[str, List[Outcome]]:
+    """Runs all cases against a variant, and a walk."""
     variant = VARIANTS[name]
     device = ReferenceDevice(variant.traits)
     display = ["--display"] if variant.traits.display else []
     options = parse_options(["--device", "reference", "--touch", "--reset", *display])
     device_info = DeviceInfo.ask(device, True, variant.traits.display)
-    return name, [play_one(device, session, options, device_info) for session in all_sessions()]
+    outcomes = [play_one(device, session, options, device_info) for session in all_sessions()]
+    outcome = walk(device, device_info, SEED, steps).outcome
+    return name, outcomes + ([outcome] if outcome is not None else [])
 
 
 def main(arguments: List[str]) -> int:
     """Runs the chosen variants."""
     parser = argparse.ArgumentParser(description="Run the conformance tests against conforming authenticators.")
     parser.add_argument("--jobs", type=int, default=2, help="number of processes (default: 2)")
+    parser.add_argument("--steps", type=int, default=STEPS, help=f"number of steps of a walk (default: {STEPS})")
     parser.add_argument("words", nargs="*", metavar="WORD", help="the variants whose names contain a word")
     options = parser.parse_args(arguments)
     chosen = [name for name in VARIANTS if not options.words or any(word in name for word in options.words)]
     good = 0
     with multiprocessing.get_context("fork").Pool(options.jobs) as pool:
-        for name, outcomes in pool.imap(run_variant, chosen):
+        for name, outcomes in pool.imap(functools.partial(run_variant, steps=options.steps), chosen):
             failed = [outcome for outcome in outcomes if outcome.status == "not ok"]
             good += not failed
             print(

@@ -7,7 +7,7 @@
 Faults are filters between the runner and hidlog live: all cases are run without the choices of the profile, and cases
 of other rules may not fail, except those in `implies`. Mutants are wrong methods of the reference authenticator: cases
 are run until two fail under the violated rule; with `--whole` all are run, and the failed ones counted by rule. Each
-must be detected by two cases, or is listed with the reason.
+must be detected by two cases, or is listed with the reason. Mutants with a fault of state are detected by two walks.
 """
 
 from __future__ import annotations
@@ -25,7 +25,7 @@ sys.path[:0] = [os.path.join(HERE, "faults"), os.path.join(HERE, "mutants")]
 from hidlog_conformance import keys  # noqa: E402
 from answer_faults import CBOR_FAULTS  # noqa: E402
 from faulty import Fault, FaultyDevice  # noqa: E402
-from run_mutant import MUTANTS, run_mutant as run_mutant  # noqa: E402
+from run_mutant import MUTANTS, STATEFUL, run_mutant, walk_mutant  # noqa: E402
 from hidlog_conformance.devices import LiveDevice  # noqa: E402
 from hidlog_conformance.device_info import DeviceInfo  # noqa: E402
 from hidlog_conformance.outcome import Outcome  # noqa: E402
@@ -111,6 +111,7 @@ def main(arguments: List[str]) -> int:
         # Some exist both as a filter and as a mutant.
         other = name if name not in names else f"{name}_of_reference"
         names[other] = functools.partial(run_mutant, name, whole=options.whole)
+    names.update({name: functools.partial(walk_mutant, name) for name in STATEFUL})
     chosen = [name for name in names if not options.words or any(word in name for word in options.words)]
     if not chosen:
         print(f"faults.py: no fault matches {' '.join(options.words)}", file=sys.stderr)

@@ -143,11 +143,11 @@ class FullPlayer(Player):
     def play(self) -> Outcome:
         """Plays the session."""
         outcome = super().play()
-        if self.difference is not None and self.hides():
+        if self.difference is not None and self.is_hidden_by_cred_protect():
             return Outcome(self.session, "skip", "the device applies credProtect unasked")
         return self.difference or outcome
 
-    def leave(self) -> None:
+    def cancel_pending_requests(self) -> None:
         """Waits as long as a host waits for a missing response, and touches at the end."""
         for _ in range(WAIT_MS // 100):
             self.at += 100

@@ -24,6 +24,7 @@ import interrupted  # noqa: E402
 import kept_device  # noqa: E402
 import odd_clients  # noqa: E402
 import odd_devices  # noqa: E402
+import walked  # noqa: E402
 import walks  # noqa: E402
 import ways  # noqa: E402
 
@@ -33,6 +34,7 @@ TESTS = {
     **odd_devices.TESTS,
     **odd_clients.TESTS,
     **walks.TESTS,
+    **walked.TESTS,
     **generated.TESTS,
     **interrupted.TESTS,
 }

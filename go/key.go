@@ -1,9 +1,9 @@
 package hidlog
 
-// /* The module has the library in lib; a clone of the repository has it in release. */
-// #cgo CFLAGS: -I${SRCDIR}/lib -I${SRCDIR}/../release
-// #cgo linux,amd64 LDFLAGS: -L${SRCDIR}/lib/amd64 -L${SRCDIR}/../release -l:libhidlog.a
-// #cgo linux,arm64 LDFLAGS: -L${SRCDIR}/lib/arm64 -L${SRCDIR}/../release/aarch64 -l:libhidlog.a
+// /* The module has the library in lib; a clone of the repository has it in release. Elsewhere portable.c is it. */
+// #cgo CFLAGS: -I${SRCDIR}/lib -I${SRCDIR}/lib/portable -I${SRCDIR}/../release
+// #cgo linux,amd64,!hidlog_portable LDFLAGS: -L${SRCDIR}/lib/amd64 -L${SRCDIR}/../release -l:libhidlog.a
+// #cgo linux,arm64,!hidlog_portable LDFLAGS: -L${SRCDIR}/lib/arm64 -L${SRCDIR}/../release/aarch64 -l:libhidlog.a
 // #include <stdlib.h>
 // #include "hidlog.h"
 import "C"
@@ -118,7 +118,8 @@ func toError(what string, status C.int32_t) error {
 func NewAuthenticator(snapshot []byte) (*Authenticator, error) {
 	a := &Authenticator{recordings: []Recording{{Snapshot: clone(snapshot)}}}
 	a.key = (*C.struct_hidlog_key)(C.calloc(1, C.sizeof_struct_hidlog_key))
-	a.key.memory = C.aligned_alloc(16, (C.hidlog_key_size()+15)/16*16)
+	// malloc aligns to 16 where there is a prebuilt library; the portable one needs no alignment.
+	a.key.memory = C.malloc(C.hidlog_key_size())
 	var aaguid [16]C.uint8_t
 	status := C.hidlog_key_init(a.key, &aaguid[0], 0, firstByte(snapshot), C.size_t(len(snapshot)))
 	if err := toError("new authenticator", status); err != nil {

@@ -7,7 +7,9 @@
 #     libhidlog-dev_VERSION_{amd64,arm64}.deb  the headers, the static library, examples, files for pkg-config
 #     hidlog-uhid_VERSION_amd64.deb         the key as a virtual USB device
 #     python3-hidlog_VERSION_amd64.deb      the Python package, with its commands
-#     hidlog-VERSION-*.whl, .tar.gz         the Python package, for x86-64 and aarch64
+#     hidlog-portable-VERSION.tar.gz        the C library's sources for every other system
+#     hidlog-VERSION-windows-x86_64.zip     the program and the C library for Windows
+#     hidlog-VERSION-*.whl, .tar.gz         the Python package, for Linux on x86-64 and aarch64, and for Windows
 #     hidlog-VERSION.tgz                    for npm: the key in a page, and the command
 #     hidlog-go-VERSION.zip                 the Go module, as in a module proxy
 #     hidlog-VERSION.crate, hidlog-sys-VERSION.crate  the Rust crates
@@ -15,8 +17,8 @@
 #     hidlog-VERSION.provenance.json        sources and build commands, in in-toto and SLSA
 #
 # Builds are reproducible. Needs tar, gzip, dpkg-deb, Python 3.11 and hatchling; for hidlog-uhid gcc and libssl-dev; for
-# aarch64 a linker (lld, or binutils-aarch64-linux-gnu). If one of the latter is missing, prints which packages are
-# skipped.
+# aarch64 a linker (lld, or binutils-aarch64-linux-gnu); for the portable library wabt, and for Windows
+# gcc-mingw-w64-x86-64. If one of the latter is missing, prints which packages are skipped.
 set -euo pipefail
 [ $# = 1 ] || { echo "usage: packages/build.sh DIR" >&2; exit 2; }
 top=$(cd "$(dirname "${BASH_SOURCE[0]}")/.." && pwd)
@@ -162,6 +164,14 @@ build_npm_package() {
         gzip -9n >"$to/hidlog-$version.tgz"
 }
 
+# Installs the portable library's sources, if they were generated: install_portable_sources DIR
+install_portable_sources() {
+    local name
+    [ -z "${HIDLOG_PORTABLE-}" ] || for name in hidlog.c hidlog_module.h machine.h hidlog.h; do
+        install -D -m 644 "$HIDLOG_PORTABLE/$name" "$1/$name"
+    done
+}
+
 # Builds the Go module's zip for a module proxy, with paths that start with the module and its version.
 build_go_module() {
     local folder=$work/go/cogtzil.example/hidlog@v$version
@@ -171,6 +181,7 @@ build_go_module() {
     install_file 644 release/hidlog.h "$folder/lib/hidlog.h"
     install_file 644 release/libhidlog.a "$folder/lib/amd64/libhidlog.a"
     install_file 644 release/aarch64/libhidlog.a "$folder/lib/arm64/libhidlog.a"
+    install_portable_sources "$folder/lib/portable"
     cat "$top/LICENSE-MIT" >"$folder/LICENSE-MIT"
     cat "$top/LICENSE-APACHE" >"$folder/LICENSE-APACHE"
     python3 "$top/packages/zip.py" "$work/go" "$to/hidlog-go-$version.zip"
@@ -188,6 +199,7 @@ build_crate() {
         install_file 644 release/hidlog.h "$folder/lib/hidlog.h"
         install_file 644 release/libhidlog.a "$folder/lib/x86_64/libhidlog.a"
         install_file 644 release/aarch64/libhidlog.a "$folder/lib/aarch64/libhidlog.a"
+        install_portable_sources "$folder/lib/portable"
     fi
     sed -i "s|path = \"../hidlog-sys\"|path = \"../hidlog-sys-$version\"|" "$folder/Cargo.toml"
     tar -C "$work/crates" --sort=name --owner=0 --group=0 --numeric-owner --mtime="@$SOURCE_DATE_EPOCH" -cf - \
@@ -205,6 +217,12 @@ if link_aarch64; then
         build_tarball aarch64 release/aarch64/hidlog "$work/aarch64/libhidlog.so.1" release/aarch64/libhidlog.a
         build_program_package arm64 release/aarch64/hidlog
     fi
+fi
+if command -v wasm2c >/dev/null; then
+    "$top/portable/build.sh" "$to" "$work/portable"
+    export HIDLOG_PORTABLE=$work/portable
+else
+    echo "packages: wabt is missing, skipping the portable library, also in Go and Rust (apt-get install wabt)" >&2
 fi
 build_npm_package
 build_go_module

@@ -1,13 +1,13 @@
 #!/usr/bin/env bash
-# Builds the portable C library's packages: portable/build.sh DIR
+# Builds the portable C library's packages: portable/build.sh DIR [FOLDER]
 #
 #     hidlog-portable-VERSION.tar.gz        its sources, for every system
 #     hidlog-VERSION-windows-x86_64.zip     hidlog.exe and hidlog.dll
 #
 # Builds are reproducible. Needs wabt (ends with 3 if it is missing), and for Windows gcc-mingw-w64-x86-64; without
-# that, the zip is skipped.
+# that, the zip is skipped. FOLDER gets the sources, and hidlog.dll beside them, for the packages of the languages.
 set -euo pipefail
-[ $# = 1 ] || { echo "usage: portable/build.sh DIR" >&2; exit 2; }
+[ $# = 1 ] || [ $# = 2 ] || { echo "usage: portable/build.sh DIR [FOLDER]" >&2; exit 2; }
 top=$(cd "$(dirname "${BASH_SOURCE[0]}")/.." && pwd)
 mkdir -p "$1"
 to=$(cd "$1" && pwd)
@@ -19,6 +19,7 @@ trap 'rm -rf "$work"' EXIT
 umask 022
 name=hidlog-portable-$version
 "$top/portable/sources.sh" "$work/$name"
+[ $# = 1 ] || "$top/portable/sources.sh" "$2"
 tar -C "$work" --sort=name --owner=0 --group=0 --numeric-owner --mtime="@$SOURCE_DATE_EPOCH" -cf - "$name" |
     gzip -9n >"$to/$name.tar.gz"
 
@@ -38,7 +39,8 @@ build_windows() {
 }
 
 if command -v x86_64-w64-mingw32-gcc >/dev/null; then
-    build_windows
+    (build_windows)
+    [ $# = 1 ] || cp "$work/windows/hidlog-$version/hidlog.dll" "$2"
 else
     echo "portable: mingw is missing, skipping the zip for Windows (apt-get install gcc-mingw-w64-x86-64)" >&2
 fi

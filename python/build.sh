@@ -1,8 +1,9 @@
 #!/usr/bin/env bash
 # Builds the wheels and the sdist of the package hidlog from src/ and ../release: python/build.sh DIR
 #
-# Builds are reproducible. Needs hatchling (apt-get install python3-hatchling), and for the aarch64 wheel lld or
-# binutils-aarch64-linux-gnu; without these, that wheel is skipped.
+# Builds are reproducible. Needs hatchling (apt-get install python3-hatchling), for the aarch64 wheel lld or
+# binutils-aarch64-linux-gnu, and for the one for Windows HIDLOG_PORTABLE, a folder with the portable library's sources
+# and hidlog.dll (portable/build.sh); without these, that wheel is skipped.
 set -euo pipefail
 [ $# = 1 ] || { echo "usage: python/build.sh DIR" >&2; exit 2; }
 mkdir -p "$1"
@@ -27,5 +28,8 @@ if command -v ld.lld >/dev/null || command -v aarch64-linux-gnu-ld >/dev/null; t
     HIDLOG_PROCESSOR=aarch64 build_distribution -t wheel
 else
     echo "python/build.sh: lld is missing, skipping the aarch64 wheel (apt-get install lld)" >&2
+fi
+if [ -e "${HIDLOG_PORTABLE-}/hidlog.dll" ]; then
+    HIDLOG_PROCESSOR=win_amd64 build_distribution -t wheel
 fi
 chmod 644 "$to"/hidlog-*.whl "$to"/hidlog-*.tar.gz

@@ -12,7 +12,7 @@ from hatchling.builders.hooks.plugin.interface import BuildHookInterface
 # hatchling may run this file from any directory.
 sys.path.insert(0, str(Path(__file__).resolve().parent))
 
-from release_files import TAG, detect_processor, list_sdist_files, list_wheel_files, version
+from release_files import detect_processor, find_tag, list_sdist_files, list_wheel_files, version
 
 __all__ = ["CustomBuildHook", "version"]
 
@@ -23,12 +23,11 @@ class CustomBuildHook(BuildHookInterface[Any]):
     def initialize(self, version: str, build_data: dict[str, Any]) -> None:
         """Adds the target's files that are not sources."""
         added: dict[Path, str] = {}
+        self._folder = tempfile.TemporaryDirectory()
         if self.target_name == "sdist":
-            added = list_sdist_files()
+            added = list_sdist_files(Path(self._folder.name))
         elif version != "editable":
-            self._folder = tempfile.TemporaryDirectory()
             processor = detect_processor()
             added = list_wheel_files(processor, Path(self._folder.name))
-            if processor is not None:
-                build_data["pure_python"], build_data["tag"] = False, TAG.format(processor)
+            build_data["pure_python"], build_data["tag"] = False, find_tag(processor)
         build_data["force_include"].update({str(path): name for path, name in added.items()})

@@ -16,7 +16,7 @@ from importlib import import_module
 from pathlib import Path
 from typing import Any
 
-from release_files import TAG, TOP, detect_processor, list_wheel_files, version
+from release_files import TOP, detect_processor, find_tag, list_wheel_files, version
 
 LICENCES = ("LICENSE-APACHE", "LICENSE-MIT", "NOTICE")
 
@@ -65,7 +65,7 @@ def list_contents(tag: str, folder: Path) -> dict[str, tuple[bytes, int]]:
     wheel = [
         "Wheel-Version: 1.0",
         "Generator: wheel.py",
-        "Root-Is-Purelib: " + str(tag.endswith("-any")).lower(),
+        "Root-Is-Purelib: false",
         *tags,
     ]
     texts = {
@@ -80,8 +80,7 @@ def list_contents(tag: str, folder: Path) -> dict[str, tuple[bytes, int]]:
 
 def write_wheel(to: Path) -> Path:
     """Writes the wheel to a directory, and returns its path."""
-    processor = detect_processor()
-    tag = "py3-none-any" if processor is None else TAG.format(processor)
+    tag = find_tag(detect_processor())
     path = to / f"hidlog-{version()}-{tag}.whl"
     record = f"hidlog-{version()}.dist-info/RECORD"
     lines = []

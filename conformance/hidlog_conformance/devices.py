@@ -134,6 +134,9 @@ class Device:
     def signature(self, at: int, words: List[str]) -> None:
         """Provides a signature, or refuses one."""
 
+    def provide(self, at: int) -> None:
+        """Provides the key pairs and signatures that the device asks for, in sessions without k and s lines."""
+
     def read(self, seconds: float) -> Optional[bytes]:
         """Returns the next packet, or None after `seconds`."""
         raise NotImplementedError
@@ -261,6 +264,14 @@ class LiveDevice(Device):
             self.play(f"s {self.program_time(at)} {words[0]}")
         else:
             self.play(f"s {self.program_time(at)} {self.keys.sign(bytes.fromhex(self.need[10:]), self.signed).hex()}")
+
+    def provide(self, at: int) -> None:
+        """Provides key pairs and signatures as long as the authenticator asks for them."""
+        while self.need == "key" or self.need.startswith("signature "):
+            if self.need == "key":
+                self.key(at, [])
+            else:
+                self.signature(at, [])
 
     def read(self, seconds: float) -> Optional[bytes]:
         """Returns the next packet, if any."""

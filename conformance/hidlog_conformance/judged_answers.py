@@ -389,7 +389,9 @@ class AnswerJudge:
             self.pending = Pending(transaction.data, left, entry.at, transaction.channel, True, signed, flags)
         elif command == NEXT and status == 0 and self.pending is not None:
             self.pending.left, self.pending.at = self.pending.left - 1, entry.at
-        elif self.pending is not None and (command != NEXT or status != NOT_ALLOWED):
+        elif self.pending is not None and (
+            command != NEXT or status != NOT_ALLOWED or transaction.channel != self.pending.channel
+        ):
             if command == GET:
                 self.pending = Pending(b"", 0, entry.at)
             elif command == MAKE and status == 0:

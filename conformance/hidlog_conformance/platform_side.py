@@ -2,7 +2,8 @@
 
 Byte strings in a session's request are placeholders: `=agreement`, the platform's key; `=encrypt:BYTES`; `=hash:PIN`,
 the encrypted PIN hash; `=auth:5+6`, pinUvAuthParam of members by the shared secret; `=token:1`, of a member by the
-token; `=manage`, of a subcommand with its parameters; `=blob`, of a large-blob fragment.
+token, `=former:1`, by the token before it, and `=cut:8:1`, the first 8 bytes of that by the token; `=manage`, of a
+subcommand with its parameters; `=blob`, of a large-blob fragment.
 """
 
 from __future__ import annotations
@@ -10,7 +11,8 @@ from __future__ import annotations
 import hashlib
 import hmac
 import os
-from typing import Any, Dict
+from dataclasses import dataclass
+from typing import Any, Dict, List, Optional
 
 from hidlog_conformance import ctap_cbor
 from hidlog_conformance.answers import read_agreement_key, check, get_member
@@ -41,6 +43,17 @@ def derive_hkdf(secret: bytes, info: bytes) -> bytes:
     return hmac.new(first, info + b"\1", hashlib.sha256).digest()
 
 
+@dataclass
+class Filled:
+    """What the placeholders of a request stood for, which its bytes do not show."""
+
+    pin: Optional[bytes] = None
+    new_pin: Optional[bytes] = None
+    # The index in `tokens` of the token that made pinUvAuthParam, and whether all bytes of it were sent.
+    token: Optional[int] = None
+    is_whole: bool = True
+
+
 class Platform:
     """A platform's key pair, the secret shared with a device, and the token."""
 
@@ -50,7 +63,10 @@ class Platform:
         self.protocol = 0
         self.for_auth = b""
         self.for_encryption = b""
+        # The last token, all so far, and what the last request was made of.
         self.token = b""
+        self.tokens: List[bytes] = []
+        self.last_filled = Filled()
         self.secrets: Dict[str, bytes] = {}
 
     def agree(self, item: Dict[Any, Any], asked: Dict[Any, Any]) -> None:
@@ -98,6 +114,7 @@ class Platform:
             f"a token of {' or '.join(map(str, lengths))} bytes",
             quantity(len(self.token), "byte"),
         )
+        self.tokens.append(self.token)
 
     def take_secret(self, name: str, encrypted: Any) -> None:
         """Checks hmac-secret outputs: the same under the same name, different from others."""
@@ -110,6 +127,7 @@ class Platform:
 
     def fill(self, request: bytes) -> bytes:
         """Returns a request with its placeholders filled in."""
+        self.last_filled = Filled()
         if b"=" not in request:
             return request
         try:
@@ -136,9 +154,12 @@ class Platform:
         if value == b"=agreement":
             return self.own_key()
         if isinstance(value, bytes) and value.startswith(b"=encrypt:"):
-            return self.encrypt(self.suited_data(value[9:]))
+            data = self.suited_data(value[9:])
+            self.last_filled.new_pin = data.rstrip(b"\0")
+            return self.encrypt(data)
         if isinstance(value, bytes) and value.startswith(b"=hash:"):
-            return self.encrypt(hashlib.sha256(adapt_pin(value[6:], self.min_pin_length)).digest()[:16])
+            self.last_filled.pin = adapt_pin(value[6:], self.min_pin_length)
+            return self.encrypt(hashlib.sha256(self.last_filled.pin).digest()[:16])
         return value
 
     def suited_data(self, data: bytes) -> bytes:
@@ -152,8 +173,8 @@ class Platform:
         if value.startswith(b"=auth:"):
             parts = [item[int(part)] for part in value[6:].split(b"+")]
             return self.authenticate(self.for_auth, b"".join(parts))
-        if value.startswith(b"=token:"):
-            return self.authenticate(self.token, item[int(value[7:])])
+        if value.startswith((b"=token:", b"=former:", b"=cut:")):
+            return self.by_token(value[1:].split(b":"), item)
         if value == b"=blob":
             front = b"\xff" * 32 + b"\x0c\0" + item[3].to_bytes(4, "little")
             return self.authenticate(self.token, front + hashlib.sha256(item[2]).digest())
@@ -161,3 +182,12 @@ class Platform:
             parameters = ctap_cbor.encode(item[2]) if 2 in item else b""
             return self.authenticate(self.token, bytes([item[1]]) + parameters)
         return value
+
+    def by_token(self, words: List[bytes], item: Dict[Any, Any]) -> bytes:
+        """Returns the pinUvAuthParam of a member by the last token or the one before it, whole or cut."""
+        index = len(self.tokens) - (2 if words[0] == b"former" else 1)
+        token = self.tokens[index] if index >= 0 else bytes(32)
+        whole = self.authenticate(token, item[int(words[-1])])
+        param = whole[: int(words[1])] if words[0] == b"cut" else whole
+        self.last_filled.token, self.last_filled.is_whole = index, param == whole
+        return param

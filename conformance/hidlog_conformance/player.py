@@ -12,6 +12,8 @@ from hidlog_conformance.answers import MAX_RETRIES, MAX_USER_RETRIES, Mismatch, 
 from hidlog_conformance.quantity import quantity
 from hidlog_conformance.skipped import CaseSkipped
 from hidlog_conformance.init_response import check_init_response
+from hidlog_conformance.judged_parts import GET_AGREEMENT, TOKENS, read_credential_id
+from hidlog_conformance.requests import PIN
 from hidlog_conformance.response_reader import ANSWER, MIN_CHANNELS, MAX_PACKETS, GOES_ON, IN_TIME, ResponseReader, REST
 from hidlog_conformance.check_credential_management import check_fragment
 from hidlog_conformance.outcome import Outcome
@@ -83,7 +85,7 @@ class Player(ResponseReader):
         partial = self.actual is None and bool(self.guest.open)
         request = self.requests.get(self.actual.channel, self.request) if self.actual else self.request
         seen = rules.Seen(own, self.expected, self.actual, partial, request, self.cancelled)
-        broken = own if expected in (GOES_ON, IN_TIME) else rules.find_violated_section(seen)
+        broken = own if expected in (GOES_ON, IN_TIME) else self.violated or rules.find_violated_section(seen)
         line = step.line if step else 0
         return Outcome(self.session, "not ok", "", expected, actual, line, broken, expected == IN_TIME)
 
@@ -331,3 +333,27 @@ class Player(ResponseReader):
         """`option clientPin true`: an option of authenticatorGetInfo."""
         options = answers.check_get_info_response(self.whole(hid.CBOR, channel, expected)).get(4, {})
         check(options.get(words[0]) is (words[1] == "true"), expected, options)
+
+    def check_judged(self, words: List[str], channel: int, expected: str) -> None:
+        """`judged`, `judged as NAME`: a response that the rules of `hidlog judge` accept after all that came before. The
+        user touches if the device asks; NAME stands for the ID of a credential that was made."""
+        self.device.provide(self.at)
+        message = self.answer(expected)
+        self.live.take(self.log)
+        found = self.live.violation
+        if found is not None:
+            self.violated = found.section
+            raise Mismatch(found.expected, found.actual)
+        request = self.requests.get(channel, b"")
+        if message.command != hid.CBOR or message.data[:1] != b"\0" or not request:
+            return
+        if request[:1] == bytes([answers.MAKE]) and words[:1] == ["as"]:
+            made = self.live.answers.kept.get(read_credential_id(message.data))
+            if made is not None:
+                self.known[bytes.fromhex(words[1])] = made.credential
+        elif request[:1] == bytes([PIN]):
+            asked = answers.decode_parameters(request)
+            if asked.get(2) == GET_AGREEMENT:
+                self.platform.agree(answers.decode_map(message.data), asked)
+            elif asked.get(2) in TOKENS:
+                self.platform.take_token(answers.decode_map(message.data))

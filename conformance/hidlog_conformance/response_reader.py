@@ -12,6 +12,7 @@ from hidlog_conformance.devices import Device
 from hidlog_conformance.init_response import is_valid_keepalive
 from hidlog_conformance.hid_packets import Message
 from hidlog_conformance.check_credential_management import Listing
+from hidlog_conformance.live_judge import LiveJudge
 from hidlog_conformance.outcome import derive_id
 from hidlog_conformance.platform_side import Platform
 from hidlog_conformance.quantity import quantity
@@ -59,6 +60,9 @@ class ResponseReader:
         self.strict = strict
         self.platform = Platform(self.facts.min_pin_length)
         self.listing = Listing()
+        # The judge of sessions with `expect judged`, and the section that it found violated.
+        self.live = LiveJudge(self.platform)
+        self.violated = ""
         self.most_retries = 0
         self.user_retries = 0
         # The RP ID hash whose credentials are being enumerated.
@@ -202,6 +206,7 @@ class ResponseReader:
         for name, identity in self.names():
             data = data.replace(ctap_cbor.encode(name), ctap_cbor.encode(identity))
         data = self.platform.fill(data)
+        self.live.sent(data, self.platform.last_filled)
         data = prefix_rp_id(data, self.front) if self.front else data
         if data == messages[0].data:
             return packets
@@ -284,9 +289,9 @@ class ResponseReader:
             return message
 
     def may_touch_first(self, expected: str) -> bool:
-        """Returns whether a device may ask for a touch before it refuses: if the expectation says so, and without a
+        """Returns whether a device may ask for a touch before it responds: if the expectation says so, and without a
         credential if it supports only FIDO_2_0."""
-        if expected.endswith(" or touch"):
+        if expected.endswith(" or touch") or expected.startswith("judged"):
             return True
         return self.facts.old and not self.strict and expected.startswith("status 2e") and self.request[:1] == b"\2"
 
@@ -295,6 +300,7 @@ class ResponseReader:
         self.touched = True
         self.patience = PERSON
         self.device.presence(self.at, "granted")
+        self.device.provide(self.at)
 
     def count(self, message: Message) -> None:
         """Counts a channel's pending requests."""

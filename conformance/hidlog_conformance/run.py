@@ -3,6 +3,7 @@
     hidlog-conformance --device "COMMAND .." --touch-line touch   a command that reads and writes packets as hex lines
     hidlog-conformance --device /dev/hidraw3 --touch              a Linux hidraw device
     hidlog-conformance --client "COMMAND .."                      a client, to which this plays the device
+    hidlog-conformance walk ..                                    a generated history, judged as a whole
 
 The last line is `N passed, N failed, N warned, N skipped`. The exit status is 1 if a case failed, and 2 if the
 arguments are invalid or the device does not respond to INIT.
@@ -24,10 +25,10 @@ from hidlog_conformance.client_runner import (
     play_clients,
     read_client_session,
 )
-from hidlog_conformance.devices import Device, HidrawDevice, LiveDevice, PipeDevice, kill_running
+from hidlog_conformance.devices import Device, PipeDevice, kill_running
+from hidlog_conformance.device_options import add_device_options, make_device
 from hidlog_conformance.expected_failures import parse_list
 from hidlog_conformance.device_info import DeviceInfo, empty_blobs, prepare
-from hidlog_conformance.paths import PROGRAM
 from hidlog_conformance.outcome import FAILED, UNSTABLE, Outcome
 from hidlog_conformance.quantity import quantity
 from hidlog_conformance.response_reader import CASE_SECONDS, GOES_ON, IN_TIME
@@ -37,6 +38,7 @@ from hidlog_conformance.player import Player
 from hidlog_conformance.session_cache import session_name, session_path, sessions_folder
 from hidlog_conformance.session_file import Session, read_session, sends_reset
 from hidlog_conformance.credential_reuse import CredentialReuse
+from hidlog_conformance.walk_command import parse_walk, run_walk
 
 Result = TypeVar("Result")
 
@@ -60,19 +62,6 @@ def all_sessions(only: str = "", paths: Tuple[str, ...] = (), skip: Tuple[str, .
         return only.lower() in text and not any(word.lower() in text for word in skip)
 
     return [session for session in sessions if chosen(session)]
-
-
-def make_device(options: argparse.Namespace) -> Device:
-    """Returns the device that the options name."""
-    if options.device is None:
-        if not os.path.exists(PROGRAM):
-            raise ValueError("no device: use --device COMMAND or --device /dev/hidrawN")
-        return LiveDevice()
-    if not options.device.strip():
-        raise ValueError("--device is empty")
-    if options.device.startswith("/dev/"):
-        return HidrawDevice(options.device, options.touch)
-    return PipeDevice(options.device, options.touch, options.touch_line, options.persistent)
 
 
 def adjust_outcome(outcome: Outcome, options: argparse.Namespace, device_info: DeviceInfo) -> Outcome:
@@ -221,24 +210,6 @@ def play_all(
         collect(lambda session: play(session, make_device(options)), sessions, options.jobs, results)
 
 
-def add_device_options(parser: argparse.ArgumentParser) -> None:
-    """Adds the options about the device."""
-    parser.add_argument("--device", help="a command line, or /dev/hidrawN")
-    parser.add_argument("--touch", action="store_true", help="ask a person to touch the device")
-    parser.add_argument(
-        "--touch-line", default="", metavar="LINE", help="line to write to the command instead of a touch"
-    )
-    parser.add_argument("--jobs", type=int, default=4, metavar="N", help="run N commands in parallel (default: 4)")
-    parser.add_argument("--executor", default="", metavar="dask://HOST:PORT", help="run on a Dask cluster")
-    parser.add_argument("--persistent", action="store_true", help="the command keeps credentials across restarts")
-    parser.add_argument("--reset", action="store_true", help="allow resets: DELETES ALL CREDENTIALS OF THE DEVICE")
-    parser.add_argument("--isolated", action="store_true", help="do not share credentials between cases")
-    parser.add_argument("--display", action="store_true", help="the device has a display to select accounts")
-    parser.add_argument(
-        "--deadline", type=float, default=CASE_SECONDS, metavar="SECONDS", help="time limit of a case (default: 60)"
-    )
-
-
 def parse_options(arguments: List[str]) -> argparse.Namespace:
     """Parses the command line."""
     parser = argparse.ArgumentParser(
@@ -371,8 +342,10 @@ def play_to_device(options: argparse.Namespace) -> int:
 
 def main(arguments: List[str]) -> int:
     """Runs the command."""
-    options = parse_options(arguments)
+    options = parse_walk(arguments[1:]) if arguments[:1] == ["walk"] else parse_options(arguments)
     try:
+        if arguments[:1] == ["walk"]:
+            return run_walk(options)
         if options.list:
             return print_list(options)
         return play_to_client(options) if options.client else play_to_device(options)

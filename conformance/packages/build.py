@@ -84,7 +84,9 @@ def build_wheel(folder: str) -> str:
     found = list_files()
     found[f"{info}/METADATA"] = (METADATA + DESCRIPTION).encode()
     found[f"{info}/WHEEL"] = b"Wheel-Version: 1.0\nGenerator: hidlog\nRoot-Is-Purelib: true\nTag: py3-none-any\n"
-    found[f"{info}/entry_points.txt"] = b"[console_scripts]\nhidlog-conformance = hidlog_conformance.run:main_installed\n"
+    found[
+        f"{info}/entry_points.txt"
+    ] = b"[console_scripts]\nhidlog-conformance = hidlog_conformance.run:main_installed\n"
     for name in ("LICENSE-APACHE", "LICENSE-MIT"):
         found[f"{info}/{name}"] = read_file(name)
     record = []

@@ -2,10 +2,15 @@
 # Tests the installed package hidlog: builds the wheel, installs it into a new virtual environment, and runs the tests
 # in this directory. Exits with 3 if a Debian package is missing.
 #
-#     tests/python/run.sh [ARG ..]        arguments for pytest, such as -k notes
+#     tests/python/run.sh [--library FILE] [ARG ..]     another C library; arguments for pytest, such as -k notes
 set -euo pipefail
 tests=$(cd "$(dirname "${BASH_SOURCE[0]}")" && pwd)
 top=$tests/../..
+library=()
+if [ "${1-}" = --library ]; then
+    library=("HIDLOG_LIBRARY=$(realpath "$2")")
+    shift 2
+fi
 python=/usr/bin/python3
 if ! "$python" -c 'import cryptography, fido2.server, hatchling, pytest, venv' 2>/dev/null; then
     echo "python-fido2, hatchling, pytest or venv is missing (tests/run --install); nothing was run" >&2
@@ -21,4 +26,4 @@ cp "$tests"/*.py "$tests"/*.json "$work"
 export HIDLOG_EXAMPLES=$top/examples HIDLOG_DIST=$work/dist
 export PYTHONDONTWRITEBYTECODE=1
 cd "$work"
-env -u PYTHONPATH -u HIDLOG_PROGRAM -u HIDLOG_LIBRARY PATH="$work/venv/bin:/usr/bin:/bin" "$work/venv/bin/python" -m pytest -q -p no:cacheprovider "$@" .
+env -u PYTHONPATH -u HIDLOG_PROGRAM -u HIDLOG_LIBRARY "${library[@]}" PATH="$work/venv/bin:/usr/bin:/bin" "$work/venv/bin/python" -m pytest -q -p no:cacheprovider "$@" .

@@ -4386,7 +4386,7 @@ $t15 = $.apply(Pending, [$.attribute(transaction, "data"), left, $.attribute(ent
 if ((($.eq(command, NEXT)) && ($.eq(status, 0)) && (($.getMember(self, "pending") !== null)))) {
 $t16 = $.Tuple.of($.sub($.attribute($.getMember(self, "pending"), "left"), 1), $.attribute(entry, "at")); $t17 = $.unpackItems($t16, 2); $.getMember(self, "pending").left = $t17[0]; $.getMember(self, "pending").at = $t17[1]; 
 } else {
-if (((($.getMember(self, "pending") !== null)) && ((!$.eq(command, NEXT)) || (!$.eq(status, NOT_ALLOWED))))) {
+if (((($.getMember(self, "pending") !== null)) && ((!$.eq(command, NEXT)) || (!$.eq(status, NOT_ALLOWED)) || (!$.eq($.attribute(transaction, "channel"), $.attribute($.getMember(self, "pending"), "channel")))))) {
 if (($.eq(command, GET))) {
 $t18 = $.apply(Pending, [$.parseHex(""), 0, $.attribute(entry, "at")]); self.pending = $t18; 
 } else {

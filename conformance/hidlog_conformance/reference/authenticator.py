@@ -9,6 +9,7 @@ import hashlib
 import os
 from typing import Any, Dict, List, Optional
 
+from hidlog_conformance.answers import is_before_ctap_2_1
 from hidlog_conformance.ctap_cbor import encode
 from hidlog_conformance.reference import requests
 from hidlog_conformance.reference.credential import Attestor, Credential, new_key
@@ -82,8 +83,7 @@ class Authenticator:
         self.transport.serve_message = self.u2f.serve
         self.pending = None
         self.large_blobs.coming = b""
-        self.pin.in_a_row = 0
-        self.pin.token, self.pin.permissions = os.urandom(32), 0
+        self.pin.power_cycle()
 
     def serve(self, at: int, channel: int, data: bytes) -> Work:
         """Serves a request."""
@@ -215,7 +215,14 @@ class Authenticator:
         if not asked.present:
             yield from self.consent()
         asked.present = True
+        self.use_token(asked)
         return self.made(asked, algorithm)
+
+    def use_token(self, asked: Asked) -> None:
+        """Takes the token's permissions after a user presence test (6.1.2, step 14; 6.2.2, step 9), which CTAP 2.0 does
+        not."""
+        if asked.verified and not is_before_ctap_2_1(list(self.traits.versions)):
+            self.pin.used()
 
     def pin_asks_for_touch(self, asked: Asked, key: int) -> Work:
         """Responds to an empty pinUvAuthParam after a touch: whether a PIN is set."""
@@ -377,6 +384,7 @@ class Authenticator:
             if not asked.present:
                 yield from self.consent()
             asked.present = True
+            self.use_token(asked)
         return self.first(asked, found)
 
     def get_options(self, asked: Asked) -> None:

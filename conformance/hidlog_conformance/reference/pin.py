@@ -109,6 +109,17 @@ class Pin:
         # Whether the token still carries user presence.
         self.present = False
 
+    def power_cycle(self) -> None:
+        """Makes new key agreement keys and a new token, as at each start (6.5.5.1); allows wrong PINs again."""
+        self.in_a_row = 0
+        self.token, self.permissions = os.urandom(32), 0
+        for protocol in self.protocols.values():
+            protocol.renew()
+
+    def used(self) -> None:
+        """Takes all permissions of the token but lbw (6.5.2.1)."""
+        self.permissions &= WRITE
+
     def protocol(self, asked: Dict[int, Any], key: int) -> Protocol:
         """Returns the protocol of a request."""
         if key not in asked:

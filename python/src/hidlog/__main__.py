@@ -8,6 +8,7 @@ from __future__ import annotations
 
 import importlib
 import os
+import subprocess
 import sys
 from collections.abc import Callable
 from pathlib import Path
@@ -80,6 +81,8 @@ def _become_program(args: list[str]) -> int:
         return entry_point.run_as_program(lambda: int(library_cli.run(args)))
     entry_point.restore_signals()
     try:
+        if os.name == "nt":  # os.execv ends this process before the program ends
+            return subprocess.run([path, *args], check=False).returncode
         os.execv(path, ["hidlog", *args])
     except OSError as error:
         raise HidlogError(f"{path} cannot be started: {error.strerror}") from None

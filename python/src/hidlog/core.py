@@ -8,13 +8,15 @@ from __future__ import annotations
 
 import ctypes
 import os
+import sys
 from functools import lru_cache
 from pathlib import Path
 from typing import Any
 
 from .errors import ArgumentError, HidlogError, KeyClosedError, MissingDependencyError, SnapshotError
 
-_LIBRARY_NAME = "libhidlog.so.1"
+# By system; the wheel for Windows, and those that are built elsewhere, have the portable library.
+_LIBRARY_NAME = {"win32": "hidlog.dll", "darwin": "libhidlog.dylib"}.get(sys.platform, "libhidlog.so.1")
 _ERROR_TEXTS = {
     -1: "the key is not initialized",
     -2: "the key is already initialized",

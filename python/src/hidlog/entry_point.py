@@ -19,13 +19,12 @@ from .errors import HidlogError
 
 STATUS_FAILED = 2
 _STATUS_SIGNALED = 128
-_SIGNAL_NAMES = {signal.SIGINT: "interrupted", signal.SIGTERM: "terminated", signal.SIGHUP: "the terminal was closed"}
+_SIGNAL_NAMES = {signal.SIGINT: "interrupted", signal.SIGTERM: "terminated"}
 # Python's default handler of each signal that ends a command.
-_DEFAULT_HANDLERS: dict[int, Any] = {
-    signal.SIGINT: signal.default_int_handler,
-    signal.SIGTERM: signal.SIG_DFL,
-    signal.SIGHUP: signal.SIG_DFL,
-}
+_DEFAULT_HANDLERS: dict[int, Any] = {signal.SIGINT: signal.default_int_handler, signal.SIGTERM: signal.SIG_DFL}
+if hasattr(signal, "SIGHUP"):  # Windows has none
+    _SIGNAL_NAMES[signal.SIGHUP] = "the terminal was closed"
+    _DEFAULT_HANDLERS[signal.SIGHUP] = signal.SIG_DFL
 
 
 class OutputError(OSError):
@@ -79,7 +78,7 @@ def _open_closed_descriptors() -> None:
         try:
             os.fstat(number)
         except OSError:
-            held = os.open(os.devnull, flags | os.O_CLOEXEC)
+            held = os.open(os.devnull, flags | getattr(os, "O_CLOEXEC", 0))
             if held != number:  # a lower descriptor could not be opened
                 os.close(held)
 
@@ -132,7 +131,8 @@ def _handle_signals(before: Any, handler: Any = None) -> None:
 def restore_signals() -> None:
     """Restores the signal handling of the program: Python ignores SIGXFSZ. Both ignore SIGPIPE."""
     _handle_signals(_raise_stopped, signal.SIG_DFL)
-    signal.signal(signal.SIGXFSZ, signal.SIG_DFL)
+    if hasattr(signal, "SIGXFSZ"):
+        signal.signal(signal.SIGXFSZ, signal.SIG_DFL)
 
 
 def print_error(text: str) -> None:

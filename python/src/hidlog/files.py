@@ -21,6 +21,11 @@ _MAX_NAME_BYTES = 40
 # How often, and after how many seconds each, to look for a writer of a named pipe before giving up.
 _TRIES, _PAUSE = 50, 0.1
 _READ_BYTES = 1 << 16
+# Flags for os.open that only some systems have: Windows has the last one alone.
+_READ_FLAGS, _WRITE_FLAGS = (
+    sum(getattr(os, name, 0) for name in names)
+    for names in (("O_NONBLOCK", "O_CLOEXEC", "O_BINARY"), ("O_CLOEXEC", "O_BINARY"))
+)
 # A file as named on a command line: "-" is standard input.
 Named = Union[str, "os.PathLike[str]"]
 
@@ -61,13 +66,14 @@ def open_input(path: Named) -> io.BufferedReader:
     """Opens a file for reading, or standard input for "-". A named pipe without a writer raises TimeoutError."""
     if path == "-":
         return io.BufferedReader(_BlockingInput(0, "rb", closefd=False))
-    number = os.open(path, os.O_RDONLY | os.O_NONBLOCK | os.O_CLOEXEC)
+    number = os.open(path, os.O_RDONLY | _READ_FLAGS)
     try:
         mode = os.fstat(number).st_mode
         if stat.S_ISDIR(mode):
             raise IsADirectoryError(errno.EISDIR, os.strerror(errno.EISDIR), os.fspath(path))
         front = _read_pipe_front(number, path) if stat.S_ISFIFO(mode) else b""
-        os.set_blocking(number, True)
+        if hasattr(os, "O_NONBLOCK"):
+            os.set_blocking(number, True)
         file = _BlockingInput(number, "rb")
     except BaseException:
         with suppress(OSError):
@@ -151,7 +157,7 @@ def _write(path: Path, data: bytes, is_private: bool) -> None:
     name = target.with_name(f".{target.name[:_MAX_NAME_BYTES]}.{token_hex(8)}")
     try:
         mode = _PRIVATE if is_private or old is not None else _OF_UMASK
-        with open(os.open(name, os.O_WRONLY | os.O_CREAT | os.O_EXCL, mode), "wb") as file:
+        with open(os.open(name, os.O_WRONLY | os.O_CREAT | os.O_EXCL | _WRITE_FLAGS, mode), "wb") as file:
             if old is not None:
                 _copy_owner(file.fileno(), old)
             file.write(data)
@@ -168,6 +174,8 @@ def _write(path: Path, data: bytes, is_private: bool) -> None:
 
 def _copy_owner(number: int, old: os.stat_result) -> None:
     """Sets the mode of an older file, and its owner if permitted."""
+    if not hasattr(os, "fchown"):  # Windows, where files inherit the directory's permissions
+        return
     with suppress(PermissionError):
         os.fchown(number, old.st_uid, old.st_gid)
     os.fchmod(number, old.st_mode & 0o777)

@@ -123,7 +123,7 @@ def _serve(server: Server) -> BaseException | None:
             failed.append(error)
             is_over.set()
 
-    for number in (signal.SIGTERM, signal.SIGINT, signal.SIGHUP):
+    for number in (signal.SIGTERM, signal.SIGINT, getattr(signal, "SIGHUP", signal.SIGINT)):
         signal.signal(number, lambda *_: is_over.set())
     threading.Thread(target=serve, daemon=True).start()
     # A signal may arrive in any thread, and then does not wake this one.

@@ -5,6 +5,7 @@ from __future__ import annotations
 import base64
 import http.client
 import json
+import os
 import select
 import socket
 import ssl
@@ -166,6 +167,8 @@ def _find_free_port() -> int:
 
 def start(words: list[str]) -> Driver:
     """Starts a driver, such as chromedriver, on a free port, and waits until it listens."""
+    if os.name == "nt":  # the supervisor needs process groups
+        raise RuntimeError("on Windows start the driver yourself, and pass its URL as --driver")
     port = _find_free_port()
     supervised = [sys.executable, "-I", "-S", str(_SUPERVISOR), *words, f"--port={port}"]
     process = subprocess.Popen(

@@ -1,0 +1,250 @@
+"""Checks responses against what the host of a session knows beyond the packets: PINs, tokens, and all values so far."""
+
+from __future__ import annotations
+
+from dataclasses import dataclass
+from typing import Any, Dict, Optional, Set, Tuple
+
+from hidlog_conformance import ctap_cbor, rules
+from hidlog_conformance import hid_packets as hid
+from hidlog_conformance.answers import GET, MAKE, MAX_RETRIES, RESET, UV, Mismatch, read_cose_key
+from hidlog_conformance.judged_answers import AnswerJudge
+from hidlog_conformance.judged_log import KEY, Recording
+from hidlog_conformance.judged_parts import (
+    CHANGE_PIN,
+    GET_AGREEMENT,
+    GET_RETRIES,
+    GET_TOKEN,
+    SET_PIN,
+    TOKENS,
+    USER_TOKEN,
+    WRONG_IN_A_ROW,
+    KnownCredential,
+    read_credential_id,
+)
+from hidlog_conformance.judged_statuses import EXCLUDED, NO_CREDENTIALS
+from hidlog_conformance.platform_side import Filled, Platform
+from hidlog_conformance.quantity import quantity
+from hidlog_conformance.requests import PIN, decode_parameters
+from hidlog_conformance.transactions import Entry, Transaction
+
+PIN_INVALID, PIN_BLOCKED, AUTH_INVALID, AUTH_BLOCKED, NOT_SET = 0x31, 0x32, 0x33, 0x34, 0x35
+# Permissions mc and ga (6.5.5.7).
+MAKES, GETS = 1, 2
+# Milliseconds for which a token is certainly valid: the initial usage time limit is 30 s for USB (6.5.2.1).
+FRESH = 20000
+VECTOR = 16
+
+
+@dataclass
+class Token:
+    """The valid token: its index among the platform's, permissions, RP ID, and since when."""
+
+    index: int
+    permissions: int
+    rp: Optional[str]
+    at: int
+    # Whether the packets show that it is still valid.
+    is_sure: bool = True
+
+
+class Secrets:
+    """What the host knows of the device's PIN: None if it does not know the PIN, empty if none is set."""
+
+    def __init__(self, most: int = MAX_RETRIES) -> None:
+        self.pin: Optional[bytes] = None
+        # The retries after the right PIN, and those left.
+        self.most = self.retries = most
+        self.in_a_row = 0
+        self.token: Optional[Token] = None
+
+    def use(self, pin: bytes) -> int:
+        """Records that a PIN is tried; returns the status that must come (6.5.5.7)."""
+        if not self.pin:
+            return NOT_SET
+        if not self.retries:
+            return PIN_BLOCKED
+        if self.in_a_row >= WRONG_IN_A_ROW:
+            return AUTH_BLOCKED
+        if pin == self.pin:
+            self.retries, self.in_a_row = self.most, 0
+            return 0
+        self.retries, self.in_a_row = self.retries - 1, self.in_a_row + 1
+        if not self.retries:
+            return PIN_BLOCKED
+        return AUTH_BLOCKED if self.in_a_row >= WRONG_IN_A_ROW else PIN_INVALID
+
+
+class KnownAnswers(AnswerJudge):
+    """Checks responses to a host that alone uses the device."""
+
+    def __init__(self, recording: Recording, platform: Platform) -> None:
+        super().__init__(recording)
+        self.platform = platform
+        self.secrets = Secrets()
+        self.filled: Dict[bytes, Filled] = {}
+        # Values that must never repeat, by kind; whether the retries of a new PIN are known; the last key agreement key.
+        self.values: Dict[str, Set[bytes]] = {}
+        self.knows_retries = False
+        self.shared: bytes = b""
+
+    def is_fresh(self, kept: KnownCredential, transaction: Transaction) -> bool:
+        """Returns True: nothing else deletes credentials."""
+        return True
+
+    def power_cycle(self, at: int) -> None:
+        """Processes a power cycle: the PIN and its retries stay, the token and the key agreement key do not."""
+        super().power_cycle(at)
+        self.secrets.in_a_row, self.secrets.token = 0, None
+        if self.shared:
+            self.values.setdefault("key agreement key", set()).add(self.shared)
+        self.shared = b""
+
+    def find_known(self, entry: Entry, command: int, expected: str, actual: str) -> None:
+        """Adds a finding about what the host knows."""
+        self.recording.find(entry.line, KEY, rules.COMMANDS[command], expected, actual)
+
+    def judge(self, entry: Entry, transaction: Transaction, message: hid.Message) -> None:
+        """Checks a response."""
+        was_old = self.facts.old
+        super().judge(entry, transaction, message)
+        request, data = transaction.data, message.data
+        filled = self.filled.pop(request, Filled())
+        asked = decode_parameters(request) or {}
+        try:
+            if request[0] == PIN:
+                self.check_pin(entry, asked, filled, data)
+            elif request[0] in (MAKE, GET):
+                self.check_token_use(entry, transaction, filled, data)
+            if request[0] == MAKE and data[0] == 0:
+                self.check_new(entry, MAKE, "credential ID", read_credential_id(data))
+                auth = (decode_parameters(data) or {})[2]
+                cose, _ = read_cose_key(auth[55 + int.from_bytes(auth[53:55], "big") :])
+                self.check_new(entry, MAKE, "key pair", ctap_cbor.encode(cose))
+        except (KeyError, TypeError, ValueError, IndexError, Mismatch):
+            # The structure is wrong, which was found above.
+            pass
+        if request[0] == RESET and data[0] == 0:
+            self.secrets = Secrets(self.secrets.most)
+            self.secrets.pin = b""
+        if was_old != self.facts.old:
+            self.secrets.token = None
+
+    def check_new(self, entry: Entry, command: int, kind: str, value: bytes) -> None:
+        """Checks that a value never came before, not even before a power cycle or a reset."""
+        if value in self.values.setdefault(kind, set()):
+            self.find_known(entry, command, f"a new {kind}", value.hex())
+        self.values[kind].add(value)
+
+    # authenticatorClientPIN (6.5).
+
+    def check_pin(self, entry: Entry, asked: Dict[int, Any], filled: Filled, data: bytes) -> None:
+        """Checks a response to authenticatorClientPIN."""
+        kind, status = asked.get(2), data[0]
+        if kind == GET_AGREEMENT and status == 0:
+            key = ctap_cbor.encode((decode_parameters(data) or {})[1])
+            if key in self.values.get("key agreement key", set()):
+                self.find_known(entry, PIN, "a new key agreement key after a power cycle", key.hex())
+            self.shared = key
+        if self.secrets.pin is None or kind == USER_TOKEN:
+            return
+        if kind == GET_RETRIES and status == 0 and self.secrets.pin:
+            self.check_retries(entry, (decode_parameters(data) or {})[3])
+        elif kind == SET_PIN and status == 0 and not self.secrets.pin:
+            self.secrets.pin = filled.new_pin
+        elif kind in (CHANGE_PIN, *TOKENS) and filled.pin is not None:
+            self.check_used(entry, filled, status)
+            if kind == CHANGE_PIN and status == 0:
+                self.secrets.pin, self.secrets.token = filled.new_pin, None
+            elif kind in TOKENS and status == 0:
+                self.take_token(entry, asked, data)
+
+    def check_retries(self, entry: Entry, left: int) -> None:
+        """Checks the PIN retries; a device may have fewer than eight."""
+        secrets = self.secrets
+        if not self.knows_retries and secrets.retries == secrets.most:
+            secrets.most = secrets.retries = left
+            self.knows_retries = True
+        if self.knows_retries and left != secrets.retries:
+            words = [quantity(number, "retry", "retries") for number in (secrets.retries, left)]
+            self.find_known(entry, PIN, words[0] + ", also after a power cycle", words[1])
+
+    def check_used(self, entry: Entry, filled: Filled, status: int) -> None:
+        """Checks the status of a request with a PIN."""
+        pin = self.secrets.pin
+        due = self.secrets.use(filled.pin or b"")
+        if status == due or (due and status and not self.knows_retries):
+            return
+        why = "the PIN is right" if filled.pin == pin else "the PIN is wrong" if pin else "no PIN is set"
+        self.find_known(entry, PIN, f"status {due:02x}, since {why}", f"status {status:02x}")
+
+    def take_token(self, entry: Entry, asked: Dict[int, Any], data: bytes) -> None:
+        """Checks a new token and the initialization vector of its encryption, and records the token."""
+        encrypted = (decode_parameters(data) or {})[2]
+        if asked.get(1) == 2:
+            vector = encrypted[:VECTOR]
+            if not any(vector):
+                self.find_known(entry, PIN, "a random initialization vector", vector.hex())
+            self.check_new(entry, PIN, "initialization vector", vector)
+        if not self.facts.old:
+            self.check_new(entry, PIN, "pinUvAuthToken", self.platform.decrypt(encrypted))
+        permissions = MAKES | GETS if asked[2] == GET_TOKEN else asked[9]
+        self.secrets.token = Token(len(self.platform.tokens), permissions, asked.get(10), entry.at)
+
+    # pinUvAuthParam (6.1.2, step 11; 6.2.2, step 6).
+
+    def check_token_use(self, entry: Entry, transaction: Transaction, filled: Filled, data: bytes) -> None:
+        """Checks the status of a request with pinUvAuthParam, and flag UV."""
+        request, status, asked = transaction.data, data[0], decode_parameters(transaction.data) or {}
+        makes = request[0] == MAKE
+        if filled.token is None or self.secrets.pin is None:
+            if self.secrets.token is not None and status == 0:
+                # A user presence test of any request may take the permissions.
+                self.secrets.token.is_sure = False
+            self.check_unverified(entry, request, asked, data)
+            return
+        rp = asked[2]["id"] if makes else asked[1]
+        why, is_sure = self.unusable(filled, MAKES if makes else GETS, rp, transaction.last)
+        if why and status in (0, EXCLUDED, NO_CREDENTIALS):
+            self.find_known(entry, request[0], f"status 33, since {why}", f"status {status:02x}")
+        elif not why and status in (PIN_INVALID, AUTH_INVALID) and is_sure:
+            self.find_known(entry, request[0], "no such error, since the token permits this", f"status {status:02x}")
+        elif not why and status == 0:
+            auth = (decode_parameters(data) or {})[2]
+            if not auth[32] & UV:
+                self.find_known(entry, request[0], "flag UV set", f"flags {auth[32]:02x}")
+        self.follow_use(asked, makes, rp, status)
+
+    def check_unverified(self, entry: Entry, request: bytes, asked: Dict[int, Any], data: bytes) -> None:
+        """Checks that flag UV is not set without pinUvAuthParam, if the device has no other user verification."""
+        if data[0] or not self.info or self.info.get(4, {}).get("uv") or {6, 8} & set(asked):
+            return
+        auth = (decode_parameters(data) or {})[2]
+        if auth[32] & UV:
+            self.find_known(entry, request[0], "flag UV not set", f"flags {auth[32]:02x}")
+
+    def unusable(self, filled: Filled, needed: int, rp: str, now: int) -> Tuple[str, bool]:
+        """Returns why pinUvAuthParam must be refused, or empty; and whether it must be accepted."""
+        token = self.secrets.token
+        if not filled.is_whole:
+            return "pinUvAuthParam is cut", True
+        if token is None or filled.token != token.index:
+            return "the token is not valid any more", True
+        if token.rp is not None and token.rp != rp:
+            return f"the token is for {token.rp}", True
+        if not token.permissions & needed:
+            return "the token does not permit this, or was used before", True
+        return "", token.is_sure and now - token.at < FRESH
+
+    def follow_use(self, asked: Dict[int, Any], makes: bool, rp: str, status: int) -> None:
+        """Records the use of the token: a user presence test takes all permissions but lbw (6.1.2, step 14; 6.2.2, step
+        9) of a device with CTAP 2.1."""
+        token = self.secrets.token
+        if token is None:
+            return
+        if status:
+            token.is_sure = False
+            return
+        token.rp = rp if token.rp is None else token.rp
+        if not self.facts.old and (makes or asked.get(5, {}).get("up", True)):
+            token.permissions = 0

@@ -1,0 +1,170 @@
+"""Plays a generated history to a device until a response violates a rule, and shortens it."""
+
+from __future__ import annotations
+
+import time
+from dataclasses import dataclass
+from typing import Iterable, List, Optional
+
+from hidlog_conformance.answers import Mismatch
+from hidlog_conformance.device_info import DeviceInfo
+from hidlog_conformance.devices import Device
+from hidlog_conformance.outcome import Outcome
+from hidlog_conformance.player import Player
+from hidlog_conformance.response_reader import GOES_ON
+from hidlog_conformance.sections import SECTIONS
+from hidlog_conformance.session_file import SessionReader, Step
+from hidlog_conformance.walk_steps import Block, Steps
+
+# Seconds for one step of a device in real time.
+STEP_SECONDS = 60.0
+# The most milliseconds between the steps of a shortened walk, and the maximum number of replays to shorten it.
+MAX_PAUSE, MAX_REPLAYS = 50, 400
+ANY = "Any history of valid and invalid requests has the responses that the standard requires."
+
+
+@dataclass
+class Walked:
+    """The end of a walk: the steps that were played, and the violation, if any."""
+
+    blocks: List[Block]
+    outcome: Optional[Outcome] = None
+
+    @property
+    def failure(self) -> str:
+        """What a shorter walk must fail with: the section, and the expectation without values."""
+        if self.outcome is None:
+            return ""
+        words = self.outcome.expected.split(" ")
+        return self.outcome.broken + " " + " ".join(word for word in words if len(word) < 20)
+
+
+class WalkPlayer(Player):
+    """Plays steps as they are generated."""
+
+    def __init__(self, device: Device, device_info: DeviceInfo) -> None:
+        self.reader = SessionReader("walk")
+        self.reader.session.head.update({"rule": "CTAP 2.1, " + SECTIONS["info"], "requirement": ANY})
+        super().__init__(device, self.reader.session, False, device_info.facts())
+        self.lines = 0
+        self.played = 0
+
+    def begin(self) -> None:
+        """Starts the device."""
+        self.device.saves = True
+        self.device.start()
+
+    def add(self, block: Block) -> None:
+        """Reads the lines of a step."""
+        for text in block.lines:
+            self.lines += 1
+            if text.startswith("# "):
+                self.reader.comment(text[2:], self.lines)
+            else:
+                self.reader.input(text, self.lines)
+
+    def play_block(self, block: Block) -> Optional[Outcome]:
+        """Plays a step; returns the outcome if the device violates a rule."""
+        self.add(block)
+        self.packets = 0
+        self.deadline = time.monotonic() + STEP_SECONDS
+        step: Optional[Step] = None
+        try:
+            for step in self.session.steps[self.played :]:
+                self.played += 1
+                self.do(step)
+                for expected in step.expects:
+                    self.judge(expected)
+        except (KeyError, TypeError, ValueError, IndexError, AttributeError) as fault:
+            return self.failed("a response with the standard's structure", repr(fault), step)
+        except Mismatch as differs:
+            return self.failed(differs.expected, differs.actual, step)
+        except OSError as fault:
+            return self.failed(GOES_ON, str(fault), step)
+        return None
+
+
+def play_blocks(device: Device, device_info: DeviceInfo, blocks: Iterable[Block]) -> Walked:
+    """Plays steps to a device until it violates a rule; the next step may depend on the responses so far."""
+    player, played = WalkPlayer(device, device_info), []
+    player.begin()
+    try:
+        for block in blocks:
+            played.append(block)
+            outcome = player.play_block(block)
+            if outcome is not None:
+                return Walked(played, outcome)
+        return Walked(played)
+    finally:
+        device.close()
+
+
+class Walk:
+    """A walk of generated steps; `blocks` has those so far, also after an interrupt."""
+
+    def __init__(self, device: Device, device_info: DeviceInfo, seed: int) -> None:
+        self.device, self.device_info = device, device_info
+        self.steps = Steps(seed, device_info)
+        self.player = WalkPlayer(device, device_info)
+        self.blocks: List[Block] = []
+
+    def run(self, count: int) -> Walked:
+        """Plays steps until one violates a rule."""
+        self.player.begin()
+        began = time.monotonic()
+        try:
+            while len(self.blocks) < count:
+                if not self.device.virtual:
+                    self.steps.at = max(self.steps.at, int((time.monotonic() - began) * 1000))
+                secrets = self.player.live.answers.secrets
+                block = self.steps.choose(secrets) if self.blocks else self.steps.reset()
+                self.blocks.append(block)
+                outcome = self.player.play_block(block)
+                if outcome is not None:
+                    return Walked(self.blocks, outcome)
+            return Walked(self.blocks)
+        finally:
+            self.device.close()
+
+
+def walk(device: Device, device_info: DeviceInfo, seed: int, count: int) -> Walked:
+    """Plays generated steps to a device until it violates a rule."""
+    return Walk(device, device_info, seed).run(count)
+
+
+def retime(blocks: List[Block]) -> List[Block]:
+    """Returns steps that follow one another without the time of those removed between them."""
+    found: List[Block] = []
+    now = 0
+    for block in blocks:
+        begin = now + min(block.began - now, MAX_PAUSE)
+        moved = Block(begin, block.channel)
+        moved.lines = [move_line(text, begin - block.began) for text in block.lines]
+        moved.at = now = block.at + begin - block.began
+        found.append(moved)
+    return found
+
+
+def move_line(text: str, by: int) -> str:
+    """Returns a line with another time."""
+    if text.startswith("#"):
+        return text
+    kind, at, *rest = text.split(" ", 2)
+    return " ".join([kind, str(int(at) + by), *rest])
+
+
+def shrink(device: Device, device_info: DeviceInfo, whole: Walked) -> Walked:
+    """Returns the shortest walk found that fails in the same way: removes steps, many at a time at first."""
+    best = Walked(retime(whole.blocks), whole.outcome)
+    size, replays = max(1, len(best.blocks) // 2), 0
+    while size and replays < MAX_REPLAYS:
+        end = len(best.blocks)
+        while end > 0 and replays < MAX_REPLAYS:
+            start = max(0, end - size)
+            replays += 1
+            shorter = play_blocks(device, device_info, retime(best.blocks[:start] + best.blocks[end:]))
+            if shorter.failure == whole.failure:
+                best = shorter
+            end = min(start, len(best.blocks))
+        size = size // 2 if size > 1 else 0
+    return best

@@ -1,0 +1,340 @@
+"""Generates the steps of a walk: requests of several RPs, users and hosts, right and wrong PINs and tokens, power cycles."""
+
+from __future__ import annotations
+
+import hashlib
+import random
+from typing import Any, Callable, Dict, List, Optional, Tuple
+
+from hidlog_conformance import hid_packets as hid
+from hidlog_conformance.answers import MAX_RETRIES
+from hidlog_conformance.cases.corpus import GET, INFO, KIND, MAKE, NEXT, RESET, Case
+from hidlog_conformance.cases.pin import PIN
+from hidlog_conformance.ctap_cbor import encode
+from hidlog_conformance.device_info import DeviceInfo
+from hidlog_conformance.judged_parts import CHANGE_PIN, GET_AGREEMENT, GET_RETRIES, GET_TOKEN, SET_PIN
+from hidlog_conformance.known_answers import GETS, MAKES, Secrets
+from hidlog_conformance.platform_side import PADDED_PIN
+
+RPS = ("example.com", "example.org", "login.example.com", "a.b")
+USERS = (b"\1", b"alice\0\0\0\0", b"u" * 64)
+HOSTS = 2
+# getPinUvAuthTokenUsingPinWithPermissions.
+NEW_TOKEN = 9
+PIN_LENGTH = 6
+# Milliseconds between steps; after a longer wait, and one that ends pending assertions.
+PAUSES, LONG, LONGER = (1, 5, 40), 3000, 31000
+# The maximum of credentials before the next reset, and of entries in a list.
+FULL, MAX_LISTED = 20, 3
+
+
+class Block(Case):
+    """The inputs of one step, which shrinking keeps or removes together."""
+
+    def __init__(self, at: int, channel: int = 1) -> None:
+        self.name = ""
+        self.began = self.at = at
+        self.channel = channel
+        self.lines: List[str] = []
+
+    def judged(self, more: str = "") -> Block:
+        """Expects a response that the judge accepts."""
+        self.comment("expect judged" + more + (f" on {self.channel:08x}" if self.channel != 1 else ""))
+        return self
+
+    def ask(self, data: bytes, more: str = "") -> Block:
+        """Sends a request, and lets its response be judged."""
+        self.cbor(data, self.channel)
+        return self.judged(more)
+
+    def greet_hosts(self) -> Block:
+        """Allocates a channel for each host."""
+        self.greet(HOSTS)
+        return self
+
+
+def walk_id(number: int) -> bytes:
+    """Returns the ID that a walk uses for its credential `number`."""
+    return b"\xa7" * 28 + number.to_bytes(4, "big")
+
+
+def make_colliding_pin(pin: bytes, source: random.Random) -> bytes:
+    """Returns another PIN of the same length whose hash begins with the same byte."""
+    first = hashlib.sha256(pin).digest()[0]
+    while True:
+        other = b"".join(b"%d" % source.randrange(10) for _ in range(len(pin)))
+        if other != pin and hashlib.sha256(other).digest()[0] == first:
+            return other
+
+
+class Steps:
+    """Chooses steps for a device, by a seed and by what the host knows."""
+
+    def __init__(self, seed: int, device_info: DeviceInfo) -> None:
+        self.random = random.Random(seed)
+        self.device_info = device_info
+        self.at = 0
+        self.made = 0
+        # The RP of each credential by its number; those since the last reset.
+        self.rps: Dict[int, str] = {}
+        self.present: List[int] = []
+        protocols = device_info.info.get(6) if isinstance(device_info.info.get(6), list) else []
+        self.protocol = self.random.choice(protocols) if protocols else 0
+        self.secrets = Secrets()
+        self.actions = self.weighted()
+
+    def weighted(self) -> List[Tuple[int, Callable[[], Block]]]:
+        """Returns the possible actions with their weights."""
+        found: List[Tuple[int, Callable[[], Block]]] = [
+            (14, self.make),
+            (22, self.get),
+            (8, self.next),
+            (4, self.info),
+            (2, self.ping),
+            (5, self.power_cycle),
+            (2, self.wait),
+            (4, self.outdated),
+        ]
+        if self.has_pin:
+            found += [(10, self.token), (5, self.retries), (4, self.set_or_change), (4, self.two_uses), (3, self.guess)]
+        return found
+
+    @property
+    def has_pin(self) -> bool:
+        """Whether the device has PINs that this runner can use."""
+        return bool(self.protocol) and self.device_info.options.get("clientPin") is not None
+
+    def block(self) -> Block:
+        """Returns an empty step of one of the hosts."""
+        self.at += self.random.choice(PAUSES)
+        return Block(self.at, self.random.choice((1, 1, HOSTS)))
+
+    def choose(self, secrets: Secrets) -> Block:
+        """Returns the next step; `secrets` is what the host knows of the PIN."""
+        self.secrets = secrets
+        is_blocked = self.has_pin and not secrets.retries
+        if len(self.present) >= FULL or (is_blocked and self.chance(0.3)) or self.chance(0.004):
+            return self.reset()
+        actions = [action for _, action in self.actions]
+        weights = [weight for weight, _ in self.actions]
+        block = self.random.choices(actions, weights)[0]()
+        self.at = block.at
+        return block
+
+    def chance(self, part: float) -> bool:
+        """Returns True in this part of the cases."""
+        return self.random.random() < part
+
+    # Steps without a credential.
+
+    def reset(self) -> Block:
+        """Resets the device right after a power cycle. The first step: then the host knows all that the device has."""
+        self.present = []
+        block = self.power_cycle()
+        self.at = block.at
+        return block.ask(RESET).ask(INFO)
+
+    def power_cycle(self) -> Block:
+        """Power cycles the device; the hosts allocate channels again."""
+        block = self.block()
+        block.channel = 1
+        block.tick().power_cycle()
+        return block.greet_hosts()
+
+    def outdated(self) -> Block:
+        """Uses pending assertions or a token of before a power cycle."""
+        rp = self.random.choice(RPS)
+        if self.secrets.pin and self.chance(0.6):
+            before = self.asks_token(self.block(), self.secrets.pin, MAKES | GETS, rp)
+            param = {8: b"=token:1", 9: self.protocol}
+        else:
+            before, param = self.block().ask(GET + encode({1: rp, 2: self.random.randbytes(32)})), {}
+        block = self.power_cycle()
+        block.lines, block.began = before.lines + block.lines, before.began
+        if not param:
+            return block.ask(NEXT)
+        return block.ask(self.make_request(rp, param), self.new_credential(rp))
+
+    def info(self) -> Block:
+        """Asks for getInfo."""
+        return self.block().ask(INFO)
+
+    def ping(self) -> Block:
+        """Sends a PING."""
+        block = self.block()
+        block.send(
+            block.channel, hid.PING, bytes(self.random.randrange(256) for _ in range(self.random.choice((1, 90))))
+        )
+        return block.judged()
+
+    def wait(self) -> Block:
+        """Waits; pending assertions end after 30 seconds."""
+        block = self.block()
+        block.tick(self.random.choice((LONG, LONGER)))
+        self.at = block.at
+        return block.ask(INFO)
+
+    def next(self) -> Block:
+        """Asks for a further assertion."""
+        return self.block().ask(NEXT)
+
+    # Registrations and sign-ins.
+
+    def listed(self, rp: str) -> Optional[List[Dict[str, Any]]]:
+        """Returns a list of credentials: of this RP, of another one, from before a reset, unknown; or none."""
+        if self.chance(0.45):
+            return None
+        own = [number for number in self.present if self.rps[number] == rp]
+        others = [number for number in self.present if self.rps[number] != rp]
+        old = [number for number in self.rps if number not in self.present]
+        chosen = []
+        for _ in range(self.random.randrange(1, MAX_LISTED + 1)):
+            pool = self.random.choice((own, own, own, others, old))
+            chosen.append(walk_id(self.random.choice(pool)) if pool else self.random.randbytes(32))
+        longest = self.device_info.info.get(7)
+        count = longest if isinstance(longest, int) else MAX_LISTED
+        return [{"id": identity, "type": KIND} for identity in dict.fromkeys(chosen)][:count]
+
+    def param(self, key: int) -> Dict[int, Any]:
+        """Returns pinUvAuthParam and its protocol, under these keys: of the token, of the token before, or cut."""
+        kind = self.random.choice((b"=token:", b"=token:", b"=token:", b"=former:", b"=cut:"))
+        length = self.random.choice((1, 4, 8, 15, 16 if self.protocol == 2 else 12))
+        word = kind + (b"%d:" % length if kind == b"=cut:" else b"")
+        return {key: word + (b"1" if key == 8 else b"2"), key + 1: self.protocol}
+
+    def make_request(self, rp: str, more: Dict[int, Any]) -> bytes:
+        """Returns a registration."""
+        user = self.random.choice(USERS)
+        asked: Dict[int, Any] = {
+            1: self.random.randbytes(32),
+            2: {"id": rp, "name": "A service"},
+            3: {"id": user, "name": "alice", "displayName": "Alice"},
+            4: [{"alg": alg, "type": KIND} for alg in self.device_info.algorithms or [-7]],
+            **more,
+        }
+        if self.device_info.options.get("rk") and self.chance(0.6):
+            asked[7] = {"rk": True}
+        return MAKE + encode(asked)
+
+    def new_credential(self, rp: str) -> str:
+        """Returns the words of an expectation that name a new credential."""
+        self.made += 1
+        self.rps[self.made] = rp
+        self.present.append(self.made)
+        return f" as {walk_id(self.made).hex()}"
+
+    def make(self) -> Block:
+        """Registers."""
+        rp, more = self.random.choice(RPS), {}
+        listed = self.listed(rp)
+        if listed is not None and self.chance(0.6):
+            more[5] = listed
+        if self.secrets.pin and self.chance(0.8):
+            return self.by_new_token(rp, MAKES, lambda block: self.add_make(block, rp, more))
+        return self.add_make(self.block(), rp, more)
+
+    def add_make(self, block: Block, rp: str, more: Dict[int, Any]) -> Block:
+        """Adds a registration, with pinUvAuthParam if a PIN is set."""
+        param = self.param(8) if self.secrets.pin and self.chance(0.9) else {}
+        return block.ask(self.make_request(rp, {**more, **param}), self.new_credential(rp))
+
+    def get(self) -> Block:
+        """Signs in."""
+        rp = self.random.choice(RPS)
+        if self.secrets.pin and self.chance(0.4):
+            return self.by_new_token(rp, GETS, lambda block: self.add_get(block, rp))
+        return self.add_get(self.block(), rp)
+
+    def add_get(self, block: Block, rp: str) -> Block:
+        """Adds a sign-in."""
+        asked: Dict[int, Any] = {1: rp, 2: self.random.randbytes(32)}
+        listed = self.listed(rp)
+        if listed is not None:
+            asked[3] = listed
+        if self.chance(0.2):
+            asked[5] = {"up": False}
+        if self.secrets.pin and self.chance(0.5):
+            asked.update(self.param(6))
+        return block.ask(GET + encode(asked))
+
+    # PINs and tokens.
+
+    def pin_request(self, command: int, **members: Any) -> bytes:
+        """Returns a request of authenticatorClientPIN with members p3, p4 .."""
+        more = {int(name[1:]): value for name, value in members.items()}
+        return PIN + encode({1: self.protocol, 2: command, **more})
+
+    def agreed(self, block: Block) -> Block:
+        """Gets the key agreement key."""
+        return block.ask(self.pin_request(GET_AGREEMENT))
+
+    def guessed_pin(self) -> bytes:
+        """Returns a PIN to try: mostly the right one; else one that collides, or another one."""
+        pin = self.secrets.pin
+        if not pin:
+            return b"1234567"
+        if self.chance(0.75 if self.secrets.retries > 2 else 0.97):
+            return pin
+        return make_colliding_pin(pin, self.random) if self.chance(0.6) else pin[::-1] + b"0"
+
+    def asks_token(self, block: Block, pin: bytes, permissions: int, rp: str) -> Block:
+        """Adds a request for a token."""
+        hashed = b"=hash:" + pin
+        if not self.device_info.options.get("pinUvAuthToken") or self.chance(0.1):
+            return self.agreed(block).ask(self.pin_request(GET_TOKEN, p3=b"=agreement", p6=hashed))
+        members = {"p3": b"=agreement", "p6": hashed, "p9": permissions, "p10": rp}
+        return self.agreed(block).ask(self.pin_request(NEW_TOKEN, **members))
+
+    def by_new_token(self, rp: str, permissions: int, add: Callable[[Block], Block]) -> Block:
+        """Gets a token for an RP with the right PIN, and uses it."""
+        return add(self.asks_token(self.block(), self.secrets.pin or b"", permissions, rp))
+
+    def token(self) -> Block:
+        """Gets a token."""
+        permissions = self.random.choice((MAKES, GETS, MAKES | GETS))
+        return self.asks_token(self.block(), self.guessed_pin(), permissions, self.random.choice(RPS))
+
+    def two_uses(self) -> Block:
+        """Uses one token twice, and before that perhaps after a change of the PIN."""
+        rp, pin = self.random.choice(RPS), self.secrets.pin
+        block = self.asks_token(self.block(), pin or b"", MAKES | GETS, rp)
+        if pin and self.chance(0.3):
+            self.changes(block, pin, pin[::-1])
+        for _ in range(2):
+            self.add_make(block, rp, {}) if self.chance(0.6) else self.add_get(block, rp)
+        return block
+
+    def retries(self) -> Block:
+        """Asks for the PIN retries."""
+        return self.block().ask(self.pin_request(GET_RETRIES))
+
+    def guess(self) -> Block:
+        """Tries a wrong PIN, and asks for the retries before and after a power cycle."""
+        pin = self.secrets.pin
+        if not pin or self.secrets.retries < MAX_RETRIES - 4:
+            return self.token()
+        block = self.asks_token(self.block(), make_colliding_pin(pin, self.random), MAKES, RPS[0])
+        if self.chance(0.5):
+            block.ask(self.pin_request(GET_RETRIES)).tick().power_cycle()
+            block.channel = 1
+            block.greet_hosts().ask(INFO)
+        return block.ask(self.pin_request(GET_RETRIES))
+
+    def new_pin(self) -> bytes:
+        """Returns a PIN of digits."""
+        length = max(PIN_LENGTH, self.device_info.min_pin_length)
+        return b"".join(b"%d" % self.random.randrange(10) for _ in range(length))
+
+    def set_or_change(self) -> Block:
+        """Sets a PIN, or changes it with the right or a wrong one."""
+        block, pin = self.block(), self.secrets.pin
+        if pin and self.chance(0.9):
+            return self.changes(block, self.guessed_pin(), self.new_pin())
+        padded = b"=encrypt:" + self.new_pin().ljust(PADDED_PIN, b"\0")
+        self.agreed(block).ask(self.pin_request(SET_PIN, p3=b"=agreement", p4=b"=auth:5", p5=padded))
+        return block.ask(self.pin_request(GET_RETRIES))
+
+    def changes(self, block: Block, old: bytes, new: bytes) -> Block:
+        """Adds a change of the PIN."""
+        members = {"p4": b"=auth:5+6", "p5": b"=encrypt:" + new.ljust(PADDED_PIN, b"\0"), "p6": b"=hash:" + old}
+        return self.agreed(block).ask(self.pin_request(CHANGE_PIN, p3=b"=agreement", **members))
