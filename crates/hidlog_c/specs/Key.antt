@@ -36,15 +36,16 @@ abbrev pub after_input : Option DeviceState → Timed → Option DeviceState
 after_input None x = None
 after_input (Some d) x = device_after_input d d.waiting x
 
--- The number of packets that an input sends, or the error for queued packets.
-abbrev pub answer_of : DeviceState → List (List ℕ) → Timed → ℤ
-answer_of d [] x = pos (length (input_packets_of d.session x))
-answer_of d (packet ∷ more) x = ERR_PACKETS_QUEUED
+-- The return value of a call with an input on an initialized key: the number of packets that it sends, or the error for
+-- queued packets.
+abbrev pub device_return_value : DeviceState → List (List ℕ) → Timed → ℤ
+device_return_value d [] x = pos (length (input_packets_of d.session x))
+device_return_value d (packet ∷ more) x = ERR_PACKETS_QUEUED
 
 -- The return value of a call with an input.
-abbrev pub input_answer : Option DeviceState → Timed → ℤ
-input_answer None x = ERR_NOT_INITIALIZED
-input_answer (Some d) x = answer_of d d.waiting x
+abbrev pub input_return_value : Option DeviceState → Timed → ℤ
+input_return_value None x = ERR_NOT_INITIALIZED
+input_return_value (Some d) x = device_return_value d d.waiting x
 
 -- For each history that leads to the session's state: the history with the input leads to its new state, and the
 -- packets that are defined for the input are queued.
@@ -55,7 +56,7 @@ FollowsHistory d x = (start : Start) (h : List Timed) → IsStateAfterValidStart
 -- The state after a call with an input, and the call's return value.
 pub record Answers (before after : Option DeviceState) (x : Timed) (result : ℤ) : Type 0 where
   pub state : after ≡ after_input before x
-  pub answer : result ≡ input_answer before x
+  pub answer : result ≡ input_return_value before x
   pub history : (d : DeviceState) → before ≡ Some d → d.waiting ≡ [] → FollowsHistory d x
 
 -- The first queued packet is removed.

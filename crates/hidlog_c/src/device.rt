@@ -13,7 +13,7 @@ ghost use Rattle.hidlog_c.specs.Switched.{IsStarted};
 ghost use Rattle.hidlog_c.specs.Reports.{ReportsRow, credential_count, to_c_stats, to_c_need, pending_assertions, waiting_packets};
 
 use crate::capacity::{CAPACITY, SNAPSHOT_MAX_LEN};
-use crate::causes::{CauseReport, cause_at, put_sentence, report_of, which_of};
+use crate::causes::{CauseReport, cause_at, put_sentence, report_of, parsed_which};
 use crate::fault::{
     ERR_BUFFER_TOO_SMALL, ERR_BUSY, ERR_DUPLICATE_USER, ERR_FULL, ERR_INVALID_ARGUMENT,
     ERR_NO_PACKET, ERR_PACKETS_QUEUED,
@@ -122,7 +122,7 @@ impl Device {
     pub fn cause(&self, which: u32, report: &mut CauseReport, out: &mut [u8]) -> i32
         ensures { ReportsCause (Some self.now) which (report.old, report.new) (out.old, out.new) result }
     {
-        let Some(is_input) = which_of(which) else {
+        let Some(is_input) = parsed_which(which) else {
             return ERR_INVALID_ARGUMENT;
         };
         let Some(cause) = cause_at(&self.causes, is_input) else {
