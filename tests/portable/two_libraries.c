@@ -1,4 +1,5 @@
-// Uses two shared libraries in one process, in turns: each plays the log like the other: two_libraries FIRST SECOND LOG
+// Loads two shared libraries in one process, calls them alternately, and checks that both play a log alike:
+// two_libraries FIRST SECOND LOG
 #include "hidlog.h"
 
 #include <dlfcn.h>
