@@ -16,7 +16,7 @@ use crate::json_report::ProgramFaultObject;
 use crate::logs::{LogState, Logs};
 use crate::notes::{CheckEnd, Notes};
 use crate::parse_hint::first_parse_hint;
-use crate::process::{WRITING_FAILED, write_error_message};
+use crate::process::{WRITING_FAILED, write_message};
 use crate::report_options::{FaultLine, ReportOptions};
 use crate::snapshots::load;
 use crate::split::Pieces;
@@ -65,12 +65,12 @@ pub fn report_cause<E: Target>(
     match fault {
         LogFault::BadLine(_) | LogFault::TooLong(_) => {
             if let Some(hint) = first_parse_hint(state.lines) {
-                write_error_message(faults, &hint);
+                write_message(faults, &hint);
             }
         }
         LogFault::Read(_) => {
             if let Some(error) = state.failure {
-                write_error_message(faults, &StreamFailure { name, error });
+                write_message(faults, &StreamFailure { name, error });
             }
         }
         _ => {}
@@ -97,7 +97,7 @@ pub fn report_note<D: Files, L: Logs, E: Target>(
         seen,
         ending: &*ending,
     };
-    write_error_message(faults, &notes);
+    write_message(faults, &notes);
     if ending.has_served && len <= MAX_REREAD_LEN {
         let mut same = *wish;
         same.is_same = true;
@@ -148,10 +148,10 @@ impl<D: Files, L: Logs, O: Output, E: Target> Host<D, L, O, E> {
         ensures files { self.new.files ≡ self.old.files }
         ensures input { self.new.input ≡ self.old.input }
     {
-        if write_error_message(&mut self.output, &SameLog { wish, text }) {
+        if write_message(&mut self.output, &SameLog { wish, text }) {
             return Ok(());
         }
-        write_error_message(&mut self.faults, &EscapedText(WRITING_FAILED));
+        write_message(&mut self.faults, &EscapedText(WRITING_FAILED));
         Err(1)
     }
 
@@ -166,7 +166,7 @@ impl<D: Files, L: Logs, O: Output, E: Target> Host<D, L, O, E> {
         {
             let fault = *told;
             let faults = &mut self.faults;
-            if write_error_message(faults, &FaultLine { wish, fault }) && wish.explains {
+            if write_message(faults, &FaultLine { wish, fault }) && wish.explains {
                 report_cause(&self.input.state(), None, told, faults);
             }
             if let LogFault::Differs { .. } = told {
@@ -182,14 +182,14 @@ impl<D: Files, L: Logs, O: Output, E: Target> Host<D, L, O, E> {
             if !wish.explains
                 && let Some(notice) = fault.notice()
             {
-                write_error_message(&mut self.faults, &notice);
+                write_message(&mut self.faults, &notice);
             }
         }
         if wish.is_json {
             let output = &mut self.output;
-            write_error_message(output, &ProgramFaultObject { wish, fault });
+            write_message(output, &ProgramFaultObject { wish, fault });
             if output.failures() > 0 {
-                write_error_message(&mut self.faults, &EscapedText(WRITING_FAILED));
+                write_message(&mut self.faults, &EscapedText(WRITING_FAILED));
             }
         }
     }

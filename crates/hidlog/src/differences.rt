@@ -6,7 +6,7 @@ use crate::finding::{DifferenceReport, Finding};
 use crate::json_report::ProgramFaultObject;
 use crate::notes::{Note, NoteText};
 use crate::parse_hint::first_parse_hint;
-use crate::process::write_error_message;
+use crate::process::write_message;
 use crate::report_options::{FaultLine, ReportOptions};
 use crate::snapshots::load;
 use crate::terminal_output::{Style, StyledLines};
@@ -53,7 +53,7 @@ pub fn report_differences<D: Files, S: Source + Drop, E: Target>(
     let Some(mut reader) = again else {
         if !wish.is_same {
             let (wish, remark) = (&*wish, NOT_READ_AGAIN);
-            write_error_message(faults, &NoteText { wish, remark });
+            write_message(faults, &NoteText { wish, remark });
         }
         return;
     };
@@ -117,7 +117,7 @@ fn report_each<S: Source, E: Target>(
         };
         if !is_told && parsed.count == 0 {
             let (wish, remark) = (&*wish, LOG_CHANGED);
-            write_error_message(faults, &NoteText { wish, remark });
+            write_message(faults, &NoteText { wish, remark });
             return;
         }
         let changes = report_one(comparison, wish, reader, &difference, parsed, faults);
@@ -143,7 +143,7 @@ fn report_end<S: Source, E: Target>(
     if wish.is_same && fault.is_none() {
         if let Some(otherwise) = comparison.signed_bytes_mismatch() {
             let (wish, remark) = (&*wish, Note::Signed(otherwise));
-            write_error_message(faults, &NoteText { wish, remark });
+            write_message(faults, &NoteText { wish, remark });
         }
         return;
     }
@@ -154,11 +154,11 @@ fn report_end<S: Source, E: Target>(
             fault,
             ahead: comparison.window.as_slice(),
         };
-        write_error_message(faults, &counted);
+        write_message(faults, &counted);
     }
     if (wish.explains || wish.is_json) && comparison.has_only_inputs(reader) {
         let (wish, remark) = (&*wish, NO_KEY_PACKETS);
-        write_error_message(faults, &NoteText { wish, remark });
+        write_message(faults, &NoteText { wish, remark });
     }
 }
 
@@ -229,7 +229,7 @@ fn report_one<S: Source, E: Target>(
         && !wish.is_json
     {
         let mut text = Vec::new(wish.alloc);
-        write_error_message(&mut ToWrite::new(&mut text), &finding);
+        write_message(&mut ToWrite::new(&mut text), &finding);
         let style = Style {
             width,
             has_colours: false,
@@ -239,9 +239,9 @@ fn report_one<S: Source, E: Target>(
             text: &text,
             style: &style,
         };
-        write_error_message(faults, &lines);
+        write_message(faults, &lines);
     } else {
-        write_error_message(faults, &finding);
+        write_message(faults, &finding);
     }
     finding.can_change_credentials()
 }

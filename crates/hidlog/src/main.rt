@@ -44,7 +44,7 @@ use escape::StreamFailure;
 use files::{Files, HostFiles};
 use host::{Host, Modeled};
 use logs::{Logs, ProcessLog};
-use process::{no_memory, program_args, write_error_message, write_error_text};
+use process::{no_memory, program_args, write_error_text, write_message};
 use program::RunOutcome;
 use remember_error::RememberError;
 use session_log::{LogFault, Target, ToWrite};
@@ -64,7 +64,7 @@ impl<D: Files, L: Logs, O: Output, E: Target> Host<D, L, O, E> {
         let mut more = Vec::new(self.alloc);
         let mut target = ToWrite::new(&mut more);
         if let Some(notice) = &outcome.notice {
-            write_error_message(&mut target, notice);
+            write_message(&mut target, notice);
         }
         match &outcome.fault {
             None => {
@@ -172,7 +172,7 @@ fn main(rt: HostRuntime) -> ExitCode {
     {
         let name = Some("standard output");
         let failure = StreamFailure { name, error };
-        write_error_message(&mut ToWrite::new(&mut errors), &failure);
+        write_message(&mut ToWrite::new(&mut errors), &failure);
     }
     match outcome.status {
         Ok(()) => ExitCode::SUCCESS,

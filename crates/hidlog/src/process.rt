@@ -19,14 +19,14 @@ pub fn write_error_text<E: Target>(faults: &mut E, text: &[u8])
     let _ = put_all(faults, text);
 }
 
-/// Writes a text to standard error, unless too many writes failed. Returns whether all was written.
-pub fn write_error_message<E: Target, W: Written>(faults: &mut E, what: &W) -> bool
-    ensures { E.failed faults.old < 2 ^ 64 - 1 → (text : List ℕ) × IsWrittenTo E.taken E.failed (faults.old, faults.new) text }
+/// Writes a message to a stream, unless too many writes to it failed. Returns whether all was written.
+pub fn write_message<E: Target, W: Written>(stream: &mut E, what: &W) -> bool
+    ensures { E.failed stream.old < 2 ^ 64 - 1 → (text : List ℕ) × IsWrittenTo E.taken E.failed (stream.old, stream.new) text }
 {
-    if faults.failures() == u64::MAX {
+    if stream.failures() == u64::MAX {
         return false;
     }
-    put_chunks(faults, &mut TextBuf::new(Detail::Explained), what).is_ok()
+    put_chunks(stream, &mut TextBuf::new(Detail::Explained), what).is_ok()
 }
 
 /// Writes an error message to standard error and, if errors are explained, the line with the details.
@@ -39,7 +39,7 @@ pub fn report_error<E: Target>(faults: &mut E, explains: bool, text: &[u8], why:
         return;
     }
     if put_all(faults, text).is_ok() {
-        write_error_message(faults, why);
+        write_message(faults, why);
     }
 }
 

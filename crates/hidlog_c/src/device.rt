@@ -13,7 +13,7 @@ ghost use Rattle.hidlog_c.specs.Switched.{IsStarted};
 ghost use Rattle.hidlog_c.specs.Reports.{ReportsRow, credential_count, to_c_stats, to_c_need, pending_assertions, waiting_packets};
 
 use crate::capacity::{CAPACITY, SNAPSHOT_MAX_LEN};
-use crate::causes::{CauseReport, cause_at, put_sentence, report_of, parsed_which};
+use crate::causes::{CauseReport, cause_at, parsed_which, put_sentence, report_of};
 use crate::fault::{
     ERR_BUFFER_TOO_SMALL, ERR_BUSY, ERR_DUPLICATE_USER, ERR_FULL, ERR_INVALID_ARGUMENT,
     ERR_NO_PACKET, ERR_PACKETS_QUEUED,

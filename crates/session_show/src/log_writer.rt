@@ -7,7 +7,7 @@ ghost use Rattle.session_show.specs.Shown.{Shows, ShowsLine, WritesEnd, WritesLi
 ghost use Rattle.session_show.specs.Written.{Writes};
 
 use crate::chunked::{Written, put_chunks, put_with_line_number};
-use crate::counts::{Counts, TEXT_FORMATS, JSON_FORMATS};
+use crate::counts::{Counts, JSON_FORMATS, TEXT_FORMATS};
 use crate::detail::Detail;
 use crate::entry::{write_ended, write_entry, write_page};
 use crate::json_line::{write_line, write_transaction};
@@ -111,7 +111,12 @@ impl LogWriter {
     }
 
     /// Writes the output for the next line.
-    fn write_next_line<T: Target>(&mut self, number: u64, line: &[u8], writer: &mut T) -> Result<(), LogFault>
+    fn write_next_line<T: Target>(
+        &mut self,
+        number: u64,
+        line: &[u8],
+        writer: &mut T,
+    ) -> Result<(), LogFault>
         requires { T.failed writer.old < 2 ^ 64 - 1 }
         ensures format { self.new.format ≡ self.old.format }
         ensures shown { ShowsLine number line.now (T.failed writer.old, T.failed writer.new) (ending_of result) }

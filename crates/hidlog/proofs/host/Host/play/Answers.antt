@@ -11,11 +11,11 @@ returns-clause-played g c =
     let more = c.further_report-more in (
       c.run-outcome.new.self,
       c.run-outcome.ensures.answered,
-      ap (λ (h : Host g.row.D.Denot g.row.L.Denot g.row.O.Denot g.row.E.Denot). record h { faults = c.report.new.faults })
+      ap (λ (h : Host g.row.D.Denot g.row.L.Denot g.row.O.Denot g.row.E.Denot). record h { faults = c.write_error_text.new.faults })
           more.ensures,
       inr (
         c.as_slice.result.now,
         rw (sym (ap (λ (h : Host g.row.D.Denot g.row.L.Denot g.row.O.Denot g.row.E.Denot). h.faults) more.ensures))
-            c.report.ensures,
+            c.write_error_text.ensures,
       ),
     )
