@@ -47,6 +47,7 @@ OTHER_SOURCES = {
     "rust": ("rust",),
     "docs": ("docs", "packages/readme", "examples"),
     "arm64": ("packages/arm64",),
+    "portable": ("portable",),
 }
 # The sets of sources of each package, by the prefix of its name; the first match counts.
 PACKAGE_PARTS = (
@@ -55,14 +56,17 @@ PACKAGE_PARTS = (
     ("libhidlog", ("docs",)),
     ("hidlog_VERSION_arm64", ("arm64", "docs")),
     ("hidlog_", ("docs",)),
-    ("hidlog-go-", ("go",)),
-    ("hidlog-sys-", ("rust",)),
+    ("hidlog-go-", ("go", "portable")),
+    ("hidlog-sys-", ("rust", "portable")),
+    ("hidlog-portable-", ("portable",)),
+    ("hidlog-VERSION-windows-", ("portable",)),
+    ("hidlog-VERSION-py3-none-win_amd64", ("python", "portable")),
     ("hidlog-VERSION.crate", ("rust",)),
     ("hidlog-VERSION.tgz", ("npm",)),
     ("hidlog-VERSION-linux-aarch64", ("arm64", "docs")),
     ("hidlog-VERSION-linux-", ("uhid", "docs")),
     ("hidlog-VERSION-py3-none-manylinux_2_17_aarch64", ("python", "arm64")),
-    ("hidlog-VERSION.tar.gz", ("python", "arm64")),
+    ("hidlog-VERSION.tar.gz", ("python", "arm64", "portable")),
     ("hidlog-VERSION", ("python",)),
 )
 # Packages with the program, which includes parts of the C library.

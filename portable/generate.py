@@ -39,14 +39,14 @@ enum {{
 
 #include "machine.h"
 
-#if defined(__GNUC__)
+#if defined(__GNUC__) || defined(__clang__)
 #pragma GCC system_header // no warnings about generated code
 #elif defined(_MSC_VER)
 #pragma warning(push, 0)
 #endif
 """
 _END = """
-#if defined(_MSC_VER) && !defined(__GNUC__)
+#if defined(_MSC_VER) && !defined(__clang__)
 #pragma warning(pop)
 #endif
 

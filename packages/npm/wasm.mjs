@@ -1,7 +1,10 @@
-// `npx hidlog` without the program: check, replay, quiet and show, by the verified core as WebAssembly.
-import { readFileSync } from "node:fs";
+// `npx hidlog` without the program: check, replay, live, quiet and show, by the verified core as WebAssembly.
+import { createReadStream, readFileSync } from "node:fs";
 
-const COMMANDS = ["check", "replay", "quiet", "show"];
+const COMMANDS = ["check", "replay", "live", "quiet", "show"];
+/** The longest line of a log. */
+const MAX_LINE = 255;
+const NEWLINE = 10;
 const getFilePath = (name) => new URL(name, import.meta.url);
 
 /** Prints an error and exits. @param {string} text @param {number} status */
@@ -54,6 +57,44 @@ const setExplain = (core, explain) => {
     core.exports = { ...core.exports, hidlog_show: (at, length, _, ...rest) => show(at, length, flag, ...rest) };
 };
 
+const printError = (outcome, before = "hidlog: ") => {
+    process.stderr.write(`${before}${globalThis.hidlog.formatError(outcome)}\n`);
+    process.exitCode = Math.max(process.exitCode ?? 0, outcome.status);
+};
+
+/** Replies to the lines of a log as they arrive: each time the log so far is played again. */
+const runLive = async (core, file, snapshot) => {
+    let log = Buffer.alloc(0);
+    let printed = 0;
+    /** Plays the first bytes of the log. Returns whether it goes on. The totals, its last line, wait for the end. */
+    const play = (length, isEnd) => {
+        const outcome = core.run("live", log.subarray(0, length), snapshot);
+        const totals = outcome.text.lastIndexOf(NEWLINE, outcome.text.length - 2) + 1;
+        const end = isEnd || outcome.status ? outcome.text.length : totals;
+        process.stdout.write(outcome.text.subarray(printed, end));
+        printed = Math.max(printed, end);
+        if (outcome.status) {
+            printError(outcome);
+        }
+        return !outcome.status;
+    };
+    if (!play(0, false)) {
+        return;
+    }
+    try {
+        for await (const chunk of file === "-" ? process.stdin : createReadStream(file)) {
+            log = Buffer.concat([log, chunk]);
+            const lines = log.lastIndexOf(NEWLINE) + 1;
+            if (!play(log.length - lines > MAX_LINE ? log.length : lines, false)) {
+                return;
+            }
+        }
+    } catch (error) {
+        fail(`cannot read log: ${error.message}`, 1);
+    }
+    play(log.length, true);
+};
+
 const run = async (command, words) => {
     const { files, snapshot, explain } = parseOptions(words);
     if (command !== "check" && files.length > 1) {
@@ -64,14 +105,17 @@ const run = async (command, words) => {
     }
     const core = await loadCore();
     setExplain(core, explain);
+    if (command === "live") {
+        await runLive(core, files[0], snapshot);
+        return;
+    }
     for (const file of files) {
         const outcome = core.run(command, readBytes(file, "log"), snapshot);
         const before = files.length > 1 ? `${file}: ` : "";
         const text = outcome.text.length && before ? Buffer.concat([Buffer.from(before), outcome.text]) : outcome.text;
         process.stdout.write(text);
         if (outcome.status) {
-            process.stderr.write(`${before || "hidlog: "}${globalThis.hidlog.formatError(outcome)}\n`);
-            process.exitCode = Math.max(process.exitCode ?? 0, outcome.status);
+            printError(outcome, before || undefined);
         }
     }
 };

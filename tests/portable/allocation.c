@@ -1,5 +1,5 @@
 // Includes the portable library, to test what happens if an instance of the module cannot be allocated, that instances
-// above the pool's size are freed, and that a key may be copied: allocation LOG
+// above the pool's size are freed, that a key may be copied, and that 10,000 keys need nothing but their own memory.
 #include <stddef.h>
 #include <stdlib.h>
 
@@ -102,11 +102,31 @@ static void test_windows(void) {
     expect(call.module->w2c_memory.windows[FIRST_BUFFER].size, 0, "a window's size after the call");
 }
 
+// Many keys in one process: each answers, and none needs memory beyond hidlog_key_size().
+static void test_many(void) {
+    enum { KEYS = 10000 };
+    static const uint8_t aaguid[16], packet[64] = {0xff, 0xff, 0xff, 0xff, 0x86, 0, 8};
+    static struct hidlog_key keys[KEYS];
+    uint8_t response[64];
+    expect(hidlog_key_size() <= 100000, 1, "whether a key has at most 100 kB");
+    for (int i = 0; i < KEYS; i++) {
+        keys[i].memory = malloc(hidlog_key_size());
+        expect(hidlog_key_init(&keys[i], aaguid, 0, aaguid, 0), 0, "hidlog_key_init of many");
+    }
+    for (int i = 0; i < KEYS; i++) {
+        expect(hidlog_key_write_packet(&keys[i], 1, packet), 1, "packets of one of many");
+        expect(hidlog_key_read_packet(&keys[i], response), 0, "packets left of one of many");
+        free(keys[i].memory);
+    }
+    expect(live_count, 0, "allocations of many keys");
+}
+
 int main(void) {
     static const uint8_t aaguid[16];
     struct hidlog_key key = {malloc(hidlog_key_size()), 0};
     expect(hidlog_key_init(&key, aaguid, 0, aaguid, 0), 0, "hidlog_key_init");
     expect(live_count, 0, "allocations of a single thread");
+    test_many();
     test_refused(&key);
     test_copied(&key);
     test_windows();

@@ -20,6 +20,7 @@ import subprocess
 import sys
 import tempfile
 from collections.abc import Iterator
+from contextlib import ExitStack
 from pathlib import Path
 from typing import NamedTuple
 
@@ -59,6 +60,15 @@ TARGETS = {
     "i386": Target(["i686-linux-gnu-gcc", "-O1"], runner=["qemu-i386-static"]),
     "windows": Target(["x86_64-w64-mingw32-gcc", "-O2", *WINDOWS_C11], runner=["/usr/lib/wine/wine64"], suffix=".exe"),
 }
+# Systems for which clang checks the syntax, without their headers.
+CHECKED_TARGETS = (
+    "arm64-apple-macos13",
+    "x86_64-apple-macos13",
+    "x86_64-unknown-freebsd14",
+    "aarch64-unknown-openbsd7",
+    "x86_64-pc-windows-msvc",
+    "aarch64-pc-windows-msvc",
+)
 QUICK = Target(["gcc", "-O0"], linked=[])
 
 
@@ -189,6 +199,18 @@ class Builder:
         return run([*self.target.runner, program, *words], data)
 
 
+class WineServer:
+    """Keeps wine's server running meanwhile: one that ends as a program starts resets its connection."""
+
+    PROGRAM = "/usr/lib/wine/wineserver64"
+
+    def __enter__(self) -> None:
+        subprocess.run([self.PROGRAM, "--persistent"], check=True)
+
+    def __exit__(self, *_: object) -> None:
+        subprocess.run([self.PROGRAM, "--kill"], check=False)
+
+
 def test_process(builder: Builder, is_allocation_tested: bool) -> None:
     """Tests threads, fork, allocation, and two libraries in one process."""
     concurrency = builder.build(HERE / "concurrency.c", "-pthread")
@@ -214,7 +236,9 @@ def test_target(
     name: str, target: Target, sources: Path, logs: dict[str, bytes], expected: bytes, is_quick: bool
 ) -> None:
     """Compares a target with the proved library."""
-    with tempfile.TemporaryDirectory() as folder:
+    with tempfile.TemporaryDirectory() as folder, ExitStack() as stack:
+        if target.suffix:
+            stack.enter_context(WineServer())
         builder = Builder(target, sources, Path(folder))
         output = builder.run(builder.build(HERE / "all_commands.c"), data=pack(logs))
         compare_records(output, expected)
@@ -241,6 +265,15 @@ def test_byte_order(sources: Path) -> None:
         raise ComparisonError(f"a big-endian machine is not refused: {ran.stderr}")
 
 
+def test_syntax(sources: Path) -> None:
+    """The library has no warning of clang for systems that nothing here runs, except about padding and C89."""
+    words = ["clang", "-std=c11", "-ffreestanding", "-fsyntax-only", "-Weverything", "-Werror"]
+    words += ["-Wno-padded", "-Wno-declaration-after-statement", "-isystem", str(HERE / "headers")]
+    for target in CHECKED_TARGETS:
+        run([*words, "-target", target, sources / "hidlog.c"])
+    print(f"clang: no warning for {', '.join(CHECKED_TARGETS)}", flush=True)
+
+
 def find_missing(target: Target) -> str | None:
     """Returns a command that a target needs and that is missing."""
     return next((word for word in (target.compiler[0], *target.runner) if shutil.which(word) is None), None)
@@ -263,12 +296,14 @@ def main() -> int:
     targets = {"quick": QUICK} if options.quick else {name: TARGETS[name] for name in options.target or TARGETS}
     os.environ.update(WINEDEBUG="-all", ASAN_OPTIONS="detect_leaks=1")
     with tempfile.TemporaryDirectory() as folder:
-        os.environ.setdefault("WINEPREFIX", f"{folder}/wine")
+        os.environ["WINEPREFIX"] = f"{folder}/wine"
         sources, native = Path(folder, "sources"), Path(folder, "native")
         native.mkdir()
         try:
             run([TOP / "portable/sources.sh", sources])
             test_byte_order(sources)
+            if not options.quick and shutil.which("clang"):
+                test_syntax(sources)
             logs = list_logs(QUICK_COUNT if options.quick else options.count)
             program = native / "all_commands"
             run(["gcc", *WARNINGS, "-I", sources, "-o", program, HERE / "all_commands.c", RELEASE / "libhidlog.a"])

@@ -1,9 +1,10 @@
 // Tests the installed npm package: npm_package.mjs FOLDER, where FOLDER/node_modules has it. Compares the output of its
 // command with the program's, byte for byte, and runs the README's lines.
 import assert from "node:assert/strict";
-import { spawnSync } from "node:child_process";
+import { spawn, spawnSync } from "node:child_process";
 import { readdirSync, readFileSync, writeFileSync } from "node:fs";
 import { join } from "node:path";
+import { createInterface } from "node:readline";
 import { fileURLToPath } from "node:url";
 
 const TOP = fileURLToPath(new URL("../..", import.meta.url));
@@ -22,8 +23,8 @@ const listLogs = (path) =>
     readdirSync(join(TOP, path)).filter((name) => name.endsWith(".log")).map((name) => join(TOP, path, name));
 const logs = [join(TOP, "examples/registration.log"), ...listLogs("examples/failing"),
     ...listLogs("crates/hidlog/data/capacity_64").filter((_, place) => place % 3 === 0)];
-const calls = logs.flatMap((log) => [["check", log], ["replay", log], ["quiet", log], ["show", log],
-    ["show", "--explain", log]]);
+const calls = logs.flatMap((log) => [["check", log], ["replay", log], ["live", log], ["quiet", log],
+    ["show", log], ["show", "--explain", log]]);
 const listFailingLog = (name) => join(TOP, "examples/failing", name);
 calls.push(["check", "--load", listFailingLog("alice.snapshot"), listFailingLog("wrong_snapshot.log")],
     ["check", "--load", listFailingLog("bob.snapshot"), listFailingLog("wrong_snapshot.log")], ["check", ...logs.slice(0, 4)]);
@@ -35,10 +36,28 @@ for (const words of calls) {
     assert.deepEqual(own, theirs, words.join(" "));
 }
 const log = readFileSync(logs[0]);
-for (const words of [["check"], ["check", "-"], ["replay"]]) {
+for (const words of [["check"], ["check", "-"], ["replay"], ["live"], ["live", "-"]]) {
     assert.deepEqual(runCommand("node", [command, ...words], log), runCommand(program, words, log), words.join(" "));
 }
-console.log(`ok  npx hidlog writes the program's bytes in ${calls.length + 3} calls`);
+console.log(`ok  npx hidlog writes the program's bytes in ${calls.length + 5} calls`);
+
+// A line gets its reply before the next one is sent; a line that is wrong, or too long, ends the session like the program's.
+const session = spawn("node", [command, "live"], { env: { ...process.env, HIDLOG_CLI: "wasm" }, cwd: folder });
+const replies = createInterface({ input: session.stdout })[Symbol.asyncIterator]();
+for (const line of ["> 0 ffffffff860008000102030405060700".padEnd(132, "0"), "t 10"]) {
+    session.stdin.write(`${line}\n`);
+    let reply = "";
+    while (!reply.startsWith("# need ")) {
+        reply = (await replies.next()).value;
+    }
+    assert.equal(reply, "# need nothing");
+}
+session.stdin.end();
+assert.match((await replies.next()).value, /^= held /);
+for (const text of ["t 1\nwrong\nt 2\n", `t 1\n# ${"x".repeat(300)}`, "t 5\nt 6"]) {
+    assert.deepEqual(runCommand("node", [command, "live"], text), runCommand(program, ["live"], text), text);
+}
+console.log("ok  npx hidlog live replies line by line");
 
 // Invalid arguments: a status, and an error message of one line that says what is valid.
 for (const [words, status, expected] of [
