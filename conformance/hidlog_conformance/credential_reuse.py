@@ -44,6 +44,8 @@ def prefix_rp_id(request: bytes, front: str) -> bytes:
         asked[2] = {**asked[2], "id": front + asked[2]["id"]}
     elif request[:1] == bytes([GET]) and isinstance(asked.get(1), str):
         asked[1] = front + asked[1]
+    elif request[:1] == bytes([PIN]) and isinstance(asked.get(10), str):
+        asked[10] = front + asked[10]
     else:
         return request
     return request[:1] + ctap_cbor.encode(asked)

@@ -129,6 +129,8 @@ class DeviceInfo:
     # Why getInfo could not be read, and whether --display was given.
     unread: str = ""
     display: bool = False
+    # Whether --pin was given, so that the user can be verified.
+    has_pin: bool = False
 
     @staticmethod
     def ask(device: Device, touch: bool, display: bool = False) -> DeviceInfo:
@@ -283,15 +285,23 @@ class DeviceInfo:
         by_device = options.get("uv") is True and self.options.get("uv") is True
         if has_token or by_device or "verified registrations" in session.uses:
             return ""
-        without = command == 1 and self.protected and (discoverable or not self.options.get("makeCredUvNotRqd"))
-        if self.options.get("alwaysUv") or without:
-            return "the device requires a PIN or user verification (clientPin, uv, alwaysUv)"
+        if self.requires_user(command, asked) and not self.has_pin:
+            return "the device requires a PIN or user verification (clientPin, uv, alwaysUv): use --pin"
         return ""
 
-    def lacking(self, session: Session, device: Device, touch: bool, reset: bool) -> str:
-        """Returns why a case is skipped, or an empty string."""
+    def requires_user(self, command: int, asked: Dict[Any, Any]) -> bool:
+        """Returns whether the device requires user verification for a request."""
+        options = asked.get(7 if command == 1 else 5)
+        options = options if isinstance(options, dict) else {}
+        if self.options.get("alwaysUv"):
+            return command == 1 or options.get("up") is not False
+        discoverable = options.get("rk") is True
+        return command == 1 and self.protected and (discoverable or not self.options.get("makeCredUvNotRqd"))
+
+    def lacking(self, session: Session, device: Device, touch: bool, reset: bool, has_set_pin: bool = False) -> str:
+        """Returns why a case is skipped, or an empty string. `has_set_pin`: the PIN that the session sets is set."""
         for use in session.uses:
-            if not self.has(use):
+            if not self.has(use) and not (has_set_pin and use == "pin token"):
                 return f"the device does not support: {use} ({self.unread or 'getInfo: ' + ctap_cbor.to_diagnostic(self.info)})"
         reason = self.unsuited(session)
         if reason:

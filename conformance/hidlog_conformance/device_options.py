@@ -34,6 +34,7 @@ def add_device_options(parser: argparse.ArgumentParser) -> None:
     parser.add_argument("--executor", default="", metavar="dask://HOST:PORT", help="run on a Dask cluster")
     parser.add_argument("--persistent", action="store_true", help="the command keeps credentials across restarts")
     parser.add_argument("--reset", action="store_true", help="allow resets: DELETES ALL CREDENTIALS OF THE DEVICE")
+    parser.add_argument("--pin", default="", metavar="PIN", help="the PIN of a device that keeps it (no --reset)")
     parser.add_argument("--isolated", action="store_true", help="do not share credentials between cases")
     parser.add_argument("--display", action="store_true", help="the device has a display to select accounts")
     parser.add_argument(

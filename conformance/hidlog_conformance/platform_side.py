@@ -68,6 +68,8 @@ class Platform:
         self.tokens: List[bytes] = []
         self.last_filled = Filled()
         self.secrets: Dict[str, bytes] = {}
+        # The device's PIN, which replaces that of the session.
+        self.user_pin = b""
 
     def agree(self, item: Dict[Any, Any], asked: Dict[Any, Any]) -> None:
         """Derives the shared secret from the device's key agreement key."""
@@ -158,7 +160,7 @@ class Platform:
             self.last_filled.new_pin = data.rstrip(b"\0")
             return self.encrypt(data)
         if isinstance(value, bytes) and value.startswith(b"=hash:"):
-            self.last_filled.pin = adapt_pin(value[6:], self.min_pin_length)
+            self.last_filled.pin = self.user_pin or adapt_pin(value[6:], self.min_pin_length)
             return self.encrypt(hashlib.sha256(self.last_filled.pin).digest()[:16])
         return value
 

@@ -2,6 +2,7 @@
 
 from __future__ import annotations
 
+import sys
 import time
 from typing import Any, List, Optional
 
@@ -33,7 +34,7 @@ class Player(ResponseReader):
             steps = self.session.steps
             passed = 0
             for number, (step, after) in enumerate(zip(steps, steps[1:] + [None])):
-                passed = passed or self.reused_steps(number)
+                passed = passed or self.reused_steps(number) or self.is_left_out(step)
                 if passed:
                     passed -= 1
                     continue
@@ -62,6 +63,7 @@ class Player(ResponseReader):
             return self.failed(GOES_ON, str(fault), step)
         finally:
             self.cancel_pending_requests()
+            self.delete_credentials()
             self.device.close()
         return Outcome(self.session, "ok")
 
@@ -77,7 +79,12 @@ class Player(ResponseReader):
             self.keeps = request
             return 0
         self.known[bytes.fromhex(self.session.steps[number + 2].words[0])] = found
+        self.reused.append(found)
         return len(REGISTRATION)
+
+    def is_left_out(self, step: Step) -> bool:
+        """Returns whether a step sets a PIN, and --pin has set it."""
+        return self.pin_user is not None and self.pin_user.sets_pin(step)
 
     def failed(self, expected: str, actual: str, step: Optional[Step]) -> Outcome:
         """Returns the outcome of a difference, with the violated rule."""
@@ -109,6 +116,17 @@ class Player(ResponseReader):
         except OSError:
             pass
 
+    def delete_credentials(self) -> None:
+        """Deletes what the session stored on a device with --pin, which is not reset."""
+        stored = [one for one in self.known.values() if one.discoverable and one not in self.reused]
+        if self.pin_user is None or not stored or not self.allocated:
+            return
+        try:
+            self.guest = hid.Collector()
+            self.pin_user.delete(stored, lambda request: self.exchange(self.allocated[0], request))
+        except (Mismatch, OSError, ValueError) as fault:
+            print(f"credentials of {self.session.name} may be left on the device: {fault}", file=sys.stderr)
+
     def check_remaining_packets(self) -> None:
         """Checks that only KEEPALIVEs of pending requests are left."""
         self.expected = "rest"
@@ -137,6 +155,9 @@ class Player(ResponseReader):
             place = words.index("on")
             number = int(words[place + 1], 16)
             del words[place : place + 2]
+        if self.has_token and words[0] in ("made", "asserted"):
+            # The user was verified, other than in the session.
+            words = [word for word in words if word not in ("no-uv", "no-name")]
         getattr(self, "check_" + words[0])(words[1:], self.channel(number), expected)
 
     def whole(self, command: int, channel: int, expected: str) -> bytes:
@@ -256,7 +277,7 @@ class Player(ResponseReader):
             data, self.asked[channel, answers.MAKE], words, self.known, self.facts
         )
         self.known[self.name] = made
-        if self.reuse is not None and self.keeps:
+        if self.reuse is not None and self.keeps and (self.pin_user is None or not made.discoverable):
             self.reuse.made.setdefault(self.keeps, []).append(made)
             self.keeps = b""
         self.listing.check_blob_key(answers.decode_map(data), 5, words)

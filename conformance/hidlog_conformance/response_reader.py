@@ -14,6 +14,7 @@ from hidlog_conformance.hid_packets import Message
 from hidlog_conformance.check_credential_management import Listing
 from hidlog_conformance.live_judge import LiveJudge
 from hidlog_conformance.outcome import derive_id
+from hidlog_conformance.pin_user import PinUser
 from hidlog_conformance.platform_side import Platform
 from hidlog_conformance.quantity import quantity
 from hidlog_conformance.session_file import Session, Step
@@ -54,12 +55,16 @@ class ResponseReader:
         # The number of reused credentials by request, and the request whose credential other cases may reuse.
         self.taken: Dict[bytes, int] = {}
         self.keeps = b""
+        self.reused: List[Credential] = []
         self.device = device
         self.facts = facts or DeviceFacts()
         self.session = session
         self.strict = strict
         self.platform = Platform(self.facts.min_pin_length)
         self.listing = Listing()
+        # Who gets tokens for requests that need them, and whether the last registration or sign-in has one.
+        self.pin_user: Optional[PinUser] = None
+        self.has_token = False
         # The judge of sessions with `expect judged`, and the section that it found violated.
         self.live = LiveJudge(self.platform)
         self.violated = ""
@@ -208,9 +213,37 @@ class ResponseReader:
         data = self.platform.fill(data)
         self.live.sent(data, self.platform.last_filled)
         data = prefix_rp_id(data, self.front) if self.front else data
+        data = self.with_token(messages[0].channel, data)
         if data == messages[0].data:
             return packets
         return hid.fragment_message(messages[0].channel, hid.CBOR, data)
+
+    def use_pin(self, pin_user: Optional[PinUser]) -> None:
+        """Plays the session with the PIN of --pin."""
+        self.pin_user = pin_user
+        self.platform.user_pin = pin_user.pin if pin_user is not None else b""
+
+    def with_token(self, number: int, data: bytes) -> bytes:
+        """Returns a request with a token of --pin, if it needs one and the device is not busy."""
+        if self.pin_user is None or any(self.working.values()) or any(map(self.pin_user.sets_pin, self.session.steps)):
+            return data
+        channel = self.channel(number)
+        found, has_token = self.pin_user.add_token(data, lambda request: self.exchange(channel, request))
+        if data[:1] in (bytes([answers.MAKE]), bytes([answers.GET])):
+            self.has_token = has_token
+        return found
+
+    def exchange(self, channel: int, request: bytes) -> bytes:
+        """Sends a request of the runner itself, and returns the response."""
+        self.used.add(channel)
+        for packet in hid.fragment_message(channel, hid.CBOR, request):
+            self.log.append(f"> {self.at} {packet.hex()}")
+            self.device.send(self.at, packet)
+        while True:
+            message = self.message(ANSWER)
+            check(message is not None, "a response to authenticatorClientPIN", self.nothing())
+            if message is not None and message.channel == channel and message.command == hid.CBOR:
+                return message.data
 
     def names(self) -> List[Tuple[bytes, bytes]]:
         """Returns pairs of the session's credential IDs and the device's, including derived IDs."""

@@ -28,7 +28,10 @@ from hidlog_conformance.client_runner import (
 from hidlog_conformance.devices import Device, PipeDevice, kill_running
 from hidlog_conformance.device_options import add_device_options, make_device
 from hidlog_conformance.expected_failures import parse_list
-from hidlog_conformance.device_info import DeviceInfo, empty_blobs, prepare
+from hidlog_conformance.answers import MAKE
+from hidlog_conformance import hid_packets as hid
+from hidlog_conformance.device_info import DeviceInfo, ask, empty_blobs, prepare, send_init
+from hidlog_conformance.pin_user import PERMISSIONS, PinUser
 from hidlog_conformance.outcome import FAILED, UNSTABLE, Outcome
 from hidlog_conformance.quantity import quantity
 from hidlog_conformance.response_reader import CASE_SECONDS, GOES_ON, IN_TIME
@@ -97,6 +100,37 @@ def mark_unstable(first: Outcome, second: Outcome, late: float) -> Outcome:
     return first
 
 
+def make_pin_user(session: Session, options: argparse.Namespace, device_info: DeviceInfo) -> Optional[PinUser]:
+    """Returns who gets tokens in a session by --pin; None in a session that is about requests without them."""
+    if not options.pin or "verified registrations" in session.uses:
+        return None
+    return PinUser(options.pin, device_info)
+
+
+def check_pin(device: Device, options: argparse.Namespace, device_info: DeviceInfo) -> None:
+    """Checks --pin once, before any case: a wrong PIN takes a retry."""
+    if options.reset:
+        raise ValueError("--pin is for a device that keeps its PIN: leave out --reset")
+    if not keys.AVAILABLE:
+        raise ValueError("--pin needs python3-cryptography")
+    if device_info.options.get("clientPin") is not True:
+        raise ValueError("--pin is for a device whose PIN is set: its getInfo has no clientPin true")
+    device_info.has_pin = True
+    try:
+        channel = int.from_bytes(send_init(device)[8:12], "big")
+        user = PinUser(options.pin, device_info)
+        user.get_token(lambda request: answer_of(ask(device, channel, hid.CBOR, request)), PERMISSIONS[MAKE], "a.b")
+    finally:
+        device.close()
+
+
+def answer_of(message: Optional[hid.Message]) -> bytes:
+    """Returns the data of a response; raises ValueError if none came."""
+    if message is None:
+        raise ValueError("the device does not respond to authenticatorClientPIN")
+    return message.data
+
+
 def play_one(
     device: Device,
     session: Session,
@@ -107,8 +141,12 @@ def play_one(
 ) -> Outcome:
     """Plays a session, or skips it with a reason. With `reuse` it may use credentials of earlier cases and not reset.
     A case that failed while the runner was late is played once more, and is unstable if it then passes."""
-    reason = device_info.lacking(session, device, options.touch, options.reset)
-    front = reuse.front(session) if reuse is not None and not reason else ""
+    pin_user = make_pin_user(session, options, device_info)
+    front = pin_user.front(session) if pin_user is not None and not device.fresh else ""
+    has_set_pin = pin_user is not None and pin_user.can_replace(session)
+    reason = device_info.lacking(session, device, options.touch, options.reset or bool(front), has_set_pin)
+    reason = reason or (pin_user.unsuited(session) if pin_user is not None else "")
+    front = reuse.front(session) if reuse is not None and not reason and not front else front
     is_empty = reuse is not None and not reason and reuse.empties(session) and empty_blobs(device)
     if not reason and "reset" in session.needs and not device.fresh and not front and not is_empty:
         print(f"resetting the device for {session.name}", file=sys.stderr)
@@ -121,6 +159,7 @@ def play_one(
     if reason:
         return Outcome(session, "skip", reason)
     player = Player(device, session, options.profile_choices, device_info.facts(), options.deadline, reuse, front)
+    player.use_pin(pin_user)
     outcome = player.play()
     outcome.recordings = [player.recording()]
     if reuse is not None:
@@ -130,7 +169,7 @@ def play_one(
         second = play_one(device, session, options, device_info, reuse, False)
         first = adjust_outcome(outcome, options, device_info)
         return second if second.status in FAILED else mark_unstable(first, second, late)
-    if front and outcome.status == "skip":
+    if front and outcome.status == "skip" and reuse is not None and pin_user is None:
         # The device is full, because of other cases' credentials.
         return play_one(device, session, options, device_info)
     return adjust_outcome(outcome, options, device_info)
@@ -322,6 +361,8 @@ def play_to_device(options: argparse.Namespace) -> int:
     interrupted = False
     try:
         device_info = DeviceInfo.ask(device, options.touch, options.display)
+        if options.pin:
+            check_pin(device, options, device_info)
         if not keys.AVAILABLE:
             print("skipped: signatures not checked: python3-cryptography is not installed", file=sys.stderr)
         if options.reset and not device.fresh:

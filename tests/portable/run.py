@@ -205,6 +205,7 @@ class WineServer:
     PROGRAM = "/usr/lib/wine/wineserver64"
 
     def __enter__(self) -> None:
+        Path(os.environ["WINEPREFIX"]).mkdir(exist_ok=True)
         subprocess.run([self.PROGRAM, "--persistent"], check=True)
 
     def __exit__(self, *_: object) -> None:

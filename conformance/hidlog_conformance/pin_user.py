@@ -1,0 +1,132 @@
+"""Verifies the user by a PIN that the device already has (--pin), before each request that needs it."""
+
+from __future__ import annotations
+
+import os
+from typing import Any, Callable, Dict, Iterable, Optional, Tuple
+
+from hidlog_conformance import answers, ctap_cbor
+from hidlog_conformance.answers import Credential
+from hidlog_conformance.credential_reuse import CredentialReuse, decode_parameters, get_cbor_request
+from hidlog_conformance.device_info import DeviceInfo, list_requests
+from hidlog_conformance.judged_stored import DELETE, MANAGE
+from hidlog_conformance.platform_side import Platform
+from hidlog_conformance.requests import PIN, find_fault
+from hidlog_conformance.session_file import Session, Step, sends_reset
+from hidlog_conformance.skipped import CaseSkipped
+
+GET_AGREEMENT, SET_PIN, GET_TOKEN, NEW_TOKEN = 2, 3, 5, 9
+# The placeholders of a new PIN and of a PIN in sessions, and what sessions with tokens use.
+ENCRYPT, HASH, TOKENS_USED = b"=encrypt:", b"=hash:", "pin token"
+# The permission cm of a token.
+MANAGES = 4
+# The keys of pinUvAuthParam and of what it covers, by command; and the permissions mc and ga.
+KEYS = {answers.MAKE: (8, 1), answers.GET: (6, 2)}
+PERMISSIONS = {answers.MAKE: 1, answers.GET: 2}
+# Sends a request and returns the response.
+Exchange = Callable[[bytes], bytes]
+
+
+class WrongPinError(ValueError):
+    """The device refused the PIN of --pin."""
+
+
+class PinUser:
+    """The user of a device with a PIN."""
+
+    def __init__(self, pin: str, device_info: DeviceInfo) -> None:
+        self.pin = pin.encode()
+        self.device_info = device_info
+
+    def required_rp(self, request: bytes) -> Optional[str]:
+        """Returns the RP ID of a request that needs user verification and does not have it; None for others, and for
+        invalid ones, which the device refuses first."""
+        if request[:1] not in (bytes([answers.MAKE]), bytes([answers.GET])) or find_fault(request) is not None:
+            return None
+        command, asked = request[0], decode_parameters(request)
+        rp = asked[2]["id"] if command == answers.MAKE else asked[1]
+        if KEYS[command][0] in asked or not self.device_info.requires_user(command, asked):
+            return None
+        return str(rp)
+
+    def can_replace(self, session: Session) -> bool:
+        """Returns whether this device's PIN can replace the one that a session sets: it uses no other."""
+        requests = [request for request in map(get_cbor_request, session.steps) if request]
+        asked = [decode_parameters(request) for request in requests if request[0] == PIN]
+        pins = [item[5][len(ENCRYPT) :].rstrip(b"\0") for item in asked if item.get(2) == SET_PIN]
+        hashes = [item[6][len(HASH) :] for item in asked if 6 in item]
+        others = {request[0] for request in requests} - {PIN, answers.MAKE, answers.GET}
+        kinds = {item.get(2) for item in asked} - {SET_PIN, GET_AGREEMENT, GET_TOKEN, NEW_TOKEN}
+        is_successful = all(step.expects == ["status 00"] for step in session.steps if self.sets_pin(step))
+        is_same = len(pins) <= 1 and all(pins[:1] == [pin] for pin in hashes)
+        return TOKENS_USED in session.uses and not others and not kinds and is_same and is_successful
+
+    def sets_pin(self, step: Step) -> bool:
+        """Returns whether a step sets a PIN; it is left out, since the device has one."""
+        request = get_cbor_request(step)
+        return request[:1] == bytes([PIN]) and decode_parameters(request).get(2) == SET_PIN
+
+    def unsuited(self, session: Session) -> str:
+        """Returns why a session cannot be played by tokens, or empty."""
+        if any(map(sends_reset, session.steps)):
+            return "a reset removes the PIN of --pin"
+        if any(map(self.sets_pin, session.steps)):
+            # It adds its tokens itself, before the PIN is set none.
+            signs_in = any(
+                request[0] == answers.GET and self.required_rp(request) for request in list_requests(session)
+            )
+            return "a sign-in without a token" if signs_in else ""
+        whole = [get_cbor_request(step) for step in session.steps]
+        needed = [request for request in list_requests(session) if self.required_rp(request) is not None]
+        if any(request not in whole for request in needed):
+            return "a request in pieces, to which no token can be added"
+        if needed and "extension credProtect" in session.uses and self.device_info.options.get("alwaysUv"):
+            return "user verification shows what credProtect hides"
+        return ""
+
+    def front(self, session: Session) -> str:
+        """Returns a prefix of RP IDs for a session that needs an authenticator without credentials, which are deleted
+        afterwards; empty if that is not possible."""
+        may_stay = CredentialReuse().front(session) or self.can_replace(session)
+        if self.device_info.options.get("credMgmt") is not True or not may_stay:
+            return ""
+        return os.urandom(4).hex() + "."
+
+    def delete(self, credentials: Iterable[Credential], exchange: Exchange) -> None:
+        """Deletes the discoverable credentials that a session made."""
+        for credential in credentials:
+            platform = self.get_token(exchange, MANAGES, credential.rp)
+            named = {2: {"id": credential.id, "type": "public-key"}}
+            signed = bytes([DELETE]) + ctap_cbor.encode(named)
+            asked = {1: DELETE, 2: named, 3: platform.protocol, 4: platform.authenticate(platform.token, signed)}
+            exchange(bytes([MANAGE]) + ctap_cbor.encode(asked))
+
+    def get_token(self, exchange: Exchange, permission: int, rp: str) -> Platform:
+        """Gets a token for one request; returns the platform's side with it."""
+        platform = Platform()
+        protocol = self.device_info.info.get(6, [1])[0]
+        asked: Dict[int, Any] = {1: protocol, 2: GET_AGREEMENT}
+        platform.agree(answers.decode_map(exchange(bytes([PIN]) + ctap_cbor.encode(asked))), asked)
+        asked = {1: protocol, 2: GET_TOKEN, 3: b"=agreement", 6: b"=hash:" + self.pin}
+        if self.device_info.options.get("pinUvAuthToken") is True and rp:
+            asked.update({2: NEW_TOKEN, 9: permission, 10: rp})
+        data = exchange(platform.fill(bytes([PIN]) + ctap_cbor.encode(asked)))
+        if data[:1] != b"\0":
+            raise WrongPinError(f"the device refused the PIN of --pin with status {data.hex()}; nothing else was tried")
+        platform.take_token(answers.decode_map(data))
+        return platform
+
+    def add_token(self, request: bytes, exchange: Exchange) -> Tuple[bytes, bool]:
+        """Returns the request, with pinUvAuthParam if it needs user verification, and whether it has it."""
+        rp = self.required_rp(request)
+        if rp is None:
+            return request, False
+        platform = self.get_token(exchange, PERMISSIONS[request[0]], rp)
+        key, covered = KEYS[request[0]]
+        asked = decode_parameters(request)
+        asked.update({key: platform.authenticate(platform.token, asked[covered]), key + 1: platform.protocol})
+        found = request[:1] + ctap_cbor.encode(asked)
+        longest = max(1024, self.device_info.info.get(5, 1024))
+        if len(found) > longest >= len(request):
+            raise CaseSkipped(f"with pinUvAuthParam the request is longer than {longest} bytes")
+        return found, True
