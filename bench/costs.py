@@ -23,11 +23,11 @@ from typing import Callable, Iterator
 
 TOP = Path(__file__).resolve().parents[1]
 LIMITS = {
-    "flow ping": 2234,
-    "flow long_ping": 3614,
-    "flow get_info": 3622,
-    "flow registration": 32275,
-    "flow sign_in": 17998,
+    "flow ping": 1973,
+    "flow long_ping": 2500,
+    "flow get_info": 2772,
+    "flow registration": 25399,
+    "flow sign_in": 14139,
     "slope judge": 1.1,
     "slope export": 1.1,
     "slope import": 1.1,

@@ -51,8 +51,8 @@ struct hidlog_result {
 void hidlog_replay(const uint8_t *log, size_t log_len, const uint8_t *snapshot, size_t snapshot_len, uint8_t *out,
                    size_t out_cap, struct hidlog_result *result);
 
-/* Like hidlog_replay, and reports after each input line's packets what the key needs: comments, of which exactly one,
- * the last, begins with "# need ". */
+/* Like hidlog_replay, and writes comments after each input line's packets. The last of them, and only the last, begins
+ * with "# need " and says what the key needs. */
 void hidlog_live(const uint8_t *log, size_t log_len, const uint8_t *snapshot, size_t snapshot_len, uint8_t *out,
                  size_t out_cap, struct hidlog_result *result);
 
