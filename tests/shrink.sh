@@ -1,7 +1,7 @@
 #!/usr/bin/env bash
-# Minimizes a log that differs in one digit of a response: the result must differ at the same packet of the sign-in. Then
-# a log of 10,000 lines, in less than a minute; --match; the sign-in of docs/use/TOUR.md; findings on standard output;
-# SIGINT; and invalid arguments.
+# Tests `hidlog shrink`: on a log with one wrong digit in a response, whose minimized log must differ at the same packet; on
+# a log of 10,000 lines, in under a minute; --match; on the sign-in of docs/use/TOUR.md; with a command that prints its
+# findings to standard output; SIGINT; and invalid arguments.
 set -euo pipefail
 cd "$(dirname "${BASH_SOURCE[0]}")/.."
 export PYTHONPATH=python/src

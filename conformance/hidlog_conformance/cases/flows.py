@@ -331,7 +331,7 @@ def same_user_cases() -> List[Case]:
 
 
 def register_three_users(case: Case) -> Case:
-    """Registers three users and signs in without a list; the newest signs."""
+    """Registers three users and signs in without an allowList: the newest credential signs."""
     case.greet()
     for number in (1, 2, 3):
         case.register(number, rk=True, p3=user(number))
