@@ -10,7 +10,7 @@ copy="$work/a copy"
 mkdir -p "$copy/crates" "$work/bin"
 cp -a "$top"/{hidlog,crates.txt,HANDLES,release,packages,python} "$copy/"
 (cd "$top" && release/sources.sh | grep ^crates/ | xargs cp -a --parents -t "$copy")
-# As in a clone, release/BUILD is not older than the sources.
+# All files get the same time, so that release/BUILD is not older than the sources, as in a new clone.
 find "$copy" -exec touch -h -d 2010-01-01 {} +
 touch -d 2010-01-01 "$copy/release/BUILD"
 every_path=$PATH

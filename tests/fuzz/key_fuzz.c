@@ -1,6 +1,6 @@
 // A libFuzzer target for the functions on a key. The data is decoded into inputs; each is given to an in-memory key and
-// written as a log line, and at the end `hidlog_replay` replays that log. Both must send the same packets and report the same
-// statistics. Calls in a wrong state must fail and change nothing.
+// written as a log line, and at the end `hidlog_replay` replays that log. Both must send the same packets and report the
+// same statistics. Calls in a wrong state must fail and change nothing.
 //
 // tests/fuzz/guided.sh builds it with an instrumented core. Without instrumentation:
 //

@@ -422,7 +422,7 @@ export const getResult = async (call) => {
     }
 };
 
-/** "done", or an error's name; of two calls both. */
+/** Returns "done" or the name of the error; for several calls all of them, joined by "and". */
 export const summarizeResult = ({ value, error }) => {
     const isOfSeveral = Array.isArray(value) && value.every((one) => one === "done" || /Error$/.test(one));
     return error ?? (isOfSeveral ? value.join(" and ") : "done");
