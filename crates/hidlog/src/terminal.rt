@@ -47,7 +47,7 @@ pub fn terminal_info(rt: &HostRuntime, words: &[&str]) -> TerminalInfo {
         _ => (false, FlushPolicy::Nothing),
     };
     // The width of a terminal according to the environment.
-    let columns = match env::var(rt, "DEFAULT_WIDTH") {
+    let columns = match env::var(rt, "COLUMNS") {
         Ok(text) => text.as_str().parse::<usize>().unwrap_or(DEFAULT_WIDTH),
         Err(_) => DEFAULT_WIDTH,
     };
