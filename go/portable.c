@@ -1,5 +1,5 @@
 //go:build !linux || (!amd64 && !arm64) || hidlog_portable
 
-// The portable C library, on systems for which the module has no prebuilt library, and by the tag hidlog_portable. The
-// module has its sources in lib/portable; in a clone portable/sources.sh writes them there.
+// The portable C library, for systems without a prebuilt library and for builds with the tag hidlog_portable. Its sources
+// are in lib/portable; in a clone, portable/sources.sh writes them there.
 #include "hidlog.c"

@@ -76,7 +76,7 @@ struct module_key {
     u32 padding;
 };
 
-// A call: the borrowed instance, and how many windows have buffers.
+// A call: the borrowed instance, and the next free window for a buffer.
 struct call {
     struct instance *instance;
     Z_hidlog_instance_t *module;

@@ -106,7 +106,7 @@ export const serve = async (words) => {
     }
     const [, origin] = words;
     if (!URL.canParse(origin) || new URL(origin).origin !== origin || !/^https?:/.test(origin)) {
-        fail(`not an origin: ${origin}; expected scheme, host and port, such as https://example.com`);
+        fail(`not an origin: ${origin}; expected an origin such as https://example.com or http://localhost:8080`);
     }
     const key = install({ origin });
     const commands = makeCommands(key);

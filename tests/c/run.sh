@@ -100,7 +100,8 @@ for number in range(40):
 PYTHON
 }
 
-# Shows the worked and the malformed logs, and the start of each.
+# Compares how the library and the program show each worked log (hand-written from the standard), each malformed log, and
+# the first 700 bytes of each: compare_shows [WORD ..]
 compare_shows() {
     shown=0
     for log in "${logs[@]}" "$work"/hostile/*.log; do

@@ -147,5 +147,5 @@ def read_private_key(credential: Json) -> private_keys.PrivateKey:
 
 
 def read_point(credential: Json) -> bytes:
-    """Returns the public key, x and y, at the end of a placeholder for a private key."""
+    """Returns the public key, x and y: the last 64 bytes of `privateKey`, which has no private key if the page keeps it."""
     return _read_bytes(credential, "privateKey", 64, 10_000)[-64:]
