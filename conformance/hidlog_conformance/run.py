@@ -117,9 +117,9 @@ def check_pin(device: Device, options: argparse.Namespace, device_info: DeviceIn
     if device_info.options.get("clientPin") is not True:
         raise ValueError("--pin is for a device whose PIN is set: its getInfo has no clientPin true")
     device_info.has_pin = True
+    user = PinUser(options.pin, device_info)
     try:
         channel = int.from_bytes(send_init(device)[8:12], "big")
-        user = PinUser(options.pin, device_info)
         user.get_token(lambda request: answer_of(ask(device, channel, hid.CBOR, request)), PERMISSIONS[MAKE], "a.b")
     finally:
         device.close()
@@ -144,8 +144,8 @@ def play_one(
     A case that failed while the runner was late is played once more, and is unstable if it then passes."""
     pin_user = make_pin_user(session, options, device_info)
     front = pin_user.front(session) if pin_user is not None and not device.fresh else ""
-    has_set_pin = pin_user is not None and pin_user.can_replace(session)
-    reason = device_info.lacking(session, device, options.touch, options.reset or bool(front), has_set_pin)
+    needed = pin_user.without_own_pin(session) if pin_user is not None else session
+    reason = device_info.lacking(needed, device, options.touch, options.reset or bool(front))
     reason = reason or (pin_user.unsuited(session) if pin_user is not None else "")
     front = reuse.front(session) if reuse is not None and not reason and not front else front
     is_empty = reuse is not None and not reason and reuse.empties(session) and empty_blobs(device)
