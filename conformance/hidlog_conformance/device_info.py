@@ -298,10 +298,10 @@ class DeviceInfo:
         discoverable = options.get("rk") is True
         return command == 1 and self.protected and (discoverable or not self.options.get("makeCredUvNotRqd"))
 
-    def lacking(self, session: Session, device: Device, touch: bool, reset: bool, has_set_pin: bool = False) -> str:
-        """Returns why a case is skipped, or an empty string. `has_set_pin`: the PIN that the session sets is set."""
+    def lacking(self, session: Session, device: Device, touch: bool, reset: bool) -> str:
+        """Returns why a case is skipped, or an empty string."""
         for use in session.uses:
-            if not self.has(use) and not (has_set_pin and use == "pin token"):
+            if not self.has(use):
                 return f"the device does not support: {use} ({self.unread or 'getInfo: ' + ctap_cbor.to_diagnostic(self.info)})"
         reason = self.unsuited(session)
         if reason:

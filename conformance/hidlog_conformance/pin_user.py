@@ -3,6 +3,7 @@
 from __future__ import annotations
 
 import os
+from dataclasses import replace
 from typing import Any, Callable, Dict, Iterable, Optional, Tuple
 
 from hidlog_conformance import answers, ctap_cbor
@@ -60,6 +61,12 @@ class PinUser:
         is_successful = all(step.expects == ["status 00"] for step in session.steps if self.sets_pin(step))
         is_same = len(pins) <= 1 and all(pins[:1] == [pin] for pin in hashes)
         return TOKENS_USED in session.uses and not others and not kinds and is_same and is_successful
+
+    def without_own_pin(self, session: Session) -> Session:
+        """Returns the session as one that needs no device without a PIN, if this device's PIN can replace its own."""
+        if not self.can_replace(session):
+            return session
+        return replace(session, uses=[use for use in session.uses if use != TOKENS_USED])
 
     def sets_pin(self, step: Step) -> bool:
         """Returns whether a step sets a PIN; it is left out, since the device has one."""

@@ -4,7 +4,7 @@ from __future__ import annotations
 
 import threading
 from collections import deque
-from typing import Callable, Deque, Dict, Generic, List, Sequence, Tuple, TypeVar
+from typing import Callable, Deque, Dict, Generic, List, Optional, Sequence, Tuple, TypeVar
 
 Item = TypeVar("Item")
 Result = TypeVar("Result")
@@ -13,7 +13,9 @@ Result = TypeVar("Result")
 class Results(Generic[Result]):
     """The results so far by the number of the case. Threads add to them until they are closed."""
 
-    def __init__(self) -> None:
+    def __init__(self, write: Optional[Callable[[Result], None]] = None) -> None:
+        # Called with each result that is added.
+        self.write = write
         self.by_number: Dict[int, Result] = {}
         self.lock = threading.Lock()
         self.is_closed = False
@@ -23,6 +25,8 @@ class Results(Generic[Result]):
         with self.lock:
             if not self.is_closed:
                 self.by_number[number] = result
+                if self.write is not None:
+                    self.write(result)
 
     def close(self) -> List[Result]:
         """Returns the results in the order of the cases; no more are added."""

@@ -35,6 +35,7 @@ from hidlog_conformance.pin_user import PERMISSIONS, PinUser
 from hidlog_conformance.outcome import FAILED, UNSTABLE, Outcome
 from hidlog_conformance.quantity import quantity
 from hidlog_conformance.response_reader import CASE_SECONDS, GOES_ON, IN_TIME
+from hidlog_conformance.result_file import ResultFile
 from hidlog_conformance.results import Results, collect
 from hidlog_conformance.sanitize import escape_text
 from hidlog_conformance.player import Player
@@ -116,9 +117,9 @@ def check_pin(device: Device, options: argparse.Namespace, device_info: DeviceIn
     if device_info.options.get("clientPin") is not True:
         raise ValueError("--pin is for a device whose PIN is set: its getInfo has no clientPin true")
     device_info.has_pin = True
+    user = PinUser(options.pin, device_info)
     try:
         channel = int.from_bytes(send_init(device)[8:12], "big")
-        user = PinUser(options.pin, device_info)
         user.get_token(lambda request: answer_of(ask(device, channel, hid.CBOR, request)), PERMISSIONS[MAKE], "a.b")
     finally:
         device.close()
@@ -143,8 +144,8 @@ def play_one(
     A case that failed while the runner was late is played once more, and is unstable if it then passes."""
     pin_user = make_pin_user(session, options, device_info)
     front = pin_user.front(session) if pin_user is not None and not device.fresh else ""
-    has_set_pin = pin_user is not None and pin_user.can_replace(session)
-    reason = device_info.lacking(session, device, options.touch, options.reset or bool(front), has_set_pin)
+    needed = pin_user.without_own_pin(session) if pin_user is not None else session
+    reason = device_info.lacking(needed, device, options.touch, options.reset or bool(front))
     reason = reason or (pin_user.unsuited(session) if pin_user is not None else "")
     front = reuse.front(session) if reuse is not None and not reason and not front else front
     is_empty = reuse is not None and not reason and reuse.empties(session) and empty_blobs(device)
@@ -272,6 +273,9 @@ def parse_options(arguments: List[str]) -> argparse.Namespace:
     parser.add_argument(
         "--expected-failures", default="", metavar="FILE", help="file of cases that are expected to fail"
     )
+    parser.add_argument(
+        "--resume", default="", metavar="FILE", help="write each result to FILE, and leave out cases that it has"
+    )
     parser.add_argument("--list", action="store_true", help="list the cases and exit")
     parser.add_argument("--report", choices=sorted(report.WRITERS), default="text", help="output format")
     parser.add_argument("--client", default="", metavar="COMMAND", help="test a client: play the device to COMMAND")
@@ -285,6 +289,8 @@ def parse_options(arguments: List[str]) -> argparse.Namespace:
             executor.parse_address(options.executor)
         except ValueError as fault:
             parser.error(str(fault))
+    if options.client and (options.pin or options.resume):
+        parser.error("--pin and --resume are for devices, not for --client")
     options.touch = options.touch or bool(options.touch_line)
     strict = options.strict or options.device is None and not options.client
     options.warnings_as_errors = options.warnings_as_errors or strict
@@ -351,6 +357,19 @@ def print_list(options: argparse.Namespace) -> int:
     return 0
 
 
+def open_result_file(sessions: List[Session], options: argparse.Namespace, device_info: DeviceInfo) -> ResultFile:
+    """Opens the file of --resume; raises ValueError if it is of another device or of other options."""
+    header = report.make_device_header(options.device or "", device_info)
+    whole: Dict[str, object] = {name: header[name] for name in ("corpus", "device", "AAGUID", "versions")}
+    whole.update({name: getattr(options, name) for name in ("touch", "reset", "warnings_as_errors", "profile_choices")})
+    return ResultFile(options.resume, {**whole, "pin": bool(options.pin)}, sessions)
+
+
+def is_done(session: Session, done: List[Outcome]) -> bool:
+    """Returns whether an earlier run has the result of a session."""
+    return any(outcome.session is session for outcome in done)
+
+
 def play_to_device(options: argparse.Namespace) -> int:
     """Tests a device: plays the host to it, and writes the report."""
     sessions = all_sessions(options.only, tuple(options.sessions), tuple(options.skip))
@@ -359,6 +378,7 @@ def play_to_device(options: argparse.Namespace) -> int:
     device = make_device(options)
     device_info, results = DeviceInfo(display=options.display), Results[Outcome]()
     interrupted = False
+    done: List[Outcome] = []
     try:
         device_info = DeviceInfo.ask(device, options.touch, options.display)
         if options.pin:
@@ -368,7 +388,11 @@ def play_to_device(options: argparse.Namespace) -> int:
         if options.reset and not device.fresh:
             print("RESETTING the device: all its credentials are deleted", file=sys.stderr)
         ordered = order_sessions(device, sessions, options.touch and not options.touch_line)
-        play_all(device, ordered, options, device_info, results)
+        if options.resume:
+            earlier = open_result_file(ordered, options, device_info)
+            results.write = earlier.add
+            done = list(earlier.done.values())
+        play_all(device, [one for one in ordered if not is_done(one, done)], options, device_info, results)
         if device.lasting and options.reset and any(PINS in session.uses for session in sessions):
             print("resetting the device to remove the PIN", file=sys.stderr)
             prepare(device, False)
@@ -376,7 +400,7 @@ def play_to_device(options: argparse.Namespace) -> int:
         interrupted = True
         if device.lasting and options.reset:
             print("the device may have a PIN and credentials of the interrupted case", file=sys.stderr)
-    outcomes = results_so_far(results)
+    outcomes = done + results_so_far(results)
     header = report.make_device_header(options.device or "release/hidlog live", device_info)
     return report_results(options, outcomes, header, len(sessions) if interrupted else 0)
 

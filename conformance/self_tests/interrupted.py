@@ -108,7 +108,36 @@ def test_client_report() -> None:
     print("interrupted runs: a whole report on a client")
 
 
+def list_played(heard: str) -> Set[str]:
+    """Returns the names of the cases that a run began."""
+    return {line.partition(" ")[2] for line in heard.splitlines() if line.startswith("playing ")}
+
+
+def test_resumed_run() -> None:
+    """A run with --resume continues after an interrupt, also after a line that was cut, and has all results."""
+    with tempfile.TemporaryDirectory() as room:
+        path = os.path.join(room, "results")
+        words = [*make_device_arguments(f"plain {MARK}"), "--jobs", "2", "--only", "ping/", "--resume", path]
+        interrupt(words, 9)
+        with open(path, encoding="utf-8") as file:
+            written = [json.loads(line)["name"] for line in file.readlines()[1:]]
+        assert len(written) >= 5, written
+        with open(path, "a", encoding="utf-8") as file:
+            file.write('{"name": "ping/')
+        again = subprocess.run([*RUN, *words], capture_output=True, text=True)
+        assert again.returncode == 0 and again.stdout.endswith(
+            "\n23 passed, 0 failed, 0 warned, 7 skipped\n"
+        ), again.stdout
+        played = list_played(again.stderr)
+        assert len(played) == 30 - len(written) and not played & set(written), (played, written)
+        other = subprocess.run([*RUN, *words, "--warnings-as-errors"], capture_output=True, text=True)
+        assert other.returncode == 2 and "is of another run: warnings_as_errors" in other.stderr, other.stderr
+    check_none_left()
+    print("interrupted runs: continued by --resume")
+
+
 TESTS: Dict[str, Test] = {
+    "interrupted/resumed": test_resumed_run,
     "interrupted/text": test_text_report,
     "interrupted/formats": test_other_reports,
     "interrupted/before": test_before_first_case,

@@ -1,0 +1,60 @@
+"""The file of --resume: each result is written when its case ends, and a later run continues with the other cases."""
+
+from __future__ import annotations
+
+import json
+import os
+from typing import Any, Dict, List
+
+from hidlog_conformance.outcome import UNSTABLE, Outcome
+from hidlog_conformance.session_file import Session
+
+# Members of an outcome that are written as they are.
+MEMBERS = ("status", "reason", "expected", "actual", "line", "broken", "hung", "recordings")
+
+
+class ResultFile:
+    """A file of JSON lines: what was tested, and then an outcome in each line."""
+
+    def __init__(self, path: str, header: Dict[str, Any], sessions: List[Session]) -> None:
+        self.path = path
+        self.done: Dict[str, Outcome] = {}
+        lines = self.read_lines()
+        if lines and lines[0] != header:
+            wrong = next(name for name in (*header, *lines[0]) if lines[0].get(name) != header.get(name))
+            text = f"expected {header.get(wrong)!r}, got {lines[0].get(wrong)!r}"
+            raise ValueError(f"{path} is of another run: {wrong}: {text}; remove the file to start over")
+        by_name = {session.name: session for session in sessions}
+        for line in lines[1:]:
+            if line["name"] in by_name:
+                members = {name: line[name] for name in MEMBERS}
+                self.done[line["name"]] = Outcome(by_name[line["name"]], **members)
+        if not lines:
+            self.write(header)
+
+    def read_lines(self) -> List[Dict[str, Any]]:
+        """Returns the lines of the file; removes a last one that was not written whole."""
+        if not os.path.exists(self.path):
+            return []
+        with open(self.path, "rb") as file:
+            whole, newline, rest = file.read().rpartition(b"\n")
+        if rest:
+            os.truncate(self.path, len(whole) + len(newline))
+        try:
+            found = [json.loads(line) for line in whole.splitlines()]
+        except ValueError:
+            raise ValueError(f"{self.path} is not a file of --resume") from None
+        if not all(isinstance(line, dict) for line in found):
+            raise ValueError(f"{self.path} is not a file of --resume")
+        return found
+
+    def write(self, members: Dict[str, Any]) -> None:
+        """Appends a line."""
+        with open(self.path, "a", encoding="utf-8") as file:
+            file.write(json.dumps(members) + "\n")
+
+    def add(self, outcome: Outcome) -> None:
+        """Appends an outcome; the packets only of an unstable one, whose report has them."""
+        members = {name: getattr(outcome, name) for name in MEMBERS}
+        members["recordings"] = outcome.recordings if outcome.status == UNSTABLE else []
+        self.write({"name": outcome.session.name, **members})
