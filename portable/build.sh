@@ -30,7 +30,8 @@ build_windows() {
     mkdir -p "$folder"
     cd "$work/$name"
     x86_64-w64-mingw32-gcc -std=c11 -O2 -c hidlog.c
-    x86_64-w64-mingw32-gcc "${flags[@]}" -shared -o "$folder/hidlog.dll" hidlog.o hidlog.def
+    # Without a base the linker would choose one by a hash of the DLL's path.
+    x86_64-w64-mingw32-gcc "${flags[@]}" -Wl,--image-base=0x180000000 -shared -o "$folder/hidlog.dll" hidlog.o hidlog.def
     x86_64-w64-mingw32-gcc "${flags[@]}" -o "$folder/hidlog.exe" program.c hidlog.o
     for file in README.md LICENSE-{APACHE,MIT} hidlog.def hidlog{,_recording,_standard}.h sign_in.log; do
         cp "$file" "$folder"

@@ -363,7 +363,9 @@ def check_saved(log, output, fault, run, folder, damaged):
         run("replay", log, "--save", first)
         check(not os.path.exists(first), "saved", "a snapshot was saved despite the invalid line")
         return
-    check(run("replay", log, "--save", first) == (0, output, b""), "saved", "replay gives a different result with --save")
+    check(
+        run("replay", log, "--save", first) == (0, output, b""), "saved", "replay gives a different result with --save"
+    )
     status, counts, said = run("replay", b"", "--load", first, "--save", second)
     check(
         (status, said) == (0, b"") and read_file(first) == read_file(second),
