@@ -18,7 +18,7 @@ from bridge_cases import NOBODY, UHID, check_exit, make_state, run_tests
 def test_recording_does_not_replace_state(work_dir: Path) -> None:
     """A recording that would replace the state file is refused."""
     state, old = make_state(work_dir)
-    refused = "this is the state file; a recording would overwrite it"
+    refused = "this is the state file, which a recording would overwrite; choose another path"
     for path in (str(state), f"{work_dir}/./key.state"):
         check_not_recording(path, state, refused)
     assert state.read_bytes() == old

@@ -19,7 +19,7 @@ from hidlog_conformance import keys
 from hidlog_conformance import run
 maker = keys.KeyMaker()
 name, x, y = maker.make()
-assert run and keys.verifies({3: -7, -2: x, -3: y}, b"a", maker.sign(name, b"a"))
+assert run and keys.is_valid_signature({3: -7, -2: x, -3: y}, b"a", maker.sign(name, b"a"))
 END
 copy_programs "$(command -v nice)"
 mkdir -p "$root/conformance"

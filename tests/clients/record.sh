@@ -22,7 +22,7 @@ import python_fido2
 from hidlog_conformance import keys
 maker = keys.KeyMaker()
 name, x, y = maker.make()
-assert keys.verifies({3: -7, -2: x, -3: y}, b"a", maker.sign(name, b"a"))
+assert keys.is_valid_signature({3: -7, -2: x, -3: y}, b"a", maker.sign(name, b"a"))
 END
 copy_programs "$(command -v fido2-token)" "$(command -v fido2-cred)" "$(command -v fido2-assert)" \
     "$(command -v ssh-keygen)" /usr/lib/openssh/ssh-sk-helper "$(command -v pamtester)" "$pam" \
