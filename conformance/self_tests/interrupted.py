@@ -16,8 +16,8 @@ from trying import HERE, Test, make_device_arguments
 
 RUN = [sys.executable, os.path.join(HERE, "..", "run.py")]
 CLIENT = os.path.join(HERE, "..", "clients", "python_fido2.py")
-# A word in the arguments of this test's devices, by which it finds those that are left.
-MARK = "an_interrupted_run"
+# A word in the arguments of this process's devices, by which it finds those that are left; other tests run beside it.
+MARK = f"an_interrupted_run_{os.getpid()}"
 ENDED = 130
 
 
