@@ -5,6 +5,7 @@ pub mod MakeCredential
 pub mod GetAssertion
 pub mod Turn
 pub mod Views
+pub mod ByValue
 pub mod Needs
 pub mod Ready
 pub mod Padded

@@ -13,9 +13,12 @@
 //! let answered = turn == Turn::Answer && answer.as_slice() == [0].as_slice();
 //! assert!(rt; waits && answered);
 //! ```
+//!
+//! [`by_value`] has the same calls with their responses by value.
 #![tactic(auto)]
 
 mod authenticator;
+pub mod by_value;
 mod commands;
 mod dispatch;
 mod event;

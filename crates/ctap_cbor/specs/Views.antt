@@ -5,8 +5,8 @@ use Rattle.ctap_cbor.specs.declared.{fault.Fault.Fault, fault.Kind.Kind, item.It
 use Rattle.ctap_cbor.specs.declared.fault.Kind.TheVariants.{Truncated, KeyOrder}
 use Rattle.ctap_cbor.specs.declared.item.Item.TheVariants.{Int, Bytes, Text, Array, Map, Bool as Logical, Null}
 use Rattle.std.specs.Prelude.{Bool}
-use Rattle.ctap_cbor.specs.Faults.{Expected, AnItem, AKey, first_fault_of, later_faults, item_len, passed}
-use Rattle.ctap_cbor.specs.Head.{major}
+use Rattle.ctap_cbor.specs.Faults.{Expected, AnItem, AKey, first_fault_of, body_faults, later_faults, item_len, passed}
+use Rattle.ctap_cbor.specs.Head.{major, info, argument, argument_len, least_argument}
 use Rattle.ctap_cbor.specs.Tree as tree
 use Rattle.ctap_cbor.specs.Parts.{Part, One, OpensArray, OpensMap, item_text, item_by_major, IsAllowed}
 use Rattle.ctap_cbor.specs.Reading.{Reading, rest_of}
@@ -51,6 +51,14 @@ item_with_head (suc zero) i n = One (tree.Int (negsuc n))
 item_with_head (suc (suc (suc (suc zero)))) i n = OpensArray n
 item_with_head (suc (suc (suc (suc (suc zero))))) i n = OpensMap n
 item_with_head m i n = One (if nat_eq i 20 then tree.Flag false else if nat_eq i 21 then tree.Flag true else tree.Null)
+
+-- The result of reading a head's argument after a valid initial byte: the argument and the number of its bytes, or the
+-- first error and the number of bytes read.
+abbrev pub IsHeadArgument : ℕ → List ℕ → Result (ℕ × ℕ) (Kind × ℕ) → Type 0
+IsHeadArgument first rest (Ok (n, len)) = (n ≡ argument first rest) × (len ≡ argument_len (info first))
+    × (len ≤ length rest) × (least_argument (info first) ≤ n)
+IsHeadArgument first rest (Err (kind, n)) = (first_fault_of (body_faults first rest) ≡ Some kind)
+    × (n ≡ passed kind (first ∷ rest)) × (n ≤ suc (length rest))
 
 -- The result of reading the rest of an item after a valid initial byte: the item and its length, or the first error
 -- and the number of bytes read.

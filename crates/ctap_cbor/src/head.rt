@@ -5,7 +5,7 @@ ghost use Rattle.std.specs.Str.{is_utf8};
 ghost use Rattle.ctap_cbor.specs.Head.{info, argument_len, argument, least_argument};
 ghost use Rattle.ctap_cbor.specs.Faults.{first_fault_of, first_faults};
 ghost use Rattle.ctap_cbor.specs.Parts.{read};
-ghost use Rattle.ctap_cbor.specs.Views.{IsDecodedItem, IsDecodedItemRest, to_part, expected_of, item_with_head};
+ghost use Rattle.ctap_cbor.specs.Views.{IsDecodedItem, IsDecodedItemRest, IsHeadArgument, to_part, expected_of, item_with_head};
 
 use crate::fault::Kind;
 use crate::item::Item;
@@ -51,6 +51,30 @@ fn first_fault(first: u8, levels: u8, is_key: bool) -> Option<Kind>
     }
 }
 
+/// Returns the argument of the head with this initial byte, and the number of bytes after the initial byte that encode
+/// it. On failure, returns the error and the number of bytes that count as read.
+#[tactic(auto, unfolding(crate::specs::Faults::body_faults, crate::specs::Faults::passed, crate::specs::Head::argument, crate::specs::Head::argument_len, crate::specs::Head::least_argument))]
+#[inline(always)]
+fn find_argument(first: u8, rest: &[u8]) -> Result<(u64, usize), (Kind, usize)>
+    requires { info first < 28 }
+    ensures { IsHeadArgument first rest.now result }
+{
+    let info = first % 32;
+    // Most heads are one byte.
+    if info < 24 {
+        return Ok((u64::from(info), 0));
+    }
+    let (len, least) = argument_form(info);
+    if rest.len() < len {
+        return Err((Kind::Truncated, 1 + rest.len()));
+    }
+    let argument = read_argument(first, rest);
+    if argument < least {
+        return Err((Kind::NotShortest, 1 + len));
+    }
+    Ok((argument, len))
+}
+
 /// Decodes the item after a valid initial byte, and returns it with its length, or the error.
 #[tactic(auto, unfolding(crate::specs::Faults::body_faults, crate::specs::Faults::string_len, crate::specs::Faults::item_len, crate::specs::Faults::passed))]
 #[inline(always)]
@@ -60,14 +84,7 @@ fn decode_item_rest<'a>(first: u8, rest: &'a [u8]) -> Result<(Item<'a>, usize), 
 {
     let major = first / 32;
     let info = first % 32;
-    let (len, least) = argument_form(info);
-    if rest.len() < len {
-        return Err((Kind::Truncated, 1 + rest.len()));
-    }
-    let argument = read_argument(first, rest);
-    if argument < least {
-        return Err((Kind::NotShortest, 1 + len));
-    }
+    let (argument, len) = find_argument(first, rest)?;
     if major != 2 && major != 3 {
         return Ok((non_string_item(major, info, argument), 1 + len));
     }

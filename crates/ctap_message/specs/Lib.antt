@@ -14,5 +14,6 @@ pub mod Requests
 pub mod Commands
 pub mod RequestFaults
 pub mod Shown
+pub mod ByValue
 pub mod Answers
 pub mod Answered

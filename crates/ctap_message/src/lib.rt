@@ -20,6 +20,7 @@
 //! - [`Descriptors`] iterates over a request's list of credentials, in place.
 //! - [`write_status`], [`write_info`], [`write_created`] and [`write_assertion`] write responses: a status alone, or
 //!   status 0x00 and a map in canonical CBOR.
+//! - [`by_value`] has the same calls with their results by value.
 //! - [`laws`] states properties of the definitions themselves.
 //!
 //! Supported are authenticatorMakeCredential (0x01), GetAssertion (0x02), GetInfo (0x04), Reset (0x07),
@@ -30,6 +31,7 @@
 #![tactic(auto)]
 
 mod answer;
+pub mod by_value;
 mod command;
 mod descriptor;
 mod descriptors;

@@ -19,7 +19,7 @@ abbrev pub state_after_inputs : SessionState → List Timed → SessionState
 state_after_inputs s [] = s
 state_after_inputs s (x ∷ xs) = state_after_inputs (stepped s x) xs
 
--- The packets that the inputs send, each with the number of its input.
+-- The packets sent after each input of a list, each with the number of the input. The first input has the number `n`.
 abbrev pub packets_of_inputs : ℕ → SessionState → List Timed → List (ℕ × List ℕ)
 packets_of_inputs n s [] = []
 packets_of_inputs n s (x ∷ xs) = with_input_number n (input_packets_of s x) ++ packets_of_inputs (n + 1) (stepped s x) xs

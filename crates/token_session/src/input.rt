@@ -14,9 +14,9 @@ pub enum Input {
     Tick,
     /// The caller's reply to a request for user presence.
     Presence(Presence),
-    /// A key pair for a new credential, or a refusal.
+    /// A key pair for a new credential, or `None` if the caller has none.
     Key(Option<NewKey>),
-    /// A signature, or a refusal.
+    /// A signature, or `None` if the caller doesn't sign.
     Signature(Option<Signature>),
 }
 
