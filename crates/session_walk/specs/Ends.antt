@@ -200,23 +200,3 @@ refuses_stray code c = c.last_was_stray && (nat_lt 0 (keepalive_count c.current)
 -- The channel after its contender was refused.
 abbrev pub contender_refused : ℕ → Transaction → Channel → Channel
 contender_refused code refused c = if also_ends refused code c.current then current_ended c else c
-
--- The channel after an ERROR.
-abbrev pub refused_by : ℕ → (contender current : Option OpenTransaction) → Channel → Channel
-refused_by code (Some contender) current c = contender_refused code contender.transaction (record c { contender = None })
-refused_by code None None c = c
-refused_by code None (Some current) c = if refuses_stray code c then c else current_ended c
-
--- The transaction of an ERROR.
-abbrev pub refused_transaction : ℕ → (contender current : Option OpenTransaction) → Channel → Option Transaction
-refused_transaction code (Some contender) current c = Some contender.transaction
-refused_transaction code None None c = None
-refused_transaction code None (Some current) c = if refuses_stray code c then None else Some current.transaction
-
--- The transactions that an ERROR ends.
-abbrev pub ends_by_refusal : ℕ → (contender current : Option OpenTransaction) → Channel → List Ended → List Ended
-ends_by_refusal code (Some contender) current c ended =
-    let refused = with_end ended contender (Refused code) in
-    if also_ends contender.transaction code current then with_end_of refused current (interrupted_end contender.transaction) else refused
-ends_by_refusal code None None c ended = ended
-ends_by_refusal code None (Some current) c ended = if refuses_stray code c then ended else with_end ended current (Refused code)

@@ -5,4 +5,6 @@ pub mod Completed
 pub mod Owners
 pub mod Walks
 pub mod Ends
+pub mod Replies
 pub mod Whole
+pub mod Channels

@@ -1,18 +1,24 @@
 -- The state of a channel after a packet of a host or the key, INITs included, and of all channels (CTAP 2.1, sections
 -- 11.2.4, 11.2.5 and 11.2.9.1).
 use Rattle.std.specs.Prelude.{ℕ, Bool, true, false, not, ◌&&◌, ◌||◌, ◌==◌, nat_lt, ◌+◌, ◌-◌, List, []}
-use Rattle.std.specs.Prelude.{◌∷◌, ◌++◌, length, drop, remove, replicate, position, slice_get, Option, Some}
-use Rattle.std.specs.Prelude.{None, is_none, is_some, unwrap_or, if◌then◌else◌}
-use Rattle.hid_packet.specs.Commands.{BROADCAST, INIT}
-use Rattle.session_walk.specs.Ends.{also_ends, contender_refused, can_answer, interrupted_end, is_late_by}
+use Rattle.std.specs.Prelude.{◌∷◌, ◌++◌, length, drop, remove, position, slice_get, Option, Some}
+use Rattle.std.specs.Prelude.{None, is_none, is_some, option_map, unwrap_or, if◌then◌else◌}
+use Rattle.hid_packet.specs.Commands.{BROADCAST, ERROR, INIT, KEEPALIVE}
+use Rattle.session_walk.specs.Ends.{after_keepalive, has_status, keepalive_transaction, also_ends, contender_refused, can_answer, interrupted_end, is_late_by}
 use Rattle.session_walk.specs.Ends.{is_owner_undecided, with_unknown_ends, both_unidentified, is_for_contender}
-use Rattle.session_walk.specs.Ends.{refused_transaction, timeout_transaction, refused_by, ends_by_refusal, timed_out, ends_by_timeout}
+use Rattle.session_walk.specs.Ends.{refuses_stray, timeout_transaction, timed_out, ends_by_timeout}
 use Rattle.session_walk.specs.Extents.{is_whole}
-use Rattle.session_walk.specs.Owners.{with_end, with_end_of, pending_init, is_complete_message, current_ended, after_idle, is_owner_unknown}
-use Rattle.session_walk.specs.Owners.{channel_with_message, nonce_of, contender_accepted, ends_by_contender}
+use Rattle.session_walk.specs.Owners.{is_in_process, transaction_of, with_unidentified, with_end, with_end_of, pending_init, is_complete_message, current_ended, after_idle, is_owner_unknown}
+use Rattle.session_walk.specs.Owners.{nonce_of, contender_accepted, ends_by_contender, IDLE_TIMEOUT_MS}
+use Rattle.session_walk.specs.Replies.{is_assertion, is_success, no_rp_id}
+use Rattle.session_walk.specs.declared.rp_id.RpId.{RpId}
 use Rattle.session_walk.specs.declared.answer.ResponseStart.{ResponseStart}
 use Rattle.session_walk.specs.declared.channel.{Channel.Channel, ResponseMessage.ResponseMessage, PendingInit.PendingInit}
 use Rattle.session_walk.specs.declared.ambiguous.Ambiguous.{Ambiguous}
+use Rattle.session_walk.specs.declared.awaited.AwaitedReply.{AwaitedReply}
+use Rattle.session_walk.specs.declared.awaited.AwaitedReply.TheVariants.{Key, Presence, Signature}
+use Rattle.session_walk.specs.declared.entry.Role.{Role}
+use Rattle.session_walk.specs.declared.entry.Role.TheVariants.{Error, Owned, Reply}
 use Rattle.session_walk.specs.declared.transaction.{Ended.Ended, OpenTransaction.OpenTransaction, RequestNames.RequestNames}
 use Rattle.session_walk.specs.declared.transaction.Transaction.{Transaction}
 use Rattle.session_walk.specs.declared.transaction.End.TheVariants.{Cut, Dropped, Forgotten, Refused}
@@ -25,10 +31,14 @@ pub record PacketResult : Type 0 where
   pub transaction : Option OpenTransaction
   pub deferred : Bool
 
+-- The device may be processing an unidentified message.
+abbrev pub may_be_processing : ℕ → Channel → Bool
+may_be_processing now c = is_owner_unknown c && nat_lt (now - c.last_packet_at) IDLE_TIMEOUT_MS
+
 -- No RP ID and no credentials.
 abbrev pub no_names : RequestNames
 no_names = record {
-  rp_id = record { bytes = replicate 253 0; len = 0 };
+  rp_id = no_rp_id;
   excluded = None;
   account = None;
   is_silent = false;
@@ -66,16 +76,14 @@ with_oldest_ended channel [] ended = ended
 with_oldest_ended channel (oldest ∷ others) ended =
     if nat_lt (length others + 1) MAX_PENDING_INITS then ended else with_end ended (open_init channel oldest) Forgotten
 
--- The channel after a host's message began: an INIT, or another one.
-abbrev pub after_message_start : OpenTransaction → List ℕ → Channel → Channel
-after_message_start m part c =
-    if m.transaction.message == INIT then with_pending_init m part (contender_accepted false (after_idle m.at c)) else channel_with_message m c
+-- The channel after an INIT began. It changes nothing else before its response (CTAP 2.1, section 11.2.9.1.3).
+abbrev pub init_begun : OpenTransaction → List ℕ → Channel → Channel
+init_begun m part c = with_pending_init m part (contender_accepted false (after_idle m.at c))
 
--- The transactions that a new message ends.
-abbrev pub with_ended_by_start : OpenTransaction → Channel → List Ended → List Ended
-with_ended_by_start m c ended =
-    let settled_ends = ends_by_contender false (after_idle m.at c) ended in
-    if m.transaction.message == INIT then with_oldest_ended c.number c.pending_inits.items settled_ends else settled_ends
+-- The transactions that a new INIT ends.
+abbrev pub ends_by_init : OpenTransaction → Channel → List Ended → List Ended
+ends_by_init m c ended =
+    with_oldest_ended c.number c.pending_inits.items (ends_by_contender false (after_idle m.at c) ended)
 
 -- The INIT has this nonce, or without a nonce, a wrong length.
 abbrev pub matches_nonce : Option ℕ → PendingInit → Bool
@@ -120,121 +128,155 @@ abbrev pub last_init_index : Channel → ℕ
 last_init_index c = length c.pending_inits.items - 1
 
 -- The index of the INIT that an ERROR is for, or the number of INITs if it is for none.
-abbrev pub refused_init : ℕ → ℕ → Channel → ℕ
-refused_init code input c =
+abbrev pub refused_init : ℕ → Channel → ℕ
+refused_init code c =
     let items = c.pending_inits.items in
     let wrong = init_index (matches_nonce None) items in
     if (code == 3) && nat_lt wrong (length items) then wrong
     else if c.last_was_init && can_refuse_init code c then last_init_index c
     else length items
 
--- The result of an ERROR for this INIT.
-abbrev pub init_refused : ℕ → Option OpenTransaction → Channel → List Ended → PacketResult
-init_refused code None c ended = record { channel = c; ended = ended; transaction = None; deferred = false }
-init_refused code (Some init) c ended =
-    let refused = with_end ended init (Refused code) in
-    let also = also_ends init.transaction code c.current in
-    record {
-      channel = contender_refused code init.transaction c;
-      ended = if also then with_end_of refused c.current (interrupted_end init.transaction) else refused;
-      transaction = Some init;
-      deferred = false;
-    }
+-- The message that began last, if an ERROR refuses it: an INIT, or the contender unless it is unknown what the ERROR is for.
+abbrev pub refused_start : ℕ → (is_undecided : Bool) → Channel → Option OpenTransaction
+refused_start code is_undecided c =
+    let place = refused_init code c in
+    if nat_lt place (length c.pending_inits.items) then init_at place c
+    else if is_undecided || c.last_was_init then None
+    else c.contender
 
--- The transaction of an ERROR that isn't for an INIT.
-abbrev pub owner_of : (contender current : Option OpenTransaction) → Option Transaction → Option OpenTransaction
-owner_of contender current None = None
-owner_of (Some contender) current (Some transaction) = Some contender
-owner_of None current (Some transaction) = current
+-- The channel without that message.
+abbrev pub without_refused_start : ℕ → (is_undecided : Bool) → Channel → Channel
+without_refused_start code is_undecided c =
+    let place = refused_init code c in
+    if nat_lt place (length c.pending_inits.items) then without_init_at place c
+    else if is_undecided || c.last_was_init then c
+    else record c { contender = None }
 
--- The result of an ERROR for the last INIT, if there is one.
-abbrev pub init_refused_last : ℕ → Option OpenTransaction → Channel → List Ended → PacketResult
-init_refused_last code None c ended = record { channel = c; ended = ended; transaction = None; deferred = false }
-init_refused_last code (Some init) c ended = record {
+-- An ERROR for no transaction.
+abbrev pub refuses_nothing : Channel → List Ended → PacketResult
+refuses_nothing c ended = record { channel = c; ended = ended; transaction = None; deferred = false }
+
+-- The result of an ERROR for this INIT, the last one.
+abbrev pub last_init_refused_by : ℕ → Option OpenTransaction → Channel → List Ended → PacketResult
+last_init_refused_by code None c ended = refuses_nothing c ended
+last_init_refused_by code (Some init) c ended = record {
   channel = without_init_at (last_init_index c) c;
   ended = with_end ended init (Refused code);
   transaction = Some init;
   deferred = false;
 }
 
--- The result of an ERROR that refuses the channel's last unanswered INIT.
-abbrev pub last_init : ℕ → Channel → List Ended → PacketResult
-last_init code c ended = init_refused_last code (init_at (last_init_index c) c) c ended
+-- The result of an ERROR without a current message: it refuses the last unanswered INIT, unless a packet outside any
+-- transaction came before.
+abbrev pub last_init_refused : ℕ → Channel → List Ended → PacketResult
+last_init_refused code c ended =
+    if c.last_was_stray then refuses_nothing c ended else last_init_refused_by code (init_at (last_init_index c) c) c ended
 
--- The result of an ERROR that isn't for an INIT: it refuses the contender, or else the current message.
-abbrev pub refused_message : ℕ → Option OpenTransaction → Channel → List Ended → PacketResult
-refused_message code contender c ended = record {
-  channel = refused_by code contender c.current c;
-  ended = ends_by_refusal code contender c.current c ended;
-  transaction = owner_of contender c.current (refused_transaction code contender c.current c);
+-- The result of an ERROR for the current message.
+abbrev pub current_refused : ℕ → Option OpenTransaction → Channel → List Ended → PacketResult
+current_refused code None c ended = last_init_refused code c ended
+current_refused code (Some current) c ended =
+    if refuses_stray code c then refuses_nothing c ended
+    else record { channel = current_ended c; ended = with_end ended current (Refused code); transaction = Some current; deferred = false }
+
+-- The result of an ERROR by the message that began last and is refused, if any.
+abbrev pub start_refused : ℕ → (is_undecided : Bool) → Option OpenTransaction → Channel → List Ended → PacketResult
+start_refused code is_undecided (Some start) c ended =
+    let refused = with_end ended start (Refused code) in
+    record {
+      channel = contender_refused code start.transaction c;
+      ended = if also_ends start.transaction code c.current then with_end_of refused c.current (interrupted_end start.transaction)
+          else refused;
+      transaction = Some start;
+      deferred = false;
+    }
+start_refused code true None c ended = record {
+  channel = record (both_unidentified c) { last_asserted_rp = no_rp_id };
+  ended = with_unknown_ends c ended;
+  transaction = None;
   deferred = false;
 }
+start_refused code false None c ended = current_refused code c.current c ended
 
 -- The result of an ERROR other than a time-out.
 abbrev pub error_result : ℕ → ℕ → Channel → List Ended → PacketResult
 error_result code input c ended =
-    let place = refused_init code input c in
-    if nat_lt place (length c.pending_inits.items) then init_refused code (init_at place c) (without_init_at place c) ended
-    else if is_owner_undecided input c
-    then record { channel = record (both_unidentified c) { last_asserted_rp = no_names.rp_id }; ended = with_unknown_ends c ended; transaction = None; deferred = false }
-    else if c.last_was_init && is_some c.current || (not c.last_was_init && (is_some c.contender || is_some c.current)) then refused_message code (if c.last_was_init then None else c.contender) c ended
-    else if c.last_was_stray then record { channel = c; ended = ended; transaction = None; deferred = false }
-    else last_init code c ended
+    let is_undecided = is_owner_undecided input c in
+    start_refused code is_undecided (refused_start code is_undecided c) (without_refused_start code is_undecided c) ended
 
--- The result of ERROR 05 without a contender, or with a complete one (CTAP 2.1, section 11.2.5.2).
-abbrev pub timeout_or_refusal : Option Transaction → Option Ambiguous → ℕ → Channel → List Ended → PacketResult
+-- The result of the initialization packet of a device message.
+pub record StartResult : Type 0 where
+  pub channel : Channel
+  pub ended : List Ended
+  pub transaction : Option Transaction
+  pub deferred : Bool
+
+-- The same with the transaction alone.
+abbrev pub to_start_result : PacketResult → StartResult
+to_start_result r =
+    record { channel = r.channel; ended = r.ended; transaction = transaction_of r.transaction; deferred = r.deferred }
+
+-- The result of ERROR 05 for the current message: it timed out, or another message is refused (CTAP 2.1, section 11.2.5.2).
+abbrev pub timeout_or_refusal : Option Transaction → Option Ambiguous → ℕ → Channel → List Ended → StartResult
 timeout_or_refusal (Some transaction) ambiguous input c ended = record {
   channel = timed_out ambiguous c;
   ended = ends_by_timeout ambiguous c.current ended;
-  transaction = c.current;
+  transaction = Some transaction;
   deferred = is_late_by ambiguous c.current;
 }
 timeout_or_refusal None ambiguous input c ended =
-    let other = error_result 5 input (timed_out ambiguous c) ended in
+    let other = to_start_result (error_result 5 input (timed_out ambiguous c) (ends_by_timeout ambiguous c.current ended)) in
     record other { deferred = is_late_by ambiguous c.current }
 
--- The result of ERROR 05 for the current message: it times out, or another message is refused.
-abbrev pub current_timed_out : Option Ambiguous → ℕ → Channel → List Ended → PacketResult
+-- The result of ERROR 05 for the current message.
+abbrev pub current_timed_out : Option Ambiguous → ℕ → Channel → List Ended → StartResult
 current_timed_out ambiguous input c ended = timeout_or_refusal (timeout_transaction ambiguous c.current) ambiguous input c ended
 
 -- The result of ERROR 05 for the contender, while the current message is processed.
-abbrev pub contender_timed_out : Option Ambiguous → Channel → List Ended → PacketResult
+abbrev pub contender_timed_out : Option Ambiguous → Channel → List Ended → StartResult
 contender_timed_out ambiguous c ended =
     let alone = record c { current = c.contender; contender = None } in
     record {
-      channel = record (timed_out ambiguous alone) { current = c.current; contender = None };
+      channel = record (timed_out ambiguous alone) { current = c.current };
       ended = ends_by_timeout ambiguous c.contender ended;
-      transaction = if is_some (timeout_transaction ambiguous c.contender) then c.contender else None;
+      transaction = timeout_transaction ambiguous c.contender;
       deferred = is_late_by ambiguous c.contender;
     }
 
 -- The result of ERROR 05 if it is unknown which message timed out.
-abbrev pub both_lost_by_timeout : Channel → List Ended → PacketResult
+abbrev pub both_lost_by_timeout : Channel → List Ended → StartResult
 both_lost_by_timeout c ended = record {
-  channel = record (both_unidentified c) { last_asserted_rp = no_names.rp_id };
+  channel = record (both_unidentified c) { last_asserted_rp = no_rp_id };
   ended = with_unknown_ends c ended;
   transaction = None;
   deferred = false;
 }
 
--- The result of ERROR 05 with an incomplete contender.
-abbrev pub one_of_two_timed_out : Option Ambiguous → ℕ → (contender current : OpenTransaction) → Channel → List Ended → PacketResult
+-- The result of ERROR 05 for the contender, if it is known that the current message is processed.
+abbrev pub contender_lost : Option Ambiguous → Channel → List Ended → StartResult
+contender_lost ambiguous c ended =
+    if is_owner_unknown c then both_lost_by_timeout c ended else contender_timed_out ambiguous c ended
+
+-- The result of ERROR 05 with an incomplete contender: it is for the contender if the current message is complete, and for
+-- the current one if the contender began within the shortest time-out after it.
+abbrev pub one_of_two_timed_out : Option Ambiguous → ℕ → (contender current : OpenTransaction) → Channel → List Ended → StartResult
 one_of_two_timed_out ambiguous input contender current c ended =
-    if is_complete_message current then (if is_owner_unknown c then both_lost_by_timeout c ended else contender_timed_out ambiguous c ended)
+    if is_complete_message current then contender_lost ambiguous c ended
     else if nat_lt contender.delay 100 then current_timed_out ambiguous input (contender_accepted true c) (ends_by_contender true c ended)
     else if is_owner_undecided input c then both_lost_by_timeout c ended
     else current_timed_out ambiguous input c ended
 
 -- The result of ERROR 05.
-abbrev pub timeout_result : Option Ambiguous → ℕ → (contender current : Option OpenTransaction) → Channel → List Ended → PacketResult
+abbrev pub timeout_result : Option Ambiguous → ℕ → (contender current : Option OpenTransaction) → Channel → List Ended → StartResult
 timeout_result ambiguous input (Some contender) (Some current) c ended =
     if is_complete_message contender then current_timed_out ambiguous input c ended else one_of_two_timed_out ambiguous input contender current c ended
 timeout_result ambiguous input contender current c ended = current_timed_out ambiguous input c ended
 
 -- The result of an ERROR.
-abbrev pub refused : ℕ → ℕ → Option Ambiguous → Channel → List Ended → PacketResult
+abbrev pub refused : ℕ → ℕ → Option Ambiguous → Channel → List Ended → StartResult
 refused code input ambiguous c ended =
-    if code == 5 then timeout_result ambiguous input c.contender c.current c ended else error_result code input c ended
+    if code == 5 then timeout_result ambiguous input c.contender c.current c ended
+    else record (to_start_result (error_result code input c ended)) { deferred = false }
 
 -- The channel after the response to an INIT, which ends the transaction of an allocated channel (CTAP 2.1, section
 -- 11.2.9.1.3).
@@ -278,7 +320,7 @@ message_answered answer c ended =
     let is_asked = is_for_contender answer c in
     if not is_held && not is_asked then record { channel = c; ended = ended; transaction = None; deferred = false }
     else if is_owner_unknown c || is_held && is_asked
-    then record { channel = record (both_unidentified c) { last_asserted_rp = no_names.rp_id }; ended = with_unknown_ends c ended; transaction = None; deferred = false }
+    then record { channel = record (both_unidentified c) { last_asserted_rp = no_rp_id }; ended = with_unknown_ends c ended; transaction = None; deferred = false }
     else if is_asked && is_served_uncancelled c.current
     then record { channel = record c { contender = None }; ended = ended; transaction = c.contender; deferred = false }
     else if is_asked then record {
@@ -295,7 +337,141 @@ response_result answer c ended =
     if answer.command == INIT then answered_init answer.part.now c ended
     else message_answered answer c ended
 
+-- A successful authenticatorGetNextAssertion has the RP ID of the last authenticatorGetAssertion (CTAP 2.1, section 6.3).
+abbrev pub with_asserted_rp : ResponseStart → RpId → OpenTransaction → OpenTransaction
+with_asserted_rp answer rp m =
+    if has_status 8 m.transaction.command && has_status 0 answer.status then record m { named = record m.named { rp_id = rp } } else m
+
+-- The RP ID of the last successful authenticatorGetAssertion after a response.
+abbrev pub asserted_rp_after : ResponseStart → Option OpenTransaction → RpId → RpId
+asserted_rp_after answer None rp = rp
+asserted_rp_after answer (Some m) rp = if is_success answer && is_assertion (Some m.transaction) then m.named.rp_id else rp
+
+-- The channel with the beginning of a response as the device's last message.
+abbrev pub with_response_of : ResponseStart → Option OpenTransaction → Channel → Channel
+with_response_of answer exchange c = record c {
+  last_response = record { line = answer.line; progress = answer.progress; status = answer.status; exchange = exchange };
+  last_asserted_rp = asserted_rp_after answer exchange c.last_asserted_rp;
+}
+
+-- The result of a response, which is then the device's last message.
+abbrev pub with_response : ResponseStart → PacketResult → PacketResult
+with_response answer r =
+    let exchange = option_map (with_asserted_rp answer r.channel.last_asserted_rp) r.transaction in
+    record r { channel = with_response_of answer exchange r.channel; deferred = false }
+
 -- The transactions whose unfinished response a new device message truncates.
 abbrev pub truncated_by : ResponseMessage → List Ended → List Ended
 truncated_by last_response ended =
     if is_whole last_response.progress.length last_response.progress.continuations then ended else with_end_of ended last_response.exchange (Cut last_response.progress)
+
+-- The channel whose last device message gets no further packets.
+abbrev pub response_closed : Channel → Channel
+response_closed c = record c {
+  last_response = record c.last_response { line = 0; progress = record { length = 0; continuations = 0 }; exchange = None };
+}
+
+-- The transaction that a KEEPALIVE ends: that of the current message if the device is processing only the contender.
+abbrev pub ends_by_keepalive : Channel → List Ended → List Ended
+ends_by_keepalive c ended =
+    if not (is_owner_unknown c) && (is_in_process c.contender && not (is_in_process c.current)) then ends_by_contender true c ended
+    else ended
+
+-- The result of a KEEPALIVE (CTAP 2.1, section 11.2.9.1.7).
+abbrev pub keepalive_result : ℕ → ℕ → ℕ → Channel → List Ended → StartResult
+keepalive_result status input now c ended = record {
+  channel = after_keepalive status input now c;
+  ended = ends_by_keepalive c ended;
+  transaction = keepalive_transaction input now c;
+  deferred = false;
+}
+
+-- The result of a device message by its command: ERROR, KEEPALIVE, or a response.
+unfoldable pub result_of_command : ResponseStart → ℕ → ℕ → Option Ambiguous → Channel → List Ended → StartResult
+result_of_command answer input now ambiguous c ended =
+    if answer.command == ERROR then refused (unwrap_or answer.status 0) input ambiguous c ended
+    else if answer.command == KEEPALIVE then keepalive_result (unwrap_or answer.status 0) input now c ended
+    else to_start_result (with_response answer (response_result answer c ended))
+
+-- No transaction is open on the channel.
+abbrev pub is_idle : Channel → Bool
+is_idle c = is_none c.current && (is_none c.contender && ((length c.pending_inits.items == 0)
+    && ((c.ambiguous_count == 0) && is_whole c.last_response.progress.length c.last_response.progress.continuations)))
+
+-- The channel after a packet of the device at this time. A KEEPALIVE for no known transaction shows on an idle channel
+-- that one is pending; a response to no known transaction, that one fewer is.
+unfoldable pub after_device_packet : ResponseStart → ℕ → (is_known : Bool) → Channel → Channel
+after_device_packet answer now is_known before =
+    let c = record before { last_packet_at = now; has_ambiguous_keepalive = (answer.command == KEEPALIVE) && not is_known } in
+    if is_known then c
+    else if answer.command == KEEPALIVE then (if is_idle c then with_unidentified answer.line c else c)
+    else if (answer.command == ERROR) || (answer.command == INIT) then c
+    else record c { ambiguous_count = c.ambiguous_count - 1 }
+
+-- The role of a device packet by its transaction: an ERROR for no known one is outside any.
+abbrev pub device_role : ResponseStart → Option Transaction → Role
+device_role answer transaction = if (answer.command == ERROR) && is_none transaction then Error else Owned
+
+-- The result of the initialization packet of a device message on a channel.
+abbrev pub after_device_start : ResponseStart → ℕ → ℕ → Option Ambiguous → Channel → List Ended → StartResult
+after_device_start answer input now ambiguous c ended =
+    let r = result_of_command answer input now ambiguous (response_closed c) (truncated_by c.last_response ended) in
+    record r { channel = after_device_packet answer now (is_some r.transaction) r.channel }
+
+-- The role of a packet outside any open message: this one, unless the packet may belong to an unidentified message.
+abbrev pub role_outside : Role → Channel → Role
+role_outside role c = if nat_lt 0 c.ambiguous_count || c.has_ambiguous_keepalive then Owned else role
+
+-- The request needs user presence: authenticatorMakeCredential, Reset and Selection, and GetAssertion unless its option
+-- `up` is false (CTAP 2.1, section 6).
+abbrev pub needs_presence : OpenTransaction → Bool
+needs_presence m =
+    has_status 1 m.transaction.command || (has_status 7 m.transaction.command || (has_status 0x0b m.transaction.command
+    || (has_status 2 m.transaction.command && not m.named.is_silent)))
+
+-- The request after a reply of the caller, or None if it didn't wait for one of this kind. Without a KEEPALIVE it is
+-- unknown which reply is needed, and a key may report PROCESSING while it waits for the user.
+abbrev pub request_after_reply : Option AwaitedReply → AwaitedReply → ℕ → OpenTransaction → Option OpenTransaction
+request_after_reply (Some Presence) Presence now m = Some (record m { presence_ms = Some (now - m.at); awaited = None })
+request_after_reply (Some Key) Key now m = Some (record m { awaited = Some Signature })
+request_after_reply None reply now m = Some m
+request_after_reply (Some Signature) Signature now m = Some m
+request_after_reply (Some awaited) Presence now m = if is_none m.presence_ms && needs_presence m then Some m else None
+request_after_reply (Some awaited) reply now m = None
+
+-- The request on a channel that a reply is for.
+abbrev pub request_replied : AwaitedReply → ℕ → Option OpenTransaction → Option OpenTransaction
+request_replied reply now None = None
+request_replied reply now (Some m) = request_after_reply m.awaited reply now m
+
+-- It is unknown which request of the channel a reply is for.
+abbrev pub is_reply_unclear : Channel → Bool
+is_reply_unclear c = is_some c.contender || (is_owner_unknown c || c.has_ambiguous_keepalive)
+
+-- The channel whose current message is this one, if any.
+abbrev pub with_current : Option OpenTransaction → Channel → Channel
+with_current None c = c
+with_current (Some m) c = record c { current = Some m }
+
+-- The channel after a reply of the caller.
+abbrev pub channel_replied : AwaitedReply → ℕ → Channel → Channel
+channel_replied reply now c = if is_reply_unclear c then c else with_current (request_replied reply now c.current) c
+
+-- The transaction of a reply of the caller, if known.
+abbrev pub replied_transaction : AwaitedReply → ℕ → Channel → Option Transaction
+replied_transaction reply now c = if is_reply_unclear c then None else transaction_of (request_replied reply now c.current)
+
+-- The role of a reply of the caller.
+abbrev pub replied_role : AwaitedReply → ℕ → Channel → Role
+replied_role reply now c =
+    if is_reply_unclear c then Owned else if is_some (request_replied reply now c.current) then Owned else Reply
+
+-- The transaction that holds a channel, or else the last one that got a response there.
+abbrev pub last_transaction : Option Channel → Option OpenTransaction
+last_transaction None = None
+last_transaction (Some c) = if is_some c.current then c.current else c.last_response.exchange
+
+-- The device's last message on the channel is incomplete.
+abbrev pub has_unfinished_response : Option Channel → Bool
+has_unfinished_response None = false
+has_unfinished_response (Some c) = not (is_whole c.last_response.progress.length c.last_response.progress.continuations)

@@ -1,7 +1,8 @@
 //! Packets of the device.
 
-ghost use Rattle.std.specs.Prelude.{◌≡◌};
+ghost use Rattle.std.specs.Prelude.{◌≡◌, ◌&&◌};
 ghost use Rattle.session_walk.specs.Ends.{can_answer};
+ghost use Rattle.session_walk.specs.Replies.{allocated_channel, is_assertion, is_success};
 
 use crate::command::GET_ASSERTION;
 use crate::entry::Role;
@@ -32,19 +33,25 @@ impl ResponseStart<'_> {
     }
 
     /// Returns whether this is a CBOR response with status CTAP2_OK.
-    pub fn is_success(&self) -> bool {
+    pub fn is_success(&self) -> bool
+        ensures { result ≡ is_success self.now }
+    {
         self.command == CBOR && matches!(self.status, Some(OK))
     }
 
     /// Returns whether this is a successful authenticatorGetAssertion response, if it belongs to this transaction.
-    pub fn has_assertion(&self, transaction: &Option<Transaction>) -> bool {
+    pub fn has_assertion(&self, transaction: &Option<Transaction>) -> bool
+        ensures { result ≡ (is_success self.now && is_assertion transaction.now) }
+    {
         self.is_success()
             && matches!(transaction, Some(transaction) if matches!(transaction.command, Some(GET_ASSERTION)))
     }
 
     /// Returns the channel that a response to INIT on the broadcast channel allocates (CTAP 2.1, section 11.2.9.1.3):
     /// the four bytes after the nonce, or the broadcast channel if the response is too short.
-    pub fn given(&self) -> u32 {
+    pub fn given(&self) -> u32
+        ensures { result ≡ allocated_channel self.now.part.now }
+    {
         match self.part {
             [_, _, _, _, _, _, _, _, a, b, c, d, ..] => u32::from_be_bytes([*a, *b, *c, *d]),
             _ => BROADCAST,

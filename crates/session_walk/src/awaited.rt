@@ -1,5 +1,9 @@
 //! The replies of the caller that an authenticator waits for.
 
+ghost use Rattle.std.specs.Prelude.{◌≡◌};
+ghost use Rattle.authn_core.specs.Views.{to_needed};
+ghost use Rattle.session_walk.specs.Replies.{kind_of_input, reply_to_need};
+
 use authn_core::Need;
 use token_session::Input;
 
@@ -13,7 +17,9 @@ pub enum AwaitedReply {
 
 impl AwaitedReply {
     /// Returns the reply that satisfies a need.
-    pub fn of(need: &Need<'_>) -> Option<Self> {
+    pub fn of(need: &Need<'_>) -> Option<Self>
+        ensures { result ≡ reply_to_need (to_needed need.now) }
+    {
         match need {
             Need::None => None,
             Need::Presence => Some(AwaitedReply::Presence),
@@ -23,7 +29,9 @@ impl AwaitedReply {
     }
 
     /// Returns the kind of a reply, or `None` for other inputs.
-    pub fn from_input(input: &Input) -> Option<Self> {
+    pub fn from_input(input: &Input) -> Option<Self>
+        ensures { result ≡ kind_of_input input.now }
+    {
         match input {
             Input::Packet(_) | Input::Tick => None,
             Input::Presence(_) => Some(AwaitedReply::Presence),

@@ -1,14 +1,16 @@
 //! The state of one channel, derived from the packets alone by the transport's rules (CTAP 2.1, sections 11.2.4 and
 //! 11.2.5).
 ghost use Rattle.std.specs.Prelude.{◌≡◌, true, false, IfSome, None, Some};
-ghost use Rattle.session_walk.specs.Owners.{with_end_of, cancelled_transaction, channel_cancelled, channel_continued, match_if_incomplete};
-ghost use Rattle.session_walk.specs.Owners.{continued_message, current_ended, continuation_match, with_continuation, is_owner_unknown, with_unidentified, channel_with_message};
-ghost use Rattle.session_walk.specs.Owners.{nonce_of, contender_accepted, ends_by_contender, after_idle, message_after_continuation, transaction_of};
+ghost use Rattle.session_walk.specs.Owners.{cancelled_transaction, channel_cancelled, channel_continued, match_if_incomplete};
+ghost use Rattle.session_walk.specs.Owners.{continued_message, continuation_match, with_continuation, is_owner_unknown, with_unidentified, channel_with_message};
+ghost use Rattle.session_walk.specs.Owners.{nonce_of, ends_by_contender, after_idle, message_after_continuation, transaction_of};
 ghost use Rattle.hid_packet.specs.Commands.{INIT as INIT_COMMAND};
-ghost use Rattle.session_walk.specs.Ends.{is_owner_undecided, with_unknown_ends, both_unidentified};
+ghost use Rattle.session_walk.specs.Channels.{fresh_channel, makes_way_before, open_transactions, with_dropped, with_forgotten};
 ghost use Rattle.session_walk.specs.Extents.{is_whole};
-ghost use Rattle.std.specs.Prelude.{◌≤◌, length, not};
+ghost use Rattle.std.specs.Prelude.{length, not};
 ghost use Rattle.session_walk.specs.Walks.{packet_time_of, may_wait};
+ghost use Rattle.std.specs.Prelude.{◌&&◌, ◌-◌};
+ghost use Rattle.session_walk.specs.Whole.{channel_replied, replied_role, replied_transaction, ends_by_init, init_begun, role_outside, is_idle, matches_nonce, may_be_processing, open_init};
 
 use crate::awaited::AwaitedReply;
 use crate::entry::Role;
@@ -38,8 +40,20 @@ pub struct PendingInit {
 }
 
 impl PendingInit {
+    /// Returns whether it has this nonce or, without one, a wrong length.
+    pub fn matches(&self, nonce: Option<u64>) -> bool
+        ensures { result ≡ matches_nonce nonce self.now }
+    {
+        match nonce {
+            Some(nonce) => self.length == 8 && self.nonce == nonce,
+            None => self.length != 8,
+        }
+    }
+
     /// Converts the INIT to an open transaction of a channel.
-    fn on(&self, channel: u32) -> OpenTransaction {
+    pub(crate) fn on(&self, channel: u32) -> OpenTransaction
+        ensures { result ≡ open_init channel self.now }
+    {
         OpenTransaction {
             transaction: Transaction {
                 channel,
@@ -52,7 +66,12 @@ impl PendingInit {
                 continuations: 0,
             },
             at: self.at,
-            ..OpenTransaction::default()
+            delay: 0,
+            cancelled: None,
+            presence_ms: None,
+            awaited: None,
+            keepalives: 0,
+            named: RequestNames::default(),
         }
     }
 }
@@ -81,7 +100,9 @@ pub struct ResponseMessage {
 
 impl ResponseMessage {
     /// Returns the transaction of the response.
-    pub fn transaction(&self) -> Option<Transaction> {
+    pub fn transaction(&self) -> Option<Transaction>
+        ensures { result ≡ transaction_of self.now.exchange }
+    {
         match &self.exchange {
             Some(exchange) => Some(exchange.transaction),
             None => None,
@@ -138,8 +159,22 @@ pub struct Channel {
 }
 
 impl Channel {
+    /// Returns a channel without transactions, whose last packet is on this line.
+    pub fn fresh(number: u32, line: u64) -> Self
+        ensures { result ≡ fresh_channel number line }
+    {
+        Channel {
+            number,
+            used: line,
+            last_asserted_rp: RpId::default(),
+            ..Channel::default()
+        }
+    }
+
     /// Returns whether no transaction is open.
-    pub fn is_idle(&self) -> bool {
+    pub fn is_idle(&self) -> bool
+        ensures { result ≡ is_idle self.now }
+    {
         self.current.is_none()
             && self.contender.is_none()
             && self.pending_inits.is_empty()
@@ -155,12 +190,16 @@ impl Channel {
     }
 
     /// Returns whether the device may be processing an unidentified message at this time.
-    pub fn may_be_processing(&self, now: u64) -> bool {
+    pub fn may_be_processing(&self, now: u64) -> bool
+        ensures { result ≡ may_be_processing now self.now }
+    {
         self.is_unclear() && now.saturating_sub(self.last_packet_at) < IDLE_TIMEOUT_MS
     }
 
     /// Returns the role of a packet outside any open message: `role`, unless it may belong to an unidentified one.
-    pub fn role_outside_messages(&self, role: Role) -> Role {
+    pub fn role_outside_messages(&self, role: Role) -> Role
+        ensures { result ≡ role_outside role self.now }
+    {
         if self.ambiguous_count > 0 || self.has_ambiguous_keepalive {
             Role::Owned
         } else {
@@ -176,7 +215,9 @@ impl Channel {
     }
 
     /// Returns the open transactions, each with its end if no packet follows.
-    pub fn open(&self) -> EndedList {
+    pub fn open(&self) -> EndedList
+        ensures { result.0.items ≡ open_transactions self.now }
+    {
         let mut open = EndedList::default();
         if self.is_answering()
             && let Some(exchange) = self.last_response.exchange
@@ -195,14 +236,38 @@ impl Channel {
         open
     }
 
+    /// Ends the open transactions as no longer tracked.
+    ///
     /// A separate function, because its caller runs for each packet and would need the list's stack space each time.
-    pub fn end_untracked(&self, ended: &mut EndedList) {
+    pub fn end_untracked(&self, ended: &mut EndedList)
+        ensures { ended.new.0.items ≡ with_forgotten ended.old.0.items (open_transactions self.now) }
+    {
         for open in self.open().0.as_slice() {
             ended.add(open.exchange, End::Forgotten);
         }
     }
 
-    // ---- host packets
+    /// Ends the open transactions as dropped by the INIT on this line.
+    pub fn end_dropped(&self, line: u64, ended: &mut EndedList)
+        ensures { ended.new.0.items ≡ with_dropped line ended.old.0.items (open_transactions self.now) }
+    {
+        for open in self.open().0.as_slice() {
+            ended.add(open.exchange, End::Dropped(line));
+        }
+    }
+
+    /// Returns whether it makes way for another channel sooner than `other`: the idle one, if only one is idle, or else
+    /// the least recently used one.
+    pub fn makes_way_before(&self, other: &Channel) -> bool
+        ensures { result ≡ makes_way_before self.now other.now }
+    {
+        let is_idle = self.is_idle();
+        if is_idle == other.is_idle() {
+            self.used < other.used
+        } else {
+            is_idle
+        }
+    }
 
     /// Begins a message other than CANCEL. An INIT changes nothing else before its response (section 11.2.9.1.3). If
     /// another message holds the channel, it isn't known yet which of the two the device continues.
@@ -210,6 +275,9 @@ impl Channel {
         ensures message { (begun.transaction.message ≡ INIT_COMMAND → ⊥) → self.new ≡ channel_with_message begun self.old }
         ensures ended { (begun.transaction.message ≡ INIT_COMMAND → ⊥)
             → ended.new.0.items ≡ ends_by_contender false (after_idle begun.at self.old) ended.old.0.items }
+        ensures init { begun.transaction.message ≡ INIT_COMMAND → self.new ≡ init_begun begun part.now self.old }
+        ensures init_ended { begun.transaction.message ≡ INIT_COMMAND
+            → ended.new.0.items ≡ ends_by_init begun self.old ended.old.0.items }
     {
         self.last_was_stray = false;
         if begun.at.saturating_sub(self.last_packet_at) >= IDLE_TIMEOUT_MS {
@@ -267,31 +335,6 @@ impl Channel {
             return (Some(current.transaction), Role::Owned);
         }
         (None, self.role_outside_messages(Role::Cancel))
-    }
-
-    /// Returns whether the transaction of the device's next packet is unknown after the input on line `input`. If a
-    /// second message began on the channel, it is refused before the next input, or else it was accepted.
-    pub fn is_unresolved(&self, input: u64) -> bool
-        ensures { result ≡ is_owner_undecided input self.now }
-    {
-        match &self.contender {
-            Some(contender) => self.is_unclear() || contender.transaction.line != input,
-            None => self.is_unclear(),
-        }
-    }
-
-    /// Ends `current` and `contender` as unknown, because a packet may be for either of them; the other one may still
-    /// be pending.
-    pub fn end_as_unknown(&mut self, ended: &mut EndedList)
-        ensures state { self.new ≡ record (both_unidentified self.old) { last_asserted_rp = self.new.last_asserted_rp } }
-        ensures ended { ended.new.0.items ≡ with_unknown_ends self.old ended.old.0.items }
-    {
-        self.accept_contender(false, ended);
-        if let Some(lost) = self.end_current(End::Unknown, ended) {
-            self.record_ambiguous(lost.line);
-        }
-        self.is_ambiguous = false;
-        self.last_asserted_rp = RpId::default();
     }
 
     /// Records that the message at `line` may still be pending.
@@ -356,7 +399,11 @@ impl Channel {
 
     /// Handles a reply of the caller. Returns the request that waited for it, or the reply's role if none did. Without
     /// a KEEPALIVE it is unknown which reply is needed, and with two messages, which one is processed.
-    pub fn reply(&mut self, reply: AwaitedReply, now: u64) -> (Option<Transaction>, Role) {
+    pub fn reply(&mut self, reply: AwaitedReply, now: u64) -> (Option<Transaction>, Role)
+        ensures state { self.new ≡ channel_replied reply now self.old }
+        ensures transaction { result.0 ≡ replied_transaction reply now self.old }
+        ensures role { result.1 ≡ replied_role reply now self.old }
+    {
         if self.contender.is_some() || self.is_unclear() || self.has_ambiguous_keepalive {
             return (None, Role::Owned);
         }
@@ -379,65 +426,6 @@ impl Channel {
         }
         self.current = Some(current);
         (Some(current.transaction), Role::Owned)
-    }
-
-    // ---- which of two messages the device continues
-
-    /// Makes `contender` the current message. If `is_shown`, a device packet shows that it was accepted; otherwise it
-    /// wasn't refused before the next message began.
-    pub fn accept_contender(&mut self, is_shown: bool, ended: &mut EndedList)
-        ensures state { self.new ≡ contender_accepted is_shown self.old }
-        ensures ended { ended.new.0.items ≡ ends_by_contender is_shown self.old ended.old.0.items }
-    {
-        let Some(contender) = self.contender else {
-            return;
-        };
-        self.contender = None;
-        if let Some(current) = self.current {
-            self.is_ambiguous = false;
-            let end = if !is_shown {
-                self.record_ambiguous(current.transaction.line);
-                End::Unknown
-            } else if let Some(line) = current.cancelled {
-                End::Dropped(line)
-            } else if current.progress.is_whole() {
-                End::Unknown
-            } else {
-                End::Replaced(contender.transaction.line)
-            };
-            ended.add(current, end);
-        }
-        self.current = Some(contender);
-    }
-
-    /// Ends `current`, and returns its transaction. `contender` takes its place.
-    pub fn end_current(&mut self, end: End, ended: &mut EndedList) -> Option<Transaction>
-        ensures state { self.new ≡ current_ended self.old }
-        ensures ended { ended.new.0.items ≡ with_end_of ended.old.0.items self.old.current end }
-        ensures transaction { result ≡ transaction_of self.old.current }
-    {
-        let Some(current) = self.current else {
-            return None;
-        };
-        self.current = self.contender;
-        self.contender = None;
-        ended.add(current, end);
-        Some(current.transaction)
-    }
-
-    /// Removes and returns the INIT at an index, if any.
-    pub fn take_init(&mut self, place: usize) -> Option<OpenTransaction>
-        ensures none { length self.old.pending_inits.items ≤ place → self.new ≡ self.old }
-        ensures nothing { length self.old.pending_inits.items ≤ place → result ≡ None }
-    {
-        let Some(init) = self.pending_inits.pop_at(place) else {
-            return None;
-        };
-        // The following INITs moved forward.
-        if place == self.pending_inits.len() {
-            self.last_was_init = false;
-        }
-        Some(init.on(self.number))
     }
 }
 

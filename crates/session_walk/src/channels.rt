@@ -1,14 +1,19 @@
 //! The tracked channels of a log, a few at a time.
 ghost use Rattle.session_walk.specs.declared.channel.Channel.{Channel as AnyChannel};
 ghost use Rattle.session_walk.specs.Walks.{channel_on, is_on, index_on, may_wait};
-ghost use Rattle.std.specs.Prelude.{count_by, option_map, position, slice_get, Some, ◌≡◌, ◌<◌, IfSome, if◌then◌else◌};
+ghost use Rattle.std.specs.Prelude.{ℕ, count_by, false, is_none, option_map, position, slice_get, true, None, Some, ◌≡◌, ◌<◌, IfSome, if◌then◌else◌};
+ghost use Rattle.std.specs.Option.{option_copied};
+ghost use Rattle.session_walk.specs.Channels.{AreWithoutAssertion, MakesWay, after_allocation, allocating_line, ends_by_allocation};
+ghost use Rattle.session_walk.specs.Channels.{first_open_after, fresh_channel, may_any_be_processing, open_transactions, replaces_assertion, with_forgotten};
+ghost use Rattle.session_walk.specs.Replies.{allocated_channel};
+ghost use Rattle.session_walk.specs.Whole.{has_unfinished_response, is_idle, last_transaction};
 ghost use Rattle.session_walk.specs.declared.entry.Role.TheVariants.{Owned};
 
 use crate::answer::ResponseStart;
 use crate::channel::Channel;
 use crate::entry::Role;
 use crate::rp_id::RpId;
-use crate::transaction::{End, Ended, EndedList, OpenTransaction, Transaction};
+use crate::transaction::{Ended, EndedList, OpenTransaction, Transaction};
 use hid_packet::BROADCAST;
 use hid_packet::command::INIT;
 
@@ -33,6 +38,15 @@ impl Channels {
         ensures within { result < 6 }
         ensures found { (c : AnyChannel) → channel_on number self.old.list ≡ Some c
             → slice_get self.new.list result ≡ Some (record c { used = line }) }
+        ensures others { (i : ℕ) → (i ≡ result → ⊥) → slice_get self.new.list i ≡ slice_get self.old.list i }
+        ensures evicted { index_on number self.old.list ≡ None → MakesWay result self.old.list }
+        ensures fresh { index_on number self.old.list ≡ None
+            → slice_get self.new.list result ≡ Some (fresh_channel number line) }
+        ensures kept { (c : AnyChannel) → channel_on number self.old.list ≡ Some c
+            → ended.new ≡ ended.old }
+        ensures ended { (c : AnyChannel) → index_on number self.old.list ≡ None
+            → slice_get self.old.list result ≡ Some c
+            → ended.new.0.items ≡ (if is_idle c then ended.old.0.items else with_forgotten ended.old.0.items (open_transactions c)) }
     {
         if let Some(place) = self.find(number) {
             self.list[place].used = line;
@@ -43,11 +57,7 @@ impl Channels {
             self.has_forgotten = true;
             self.list[place].end_untracked(ended);
         }
-        self.list[place] = Channel {
-            number,
-            used: line,
-            ..Channel::default()
-        };
+        self.list[place] = Channel::fresh(number, line);
         place
     }
 
@@ -74,15 +84,12 @@ impl Channels {
 
     /// Returns the index of the channel to evict.
     fn oldest(&self) -> usize
-        ensures { result < 6 }
+        ensures within { result < 6 }
+        ensures oldest { MakesWay result self.now.list }
     {
         let mut oldest = 0;
         for place in 0..MAX_TRACKED_CHANNELS {
-            let (other, found) = (&self.list[place], &self.list[oldest]);
-            let is_idle = other.is_idle();
-            if is_idle == found.is_idle() && other.used < found.used
-                || is_idle && !found.is_idle()
-            {
+            if self.list[place].makes_way_before(&self.list[oldest]) {
                 oldest = place;
             }
         }
@@ -90,7 +97,9 @@ impl Channels {
     }
 
     /// Returns a channel in use.
-    pub fn on(&self, number: u32) -> Option<&Channel> {
+    pub fn on(&self, number: u32) -> Option<&Channel>
+        ensures { option_copied result ≡ channel_on number self.now.list }
+    {
         match self.find(number) {
             Some(place) => Some(&self.list[place]),
             None => None,
@@ -121,13 +130,13 @@ impl Channels {
     }
 
     /// Returns whether an unidentified message may be in process on any channel.
-    pub fn is_unclear(&self, now: u64) -> bool {
-        for place in 0..MAX_TRACKED_CHANNELS {
-            if self.list[place].may_be_processing(now) {
-                return true;
-            }
-        }
-        false
+    pub fn is_unclear(&self, now: u64) -> bool
+        ensures { result ≡ may_any_be_processing now self.now.list }
+    {
+        self.list
+            .as_slice()
+            .iter()
+            .any(|channel| channel.may_be_processing(now))
     }
 
     /// Returns the role of a line outside any tracked transaction: `role`, unless it may belong to an evicted one.
@@ -148,7 +157,19 @@ impl Channels {
         answer: &ResponseStart<'_>,
         transaction: &Option<Transaction>,
         ended: &mut EndedList,
-    ) {
+    )
+        ensures allocated { (line : ℕ) → allocating_line answer.now transaction.now ≡ Some line
+            → self.new.list ≡ after_allocation (allocated_channel answer.now.part.now) line self.old.list }
+        ensures ended { (line : ℕ) → allocating_line answer.now transaction.now ≡ Some line → ended.new.0.items
+            ≡ ends_by_allocation (allocated_channel answer.now.part.now) line self.old.list ended.old.0.items }
+        ensures kept { allocating_line answer.now transaction.now ≡ None → ended.new ≡ ended.old }
+        ensures asserted { allocating_line answer.now transaction.now ≡ None
+            → replaces_assertion answer.now transaction.now ≡ true
+            → AreWithoutAssertion place (is_none transaction.now) self.old.list self.new.list }
+        ensures other { allocating_line answer.now transaction.now ≡ None
+            → replaces_assertion answer.now transaction.now ≡ false → self.new ≡ self.old }
+        ensures forgotten { self.new.has_forgotten ≡ self.old.has_forgotten }
+    {
         if let Some(transaction) = transaction
             && answer.command == INIT
             && transaction.channel == BROADCAST
@@ -163,7 +184,10 @@ impl Channels {
 
     /// Clears the RP ID of the last assertion on all other channels, because a key continues only its latest assertion
     /// (CTAP 2.1, section 6.3); and on this channel if the response belongs to no known transaction.
-    fn clear_assertions(&mut self, place: usize, is_unknown: bool) {
+    fn clear_assertions(&mut self, place: usize, is_unknown: bool)
+        ensures channels { AreWithoutAssertion place is_unknown self.old.list self.new.list }
+        ensures forgotten { self.new.has_forgotten ≡ self.old.has_forgotten }
+    {
         for other in 0..MAX_TRACKED_CHANNELS {
             if is_unknown || other != place {
                 self.list[other].last_asserted_rp = RpId::default();
@@ -173,24 +197,24 @@ impl Channels {
 
     /// Records the channel that the response to the INIT on this line allocates. If it was in use, the key has
     /// restarted, and the transactions open on it are dropped.
-    fn allocate_channel(&mut self, number: u32, line: u64, ended: &mut EndedList) {
+    fn allocate_channel(&mut self, number: u32, line: u64, ended: &mut EndedList)
+        ensures channels { self.new.list ≡ after_allocation number line self.old.list }
+        ensures ended { ended.new.0.items ≡ ends_by_allocation number line self.old.list ended.old.0.items }
+        ensures forgotten { self.new.has_forgotten ≡ self.old.has_forgotten }
+    {
         if number == BROADCAST {
             return;
         }
         if let Some(place) = self.find(number) {
-            for open in self.list[place].open().0.as_slice() {
-                ended.add(open.exchange, End::Dropped(line));
-            }
-            self.list[place] = Channel {
-                number,
-                used: line,
-                ..Channel::default()
-            };
+            self.list[place].end_dropped(line, ended);
+            self.list[place] = Channel::fresh(number, line);
         }
     }
 
     /// Returns the open transaction that began first after a line.
-    pub fn first_open_after(&self, line: u64) -> Option<Ended> {
+    pub fn first_open_after(&self, line: u64) -> Option<Ended>
+        ensures { result ≡ first_open_after line self.now.list }
+    {
         let mut first: Option<Ended> = None;
         for channel in self.list.as_slice() {
             first = channel.open().first_after(line, first);
@@ -199,7 +223,9 @@ impl Channels {
     }
 
     /// Returns the transaction that holds a channel, or the last one that got a response there.
-    pub fn last_transaction_on(&self, number: u32) -> Option<&OpenTransaction> {
+    pub fn last_transaction_on(&self, number: u32) -> Option<&OpenTransaction>
+        ensures { option_copied result ≡ last_transaction (channel_on number self.now.list) }
+    {
         match self.on(number) {
             Some(found) if found.current.is_some() => found.current.as_ref(),
             Some(found) => found.last_response.exchange.as_ref(),
@@ -208,7 +234,9 @@ impl Channels {
     }
 
     /// Returns whether the device's last message on a channel is incomplete.
-    pub fn is_answering(&self, number: u32) -> bool {
+    pub fn is_answering(&self, number: u32) -> bool
+        ensures { result ≡ has_unfinished_response (channel_on number self.now.list) }
+    {
         match self.on(number) {
             Some(found) => found.is_answering(),
             None => false,

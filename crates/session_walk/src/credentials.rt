@@ -1,5 +1,6 @@
 //! Tracks the credentials that a log creates, and which of them an excludeList names.
-ghost use Rattle.std.specs.Prelude.{◌<◌};
+ghost use Rattle.std.specs.Prelude.{◌≡◌, ◌<◌, false};
+ghost use Rattle.session_walk.specs.Replies.{identifier};
 
 use crate::channel::ResponseMessage;
 use crate::command::{CREDENTIAL_MANAGEMENT, GET_ASSERTION, MAKE_CREDENTIAL, RESET};
@@ -61,7 +62,10 @@ pub struct Credentials {
 
 impl Credentials {
     /// Returns an empty list.
-    pub fn new() -> Self {
+    pub fn new() -> Self
+        ensures empty { result.count ≡ 0 }
+        ensures kept { result.is_reset ≡ false }
+    {
         let none = CreatedCredential {
             line: 0,
             name: [0; 16],
@@ -229,7 +233,9 @@ fn may_name_prior(item: &[u8], key: i128, is_any: bool) -> bool {
 }
 
 /// Returns the identifier of a credential ID or user handle at the RP whose ID has this hash.
-fn hash_id(relying_party: &[u8], id: &[u8]) -> HashedId {
+fn hash_id(relying_party: &[u8], id: &[u8]) -> HashedId
+    ensures { result ≡ identifier relying_party.now id.now }
+{
     let mut hasher = Sha256::new();
     hasher.update(relying_party);
     hasher.update(id);

@@ -1,21 +1,21 @@
 //! Handles device packets on a channel: the transaction that each belongs to, and the transactions that it ends.
-
-ghost use Rattle.std.specs.Prelude.{◌≡◌, [], true, false, if◌then◌else◌, Some, None};
-ghost use Rattle.session_walk.specs.Owners.{with_end_of, current_ended};
-ghost use Rattle.session_walk.specs.Ends.{also_ends, answered_message, interrupted_end, is_late_by, fits_one_message, timeout_transaction};
-ghost use Rattle.session_walk.specs.Ends.{awaited_by, transaction_if_processing, was_due_before_contender, is_owner_undecided, after_keepalive, channel_processing, keepalive_transaction, refused_transaction, refused_by, ends_by_refusal};
-ghost use Rattle.session_walk.specs.Ends.{timed_out, ends_by_timeout, response_continued};
+ghost use Rattle.std.specs.Prelude.{◌≡◌, true, false, if◌then◌else◌, Some, None};
+ghost use Rattle.session_walk.specs.Owners.{current_ended};
+ghost use Rattle.session_walk.specs.Ends.{answered_message, fits_one_message};
+ghost use Rattle.session_walk.specs.Ends.{awaited_by, transaction_if_processing, was_due_before_contender, after_keepalive, channel_processing, keepalive_transaction};
+ghost use Rattle.session_walk.specs.Ends.{response_continued};
+ghost use Rattle.std.specs.Prelude.{option_map, position};
+ghost use Rattle.session_walk.specs.Owners.{transaction_of};
+ghost use Rattle.session_walk.specs.Whole.{device_role, after_device_packet, after_device_start, ends_by_keepalive, response_closed, response_result, result_of_command, truncated_by, with_asserted_rp, with_response, with_response_of, answered_init, init_index, matches_nonce, message_answered};
 
 use crate::ambiguous::Ambiguous;
 use crate::answer::{ContinuedResponse, ResponseStart, StartedResponse};
 use crate::awaited::AwaitedReply;
 use crate::channel::{Channel, ResponseMessage, parse_nonce};
-use crate::command::{GET_ASSERTION, GET_NEXT_ASSERTION, MAKE_CREDENTIAL, RESET, SELECTION};
+use crate::command::{GET_NEXT_ASSERTION, MAKE_CREDENTIAL};
 use crate::entry::Role;
-use crate::error_code::{
-    CHANNEL_BUSY, INVALID_CHANNEL, INVALID_CMD, INVALID_LEN, INVALID_SEQ, MSG_TIMEOUT, OTHER,
-};
 use crate::keepalive_status::{PROCESSING, UPNEEDED};
+use crate::rp_id::RpId;
 use crate::status::{KEEPALIVE_CANCEL, OK};
 use crate::transaction::{
     End, EndedList, MessageProgress, OpenTransaction, Transaction, is_processing,
@@ -35,49 +35,112 @@ impl Channel {
         behind: (u64, u64),
         ambiguous: &Option<Ambiguous>,
         ended: &mut EndedList,
-    ) -> StartedResponse {
-        // No further packet of the previous message can follow.
+    ) -> StartedResponse
+        ensures state { self.new ≡ (after_device_start answer.now behind.0 behind.1 ambiguous.now self.old ended.old.0.items).channel }
+        ensures ended { ended.new.0.items
+            ≡ (after_device_start answer.now behind.0 behind.1 ambiguous.now self.old ended.old.0.items).ended }
+        ensures transaction { result.transaction
+            ≡ (after_device_start answer.now behind.0 behind.1 ambiguous.now self.old ended.old.0.items).transaction }
+        ensures deferred { result.is_late
+            ≡ (after_device_start answer.now behind.0 behind.1 ambiguous.now self.old ended.old.0.items).deferred }
+        ensures role { result.role ≡ device_role answer.now result.transaction }
+        ensures before { result.before ≡ self.old.last_response.line }
+    {
+        let before = self.last_response.line;
+        let (transaction, is_late) = self.on_device_message(answer, behind, ambiguous, ended);
+        StartedResponse {
+            transaction,
+            role: role_of_device_packet(answer, &transaction),
+            before,
+            is_late,
+        }
+    }
+
+    /// Handles a device message by its command, after the device's last message, and records its packet. Returns its
+    /// transaction, and whether it shows that the preceding host packet arrived too late.
+    fn on_device_message(
+        &mut self,
+        answer: &ResponseStart<'_>,
+        behind: (u64, u64),
+        ambiguous: &Option<Ambiguous>,
+        ended: &mut EndedList,
+    ) -> (Option<Transaction>, bool)
+        ensures state { self.new ≡ (after_device_start answer.now behind.0 behind.1 ambiguous.now self.old ended.old.0.items).channel }
+        ensures ended { ended.new.0.items
+            ≡ (after_device_start answer.now behind.0 behind.1 ambiguous.now self.old ended.old.0.items).ended }
+        ensures transaction { result.0
+            ≡ (after_device_start answer.now behind.0 behind.1 ambiguous.now self.old ended.old.0.items).transaction }
+        ensures deferred { result.1
+            ≡ (after_device_start answer.now behind.0 behind.1 ambiguous.now self.old ended.old.0.items).deferred }
+    {
+        self.close_response(ended);
+        let (transaction, is_late) = self.on_device_command(answer, behind, ambiguous, ended);
+        self.record_device_packet(answer, behind.1, transaction.is_some());
+        (transaction, is_late)
+    }
+
+    /// Ends the device's last message, of which no further packet can follow, and its transaction if it is incomplete.
+    fn close_response(&mut self, ended: &mut EndedList)
+        ensures state { self.new ≡ response_closed self.old }
+        ensures ended { ended.new.0.items ≡ truncated_by self.old.last_response ended.old.0.items }
+    {
         if self.is_answering()
             && let Some(exchange) = self.last_response.exchange
         {
             ended.add(exchange, End::Cut(self.last_response.progress));
         }
-        let before = self.last_response.line;
         self.last_response.line = 0;
-        self.last_response.progress = MessageProgress::default();
-        self.last_response.exchange = None;
-        let status = answer.status.unwrap_or(0);
-        let mut is_late = false;
-        let mut role = Role::Owned;
-        let transaction = match answer.command {
-            ERROR => {
-                let (transaction, is_of_late) = self.refuse(status, behind.0, ambiguous, ended);
-                is_late = is_of_late;
-                if transaction.is_none() {
-                    role = Role::Error;
-                }
-                transaction
-            }
-            KEEPALIVE => self.on_keepalive(status, behind, ended),
-            _ => self.answer(answer, ended),
+        self.last_response.progress = MessageProgress {
+            length: 0,
+            continuations: 0,
         };
-        self.last_packet_at = behind.1;
-        self.has_ambiguous_keepalive = answer.command == KEEPALIVE && transaction.is_none();
+        self.last_response.exchange = None;
+    }
+
+    /// Handles an ERROR, a KEEPALIVE or a response. Returns its transaction, and whether it shows that the preceding host
+    /// packet arrived too late.
+    #[tactic(auto, unfolding(crate::specs::Whole::result_of_command))]
+    fn on_device_command(
+        &mut self,
+        answer: &ResponseStart<'_>,
+        behind: (u64, u64),
+        ambiguous: &Option<Ambiguous>,
+        ended: &mut EndedList,
+    ) -> (Option<Transaction>, bool)
+        ensures state { self.new ≡ (result_of_command answer.now behind.0 behind.1 ambiguous.now self.old ended.old.0.items).channel }
+        ensures ended { ended.new.0.items
+            ≡ (result_of_command answer.now behind.0 behind.1 ambiguous.now self.old ended.old.0.items).ended }
+        ensures transaction { result.0
+            ≡ (result_of_command answer.now behind.0 behind.1 ambiguous.now self.old ended.old.0.items).transaction }
+        ensures deferred { result.1
+            ≡ (result_of_command answer.now behind.0 behind.1 ambiguous.now self.old ended.old.0.items).deferred }
+    {
+        let status = answer.status.unwrap_or(0);
         match answer.command {
-            KEEPALIVE if transaction.is_none() && self.is_idle() => self.record_ambiguous(
-                answer.line,
-            ),
-            KEEPALIVE | ERROR | INIT => {}
-            _ if transaction.is_none() => self.ambiguous_count = self
-                .ambiguous_count
-                .saturating_sub(1),
-            _ => {}
+            ERROR => self.refuse(status, behind.0, ambiguous, ended),
+            KEEPALIVE => (self.on_keepalive(status, behind, ended), false),
+            _ => (self.answer(answer, ended), false),
         }
-        StartedResponse {
-            transaction,
-            role,
-            before,
-            is_late,
+    }
+
+    /// Records a device packet at time `now`. One of no known transaction shows that a message is pending, or no longer.
+    #[tactic(auto, unfolding(crate::specs::Whole::after_device_packet))]
+    fn record_device_packet(&mut self, answer: &ResponseStart<'_>, now: u64, is_known: bool)
+        ensures { self.new ≡ after_device_packet answer.now now is_known self.old }
+    {
+        self.last_packet_at = now;
+        self.has_ambiguous_keepalive = answer.command == KEEPALIVE && !is_known;
+        if is_known {
+            return;
+        }
+        match answer.command {
+            KEEPALIVE => {
+                if self.is_idle() {
+                    self.record_ambiguous(answer.line);
+                }
+            }
+            ERROR | INIT => {}
+            _ => self.ambiguous_count = self.ambiguous_count.saturating_sub(1),
         }
     }
 
@@ -91,6 +154,7 @@ impl Channel {
     ) -> Option<Transaction>
         ensures state { self.new ≡ after_keepalive status behind.0 behind.1 self.old }
         ensures transaction { result ≡ keepalive_transaction behind.0 behind.1 self.old }
+        ensures ended { ended.new.0.items ≡ ends_by_keepalive self.old ended.old.0.items }
     {
         let (input, now) = behind;
         if self.is_unclear() {
@@ -137,232 +201,80 @@ impl Channel {
         Some(current.transaction)
     }
 
-    /// Handles an ERROR. Returns its transaction, and whether it shows that the preceding host packet arrived too late.
-    fn refuse(
-        &mut self,
-        code: u8,
-        input: u64,
-        ambiguous: &Option<Ambiguous>,
-        ended: &mut EndedList,
-    ) -> (Option<Transaction>, bool) {
-        if code != MSG_TIMEOUT {
-            return (self.end_refused(code, input, ended), false);
-        }
-        // It may be for `contender`.
-        if let Some(contender) = &self.contender
-            && let Some(current) = &self.current
-            && !contender.progress.is_whole()
-        {
-            if current.progress.is_whole() {
-                return self.time_out_contender(input, ambiguous, ended);
-            }
-            if contender.delay < MIN_TIMEOUT_MS {
-                self.accept_contender(true, ended);
-            } else if self.is_unresolved(input) {
-                self.end_as_unknown(ended);
-                return (None, false);
-            }
-        }
-        let (timed_out, is_late) = self.time_out(ambiguous, ended);
-        if timed_out.is_some() {
-            return (timed_out, is_late);
-        }
-        (self.end_refused(code, input, ended), is_late)
-    }
-
-    /// Ends `current` by a time-out if it is incomplete. Returns its transaction, and whether the previous packet
-    /// arrived too late for it.
-    fn time_out(
-        &mut self,
-        ambiguous: &Option<Ambiguous>,
-        ended: &mut EndedList,
-    ) -> (Option<Transaction>, bool)
-        ensures state { self.new ≡ timed_out ambiguous.now self.old }
-        ensures ended { ended.new.0.items ≡ ends_by_timeout ambiguous.now self.old.current ended.old.0.items }
-        ensures transaction { result.0 ≡ timeout_transaction ambiguous.now self.old.current }
-        ensures deferred { result.1 ≡ is_late_by ambiguous.now self.old.current }
-    {
-        let Some(mut current) = self.current else {
-            return (None, false);
-        };
-        let mut is_late = false;
-        if let Some(ambiguous) = ambiguous {
-            is_late = current.transaction.line == ambiguous.transaction.line;
-            // The late packet is not part of the message.
-            if is_late && ambiguous.is_next {
-                current.progress.continuations = current.progress.continuations.saturating_sub(1);
-                self.current = Some(current);
-            }
-        }
-        if current.progress.is_whole() {
-            return (None, is_late);
-        }
-        (self.end_current(End::Refused(MSG_TIMEOUT), ended), is_late)
-    }
-
-    /// Ends `contender` by a time-out, while `current` is still processed.
-    fn time_out_contender(
-        &mut self,
-        input: u64,
-        ambiguous: &Option<Ambiguous>,
-        ended: &mut EndedList,
-    ) -> (Option<Transaction>, bool) {
-        if self.is_unclear() {
-            self.end_as_unknown(ended);
-            return (None, false);
-        }
-        let served = self.current;
-        self.current = self.contender;
-        self.contender = None;
-        let refused = self.time_out(ambiguous, ended);
-        self.current = served;
-        refused
-    }
-
-    /// Ends the incomplete message that began before one that is refused with this code, if the error ends it, too.
-    fn end_interrupted(&mut self, refused: &Transaction, code: u8, ended: &mut EndedList)
-        ensures state { self.new ≡ (if also_ends refused.now code self.old.current then current_ended self.old else self.old) }
-        ensures ended { ended.new.0.items ≡ (if also_ends refused.now code self.old.current
-            then with_end_of ended.old.0.items self.old.current (interrupted_end refused.now) else ended.old.0.items) }
-    {
-        let line = refused.line;
-        let (cause, by) = if refused.message == INIT {
-            (INVALID_LEN, End::Dropped(line))
-        } else {
-            (INVALID_SEQ, End::Replaced(line))
-        };
-        if code == cause
-            && let Some(current) = &self.current
-            && !current.progress.is_whole()
-            && current.transaction.line < line
-        {
-            self.end_current(by, ended);
-        }
-    }
-
-    /// Handles an ERROR other than the time-out of an open message.
-    fn end_refused(&mut self, code: u8, input: u64, ended: &mut EndedList) -> Option<Transaction>
-        ensures state { self.old.last_was_init ≡ false → self.old.pending_inits.items ≡ [] → is_owner_undecided input self.old ≡ false
-            → self.new ≡ refused_by code self.old.contender self.old.current self.old }
-        ensures transaction { self.old.last_was_init ≡ false → self.old.pending_inits.items ≡ [] → is_owner_undecided input self.old ≡ false
-            → result ≡ refused_transaction code self.old.contender self.old.current self.old }
-        ensures ended { self.old.last_was_init ≡ false → self.old.pending_inits.items ≡ [] → is_owner_undecided input self.old ≡ false
-            → ended.new.0.items ≡ ends_by_refusal code self.old.contender self.old.current self.old ended.old.0.items }
-    {
-        let is_unresolved = self.is_unresolved(input);
-        let mut refused = None;
-        if code == INVALID_LEN {
-            let place = self.pending_init_index(None);
-            refused = self.take_init(place);
-        }
-        if refused.is_none() && (!is_unresolved || self.last_was_init) {
-            refused = self.take_refused(code);
-        }
-        if let Some(refused) = refused {
-            ended.add(refused, End::Refused(code));
-            self.end_interrupted(&refused.transaction, code, ended);
-            return Some(refused.transaction);
-        }
-        if is_unresolved {
-            self.end_as_unknown(ended);
-            return None;
-        }
-        if let Some(current) = &self.current {
-            let refuses_stray = current.keepalives > 0
-                && matches!(
-                    code,
-                    INVALID_CMD | INVALID_SEQ | CHANNEL_BUSY | INVALID_CHANNEL
-                );
-            if self.last_was_stray && refuses_stray {
-                return None;
-            }
-            return self.end_current(End::Refused(code), ended);
-        }
-        if self.last_was_stray {
-            return None;
-        }
-        let last = self.pending_inits.len().saturating_sub(1);
-        let Some(init) = self.take_init(last) else {
-            return None;
-        };
-        ended.add(init, End::Refused(code));
-        Some(init.transaction)
-    }
-
-    /// Removes and returns the message that began last if it is an INIT or `contender` and the ERROR can be for it.
-    fn take_refused(&mut self, code: u8) -> Option<OpenTransaction>
-        ensures state { self.old.last_was_init ≡ false → self.new ≡ record self.old { contender = None } }
-        ensures transaction { self.old.last_was_init ≡ false → result ≡ self.old.contender }
-    {
-        if !self.last_was_init {
-            return self.contender.take();
-        }
-        if !self.can_refuse_init(code) {
-            return None;
-        }
-        let last = self.pending_inits.len().saturating_sub(1);
-        self.take_init(last)
-    }
-
-    /// Returns whether an ERROR with this code can be for an INIT of 8 bytes. An allocated channel accepts INIT at any
-    /// time, so there the ERROR is for another open message.
-    fn can_refuse_init(&self, code: u8) -> bool {
-        match code {
-            INVALID_SEQ | MSG_TIMEOUT => false,
-            CHANNEL_BUSY => self.number == BROADCAST,
-            OTHER if self.number == BROADCAST => true,
-            _ => self.current.is_none() && !self.is_unclear(),
-        }
-    }
-
     /// Returns the index of the first INIT with this nonce, or, without a nonce, of the first one with a wrong length;
     /// the number of INITs if there is none.
-    fn pending_init_index(&self, nonce: Option<u64>) -> usize {
-        let pending_inits = self.pending_inits.as_slice();
-        for place in 0..pending_inits.len() {
-            let init = &pending_inits[place];
-            let is_found = match nonce {
-                Some(nonce) => init.length == 8 && init.nonce == nonce,
-                None => init.length != 8,
-            };
-            if is_found {
-                return place;
-            }
+    pub(crate) fn pending_init_index(&self, nonce: Option<u64>) -> usize
+        ensures { result ≡ init_index (matches_nonce nonce) self.now.pending_inits.items }
+    {
+        match self.first_init(nonce) {
+            Some(place) => place,
+            None => self.pending_inits.len(),
         }
-        pending_inits.len()
     }
 
-    /// Handles the initialization packet of a response, and returns its transaction. A successful
-    /// authenticatorGetNextAssertion inherits the RP ID of authenticatorGetAssertion.
-    fn answer(&mut self, answer: &ResponseStart<'_>, ended: &mut EndedList) -> Option<Transaction> {
-        let mut exchange = if answer.command == INIT {
+    /// Returns the index of the first INIT with this nonce or, without a nonce, with a wrong length.
+    fn first_init(&self, nonce: Option<u64>) -> Option<usize>
+        ensures { result ≡ position (matches_nonce nonce) self.now.pending_inits.items }
+    {
+        self.pending_inits
+            .as_slice()
+            .iter()
+            .position(|init| init.matches(nonce))
+    }
+
+    /// Handles the initialization packet of a response, and returns its transaction.
+    fn answer(&mut self, answer: &ResponseStart<'_>, ended: &mut EndedList) -> Option<Transaction>
+        ensures state { self.new
+            ≡ (with_response answer.now (response_result answer.now self.old ended.old.0.items)).channel }
+        ensures ended { ended.new.0.items ≡ (response_result answer.now self.old ended.old.0.items).ended }
+        ensures transaction { result ≡ transaction_of (response_result answer.now self.old ended.old.0.items).transaction }
+    {
+        let exchange = self.answered(answer, ended);
+        self.record_response(answer, exchange)
+    }
+
+    /// Removes and returns the message that a response is for.
+    fn answered(
+        &mut self,
+        answer: &ResponseStart<'_>,
+        ended: &mut EndedList,
+    ) -> Option<OpenTransaction>
+        ensures state { self.new ≡ (response_result answer.now self.old ended.old.0.items).channel }
+        ensures ended { ended.new.0.items ≡ (response_result answer.now self.old ended.old.0.items).ended }
+        ensures transaction { result ≡ (response_result answer.now self.old ended.old.0.items).transaction }
+    {
+        if answer.command == INIT {
             self.answer_init(answer, ended)
         } else {
             self.answer_message(answer, ended)
-        };
-        if let Some(mut next) = exchange
-            && matches!(
-                (next.transaction.command, answer.status),
-                (Some(GET_NEXT_ASSERTION), Some(OK))
-            )
-        {
-            next.named.rp_id = self.last_asserted_rp;
-            exchange = Some(next);
         }
+    }
+
+    /// Records a response as the device's last message, and returns its transaction.
+    fn record_response(
+        &mut self,
+        answer: &ResponseStart<'_>,
+        exchange: Option<OpenTransaction>,
+    ) -> Option<Transaction>
+        ensures state { self.new
+            ≡ with_response_of answer.now (option_map (with_asserted_rp answer.now self.old.last_asserted_rp) exchange) self.old }
+        ensures transaction { result ≡ transaction_of exchange }
+    {
         self.last_response = ResponseMessage {
             line: answer.line,
             progress: answer.progress,
             status: answer.status,
-            exchange,
+            exchange: None,
         };
         let Some(exchange) = exchange else {
             return None;
         };
-        let transaction = Some(exchange.transaction);
-        if answer.has_assertion(&transaction) {
+        let exchange = with_inherited_rp_id(answer, &exchange, &self.last_asserted_rp);
+        self.last_response.exchange = Some(exchange);
+        if answer.has_assertion(&Some(exchange.transaction)) {
             self.last_asserted_rp = exchange.named.rp_id;
         }
-        transaction
+        Some(exchange.transaction)
     }
 
     /// Handles the response to the INIT with this nonce. On an allocated channel, INIT aborts the preceding transaction
@@ -371,7 +283,11 @@ impl Channel {
         &mut self,
         answer: &ResponseStart<'_>,
         ended: &mut EndedList,
-    ) -> Option<OpenTransaction> {
+    ) -> Option<OpenTransaction>
+        ensures state { self.new ≡ (answered_init answer.now.part.now self.old ended.old.0.items).channel }
+        ensures ended { ended.new.0.items ≡ (answered_init answer.now.part.now self.old ended.old.0.items).ended }
+        ensures transaction { result ≡ (answered_init answer.now.part.now self.old ended.old.0.items).transaction }
+    {
         let place = self.pending_init_index(Some(parse_nonce(answer.part)));
         let Some(exchange) = self.take_init(place) else {
             return None;
@@ -399,8 +315,11 @@ impl Channel {
         ended: &mut EndedList,
     ) -> Option<OpenTransaction>
         ensures transaction { result ≡ answered_message answer.now self.old }
+        ensures message { result ≡ (message_answered answer.now self.old ended.old.0.items).transaction }
         ensures plain { self.old.contender ≡ None → fits_one_message answer.now self.old ≡ true → self.new ≡ current_ended self.old }
-        ensures ended { self.old.contender ≡ None → fits_one_message answer.now self.old ≡ true → ended.new ≡ ended.old }
+        ensures same { self.old.contender ≡ None → fits_one_message answer.now self.old ≡ true → ended.new ≡ ended.old }
+        ensures state { self.new ≡ (message_answered answer.now self.old ended.old.0.items).channel }
+        ensures ended { ended.new.0.items ≡ (message_answered answer.now self.old ended.old.0.items).ended }
     {
         let is_of_held = answer.is_response_to(&self.current);
         let mut is_of_asked = answer.is_response_to(&self.contender);
@@ -443,6 +362,36 @@ impl Channel {
             data_len,
         })
     }
+}
+
+/// Returns the role of a device packet with this transaction.
+fn role_of_device_packet(answer: &ResponseStart<'_>, transaction: &Option<Transaction>) -> Role
+    ensures { result ≡ device_role answer.now transaction.now }
+{
+    if answer.command == ERROR && transaction.is_none() {
+        Role::Error
+    } else {
+        Role::Owned
+    }
+}
+
+/// Returns a transaction as its response shows it: a successful authenticatorGetNextAssertion has the RP ID of the last
+/// authenticatorGetAssertion.
+fn with_inherited_rp_id(
+    answer: &ResponseStart<'_>,
+    exchange: &OpenTransaction,
+    last_asserted: &RpId,
+) -> OpenTransaction
+    ensures { result ≡ with_asserted_rp answer.now last_asserted.now exchange.now }
+{
+    let mut next = *exchange;
+    if matches!(
+        (next.transaction.command, answer.status),
+        (Some(GET_NEXT_ASSERTION), Some(OK))
+    ) {
+        next.named.rp_id = *last_asserted;
+    }
+    next
 }
 
 /// Returns the reply that a message waits for after a KEEPALIVE with this status.

@@ -1,7 +1,10 @@
 //! The last line that a tracker processed, as `show` presents it.
-ghost use Rattle.std.specs.Prelude.{◌≡◌, ◌↔◌, None, Some, IfSome, false, true, option_map};
+ghost use Rattle.std.specs.Prelude.{◌≡◌, ◌↔◌, ◌&&◌, not, None, Some, IfSome, false, true, option_map};
 ghost use Rattle.session_walk.specs.Messages.{complete_bytes_at};
+ghost use Rattle.session_walk.specs.Channels.{may_name_prior};
 ghost use Rattle.session_walk.specs.Completed.{ShowsResolved, completed_bytes, message_bytes};
+ghost use Rattle.session_walk.specs.Walks.{channel_on};
+ghost use Rattle.session_walk.specs.Whole.{last_transaction};
 
 use crate::ambiguous::CompletedMessage;
 use crate::entry::{CborMessage, Entry, LineEntry};
@@ -79,7 +82,10 @@ impl TransactionTracker {
 
     /// Returns whether the request that holds its channel, or the last one there that got a response, may name a
     /// credential from before the log. After a reset there are none.
-    pub fn may_name_prior_credential(&self, transaction: &Transaction) -> bool {
+    pub fn may_name_prior_credential(&self, transaction: &Transaction) -> bool
+        ensures { result ≡ (may_name_prior transaction.now (last_transaction (channel_on transaction.now.channel
+            self.entry.now.channels.list)) && not self.entry.now.credentials.is_reset) }
+    {
         match self.channels.last_transaction_on(transaction.channel) {
             Some(last) if last.transaction.line == transaction.line => {
                 last.named.may_name_prior && !self.credentials.is_reset

@@ -1,5 +1,8 @@
 //! The RP ID of a request.
 
+ghost use Rattle.std.specs.Prelude.{◌≡◌, IfSome};
+ghost use Rattle.session_walk.specs.Replies.{no_rp_id, rp_id_bytes};
+
 use crate::map_iter::{item_at, value_at};
 use ctap_cbor::Item;
 
@@ -15,7 +18,9 @@ pub struct RpId {
 
 impl Default for RpId {
     /// Returns no RP ID.
-    fn default() -> Self {
+    fn default() -> Self
+        ensures { result ≡ no_rp_id }
+    {
         RpId {
             bytes: [0; MAX_RP_ID_LEN],
             len: 0,
@@ -44,12 +49,16 @@ impl RpId {
     }
 
     /// Returns its bytes, empty if there is none.
-    pub fn bytes(&self) -> &[u8] {
+    pub fn bytes(&self) -> &[u8]
+        ensures { result.now ≡ rp_id_bytes self.now }
+    {
         self.bytes.get(..self.len).unwrap_or(b"")
     }
 
     /// Returns it as text, if any.
-    pub fn text(&self) -> Option<&str> {
+    pub fn text(&self) -> Option<&str>
+        ensures { IfSome result (λ text. text.now ≡ rp_id_bytes self.now) }
+    {
         match std::str::from_utf8(self.bytes()) {
             Ok(text) if !text.is_empty() => Some(text),
             _ => None,

@@ -1,8 +1,10 @@
 //! Transactions: a host's message on a channel and the response to it (CTAP 2.1, section 11.2.5.1).
 ghost use Rattle.std.specs.Prelude.{◌≡◌, ◌<◌, ◌+◌, ◌-◌, ◌++◌, ◌↔◌, min, Some, None, true, [], ◌∷◌, if◌then◌else◌};
 ghost use Rattle.arrayvec.specs.ArrayVec.{array_vec_len};
+ghost use Rattle.session_walk.specs.Channels.{first_after};
 ghost use Rattle.session_walk.specs.Extents.{bytes_received, is_whole};
 ghost use Rattle.session_walk.specs.Owners.{with_end, is_in_process};
+ghost use Rattle.session_walk.specs.Whole.{needs_presence, no_names};
 ghost use Rattle.std.specs.Prelude.{◌&&◌, ◌||◌, ◌==◌, not};
 
 use crate::awaited::AwaitedReply;
@@ -95,7 +97,7 @@ impl MessageProgress {
 }
 
 /// The RP ID and credentials that a complete request names.
-#[derive(Clone, Copy, Default)]
+#[derive(Clone, Copy)]
 pub struct RequestNames {
     pub rp_id: RpId,
     /// The credential created in this log that the request excludes.
@@ -107,6 +109,21 @@ pub struct RequestNames {
     /// Whether it may name a credential from before the log: one of its list, or any if authenticatorGetAssertion has
     /// no list.
     pub may_name_prior: bool,
+}
+
+impl Default for RequestNames {
+    /// Returns no RP ID and no credentials.
+    fn default() -> Self
+        ensures { result ≡ no_names }
+    {
+        RequestNames {
+            rp_id: RpId::default(),
+            excluded: None,
+            account: None,
+            is_silent: false,
+            may_name_prior: false,
+        }
+    }
 }
 
 /// A transaction and its state so far.
@@ -132,7 +149,9 @@ pub struct OpenTransaction {
 
 impl OpenTransaction {
     /// Returns whether the request needs user presence.
-    pub fn needs_presence(&self) -> bool {
+    pub fn needs_presence(&self) -> bool
+        ensures { result ≡ needs_presence self.now }
+    {
         match self.transaction.command {
             Some(MAKE_CREDENTIAL | RESET | SELECTION) => true,
             Some(GET_ASSERTION) => !self.named.is_silent,
@@ -206,7 +225,9 @@ impl EndedList {
     }
 
     /// Returns the transaction that began first after a line, among these and `other`.
-    pub fn first_after(&self, line: u64, other: Option<Ended>) -> Option<Ended> {
+    pub fn first_after(&self, line: u64, other: Option<Ended>) -> Option<Ended>
+        ensures { result ≡ first_after line other self.now.0.items }
+    {
         let mut first = other;
         for ended in self.0.as_slice() {
             let began = ended.exchange.transaction.line;

@@ -1,0 +1,160 @@
+-- The tracked channels after a packet: which one makes way for another, and what the device's packet on one of them means
+-- for the others (CTAP 2.1, sections 6.3 and 11.2.9.1.3).
+use Rattle.std.specs.Prelude.{◌≡◌, ◌<◌, ℕ, Bool, true, false, not, ◌&&◌, ◌||◌, ◌==◌, nat_lt, List, [], ◌∷◌, ◌++◌, map, fold}
+use Rattle.std.specs.List.{list_any}
+use Rattle.std.specs.Prelude.{option_map, slice_get, slice_set, Option, Some, None, is_none, if◌then◌else◌}
+use Rattle.hid_packet.specs.Commands.{BROADCAST, INIT}
+use Rattle.session_walk.specs.Extents.{is_whole}
+use Rattle.session_walk.specs.Owners.{with_end}
+use Rattle.session_walk.specs.Replies.{is_assertion, is_success, no_rp_id}
+use Rattle.session_walk.specs.Walks.{channel_on, index_on}
+use Rattle.session_walk.specs.Whole.{is_idle, may_be_processing, open_init}
+use Rattle.session_walk.specs.declared.answer.ResponseStart.{ResponseStart}
+use Rattle.session_walk.specs.declared.channel.{Channel.Channel}
+use Rattle.session_walk.specs.declared.transaction.{Ended.Ended, MessageProgress.MessageProgress, OpenTransaction.OpenTransaction, Transaction.Transaction}
+use Rattle.session_walk.specs.declared.transaction.End.TheVariants.{Cut, Dropped, Forgotten, Open}
+
+-- A transaction that is open at the end of the log.
+abbrev pub open_end : OpenTransaction → Ended
+open_end m = record { exchange = m; end = Open }
+
+-- The transaction of a message, if there is one.
+abbrev pub open_message : Option OpenTransaction → List Ended
+open_message None = []
+open_message (Some m) = open_end m ∷ []
+
+-- The transaction of a response that is incomplete, if known.
+abbrev pub cut_response : MessageProgress → Option OpenTransaction → List Ended
+cut_response progress None = []
+cut_response progress (Some m) = record { exchange = m; end = Cut progress } ∷ []
+
+-- The transaction of the response that the device is sending on a channel.
+abbrev pub response_in_progress : Channel → List Ended
+response_in_progress c =
+    let progress = c.last_response.progress in
+    if is_whole progress.length progress.continuations then [] else cut_response progress c.last_response.exchange
+
+-- The open transactions of a channel, each with its end if no packet follows.
+abbrev pub open_transactions : Channel → List Ended
+open_transactions c =
+    response_in_progress c ++ (map (λ g. open_end (open_init c.number g)) c.pending_inits.items
+    ++ (open_message c.current ++ open_message c.contender))
+
+-- The ended transactions, with these that are tracked no longer.
+abbrev pub with_forgotten : List Ended → List Ended → List Ended
+with_forgotten ended tracked = fold (λ ends m. with_end ends m.exchange Forgotten) ended tracked
+
+-- The ended transactions, with these that the INIT on a line drops.
+abbrev pub with_dropped : ℕ → List Ended → List Ended → List Ended
+with_dropped line ended tracked = fold (λ ends m. with_end ends m.exchange (Dropped line)) ended tracked
+
+-- A channel without transactions, whose last packet is on this line.
+abbrev pub fresh_channel : (number line : ℕ) → Channel
+fresh_channel number line = record {
+  number = number;
+  used = line;
+  current = None;
+  contender = None;
+  pending_inits = record { items = [] };
+  last_was_init = false;
+  is_ambiguous = false;
+  last_was_stray = false;
+  has_ambiguous_keepalive = false;
+  ambiguous_count = 0;
+  last_lost_line = 0;
+  last_packet_at = 0;
+  last_keepalive_at = 0;
+  last_response = record {
+    line = 0;
+    progress = record { length = 0; continuations = 0 };
+    status = None;
+    exchange = None;
+  };
+  last_asserted_rp = no_rp_id;
+}
+
+-- One of two channels makes way sooner: the idle one, if only one is idle, and else the one that was used earlier.
+abbrev pub is_sooner : (is_idle : Bool) → (used : ℕ) → (is_other_idle : Bool) → (other_used : ℕ) → Bool
+is_sooner true used true other = nat_lt used other
+is_sooner true used false other = true
+is_sooner false used true other = false
+is_sooner false used false other = nat_lt used other
+
+-- A channel makes way sooner than another.
+abbrev pub makes_way_before : Channel → Channel → Bool
+makes_way_before c other = is_sooner (is_idle c) c.used (is_idle other) other.used
+
+-- The first of two channels, if there are both, makes way sooner.
+abbrev pub yields : Option Channel → Option Channel → Bool
+yields None other = false
+yields (Some c) None = false
+yields (Some c) (Some other) = makes_way_before c other
+
+-- No channel makes way sooner than the one at an index.
+abbrev pub MakesWay : ℕ → List Channel → Type 0
+MakesWay place channels = (i : ℕ) → i < 6 → yields (slice_get channels i) (slice_get channels place) ≡ false
+
+-- The device may be processing an unidentified message on one of the channels.
+abbrev pub may_any_be_processing : ℕ → List Channel → Bool
+may_any_be_processing now channels = list_any (may_be_processing now) channels
+
+-- The channels after a device allocated this one. If it was in use, the device has restarted.
+abbrev pub with_allocated : (number line : ℕ) → Option ℕ → List Channel → List Channel
+with_allocated number line None channels = channels
+with_allocated number line (Some place) channels = slice_set channels place (fresh_channel number line)
+
+-- The transactions of a channel in use, if there is one.
+abbrev pub open_on : Option Channel → List Ended
+open_on None = []
+open_on (Some c) = open_transactions c
+
+-- The channels after the response to the INIT on a line, which allocates this one.
+abbrev pub after_allocation : (number line : ℕ) → List Channel → List Channel
+after_allocation number line channels =
+    if number == BROADCAST then channels else with_allocated number line (index_on number channels) channels
+
+-- The transactions that the response to the INIT on a line ends: those open on the channel that it allocates.
+abbrev pub ends_by_allocation : (number line : ℕ) → List Channel → List Ended → List Ended
+ends_by_allocation number line channels ended =
+    if number == BROADCAST then ended else with_dropped line ended (open_on (channel_on number channels))
+
+-- A channel after a successful assertion on another, or of an unknown request: a device continues only its latest
+-- assertion (CTAP 2.1, section 6.3).
+abbrev pub without_assertion : Channel → Channel
+without_assertion c = record c { last_asserted_rp = no_rp_id }
+
+-- Every channel whose index differs, or every one, has no assertion to continue; the others are unchanged.
+abbrev pub AreWithoutAssertion : (place : ℕ) → (is_unknown : Bool) → (old new : List Channel) → Type 0
+AreWithoutAssertion place is_unknown old new = (i : ℕ) → slice_get new i
+    ≡ option_map (λ c. if is_unknown || not (i == place) then without_assertion c else c) (slice_get old i)
+
+-- The line of the INIT on the broadcast channel that a packet is the response to, if it is one.
+abbrev pub allocating_line : ResponseStart → Option Transaction → Option ℕ
+allocating_line answer None = None
+allocating_line answer (Some transaction) =
+    if (answer.command == INIT) && (transaction.channel == BROADCAST) then Some transaction.line else None
+
+-- After the packet, a device continues no earlier assertion: it is a successful response to an
+-- authenticatorGetAssertion, or to an unknown request.
+abbrev pub replaces_assertion : ResponseStart → Option Transaction → Bool
+replaces_assertion answer transaction = is_success answer && (is_none transaction || is_assertion transaction)
+
+-- The last request on a channel is this one, and may name a credential from before the log.
+abbrev pub may_name_prior : Transaction → Option OpenTransaction → Bool
+may_name_prior transaction None = false
+may_name_prior transaction (Some last) = (last.transaction.line == transaction.line) && last.named.may_name_prior
+
+-- The first transaction of two that began after a line.
+abbrev pub earlier_of : ℕ → Option Ended → Ended → Option Ended
+earlier_of line None m = if nat_lt line m.exchange.transaction.line then Some m else None
+earlier_of line (Some first) m =
+    if nat_lt line m.exchange.transaction.line && nat_lt m.exchange.transaction.line first.exchange.transaction.line
+    then Some m else Some first
+
+-- The transaction that began first after a line.
+abbrev pub first_after : ℕ → Option Ended → List Ended → Option Ended
+first_after line other ended = fold (earlier_of line) other ended
+
+-- The open transaction that began first after a line, of all channels.
+abbrev pub first_open_after : ℕ → List Channel → Option Ended
+first_open_after line channels = fold (λ first c. first_after line first (open_transactions c)) None channels
