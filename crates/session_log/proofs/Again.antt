@@ -9,7 +9,7 @@ use Rattle.hid_packet.specs.declared.packet.Packet.{Packet}
 use Rattle.token_session.specs.{declared.input.Meters.Meters, Meters.SessionState}
 use Rattle.session_log.specs.{declared.line.Line.Line, Lines.lines, Parsed.parsed, Replay.IsDone, Session.RepeatsIn}
 use Rattle.session_log.specs.declared.line.Line.TheVariants.{Sent, Count, Input, Comment}
-use Rattle.session_log.specs.Log.{Played, with_text_before, played, play_all, log_of, log, last_text, parsed_line_text, state_after, state_after_parsed}
+use Rattle.session_log.specs.Log.{Played, with_text_before, played, play_all, output_of, log, last_text, parsed_line_text, state_after, state_after_parsed}
 use Rattle.session_log.specs.{Sent.SendsPackets, Sent.AllSend, Sent.FitsMeters, Needs.need_lines, Needs.is_need_line}
 use Rattle.session_log.specs.Text.{IsPacket, ArePackets, with_line_feed, sent_text, meters_line}
 use Rattle.session_log.specs.World.{LineSemantics, InputSemantics, replay_world, live_world}
@@ -196,7 +196,7 @@ log_again {S = S} {v = v} {w = w} {counts = counts} {wrote = wrote} writes gives
     let plays : play_all w s (log v s bytes) ≡ with_text_before p.text end =
     ap (played w 1 s) cut ∙ lines_again g 1 1 s (lines bytes) (last ∷ []) h sends (omega (arith, space))
     ∙ ap (with_text_before p.text) ends in
-    ap (log_of w) plays ∙ search (append-nil p.text, gives.ends p.state, whole)
+    ap (output_of w) plays ∙ search (append-nil p.text, gives.ends p.state, whole)
 
 -- What a replay writes, a replay gives again.
 

@@ -5,7 +5,7 @@ use Rattle.std.specs.{Cmp.Lexicographic.pointwise, Option.option_eq}
 use Rattle.hid_packet.specs.declared.packet.Packet.{Packet}
 use Rattle.token_session.specs.Meters.{SessionState}
 use Rattle.session_log.specs.Check.{Compared, after_first, differs_from, log_comparison, due_packets, missing_of}
-use Rattle.session_log.specs.{Check.comparison_after, Check.comparison_fault, Session.session_course}
+use Rattle.session_log.specs.{Check.comparison_after, Check.comparison_fault, Session.session_semantics}
 use Rattle.session_log.specs.declared.{check_player.CheckPlayer.CheckPlayer, fault.LogFault.LogFault, line.Line.Line}
 use Rattle.session_log.specs.declared.line.Line.TheVariants.{Comment, Count}
 
@@ -23,7 +23,7 @@ is_due (Some x) rest f h = refl
 
 -- a comment or a count leaves all but the number of lines
 pub passes : (c : Compared SessionState) (n : ℕ) (l : Line) → (l ≡ Comment) ⊎ (l ≡ Count) → n ≡ c.lines + 1
-    → (comparison_fault c l ≡ None) × (record c { lines = n } ≡ comparison_after session_course c l)
+    → (comparison_fault c l ≡ None) × (record c { lines = n } ≡ comparison_after session_semantics c l)
 passes c n l (inl h) at = search (arith, at)
 passes c n l (inr h) at = search (arith, at)
 

@@ -6,7 +6,7 @@ use Rattle.std.proofs.lemmas.Bool.{le-leb, le-ltb, lt-leb, lt-ltb}
 use Rattle.session_log.specs.declared.fault.LogFault.{LogFault, TheVariants.TooLong, TheVariants.TooManyLines}
 use Rattle.session_log.specs.{Parsed.parsed, World.LineSemantics, Window.IsUnfinished, Sent.SendsPackets, Sent.AllSend}
 use Rattle.session_log.specs.{Lines.is_line_feed, Lines.pieces, Lines.lines, Log.line_text, Log.last_text, Log.state_after}
-use Rattle.session_log.specs.Log.{Played, with_text_before, played, play_all, log_of, first_fault, fault_of, parsed_line_fault, line_fault}
+use Rattle.session_log.specs.Log.{Played, with_text_before, played, play_all, output_of, first_fault, fault_of, parsed_line_fault, line_fault}
 use Rattle.session_log.specs.Replay.{IsRefused, IsUnread, IsUnwritten, IsPlayed}
 use Rattle.session_log.proofs.Cutting.{first_piece, one_piece, pieces_some, lines_beyond, front_of, last_is}
 
@@ -102,11 +102,11 @@ module _ {S : Type 0} {world : LineSemantics S} {s0 : S} {read text : List ℕ} 
         broken = rw stood broken;
         missing = missing;
         stands = rw stood refl;
-        beginning = ((rest ++ others.text) ++ tail, ap (log_of world) all ∙ rw broken (simp append_assoc));
+        beginning = ((rest ++ others.text) ++ tail, ap (output_of world) all ∙ rw broken (simp append_assoc));
       }
 
 pub log_is : {S : Type 0} (world : LineSemantics S) (q : Played S) (s : S) (text : List ℕ) → q.fault ≡ None → text ≡ q.text
-    → s ≡ q.state → log_of world q ≡ text ++ last_text world s
+    → s ≡ q.state → output_of world q ≡ text ++ last_text world s
 log_is {S} world q s text faultless written stands = search arith
 
 -- all was played, and the meters line broke off

@@ -3,7 +3,7 @@ use Rattle.std.proofs.Common.{◌≡◌, ℕ, ◌+◌, ◌^◌, Bool, cond, List
 use Rattle.std.proofs.Common.{is_some, refl, sym, ◌∙◌, arith}
 use Rattle.token_session.specs.declared.input.Meters.{Meters}
 use Rattle.session_log.specs.declared.fault.LogFault.{LogFault, TheVariants.Memory}
-use Rattle.session_log.specs.{declared.line.Line.Line, Parsed.parsed, World.LineSemantics, Log.log_of}
+use Rattle.session_log.specs.{declared.line.Line.Line, Parsed.parsed, World.LineSemantics, Log.output_of}
 use Rattle.session_log.specs.declared.fault.LogFault.TheVariants.{BadLine, TooLong, Differs, Read, Write, TooManyLines}
 use Rattle.session_log.specs.Lines.{lines, whole_lines}
 use Rattle.session_log.specs.Log.{Played, played, play_all, parsed_line_text, state_after_parsed, first_fault, parsed_line_fault, line_fault, fault_of}
@@ -51,7 +51,7 @@ module _ {A B : Type 0} {v : LineSemantics A} {w : LineSemantics B} {R : A → B
   faults_alike : (p : Played A) (q : Played B) → Alike R p q → fault_of v p ≡ fault_of w q
   faults_alike p q h = λ i. first_fault (f.lacks p.state q.state h.state i) (h.fault i)
 
-  log_alike : (p : Played A) (q : Played B) → Alike R p q → log_of v p ≡ log_of w q
+  log_alike : (p : Played A) (q : Played B) → Alike R p q → output_of v p ≡ output_of w q
   log_alike p q h = search arith
 
   -- what comes next is alike

@@ -8,7 +8,7 @@ use Rattle.token_session.specs.{declared.input.Timed.Timed, Meters.SessionState}
 use Rattle.session_log.specs.declared.fault.LogFault.{LogFault, TheVariants.Differs}
 use Rattle.session_log.specs.{declared.line.Line.Line, Text.same_line, World.InputSemantics, World.LineSemantics}
 use Rattle.session_log.specs.declared.line.Line.TheVariants.{Input, Sent, Comment, Count}
-use Rattle.session_log.specs.Session.{session_course, history_course}
+use Rattle.session_log.specs.Session.{session_semantics, history_course}
 
 -- The state after the lines so far: the session's state; the number of lines; the line of the last input (0 before
 -- any), how many of its packets were found, and its remaining packets; and how many inputs and packets matched.
@@ -98,7 +98,7 @@ check_world course = record {
 
 -- Comparing a log with the packets of a session's state.
 abbrev pub check_machine : LineSemantics (Compared SessionState)
-check_machine = check_world session_course
+check_machine = check_world session_semantics
 
 -- Comparing a log with the packets of a history.
 abbrev pub check_history : Start → LineSemantics (Compared (List Timed))

@@ -61,8 +61,8 @@ abbrev pub last_text : {S : Type 0} → LineSemantics S → S → List ℕ
 last_text world s = if is_none (world.lacks s) then world.ending s else []
 
 -- The texts of the lines and, if no line is invalid, the text after the last line.
-abbrev pub log_of : {S : Type 0} → LineSemantics S → Played S → List ℕ
-log_of world p = p.text ++ (if is_none p.fault then last_text world p.state else [])
+abbrev pub output_of : {S : Type 0} → LineSemantics S → Played S → List ℕ
+output_of world p = p.text ++ (if is_none p.fault then last_text world p.state else [])
 
 -- The first error: if no line is invalid, the error at the end.
 abbrev pub first_fault : (last line : Option LogFault) → Option LogFault
@@ -76,4 +76,4 @@ fault_of world p = first_fault (world.lacks p.state) p.fault
 
 -- The output for a whole log.
 abbrev pub log : {S : Type 0} → LineSemantics S → S → List ℕ → List ℕ
-log world s bytes = log_of world (play_all world s bytes)
+log world s bytes = output_of world (play_all world s bytes)

@@ -1,9 +1,9 @@
 -- Parsing a line, as a function. The law `parsing_follows_the_grammar` states that it agrees with the grammar.
-use Rattle.std.specs.Prelude.{ℕ, ◌+◌, ◌/◌, ◌==◌, ◌&&◌, ◌^◌, nat_le, nat_lt, Bool, List, [], ◌∷◌, length, take, drop}
+use Rattle.std.specs.Prelude.{◌≡◌, ◌<◌, slice_index, ℕ, ◌+◌, ◌/◌, ◌==◌, ◌&&◌, ◌^◌, nat_le, nat_lt, Bool, List, [], ◌∷◌, length, take, drop}
 use Rattle.std.specs.Prelude.{position, codes, decimal, Option, Some, None, if◌then◌else◌}
 use Rattle.std.specs.Option.{option_and_then, option_map}
 use Rattle.std.specs.{Result.result_ok, Cmp.Lexicographic.pointwise, Str.Parse.digits_value}
-use Rattle.hex.specs.Hex.{decode_sized}
+use Rattle.hex.specs.Hex.{decode_sized, hex_digit_value}
 use Rattle.authn_core.specs.declared.replies.NewKey.{NewKey}
 use Rattle.authn_core.specs.declared.replies.Presence.TheVariants.{Granted, Denied, TimedOut}
 use Rattle.token_session.specs.declared.input.Input.{Input as AnyInput}
@@ -33,6 +33,15 @@ moment digits =
 -- The bytes of n pairs of hexadecimal digits, in either case.
 abbrev pub decoded_bytes : ℕ → List ℕ → Option (List ℕ)
 decoded_bytes n digits = result_ok (decode_sized digits n)
+
+-- The value of a digit, if it is below 16.
+abbrev pub value_below_16 : ℕ → Option ℕ
+value_below_16 v = if nat_lt v 16 then Some v else None
+
+-- The values of hexadecimal digits. Bytes that are no digits have a value of at least 16.
+abbrev pub AreValues : List ℕ → List ℕ → Type 0
+AreValues digits values = (i : ℕ) → i < length digits
+    → hex_digit_value (slice_index digits i) ≡ value_below_16 (slice_index values i)
 
 -- The field is this word.
 abbrev pub is_word : List ℕ → List ℕ → Bool

@@ -9,8 +9,8 @@ use Rattle.session_log.specs.{Lines.lines, Log.log}
 use Rattle.session_log.specs.World.{InputSemantics, LineSemantics, replay_world, quiet_world, live_world}
 
 -- A session's state, changed by inputs.
-abbrev pub session_course : InputSemantics SessionState
-session_course = record { turned = λ s x. stepped s x; sends = λ s x. input_packets_of s x; counts = λ s. s.meters }
+abbrev pub session_semantics : InputSemantics SessionState
+session_semantics = record { turned = λ s x. stepped s x; sends = λ s x. input_packets_of s x; counts = λ s. s.meters }
 
 -- A history: the inputs so far, newest first, with the packets and meters that it defines.
 abbrev pub history_course : Start → InputSemantics (List Timed)
@@ -22,7 +22,7 @@ history_course start = record {
 
 -- Replaying a log on a session's state.
 abbrev pub machine : LineSemantics SessionState
-machine = replay_world session_course
+machine = replay_world session_semantics
 
 -- Replaying a log on a history.
 abbrev pub history : Start → LineSemantics (List Timed)
@@ -42,7 +42,7 @@ exchange_history start = replay_world (exchange_histories start)
 
 -- Making a log quiet on a session's state.
 abbrev pub quiet_machine : LineSemantics SessionState
-quiet_machine = quiet_world session_course (λ s x. is_noise_at s.machine x)
+quiet_machine = quiet_world session_semantics (λ s x. is_noise_at s.machine x)
 
 -- Making a log quiet on a history.
 abbrev pub quiet_history : Start → LineSemantics (List Timed)
@@ -59,7 +59,7 @@ history_needs start h = needs (core start (received start h)).state.work
 
 -- Replaying a log with the needs, as `live` does, on a session's state.
 abbrev pub live_machine : LineSemantics SessionState
-live_machine = live_world session_course session_needs
+live_machine = live_world session_semantics session_needs
 
 -- Replaying a log with the needs on a history.
 abbrev pub live_history : Start → LineSemantics (List Timed)

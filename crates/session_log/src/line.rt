@@ -83,6 +83,23 @@ fn split_field(fields: &[u8]) -> Option<(&[u8], &[u8])>
     Some((fields.split_at(end).0, fields.split_at(end + 1).1))
 }
 
+/// Returns the index of the first space, by a loop over bytes.
+fn near_space(fields: &[u8]) -> Option<usize>
+    ensures value { result ≡ position (λ b. b == space) fields.now }
+    ensures within { IfSome result (λ end. end < length fields.now) }
+{
+    fields.iter().position(|byte| *byte == b' ')
+}
+
+/// Returns the parts before and after the first space, like [`split_field`], and sooner if the first part is short.
+fn split_time(fields: &[u8]) -> Option<(&[u8], &[u8])>
+    ensures { MatchOption result (first_field fields.now ≡ None) (λ parts.
+        first_field fields.now ≡ Some record { 0 = parts.0.now; 1 = parts.1.now }) }
+{
+    let end = near_space(fields)?;
+    Some((fields.split_at(end).0, fields.split_at(end + 1).1))
+}
+
 /// Parses a user presence reply.
 fn parse_presence(word: &[u8]) -> Option<Input>
     ensures { result ≡ parsed_presence word.now }
@@ -192,7 +209,7 @@ fn parse_other_input(letter: u8, fields: &[u8]) -> Option<Timed>
     ensures { MatchOption result (input_line letter fields.now ≡ None)
         (λ timed. input_line letter fields.now ≡ Some (Line.Input timed)) }
 {
-    let (moment, field) = split_field(fields)?;
+    let (moment, field) = split_time(fields)?;
     let at = parse_time(moment)?;
     let input = parse_input(letter, field)?;
     Some(Timed { at, input })

@@ -10,7 +10,7 @@ returns-in_err-decode_digits g c =
     let split = found.1 ∙ ap (λ (zeros : List ℕ). used ++ zeros) (digits_of_zeros found.0) in
     let zeros = drop (length used / 2) (replicate g.row.N 0) in
     let refused = rw c.in_err-decode_digits.was at c.decode_digits.ensures in
-    rw c.from_residual.ensures (sym (decode-trim_zeros c.args.digits.now used (8 * found.0) g.row.N c.if-digits.false split
+    rw c.from_residual.ensures (sym (decode-trim_zeros c.args.digits.now used (16 * found.0) g.row.N c.if-digits.false split
     ∙ ap (option_map (λ (bytes : List ℕ). bytes ++ zeros)) refused))
 
 pub returns : goal.returns
@@ -20,5 +20,5 @@ returns g c =
     let split = found.1 ∙ ap (λ (zeros : List ℕ). used ++ zeros) (digits_of_zeros found.0) in
     let zeros = drop (length used / 2) (replicate g.row.N 0) in
     let decoded = rw c.in_ok-decode_digits.was at c.decode_digits.ensures in
-    sym (decode-trim_zeros c.args.digits.now used (8 * found.0) g.row.N c.if-digits.false split
+    sym (decode-trim_zeros c.args.digits.now used (16 * found.0) g.row.N c.if-digits.false split
     ∙ ap (option_map (λ (bytes : List ℕ). bytes ++ zeros)) decoded)

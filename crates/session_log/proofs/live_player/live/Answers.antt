@@ -1,7 +1,7 @@
 use Rattle.std.proofs.Common.{◌≡◌, Ok, Err, ap, ◌∙◌, subst}
 use Rattle.std.proofs.lemmas.Result.{err_from_is_err_and}
 use Rattle.session_log.{specs.Sent.FitsMeters, proofs.Failures.on_err, proofs.Whole.logs_fault, proofs.Whole.logs_whole}
-use Rattle.session_log.specs.Session.{live_history, live_machine, session_needs, session_course}
+use Rattle.session_log.specs.Session.{live_history, live_machine, session_needs, session_semantics}
 use Rattle.session_log.proofs.Histories.{live_follows, logs_history}
 use Rattle.session_log.proofs.Again.{live_again, live_logs, live_replayed, repeats_in, replay_logs}
 use Rattle.session_log.proofs.live_player.live.Goals as goal
@@ -31,9 +31,9 @@ returns g c =
     let s = c.args.session.now in
     let new = c.process_log.new in
     let h = c.in_ok-process_log.ensures in
-    let logs = live_logs session_course session_needs in
-    let copies = live_replayed session_course session_needs in
-    let again = live_again session_course session_needs in
+    let logs = live_logs session_semantics session_needs in
+    let copies = live_replayed session_semantics session_needs in
+    let again = live_again session_semantics session_needs in
     let through =
     logs_whole live_machine s new.session g.S.Source.left g.S.Source.failed g.S.Source.ended g.T.Target.taken
     g.T.Target.failed c.args.reader.now new.reader c.args.writer.now new.writer _ c.meters_u64.ensures.value h in
@@ -41,7 +41,7 @@ returns g c =
     record {
       lived = through;
       again = repeats_in logs logs again _ _ s _ _ _ h.0.3 h.0.4.0 h.0.4.0.faultless h.0.4.1 held;
-      replays = repeats_in logs (replay_logs session_course) copies _ _ s _ _ _ h.0.3 h.0.4.0 h.0.4.0.faultless h.0.4.1 held;
+      replays = repeats_in logs (replay_logs session_semantics) copies _ _ s _ _ _ h.0.3 h.0.4.0 h.0.4.0.faultless h.0.4.1 held;
       history = logs_history g.S.Source.left g.S.Source.failed g.S.Source.ended g.T.Target.taken g.T.Target.failed
           (c.args.reader.now, new.reader) (c.args.writer.now, new.writer) live_machine live_history live_follows s
           new.session (Ok c.meters_u64.result) through;

@@ -1,6 +1,6 @@
 use Rattle.std.proofs.Common.{◌≡◌, Ok, Err, ap, ◌∙◌, subst}
 use Rattle.std.proofs.lemmas.Result.{err_from_is_err_and}
-use Rattle.session_log.specs.{Sent.FitsMeters, Session.history, Session.machine, Session.session_course}
+use Rattle.session_log.specs.{Sent.FitsMeters, Session.history, Session.machine, Session.session_semantics}
 use Rattle.session_log.proofs.{Failures.on_err, Whole.logs_fault, Whole.logs_whole}
 use Rattle.session_log.proofs.Histories.{follows, logs_history, logs_told}
 use Rattle.session_log.proofs.Again.{repeats_in, replay_again, replay_logs}
@@ -33,14 +33,14 @@ returns g c =
     let s = c.args.session.now in
     let new = c.process_log.new in
     let h = c.in_ok-process_log.ensures in
-    let logs = replay_logs session_course in
+    let logs = replay_logs session_semantics in
     let through =
     logs_whole machine s new.session g.S.Source.left g.S.Source.failed g.S.Source.ended g.T.Target.taken
     g.T.Target.failed c.args.reader.now new.reader c.args.writer.now new.writer _ c.meters_u64.ensures.value h in
     let held = subst FitsMeters c.meters_u64.ensures.value c.meters_u64.ensures.fits in
     record {
       replayed = through;
-      again = repeats_in logs logs (replay_again session_course) _ _ s _ _ _ h.0.3 h.0.4.0 h.0.4.0.faultless h.0.4.1 held;
+      again = repeats_in logs logs (replay_again session_semantics) _ _ s _ _ _ h.0.3 h.0.4.0 h.0.4.0.faultless h.0.4.1 held;
       history = logs_history g.S.Source.left g.S.Source.failed g.S.Source.ended g.T.Target.taken g.T.Target.failed
           (c.args.reader.now, new.reader) (c.args.writer.now, new.writer) machine history follows s new.session
           (Ok c.meters_u64.result) through;

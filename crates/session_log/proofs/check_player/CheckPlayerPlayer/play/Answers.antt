@@ -1,7 +1,7 @@
 use Rattle.std.proofs.Common.{◌≡◌, ◌+◌, ℕ, Option, Some, refl, ap, sym, ◌∙◌}
 use Rattle.hid_packet.specs.declared.packet.Packet.{Packet}
 use Rattle.session_log.specs.Check.{check_machine, log_comparison, due_packets, missing_of, comparison_after}
-use Rattle.session_log.specs.{Session.session_course, declared.fault.LogFault.TheVariants.Differs}
+use Rattle.session_log.specs.{Session.session_semantics, declared.fault.LogFault.TheVariants.Differs}
 use Rattle.session_log.specs.declared.line.Line.TheVariants.{Input, Sent}
 use Rattle.session_log.proofs.Compares.{begins, is_due, is_next, is_other, is_silent, not_full, passes, rises, standing}
 use Rattle.session_log.proofs.{Compares.stays, Puts.differs_for, Puts.writes_none}
@@ -29,7 +29,7 @@ returns-else-ne g c =
     let ready = c.requires.ready in
     let took = c.match_packet.ensures in
     let at = ready.0 in
-    let stood : t ≡ comparison_after session_course s x =
+    let stood : t ≡ comparison_after session_semantics s x =
     λ i. log_comparison c.args.session.now ((took.lines ∙ at) i) (took.input i) (took.found i) ((took.due ∙ sym next.1) i)
     (took.inputs i) (took.packets i) in
     writes_none check_machine g.T.Target.taken g.T.Target.failed c.args.number s t c.args._line.now x c.args._writer.now
@@ -61,7 +61,7 @@ returns-else-is_some g c =
     let begun = c.begin_input.ensures in
     let ready = c.requires.ready in
     let at = ready.0 in
-    let stood : t ≡ comparison_after session_course s x =
+    let stood : t ≡ comparison_after session_semantics s x =
     λ i. log_comparison (c.step.ensures.state i) ((begun.lines ∙ at) i) ((begun.input ∙ at) i) (begun.found i)
     ((begun.due ∙ c.step.ensures.packets) i) (begun.inputs i) (begun.packets i) in
     writes_none check_machine g.T.Target.taken g.T.Target.failed c.args.number s t c.args._line.now x c.args._writer.now
