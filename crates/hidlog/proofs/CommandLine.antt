@@ -309,7 +309,7 @@ plain_show name = refl
 -- the options of a command alone
 abbrev pub plain_options : CommandOptions
 plain_options = record
-    { load = None; save = None; log = None; all = false; json = false; wide = false; form = Lines; manner = ByTerminal }
+    { load = None; save = None; log = None; all = false; json = false; wide = false; form = Lines; verbosity = ByTerminal }
 
 -- What a word after the program's name asks for, is what the two words ask for.
 plain_asks : (program name : Text) (ask : Task) → task_for name plain_options [] ≡ Some ask →

@@ -122,7 +122,7 @@ logs_of found = unwrap_or (all_of (codes "log") found) []
 
 -- Converts the code's arguments to a task and a level of detail of the definitions.
 abbrev pub task_and_verbosity : Invocation → Task × Verbosity
-task_and_verbosity asked = (to_task asked.task (to_texts asked.logs.items), asked.manner)
+task_and_verbosity asked = (to_task asked.task (to_texts asked.logs.items), asked.verbosity)
 
 -- These are the parsed options.
 abbrev pub AreParsedOptions : CommandOptions → List Row → Type 0
@@ -133,7 +133,7 @@ AreParsedOptions options found = (to_path options.load ≡ first_of (codes "load
     × (options.json ≡ is_set (codes "json") found)
     × (options.wide ≡ is_set (codes "wide") found)
     × (options.form ≡ show_format found)
-    × (options.manner ≡ verbosity_of found)
+    × (options.verbosity ≡ verbosity_of found)
 
 -- The task of a command, by its name, its options and the paths of all logs.
 abbrev pub task_for : List ℕ → CommandOptions → (logs : List (List ℕ)) → Option Task

@@ -73,7 +73,7 @@ pub struct Invocation<'a> {
     pub task: Action<'a>,
     /// The paths of all logs, for `check`.
     pub logs: Vec<&'a str>,
-    pub manner: Verbosity,
+    pub verbosity: Verbosity,
 }
 
 /// The arguments after a command's name, for any command.
@@ -86,7 +86,7 @@ struct CommandOptions<'a> {
     json: bool,
     wide: bool,
     form: ShowFormat,
-    manner: Verbosity,
+    verbosity: Verbosity,
 }
 
 impl<'a> CommandOptions<'a> {
@@ -187,7 +187,7 @@ fn parse_options<'a>(options: &ArgMatches<'a>) -> CommandOptions<'a>
         json: is_set(options, "json"),
         wide: is_set(options, "wide"),
         form: parse_show_format(options),
-        manner: parse_verbosity(options),
+        verbosity: parse_verbosity(options),
     }
 }
 
@@ -206,7 +206,7 @@ fn parse_action<'a>(
         Some(task) => Ok(Some(Invocation {
             task,
             logs: parse_logs(alloc, found)?,
-            manner: options.manner,
+            verbosity: options.verbosity,
         })),
         None => Ok(None),
     }
@@ -228,13 +228,13 @@ fn parse_without_options<'a>(alloc: Global, words: &[&str]) -> Option<Invocation
         json: false,
         wide: false,
         form: ShowFormat::Lines,
-        manner: Verbosity::ByTerminal,
+        verbosity: Verbosity::ByTerminal,
     };
     match options.task(name) {
         Some(task) => Some(Invocation {
             task,
             logs: Vec::new(alloc),
-            manner: options.manner,
+            verbosity: options.verbosity,
         }),
         None => None,
     }

@@ -29,18 +29,18 @@ const MAX_REREAD_LEN: u64 = 1 << 26;
 /// The report that nothing differs, from its text: `same 14 inputs 22 packets`.
 #[derive(Clone, Copy)]
 struct SameLog<'a> {
-    wish: &'a ReportOptions<'a>,
+    options: &'a ReportOptions<'a>,
     text: &'a [u8],
 }
 
 impl Written for SameLog<'_> {
     fn write(&self, buf: &mut TextBuf) {
-        if !self.wish.is_json {
-            self.wish.begin_line(buf);
+        if !self.options.is_json {
+            self.options.begin_line(buf);
             buf.bytes(self.text);
             return;
         }
-        self.wish.begin_object(buf, "same");
+        self.options.begin_object(buf, "same");
         let mut words = Pieces {
             rest: self.text,
             end: b' ',
@@ -80,26 +80,26 @@ pub fn report_cause<E: Target>(
 /// Reports what may be wrong with a log without differences, if explained or in JSON.
 pub fn report_note<D: Files, L: Logs, E: Target>(
     files: &D,
-    wish: &ReportOptions<'_>,
+    options: &ReportOptions<'_>,
     input: &mut L,
     ending: &CheckEnd,
     faults: &mut E,
 )
     ensures { input.new ≡ input.old }
 {
-    if !wish.explains && !wish.is_json {
+    if !options.explains && !options.is_json {
         return;
     }
     let seen = input.state().seen;
     let len = seen.len;
     let notes = Notes {
-        wish: &*wish,
+        options: &*options,
         seen,
         ending: &*ending,
     };
     write_message(faults, &notes);
     if ending.has_served && len <= MAX_REREAD_LEN {
-        let mut same = *wish;
+        let mut same = *options;
         same.is_same = true;
         let again = input.reread(false);
         report_differences(files, &same, again, None, faults);
@@ -112,13 +112,13 @@ impl<D: Files, L: Logs, O: Output, E: Target> Host<D, L, O, E> {
     #[inline(never)]
     fn compare<'a>(
         &mut self,
-        wish: &ReportOptions<'a>,
+        options: &ReportOptions<'a>,
         path: &'a str,
         same: &mut Vec<u8>,
     ) -> Result<CheckEnd, ProgramFault<'a>>
         requires { L.failed self.old.input < 2 ^ 64 - 1 }
         ensures only { self.new ≡ record self.old { input = self.new.input } }
-        ensures same { OnOk result (IsSameAt ⟦<Self as Modeled>⟧.model (to_path wish.now.load) self.old.files path.now
+        ensures same { OnOk result (IsSameAt ⟦<Self as Modeled>⟧.model (to_path options.now.load) self.old.files path.now
             (self.old.input, self.new.input)) }
     {
         let session = &mut new_program_session();
@@ -131,7 +131,7 @@ impl<D: Files, L: Logs, O: Output, E: Target> Host<D, L, O, E> {
         if let Err(fault) = open_log(input, Some(path)) {
             return Err(fault);
         }
-        if let Err(fault) = load(session, &self.files, wish.load) {
+        if let Err(fault) = load(session, &self.files, options.load) {
             return Err(fault);
         }
         let mut writer = ToWrite::new(&mut *same);
@@ -142,13 +142,13 @@ impl<D: Files, L: Logs, O: Output, E: Target> Host<D, L, O, E> {
     }
 
     /// Writes that nothing differs. The error is the exit status.
-    fn report_equal(&mut self, wish: &ReportOptions<'_>, text: &[u8]) -> Result<(), u8>
+    fn report_equal(&mut self, options: &ReportOptions<'_>, text: &[u8]) -> Result<(), u8>
         requires { O.failed self.old.output < 2 ^ 64 - 1 }
         ensures status { IfErr result (λ code. code ≡ 1) }
         ensures files { self.new.files ≡ self.old.files }
         ensures input { self.new.input ≡ self.old.input }
     {
-        if write_message(&mut self.output, &SameLog { wish, text }) {
+        if write_message(&mut self.output, &SameLog { options, text }) {
             return Ok(());
         }
         write_message(&mut self.faults, &EscapedText(WRITING_FAILED));
@@ -156,7 +156,7 @@ impl<D: Files, L: Logs, O: Output, E: Target> Host<D, L, O, E> {
     }
 
     /// Reports a log's error, with details if explained, and the differences. Also as JSON, if requested.
-    fn report_failure(&mut self, wish: &ReportOptions<'_>, fault: &ProgramFault<'_>)
+    fn report_failure(&mut self, options: &ReportOptions<'_>, fault: &ProgramFault<'_>)
         requires { E.failed self.old.faults < 2 ^ 64 - 1 }
         ensures { self.new.files ≡ self.old.files }
     {
@@ -166,28 +166,28 @@ impl<D: Files, L: Logs, O: Output, E: Target> Host<D, L, O, E> {
         {
             let fault = *told;
             let faults = &mut self.faults;
-            if write_message(faults, &FaultLine { wish, fault }) && wish.explains {
+            if write_message(faults, &FaultLine { options, fault }) && options.explains {
                 report_cause(&self.input.state(), None, told, faults);
             }
             if let LogFault::Differs { .. } = told {
                 let again = self.input.reread(true);
-                if wish.is_json {
-                    report_differences(&self.files, wish, again, Some(fault), &mut self.output);
+                if options.is_json {
+                    report_differences(&self.files, options, again, Some(fault), &mut self.output);
                 } else {
-                    report_differences(&self.files, wish, again, Some(fault), faults);
+                    report_differences(&self.files, options, again, Some(fault), faults);
                 }
             }
         } else {
-            self.report(fault, wish.explains);
-            if !wish.explains
+            self.report(fault, options.explains);
+            if !options.explains
                 && let Some(notice) = fault.notice()
             {
                 write_message(&mut self.faults, &notice);
             }
         }
-        if wish.is_json {
+        if options.is_json {
             let output = &mut self.output;
-            write_message(output, &ProgramFaultObject { wish, fault });
+            write_message(output, &ProgramFaultObject { options, fault });
             if output.failures() > 0 {
                 write_message(&mut self.faults, &EscapedText(WRITING_FAILED));
             }
@@ -196,21 +196,21 @@ impl<D: Files, L: Logs, O: Output, E: Target> Host<D, L, O, E> {
 
     /// Checks one of several logs, and reports the result with its path; as JSON if requested. The error is the exit
     /// status.
-    fn check_one<'a>(&mut self, wish: &ReportOptions<'a>, path: &'a str) -> Result<(), u8>
+    fn check_one<'a>(&mut self, options: &ReportOptions<'a>, path: &'a str) -> Result<(), u8>
         requires { CanFail ⟦<Self as Modeled>⟧.model self.old }
         ensures status { IfErr result (λ code. (code ≡ 1) ⊎ (code ≡ 2)) }
         ensures kept { self.new.files ≡ self.old.files }
-        ensures same { OnOk result (IsSameAt ⟦<Self as Modeled>⟧.model (to_path wish.now.load) self.old.files path.now
+        ensures same { OnOk result (IsSameAt ⟦<Self as Modeled>⟧.model (to_path options.now.load) self.old.files path.now
             (self.old.input, self.new.input)) }
     {
         let mut same = Vec::new(self.alloc);
-        match self.compare(wish, path, &mut same) {
+        match self.compare(options, path, &mut same) {
             Ok(ending) => {
-                let parsed = self.report_equal(wish, &same);
-                if wish.is_json {
+                let parsed = self.report_equal(options, &same);
+                if options.is_json {
                     report_note(
                         &self.files,
-                        wish,
+                        options,
                         &mut self.input,
                         &ending,
                         &mut self.output,
@@ -219,7 +219,7 @@ impl<D: Files, L: Logs, O: Output, E: Target> Host<D, L, O, E> {
                 }
                 report_note(
                     &self.files,
-                    wish,
+                    options,
                     &mut self.input,
                     &ending,
                     &mut self.faults,
@@ -227,7 +227,7 @@ impl<D: Files, L: Logs, O: Output, E: Target> Host<D, L, O, E> {
                 parsed
             }
             Err(fault) => {
-                self.report_failure(wish, &fault);
+                self.report_failure(options, &fault);
                 Err(fault.status())
             }
         }
@@ -248,11 +248,11 @@ impl<D: Files, L: Logs, O: Output, E: Target> Host<D, L, O, E> {
             {
                 return Err(1);
             }
-            let wish = ReportOptions {
+            let options = ReportOptions {
                 path: if paths.len() == 1 { None } else { Some(*path) },
                 ..*wished
             };
-            let one = self.check_one(&wish, path);
+            let one = self.check_one(&options, path);
             has_failed = has_failed || one.is_err();
             if matches!(one, Err(2)) {
                 return Err(2);

@@ -42,22 +42,22 @@ fn new_comparison(alloc: Global) -> Option<Box<Comparison>> {
 /// differences, reports signed bytes that differ from what this key asks to sign. Reads the log again, if possible.
 pub fn report_differences<D: Files, S: Source + Drop, E: Target>(
     files: &D,
-    wish: &ReportOptions<'_>,
+    options: &ReportOptions<'_>,
     again: Option<S>,
     told: Option<LogFault>,
     faults: &mut E,
 ) {
-    if !wish.explains && !wish.is_all && !wish.is_json {
+    if !options.explains && !options.is_all && !options.is_json {
         return;
     }
     let Some(mut reader) = again else {
-        if !wish.is_same {
-            let (wish, remark) = (&*wish, NOT_READ_AGAIN);
-            write_message(faults, &NoteText { wish, remark });
+        if !options.is_same {
+            let (options, remark) = (&*options, NOT_READ_AGAIN);
+            write_message(faults, &NoteText { options, remark });
         }
         return;
     };
-    compare_again(files, wish, &mut reader, told, faults);
+    compare_again(files, options, &mut reader, told, faults);
 }
 
 /// Compares the log on a session of its own and reports the differences. Not inlined, so that the session is on the
@@ -65,18 +65,18 @@ pub fn report_differences<D: Files, S: Source + Drop, E: Target>(
 #[inline(never)]
 fn compare_again<D: Files, S: Source, E: Target>(
     files: &D,
-    wish: &ReportOptions<'_>,
+    options: &ReportOptions<'_>,
     reader: &mut S,
     told: Option<LogFault>,
     faults: &mut E,
 ) {
     let session = &mut new_program_session();
     // The snapshot was loaded before, so it is valid.
-    if load(session, files, wish.load).is_err() {
+    if load(session, files, options.load).is_err() {
         return;
     }
-    if let Some(mut comparison) = new_comparison(wish.alloc) {
-        report_each(&mut *comparison, session, wish, reader, told, faults);
+    if let Some(mut comparison) = new_comparison(options.alloc) {
+        report_each(&mut *comparison, session, options, reader, told, faults);
     }
 }
 
@@ -93,7 +93,7 @@ struct ReportedDifferences {
 fn report_each<S: Source, E: Target>(
     comparison: &mut Comparison,
     session: &mut Session<CAPACITY>,
-    wish: &ReportOptions<'_>,
+    options: &ReportOptions<'_>,
     reader: &mut S,
     told: Option<LogFault>,
     faults: &mut E,
@@ -116,56 +116,56 @@ fn report_each<S: Source, E: Target>(
             _ => false,
         };
         if !is_told && parsed.count == 0 {
-            let (wish, remark) = (&*wish, LOG_CHANGED);
-            write_message(faults, &NoteText { wish, remark });
+            let (options, remark) = (&*options, LOG_CHANGED);
+            write_message(faults, &NoteText { options, remark });
             return;
         }
-        let changes = report_one(comparison, wish, reader, &difference, parsed, faults);
+        let changes = report_one(comparison, options, reader, &difference, parsed, faults);
         parsed.count = parsed.count.saturating_add(1);
         parsed.has_changed = parsed.has_changed || changes;
-        if !wish.is_all {
+        if !options.is_all {
             break;
         }
     }
-    report_end(comparison, wish, reader, parsed.count, fault, faults);
+    report_end(comparison, options, reader, parsed.count, fault, faults);
 }
 
 /// Reports the number of inputs with differences, if all were requested; or, without differences, signed bytes that
 /// differ.
 fn report_end<S: Source, E: Target>(
     comparison: &mut Comparison,
-    wish: &ReportOptions<'_>,
+    options: &ReportOptions<'_>,
     reader: &mut S,
     count: u64,
     fault: Option<LogFault>,
     faults: &mut E,
 ) {
-    if wish.is_same && fault.is_none() {
+    if options.is_same && fault.is_none() {
         if let Some(otherwise) = comparison.signed_bytes_mismatch() {
-            let (wish, remark) = (&*wish, Note::Signed(otherwise));
-            write_message(faults, &NoteText { wish, remark });
+            let (options, remark) = (&*options, Note::Signed(otherwise));
+            write_message(faults, &NoteText { options, remark });
         }
         return;
     }
-    if wish.is_all {
+    if options.is_all {
         let counted = DifferenceCount {
-            wish: &*wish,
+            options: &*options,
             count,
             fault,
             ahead: comparison.window.as_slice(),
         };
         write_message(faults, &counted);
     }
-    if (wish.explains || wish.is_json) && comparison.has_only_inputs(reader) {
-        let (wish, remark) = (&*wish, NO_KEY_PACKETS);
-        write_message(faults, &NoteText { wish, remark });
+    if (options.explains || options.is_json) && comparison.has_only_inputs(reader) {
+        let (options, remark) = (&*options, NO_KEY_PACKETS);
+        write_message(faults, &NoteText { options, remark });
     }
 }
 
 /// Number of inputs with differences, and the error that ended the comparison, if any.
 #[derive(Clone, Copy)]
 struct DifferenceCount<'a> {
-    wish: &'a ReportOptions<'a>,
+    options: &'a ReportOptions<'a>,
     count: u64,
     fault: Option<LogFault>,
     /// The part of the log read so far, from the invalid line on.
@@ -174,27 +174,27 @@ struct DifferenceCount<'a> {
 
 impl Written for DifferenceCount<'_> {
     fn write(&self, buf: &mut TextBuf) {
-        let wish = self.wish;
-        if wish.is_json {
+        let options = self.options;
+        if options.is_json {
             if let Some(fault) = self.fault {
                 let fault = &ProgramFault::Log(fault);
-                let wish = self.wish;
-                ProgramFaultObject { wish, fault }.write(buf);
+                let options = self.options;
+                ProgramFaultObject { options, fault }.write(buf);
             }
-            wish.begin_object(buf, "differences");
+            options.begin_object(buf, "differences");
             buf.format(b",\"inputs\":%d}\n", &[Some(self.count)]);
             return;
         }
         if let Some(fault) = self.fault {
-            FaultLine { wish, fault }.write(buf);
-            if wish.explains
+            FaultLine { options, fault }.write(buf);
+            if options.explains
                 && matches!(fault, LogFault::BadLine(_) | LogFault::TooLong(_))
                 && let Some(hint) = first_parse_hint(self.ahead)
             {
                 hint.write(buf);
             }
         }
-        wish.begin_line(buf);
+        options.begin_line(buf);
         let form: &[u8] = match self.count {
             1 => b"%d input with differences\n",
             0..=MAX_DIFFERENCES => b"%d inputs with differences\n",
@@ -208,27 +208,27 @@ impl Written for DifferenceCount<'_> {
 /// credentials may differ after it.
 fn report_one<S: Source, E: Target>(
     comparison: &mut Comparison,
-    wish: &ReportOptions<'_>,
+    options: &ReportOptions<'_>,
     reader: &mut S,
     difference: &Difference,
     parsed: ReportedDifferences,
     faults: &mut E,
 ) -> bool {
-    if parsed.count >= MAX_DIFFERENCES && !wish.is_json {
+    if parsed.count >= MAX_DIFFERENCES && !options.is_json {
         return false;
     }
-    let texts = report_for(comparison, wish, reader, difference);
+    let texts = report_for(comparison, options, reader, difference);
     let finding = Finding {
-        wish,
+        options,
         difference,
         is_first: parsed.count == 0,
         has_changed: parsed.has_changed,
         texts: &texts,
     };
-    if let Some(width) = wish.width
-        && !wish.is_json
+    if let Some(width) = options.width
+        && !options.is_json
     {
-        let mut text = Vec::new(wish.alloc);
+        let mut text = Vec::new(options.alloc);
         write_message(&mut ToWrite::new(&mut text), &finding);
         let style = Style {
             width,
@@ -249,11 +249,11 @@ fn report_one<S: Source, E: Target>(
 /// Returns the finding for a difference, if it is to be reported.
 fn report_for<S: Source>(
     comparison: &mut Comparison,
-    wish: &ReportOptions<'_>,
+    options: &ReportOptions<'_>,
     reader: &mut S,
     difference: &Difference,
 ) -> DifferenceReport {
-    let alloc = wish.alloc;
+    let alloc = options.alloc;
     let mut texts = DifferenceReport {
         transaction: None,
         logged: Vec::new(alloc),
@@ -261,7 +261,7 @@ fn report_for<S: Source>(
         reason: Vec::new(alloc),
         may_name_prior_credential: false,
     };
-    if wish.explains || wish.is_json {
+    if options.explains || options.is_json {
         texts.transaction = comparison.explain(
             difference,
             reader,

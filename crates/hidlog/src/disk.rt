@@ -42,15 +42,15 @@ pub enum PathKind {
 pub trait Disk {
     type File: OpenFile + Drop;
 
-    /// These are the bytes of the file at a path; if there are as many as the limit, the file may have more.
-    ghost holds: { Self → List ℕ → ℕ → List ℕ → Type 0 };
+    /// The file at a path has these bytes.
+    ghost holds: { Self → List ℕ → List ℕ → Type 0 };
 
     /// These bytes were written to an object at a path that isn't a regular file.
     ghost handed: { List ℕ → List ℕ → Type 0 };
 
-    /// Reads at most `most` bytes of a file, from its start.
+    /// Reads a whole file. Fails with `FileTooLarge` if it has more than `most` bytes.
     fn read(&self, path: &str, most: u64) -> io::Result<Vec<u8>>
-        ensures { IfOk result (λ bytes. holds self.now path.now most bytes.items) };
+        ensures { IfOk result (λ bytes. holds self.now path.now bytes.items × length bytes.items ≤ most) };
 
     /// Examines a path. Rejects a directory, the log, and the file that is standard output.
     fn look(&self, path: &str, log: Option<&str>) -> io::Result<PathKind>;
@@ -131,15 +131,18 @@ fn is_at(rt: &HostRuntime, path: &str, file: &Metadata) -> bool {
 impl Disk for HostDisk<'_> {
     type File = File;
 
-    ghost holds = { λ _ _ _ _. Unit {0} };
+    ghost holds = { λ _ _ _. Unit {0} };
 
     ghost handed = { λ _ _. Unit {0} };
 
     fn read(&self, path: &str, most: u64) -> io::Result<Vec<u8>> {
         let mut bytes = Vec::new(self.0.alloc());
         File::open(self.0, path)?
-            .take(most)
+            .take(most.saturating_add(1))
             .read_to_end(&mut bytes)?;
+        if bytes.len() as u64 > most {
+            return Err(Error::new(ErrorKind::FileTooLarge, "it is longer than any snapshot"));
+        }
         Ok(bytes)
     }
 

@@ -26,7 +26,7 @@ pub fn write_display<T: Display>(buf: &mut TextBuf, what: &T) {
     let _ = write!(buf, "{what}");
 }
 
-/// The error of a stream, with its name unless it was written before.
+/// An error of a stream, and the stream's name if the message doesn't have it yet.
 #[derive(Clone, Copy)]
 pub struct StreamFailure<'a> {
     pub name: Option<&'a str>,

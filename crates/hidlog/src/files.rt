@@ -1,5 +1,5 @@
 //! The files of snapshots.
-ghost use Rattle.std.specs.Prelude.{◌≡◌, ◌⊎◌, ◌^◌, ℕ, List, Some, true, length, IfErr, IfOk, IfSome, MatchResult, OnOk};
+ghost use Rattle.std.specs.Prelude.{◌≡◌, ◌⊎◌, ℕ, List, Some, true, length, IfErr, IfOk, IfSome, MatchResult, OnOk};
 ghost use Rattle.std.specs.IoError.{error_kind};
 ghost use Rattle.hidlog.specs.Streams.{IsWritten};
 
@@ -70,13 +70,14 @@ pub trait Files {
             (λ _. unwritten self.old path.now bytes.now self.new) };
 }
 
-/// The files of a disk, with the allocator of paths. The contracts don't state why a file cannot be read or written.
+/// The files of a disk. The allocator is for the paths of the files beside a snapshot. No contract states why a read or a
+/// write fails.
 #[derive(Drop)]
 pub struct HostFiles<D>(pub D, pub Global);
 
-/// Maximum number of bytes of a snapshot that are read. It is much larger than the longest snapshot, so that the
-/// snapshot of a key with more capacity is rejected because of its number of credentials.
-const MAX_SNAPSHOT_LEN: u64 = 1 << 20;
+/// Maximum number of bytes of a snapshot that can be read, 64 MiB. It is much larger than the longest snapshot, so that
+/// the snapshot of a key with more capacity is rejected because of its number of credentials.
+const MAX_SNAPSHOT_LEN: u64 = 1 << 26;
 
 /// The system's error number for a missing path, ENOENT.
 const ENOENT: i32 = 2;
@@ -162,11 +163,12 @@ fn read_checksums<D: Disk>(files: &HostFiles<D>, path: &str) -> io::Result<Optio
     let name = checksum_path(files.1, path)?;
     match files.0.look(name.as_str(), None) {
         Ok(PathKind::Nothing) => Ok(None),
-        Ok(PathKind::File) => match files.0.read(name.as_str(), MAX_SUMS_LEN as u64 + 1) {
+        Ok(PathKind::File) => match files.0.read(name.as_str(), MAX_SUMS_LEN as u64) {
             Ok(sums) if are_sums(&sums) => Ok(Some(sums)),
             Ok(_) => Err(checksum_error(ErrorKind::InvalidInput)),
             Err(error) => match error.kind() {
                 ErrorKind::OutOfMemory => Err(error),
+                ErrorKind::FileTooLarge => Err(checksum_error(ErrorKind::InvalidInput)),
                 kind => Err(checksum_error(kind)),
             },
         },
@@ -309,7 +311,7 @@ fn replace<D: Disk>(
 }
 
 impl<D: Disk> Files for HostFiles<D> {
-    ghost holds = { λ files path bytes. D.holds files.0 path (2 ^ 20) bytes };
+    ghost holds = { λ files path bytes. D.holds files.0 path bytes };
 
     ghost unreadable = { λ _ _. Unit {0} };
 

@@ -43,7 +43,7 @@ pub struct DifferenceReport {
 /// A difference as lines or as a JSON object.
 #[derive(Clone, Copy)]
 pub struct Finding<'a> {
-    pub wish: &'a ReportOptions<'a>,
+    pub options: &'a ReportOptions<'a>,
     pub difference: &'a Difference,
     /// Whether this is the first difference, which was reported as an error before.
     pub is_first: bool,
@@ -103,7 +103,7 @@ impl Finding<'_> {
             }
             _ => false,
         };
-        match self.wish.load {
+        match self.options.load {
             _ if self.has_changed || !may_lack || !self.texts.may_name_prior_credential => None,
             Some(_) => Some(OTHER_SNAPSHOT),
             None => Some(NO_SNAPSHOT),
@@ -123,18 +123,18 @@ impl Finding<'_> {
 impl Written for Finding<'_> {
     /// Writes the difference: its transaction, the packets and messages, and where they differ first.
     fn write(&self, buf: &mut TextBuf) {
-        let wish = self.wish;
+        let options = self.options;
         let difference = self.difference;
         let texts = self.texts;
-        if wish.is_json {
+        if options.is_json {
             write_difference(buf, self);
             return;
         }
         if !self.is_first {
             let fault = difference.fault();
-            FaultLine { wish, fault }.write(buf);
+            FaultLine { options, fault }.write(buf);
         }
-        if !wish.explains {
+        if !options.explains {
             return;
         }
         if let Some(transaction) = &texts.transaction {

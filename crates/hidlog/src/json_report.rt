@@ -13,7 +13,7 @@ const FAULT_OBJECT_START: &[u8] = b"{\"kind\":\"fault\"";
 /// Writes the object of a difference.
 pub fn write_difference(buf: &mut TextBuf, finding: &Finding<'_>) {
     let (difference, texts) = (finding.difference, finding.texts);
-    finding.wish.begin_object(buf, "difference");
+    finding.options.begin_object(buf, "difference");
     buf.format(
         b",\"input\":%d,\"packet\":%d,\"line\":%d",
         &[
@@ -68,15 +68,15 @@ fn write_members(buf: &mut TextBuf, names: &[&[u8]]) {
 /// A log error as a JSON object.
 #[derive(Clone, Copy)]
 pub struct ProgramFaultObject<'a> {
-    pub wish: &'a ReportOptions<'a>,
+    pub options: &'a ReportOptions<'a>,
     pub fault: &'a ProgramFault<'a>,
 }
 
 impl Written for ProgramFaultObject<'_> {
     fn write(&self, buf: &mut TextBuf) {
-        self.wish.begin_object(buf, "fault");
+        self.options.begin_object(buf, "fault");
         if let ProgramFault::Log(fault) = self.fault {
-            let mut object = Vec::new(self.wish.alloc);
+            let mut object = Vec::new(self.options.alloc);
             let _ = put_json_fault(&mut ToWrite::new(&mut object), fault);
             buf.bytes(object.strip_prefix(FAULT_OBJECT_START).unwrap_or(b"}\n"));
             return;

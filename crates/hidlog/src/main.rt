@@ -69,15 +69,15 @@ impl<D: Files, L: Logs, O: Output, E: Target> Host<D, L, O, E> {
         match &outcome.fault {
             None => {
                 if let Some(ending) = &outcome.ending
-                    && let Some(wish) = &outcome.wish
+                    && let Some(options) = &outcome.options
                 {
-                    report_note(&self.files, wish, &mut self.input, ending, &mut target);
+                    report_note(&self.files, options, &mut self.input, ending, &mut target);
                 }
             }
             Some(LogFault::Differs { .. }) => {
-                if let Some(wish) = &outcome.wish {
+                if let Some(options) = &outcome.options {
                     let again = self.input.reread(true);
-                    report_differences(&self.files, wish, again, outcome.fault, &mut target);
+                    report_differences(&self.files, options, again, outcome.fault, &mut target);
                 }
             }
             Some(fault) => {

@@ -51,19 +51,19 @@ pub enum Note {
 /// A note as a line or a JSON object. Notes have no characters that JSON escapes.
 #[derive(Clone, Copy)]
 pub struct NoteText<'a> {
-    pub wish: &'a ReportOptions<'a>,
+    pub options: &'a ReportOptions<'a>,
     pub remark: Note,
 }
 
 impl Written for NoteText<'_> {
     fn write(&self, buf: &mut TextBuf) {
-        if self.wish.is_json {
-            self.wish.begin_object(buf, "note");
+        if self.options.is_json {
+            self.options.begin_object(buf, "note");
             buf.text(",\"text\":\"");
         } else if let Note::Differences(_) = self.remark {
             buf.text("  ");
         } else {
-            self.wish.begin_line(buf);
+            self.options.begin_line(buf);
             buf.text("note: ");
         }
         match self.remark {
@@ -81,21 +81,21 @@ impl Written for NoteText<'_> {
                 buf.text(otherwise.what);
             }
         }
-        buf.text(if self.wish.is_json { "\"}\n" } else { "\n" });
+        buf.text(if self.options.is_json { "\"}\n" } else { "\n" });
     }
 }
 
 /// The possible problems of a log without differences, from its statistics and its end.
 #[derive(Clone, Copy)]
 pub struct Notes<'a> {
-    pub wish: &'a ReportOptions<'a>,
+    pub options: &'a ReportOptions<'a>,
     pub seen: &'a SourceStats,
     pub ending: &'a CheckEnd,
 }
 
 impl Written for Notes<'_> {
     fn write(&self, buf: &mut TextBuf) {
-        let wish = self.wish;
+        let options = self.options;
         let doubt = if self.seen.len == 0 {
             Some("the log is empty")
         } else if !self.seen.has_input {
@@ -105,19 +105,19 @@ impl Written for Notes<'_> {
         };
         if let Some(text) = doubt {
             let remark = Note::Doubt(text);
-            NoteText { wish, remark }.write(buf);
+            NoteText { options, remark }.write(buf);
         }
         if !self.seen.ends_line {
             let remark = Note::Doubt("the last line has no line feed, so the log may be cut off");
-            NoteText { wish, remark }.write(buf);
+            NoteText { options, remark }.write(buf);
         }
         if let Some(awaited) = self.ending.awaited {
             let remark = Note::Waits(awaited);
-            NoteText { wish, remark }.write(buf);
+            NoteText { options, remark }.write(buf);
         }
         if self.ending.held > 0 {
             let remark = Note::EndsInside(self.ending.held);
-            NoteText { wish, remark }.write(buf);
+            NoteText { options, remark }.write(buf);
         }
     }
 }

@@ -40,7 +40,7 @@ pub struct RunOutcome<'a> {
     /// The state at the end of a log without an error.
     pub ending: Option<CheckEnd>,
     /// How differences are reported, if the log was checked.
-    pub wish: Option<ReportOptions<'a>>,
+    pub options: Option<ReportOptions<'a>>,
 }
 
 impl RunOutcome<'_> {
@@ -54,7 +54,7 @@ impl RunOutcome<'_> {
             fault: None,
             notice: None,
             ending: None,
-            wish: None,
+            options: None,
         }
     }
 }
@@ -213,35 +213,35 @@ impl<D: Files, L: Logs, O: Output, E: Target> Host<D, L, O, E> {
     }
 
     /// Checks the log at a path, or on standard input.
-    fn check_log<'a>(&mut self, wish: ReportOptions<'a>, log: Option<&'a str>) -> RunOutcome<'a>
+    fn check_log<'a>(&mut self, options: ReportOptions<'a>, log: Option<&'a str>) -> RunOutcome<'a>
         requires { CanFail ⟦<Self as Modeled>⟧.model self.old }
         ensures status { IfErr result.status (λ code. (code ≡ 1) ⊎ (code ≡ 2)) }
-        ensures does { DoesCommand ⟦<Self as Modeled>⟧.model comparing (to_path wish.entry.load) None (to_path log.entry)
-            wish.entry.explains result.status self.old self.new }
+        ensures does { DoesCommand ⟦<Self as Modeled>⟧.model comparing (to_path options.entry.load) None (to_path log.entry)
+            options.entry.explains result.status self.old self.new }
     {
         let play = Play {
             command: ReplayMode::Check,
-            load: wish.load,
+            load: options.load,
             save: None,
             log,
         };
-        let mut outcome = self.run_command(&play, wish.explains);
-        outcome.wish = Some(wish);
+        let mut outcome = self.run_command(&play, options.explains);
+        outcome.options = Some(options);
         outcome
     }
 
     /// Checks the logs at these paths, or standard input if there are none. With several, each report names its log.
-    fn check_logs<'a>(&mut self, wish: ReportOptions<'a>, logs: &[&'a str]) -> RunOutcome<'a>
+    fn check_logs<'a>(&mut self, options: ReportOptions<'a>, logs: &[&'a str]) -> RunOutcome<'a>
         requires { CanFail ⟦<Self as Modeled>⟧.model self.old }
         ensures status { IfErr result.status (λ code. (code ≡ 1) ⊎ (code ≡ 2)) }
-        ensures does { CarriesOut ⟦<Self as Modeled>⟧.model (check (to_path wish.entry.load) wish.entry.is_all wish.entry.is_json
-            (to_texts logs.now)) fixed wish.entry.explains result.status self.old self.new }
+        ensures does { CarriesOut ⟦<Self as Modeled>⟧.model (check (to_path options.entry.load) options.entry.is_all options.entry.is_json
+            (to_texts logs.now)) fixed options.entry.explains result.status self.old self.new }
     {
-        match (wish.is_json, logs) {
-            (false, []) => self.check_log(wish, None),
-            (false, [log]) => self.check_log(wish, Some(*log)),
-            (true, []) => RunOutcome::of(self.check_each(&wish, &["-"]), wish.explains),
-            (_, _) => RunOutcome::of(self.check_each(&wish, logs), wish.explains),
+        match (options.is_json, logs) {
+            (false, []) => self.check_log(options, None),
+            (false, [log]) => self.check_log(options, Some(*log)),
+            (true, []) => RunOutcome::of(self.check_each(&options, &["-"]), options.explains),
+            (_, _) => RunOutcome::of(self.check_each(&options, logs), options.explains),
         }
     }
 
@@ -259,7 +259,7 @@ impl<D: Files, L: Logs, O: Output, E: Target> Host<D, L, O, E> {
             Ok(asked) => asked,
             Err(error) => return RunOutcome::of(self.write_clap_message(&error), false),
         };
-        let explains = asked.manner.explains(self.terminals.faults);
+        let explains = asked.verbosity.explains(self.terminals.faults);
         match asked.task {
             Action::Play(play) => self.run_command(&play, explains),
             Action::Check {
@@ -267,7 +267,7 @@ impl<D: Files, L: Logs, O: Output, E: Target> Host<D, L, O, E> {
                 is_all,
                 is_json,
             } => {
-                let wish = ReportOptions {
+                let options = ReportOptions {
                     alloc,
                     explains,
                     load,
@@ -277,11 +277,11 @@ impl<D: Files, L: Logs, O: Output, E: Target> Host<D, L, O, E> {
                     is_same: false,
                     width: self.width,
                 };
-                self.check_logs(wish, &asked.logs)
+                self.check_logs(options, &asked.logs)
             }
             // Whether lines are truncated depends on the output.
             Action::Show { form, wide: _, log } => {
-                let is_worded = asked.manner.explains(self.terminals.output);
+                let is_worded = asked.verbosity.explains(self.terminals.output);
                 let came = self.show_log(form, is_worded, log);
                 self.report_result(&came, explains)
             }

@@ -47,13 +47,13 @@ impl ReportOptions<'_> {
 /// The message of a log error.
 #[derive(Clone, Copy)]
 pub struct FaultLine<'a> {
-    pub wish: &'a ReportOptions<'a>,
+    pub options: &'a ReportOptions<'a>,
     pub fault: LogFault,
 }
 
 impl Written for FaultLine<'_> {
     fn write(&self, buf: &mut TextBuf) {
-        self.wish.begin_line(buf);
+        self.options.begin_line(buf);
         write_display(buf, &self.fault);
         buf.text("\n");
     }

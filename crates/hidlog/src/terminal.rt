@@ -64,12 +64,12 @@ pub fn terminal_info(rt: &HostRuntime, words: &[&str]) -> TerminalInfo {
     if (terminals.output || terminals.faults || rt.stdin().is_terminal())
         && let Ok(asked) = parse_args(rt.alloc(), words)
     {
-        let is_told = asked.manner.explains(terminals.faults);
+        let is_told = asked.verbosity.explains(terminals.faults);
         around.audience.is_told = is_told;
         around.audience.sees_progress = is_told
             && terminals.faults
             && (is_check || !terminals.output);
-        if terminals.output && asked.manner.explains(true) {
+        if terminals.output && asked.verbosity.explains(true) {
             around.style = style_of(rt, &asked.task, columns);
         }
     }

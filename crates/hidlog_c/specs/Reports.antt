@@ -1,4 +1,4 @@
--- The values that a key stores for its C caller.
+-- The values that the calls on a key write for their C caller: statistics, what the key needs, credentials.
 use Rattle.std.specs.Prelude.{◌≡◌, ◌<◌, ◌≤◌, ℕ, ℤ, pos, ◌-◌, List, ◌++◌, length, replicate, Bool, true, false, Option}
 use Rattle.std.specs.Prelude.{Some, None, slice_index_or}
 use Rattle.authn_core.specs.Views.{Needed, needs, nothing, presence, key, sign}

@@ -84,7 +84,7 @@ pub extern "C" fn hidlog_key_init(
 pub extern "C" fn hidlog_key_tick(key: &mut KeyHandle, at: u64) -> i32
     ensures { Answers (held key.old) (held key.new) (record { at = at; input = inputs.Tick }) result }
 {
-    key.take(at, Input::Tick)
+    key.process_input(at, Input::Tick)
 }
 
 /// Processes a host packet at time `at`, in milliseconds. Returns the number of queued packets.
@@ -93,7 +93,7 @@ pub extern "C" fn hidlog_key_write_packet(key: &mut KeyHandle, at: u64, packet: 
     ensures { Answers (held key.old) (held key.new)
         (record { at = at; input = inputs.Packet (record { 0 = packet.now }) }) result }
 {
-    key.take(at, Input::Packet(Packet(*packet)))
+    key.process_input(at, Input::Packet(Packet(*packet)))
 }
 
 /// Removes the next queued packet and writes it to `packet`. Returns the number of packets left.
@@ -110,7 +110,7 @@ pub extern "C" fn hidlog_key_provide_presence(key: &mut KeyHandle, at: u64, pres
     ensures { AnswersChecked (held key.old) (held key.new) at (option_map inputs.Presence (parsed_presence_number presence)) result }
 {
     match parsed_presence_number(presence) {
-        Some(presence) => key.take(at, Input::Presence(presence)),
+        Some(presence) => key.process_input(at, Input::Presence(presence)),
         None => key.refuse(),
     }
 }
@@ -132,7 +132,7 @@ pub extern "C" fn hidlog_key_provide_key_pair(
         x: *x,
         y: *y,
     };
-    key.take(at, Input::Key(Some(new_key)))
+    key.process_input(at, Input::Key(Some(new_key)))
 }
 
 /// Refuses a key pair.
@@ -140,7 +140,7 @@ pub extern "C" fn hidlog_key_provide_key_pair(
 pub extern "C" fn hidlog_key_refuse_key_pair(key: &mut KeyHandle, at: u64) -> i32
     ensures { Answers (held key.old) (held key.new) (record { at = at; input = inputs.Key None }) result }
 {
-    key.take(at, Input::Key(None))
+    key.process_input(at, Input::Key(None))
 }
 
 /// Provides a signature over the bytes to sign, of 1 to 72 bytes.
@@ -153,7 +153,7 @@ pub extern "C" fn hidlog_key_provide_signature(
     ensures { AnswersChecked (held key.old) (held key.new) at (signature_input signature.now) result }
 {
     match Signature::new(signature) {
-        Some(signature) => key.take(at, Input::Signature(Some(signature))),
+        Some(signature) => key.process_input(at, Input::Signature(Some(signature))),
         None => key.refuse(),
     }
 }
@@ -163,7 +163,7 @@ pub extern "C" fn hidlog_key_provide_signature(
 pub extern "C" fn hidlog_key_refuse_signature(key: &mut KeyHandle, at: u64) -> i32
     ensures { Answers (held key.old) (held key.new) (record { at = at; input = inputs.Signature None }) result }
 {
-    key.take(at, Input::Signature(None))
+    key.process_input(at, Input::Signature(None))
 }
 
 /// Plays lines of a log, and writes what `live` writes for each to the start of `out`.

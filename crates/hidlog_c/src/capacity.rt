@@ -1,5 +1,4 @@
-//! The capacity of keys. release/build.sh also proves and builds the library with capacity 256, by replacing this
-//! number.
+//! The capacity of keys. The library with capacity 256 is the same sources with another number here.
 
 /// Maximum number of credentials, and of pending assertions.
 pub const CAPACITY: usize = 64;

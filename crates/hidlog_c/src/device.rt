@@ -82,8 +82,8 @@ impl Device {
         Ok(())
     }
 
-    /// Processes an input, unless packets are queued.
-    pub fn take(&mut self, at: u64, input: Input) -> i32
+    /// Processes an input. Returns the number of packets queued for sending, or an error if packets were queued before.
+    pub fn process_input(&mut self, at: u64, input: Input) -> i32
         ensures { Answers (Some self.old) (Some self.new) (record { at = at; input = input }) result }
     {
         if !self.outbox.is_empty() {

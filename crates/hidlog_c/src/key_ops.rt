@@ -65,14 +65,14 @@ impl KeyHandle {
         }
     }
 
-    /// Processes an input, unless packets are queued.
-    pub fn take(&mut self, at: u64, input: Input) -> i32
+    /// Processes an input. Returns the number of packets queued for sending, or an error if packets were queued before.
+    pub fn process_input(&mut self, at: u64, input: Input) -> i32
         ensures { Answers (held self.old) (held self.new) (record { at = at; input = input }) result }
     {
         if !self.is_initialized() {
             return ERR_NOT_INITIALIZED;
         }
-        self.memory.device().take(at, input)
+        self.memory.device().process_input(at, input)
     }
 
     /// Returns the error of an invalid argument.

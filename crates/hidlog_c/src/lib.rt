@@ -1,6 +1,6 @@
 //! A security key as C functions (hidlog.h): a key with one input per call (`calls`), and the commands on session logs,
 //! from a log and a snapshot to a text and a result. Allocates nothing. The web page's WebAssembly module has the same
-//! source (release/build.sh).
+//! source.
 #![tactic(auto)]
 
 mod buffer_target;

@@ -19,7 +19,9 @@ fn documented_example(rt: HostRuntime) {
                 assert!(rt; (cid, cmd, len) == (1, command::PING, 5));
                 assert!(rt; part.starts_with(b"hello"));
             }
-            View::More { .. } => panic!(rt; "the message fits in one packet"),
+            View::More { .. } => panic!(rt;
+                "unexpected continuation packet: a message of 5 bytes has one packet"
+            ),
         }
     }
 }

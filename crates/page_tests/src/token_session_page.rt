@@ -12,7 +12,9 @@ fn documented_example(rt: HostRuntime) {
         for answer in outbox {
             match answer.view() {
                 View::Start { cmd, len, .. } => assert!(rt; (cmd, len) == (command::INIT, 17)),
-                View::More { .. } => panic!(rt; "the response fits in one packet"),
+                View::More { .. } => panic!(rt;
+                    "unexpected continuation packet: the response to INIT has one packet"
+                ),
             }
         }
     }

@@ -9,7 +9,7 @@ use Rattle.session_log.specs.Ending.{Done, Ending, Refused, Unread, Unwritten, e
 use Rattle.session_log.specs.{Ending.write_fails, Replay.ReadsTo}
 use Rattle.session_log.specs.{Lines.lines, Parsed.parsed, Sent.SendsPackets, Text.with_line_feed, declared.line.Line.Line}
 use Rattle.session_log.specs.{Replay.IsRefused, Replay.IsUnread, Replay.IsPlayed, Replay.IsUnwritten}
-use Rattle.session_log.specs.Log.{Played, line_fault, parsed_line_fault, log_of, played, with_text_before, parsed_line_text, line_text}
+use Rattle.session_log.specs.Log.{Played, line_fault, parsed_line_fault, output_of, played, with_text_before, parsed_line_text, line_text}
 use Rattle.session_log.specs.Window.{HasLine, IsUnfinished, Stops}
 use Rattle.session_log.specs.declared.fault.LogFault.{LogFault, TheVariants.Memory}
 use Rattle.session_log.specs.declared.fault.LogFault.TheVariants.{BadLine, TooLong, Differs, Read, Write, TooManyLines}
@@ -307,8 +307,8 @@ unwritten_back {read} {shown} {n} t more =
         stands = refl;
         beginning = (
           with_line_feed split.1,
-          ap (λ (l : List (List ℕ)). log_of read_only_world (played read_only_world 1 tt l)) are
-              ∙ ap (log_of read_only_world) all
+          ap (λ (l : List (List ℕ)). output_of read_only_world (played read_only_world 1 tt l)) are
+              ∙ ap (output_of read_only_world) all
               ∙ append-nil (shown ++ [])
               ∙ sym (ap (λ (p : Played (Unit {0})). p.text) all)
               ∙ found.2

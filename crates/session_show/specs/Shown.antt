@@ -98,8 +98,8 @@ pub record IsWholeText (shows : LineTextRule) (lines text : List ℕ) : Type 0 w
   pub shown : IsShownText shows lines before
   pub last : shows (length shown.told) None behind
 
--- The text consists of the texts of these lines and, at the end of the log, a text after the last line. Nothing is
--- stated if a write failed.
+-- The text is that of these lines, and at the end of the log it also has the text after the last line. If a write
+-- failed, this states nothing.
 abbrev pub IsTextUpTo : LineTextRule → (lines text : List ℕ) → Ending → Type 0
 IsTextUpTo shows lines text Done = IsWholeText shows lines text
 IsTextUpTo shows lines text Unwritten = Unit {0}

@@ -71,7 +71,7 @@ pub static ERRORS: Names = &[
     (0x7f, "ERR_OTHER"),
 ];
 
-/// Section 11.2.9.2.1.
+/// Section 11.2.9.1.7.
 pub static KEEPALIVES: Names = &[(0x01, "STATUS_PROCESSING"), (0x02, "STATUS_UPNEEDED")];
 
 /// Section 6.1.

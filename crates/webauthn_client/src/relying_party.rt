@@ -109,7 +109,7 @@ pub fn may_use(id: &[u8], host: &[u8], suffix: &[u8]) -> bool
 fn check_context(origin: &Origin) -> Result<(), Rejection> {
     if is_address(origin.host) {
         return Err(security_error(
-            "This is an invalid domain: the host is an address; serve the page at http://localhost",
+            "This is an invalid domain: the host is an IP address; serve the page at http://localhost",
         ));
     }
     let is_local = origin.host == b"localhost".as_slice() || origin.host.ends_with(b".localhost");
