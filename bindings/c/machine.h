@@ -1,0 +1,157 @@
+// The WebAssembly memory and operations that hidlog_module.h uses. Addresses have 32 bits and select one of 16 windows
+// of 256 MiB. The first is the module's own memory; the others are opened onto buffers of the caller, so that the
+// module works on these in place. An access outside its window ends the process, as does a division by zero; the proof
+// excludes both.
+#ifndef HIDLOG_MACHINE_H
+#define HIDLOG_MACHINE_H
+
+#include <stdint.h>
+#include <stdio.h>
+#include <stdlib.h>
+#include <string.h>
+
+#if defined(__BYTE_ORDER__) && __BYTE_ORDER__ == __ORDER_LITTLE_ENDIAN__
+#elif defined(_MSC_VER) /* Windows is little-endian on all its processors */
+#else
+#error "hidlog needs a little-endian processor: WebAssembly's memory and hidlog.h's structs are shared"
+#endif
+
+// Loads are inlined always: a compiler's own choice costs a fifth more instructions.
+#if defined(__GNUC__)
+#define ALWAYS_INLINE inline __attribute__((always_inline))
+#elif defined(_MSC_VER)
+#define ALWAYS_INLINE __forceinline
+#else
+#define ALWAYS_INLINE inline
+#endif
+
+// The names that wasm2c uses.
+typedef uint8_t u8;
+typedef int8_t s8;
+typedef uint16_t u16;
+typedef uint32_t u32;
+typedef int32_t s32;
+typedef uint64_t u64;
+typedef int64_t s64;
+
+// An address with its constant offset is less than 2^33, so it selects one of 32 windows, of which the upper half stays
+// closed.
+enum { WINDOW_BITS = 28, WINDOWS = 32, PAGE_BYTES = 65536 };
+
+// The caller's memory from the start of a window on. If a buffer has several windows, each reaches to the buffer's end.
+struct window {
+    u8 *bytes;
+    u32 size;
+};
+
+// MODULE_PAGES is of hidlog_module.h.
+typedef struct {
+    struct window windows[WINDOWS];
+    u8 own[MODULE_PAGES * PAGE_BYTES];
+} wasm_rt_memory_t;
+
+static _Noreturn void trap(void) {
+    fputs("hidlog: internal error in the portable library\n", stderr);
+    abort();
+}
+
+// Returns `len` bytes of a window. Out of line, since most accesses are to the module's own memory.
+static u8 *window_bytes(const wasm_rt_memory_t *memory, u64 address, u64 len) {
+    const struct window *window = &memory->windows[address >> WINDOW_BITS];
+    u64 offset = address & ((1u << WINDOW_BITS) - 1);
+    if (offset + len > window->size) {
+        trap();
+    }
+    return window->bytes + offset;
+}
+
+// Returns `len` bytes of the memory.
+static ALWAYS_INLINE u8 *bytes_at(wasm_rt_memory_t *memory, u64 address, u64 len) {
+    if (len <= sizeof memory->own && address <= sizeof memory->own - len) {
+        return memory->own + address;
+    }
+    return window_bytes(memory, address, len);
+}
+
+#define DEFINE_LOAD(name, stored, extended, loaded)                            \
+    static ALWAYS_INLINE loaded name(wasm_rt_memory_t *memory, u64 address) {   \
+        stored value;                                                          \
+        memcpy(&value, bytes_at(memory, address, sizeof value), sizeof value); \
+        return (loaded)(extended)value;                                        \
+    }
+
+DEFINE_LOAD(i32_load, u32, u32, u32)
+DEFINE_LOAD(i32_load8_s, s8, s32, u32)
+DEFINE_LOAD(i32_load8_u, u8, u32, u32)
+DEFINE_LOAD(i32_load16_u, u16, u32, u32)
+DEFINE_LOAD(i64_load, u64, u64, u64)
+DEFINE_LOAD(i64_load8_u, u8, u64, u64)
+DEFINE_LOAD(i64_load16_u, u16, u64, u64)
+DEFINE_LOAD(i64_load32_u, u32, u64, u64)
+
+#define DEFINE_STORE(name, stored, given)                                               \
+    static inline void name(wasm_rt_memory_t *memory, u64 address, given value) { \
+        stored wrapped = (stored)value;                                                 \
+        memcpy(bytes_at(memory, address, sizeof wrapped), &wrapped, sizeof wrapped);    \
+    }
+
+DEFINE_STORE(i32_store, u32, u32)
+DEFINE_STORE(i32_store8, u8, u32)
+DEFINE_STORE(i32_store16, u16, u32)
+DEFINE_STORE(i64_store, u64, u64)
+DEFINE_STORE(i64_store8, u8, u64)
+DEFINE_STORE(i64_store16, u16, u64)
+DEFINE_STORE(i64_store32, u32, u64)
+
+static inline void memory_fill(wasm_rt_memory_t *memory, u32 address, u32 value, u32 len) {
+    if (len != 0) {
+        memset(bytes_at(memory, address, len), (int)(value & 0xff), len);
+    }
+}
+
+static inline void memory_copy(wasm_rt_memory_t *to, wasm_rt_memory_t *from, u32 to_address,
+                               u32 from_address, u32 len) {
+    if (len != 0) {
+        memmove(bytes_at(to, to_address, len), bytes_at(from, from_address, len), len);
+    }
+}
+
+static inline u64 count_leading_zeros(u64 value) {
+    u64 count = 0;
+    while (count < 64 && (value >> (63 - count) & 1) == 0) {
+        count++;
+    }
+    return count;
+}
+
+static inline u64 count_trailing_zeros(u64 value) {
+    u64 count = 0;
+    while (count < 64 && (value >> count & 1) == 0) {
+        count++;
+    }
+    return count;
+}
+
+static inline u64 checked_divisor(u64 value) {
+    if (value == 0) {
+        trap();
+    }
+    return value;
+}
+
+// Macros, since they serve operands of 32 and of 64 bits.
+#define ROTATE_LEFT(value, count, mask) ((value) << ((count) & (mask)) | (value) >> ((0 - (count)) & (mask)))
+#define ROTATE_RIGHT(value, count, mask) ((value) >> ((count) & (mask)) | (value) << ((0 - (count)) & (mask)))
+#define I32_ROTL(value, count) ROTATE_LEFT(value, count, 31)
+#define I32_ROTR(value, count) ROTATE_RIGHT(value, count, 31)
+#define I64_ROTL(value, count) ROTATE_LEFT(value, count, 63)
+#define I64_ROTR(value, count) ROTATE_RIGHT(value, count, 63)
+#define I64_CLZ(value) count_leading_zeros(value)
+#define I64_CTZ(value) count_trailing_zeros(value)
+#define DIV_U(value, divisor) ((value) / checked_divisor(divisor))
+#define REM_U(value, divisor) ((value) % checked_divisor(divisor))
+#define UNREACHABLE trap()
+#define FUNC_PROLOGUE
+#define FUNC_EPILOGUE
+
+#endif

@@ -1,0 +1,15 @@
+#!/usr/bin/env bash
+# Writes the files of the portable C library to a directory, generated from release/hidlog.wasm: bindings/c/sources.sh
+# DIR
+#
+# The same release and wabt give the same bytes. Needs wabt and Python 3; ends with 3 if wasm2c is missing.
+set -euo pipefail
+[ $# = 1 ] || { echo "usage: bindings/c/sources.sh DIR" >&2; exit 2; }
+top=$(cd "$(dirname "${BASH_SOURCE[0]}")/../.." && pwd)
+mkdir -p "$1"
+to=$(cd "$1" && pwd)
+"$top/bindings/c/generate.py" "$top/release/hidlog.wasm" "$to"
+for name in bindings/c/{README.md,Makefile,hidlog.c,machine.h,program.c} LICENSE-{APACHE,MIT} examples/sign_in.log \
+    release/hidlog{,_recording,_standard}.h; do
+    install -m 644 "$top/$name" "$to/${name##*/}"
+done

@@ -1,0 +1,92 @@
+package hidlog
+
+// #include "hidlog.h"
+import "C"
+
+import (
+	"fmt"
+	"strings"
+	"unsafe"
+)
+
+// ceremony is the method of navigator.credentials: create or get.
+type ceremony C.uint32_t
+
+const (
+	createCeremony ceremony = C.HIDLOG_CLIENT_CREATE
+	getCeremony    ceremony = C.HIDLOG_CLIENT_GET
+)
+
+// clientAbilities are the key's: discoverable credentials, but no user verification.
+const clientAbilities = C.HIDLOG_CLIENT_RESIDENT_KEY
+
+// Maximum lengths of a request and of a credential's JSON.
+const (
+	requestCapacity    = longestMessage
+	credentialCapacity = 16384
+)
+
+var domErrorNames = map[C.int64_t]string{
+	C.HIDLOG_CLIENT_TYPE_ERROR:          "TypeError",
+	C.HIDLOG_CLIENT_ENCODING_ERROR:      "EncodingError",
+	C.HIDLOG_CLIENT_RANGE_ERROR:         "RangeError",
+	C.HIDLOG_CLIENT_NOT_SUPPORTED_ERROR: "NotSupportedError",
+	C.HIDLOG_CLIENT_SECURITY_ERROR:      "SecurityError",
+	C.HIDLOG_CLIENT_NOT_ALLOWED_ERROR:   "NotAllowedError",
+	C.HIDLOG_CLIENT_INVALID_STATE_ERROR: "InvalidStateError",
+	C.HIDLOG_CLIENT_SYNTAX_ERROR:        "SyntaxError",
+}
+
+// client makes the two calls of the C library (hidlog.h) for one call of navigator.credentials: the library checks the
+// options, and writes the request and the credential's JSON.
+type client struct {
+	ceremony          ceremony
+	options, origin   []byte
+	mediation, suffix []byte
+}
+
+func newClient(kind ceremony, options []byte, origin string) *client {
+	return &client{ceremony: kind, options: options, origin: []byte(origin), mediation: []byte("optional")}
+}
+
+// buildRequest checks the options and returns the request for the key: the command byte, then CBOR.
+func (c *client) buildRequest() ([]byte, error) {
+	out := make([]byte, requestCapacity)
+	var report C.struct_hidlog_client_report
+	length := C.hidlog_client_request(C.uint32_t(c.ceremony), firstByte(c.options), C.size_t(len(c.options)),
+		firstByte(c.mediation), C.size_t(len(c.mediation)), firstByte(c.origin), C.size_t(len(c.origin)), firstByte(c.suffix),
+		C.size_t(len(c.suffix)), clientAbilities, &report, firstByte(out), C.size_t(len(out)))
+	return readResult(length, report, out)
+}
+
+// buildCredential returns the credential as JSON. It takes the key's response: a status byte, then CBOR.
+func (c *client) buildCredential(from []byte) ([]byte, error) {
+	out := make([]byte, credentialCapacity)
+	var report C.struct_hidlog_client_report
+	length := C.hidlog_client_response(C.uint32_t(c.ceremony), firstByte(c.options), C.size_t(len(c.options)),
+		firstByte(c.mediation), C.size_t(len(c.mediation)), firstByte(c.origin), C.size_t(len(c.origin)), firstByte(c.suffix),
+		C.size_t(len(c.suffix)), clientAbilities, firstByte(from), C.size_t(len(from)), &report, firstByte(out),
+		C.size_t(len(out)))
+	return readResult(length, report, out)
+}
+
+// readResult returns the output of a library call, or its error.
+func readResult(length C.int64_t, report C.struct_hidlog_client_report, out []byte) ([]byte, error) {
+	if length >= 0 {
+		return out[:length], nil
+	}
+	name, known := domErrorNames[length]
+	if !known {
+		return nil, fmt.Errorf("hidlog: the request or the credential's JSON is longer than %d bytes", len(out))
+	}
+	member, reason := out[:report.member_len], out[report.member_len:report.member_len+report.reason_len]
+	return nil, &DOMError{name, strings.TrimPrefix(string(member)+": "+string(reason), ": ")}
+}
+
+// firstByte returns a pointer to the first byte; never nil, as hidlog.h requires.
+func firstByte(from []byte) *C.uint8_t {
+	if len(from) == 0 {
+		from = make([]byte, 1)
+	}
+	return (*C.uint8_t)(unsafe.Pointer(&from[0]))
+}

@@ -1,0 +1,410 @@
+package hidlog_test
+
+import (
+	"bytes"
+	"crypto/ecdsa"
+	"crypto/elliptic"
+	"crypto/rand"
+	"crypto/sha256"
+	"crypto/x509"
+	"encoding/base64"
+	"encoding/binary"
+	"encoding/json"
+	"errors"
+	"fmt"
+	"os"
+	"os/exec"
+	"path/filepath"
+	"strings"
+	"sync"
+	"testing"
+
+	"cogtzil.example/hidlog"
+)
+
+const origin = "https://login.example.com"
+
+var create = []byte(`{"rp": {"id": "example.com", "name": "Example"}, "challenge": "AAECAwQFBgcICQoLDA0ODw",
+	"user": {"id": "YW5u", "name": "ann", "displayName": "Ann"},
+	"pubKeyCredParams": [{"type": "public-key", "alg": -8}, {"type": "public-key", "alg": -7}],
+	"authenticatorSelection": {"residentKey": "required"}}`)
+var get = []byte(`{"publicKey": {"challenge": "AAECAwQFBgcICQoLDA0ODw", "rpId": "example.com"}}`)
+
+// publicKeyCredential is the part of a credential's JSON that a service reads.
+type publicKeyCredential struct {
+	ID       string
+	Response struct {
+		ClientDataJSON, AuthenticatorData, Signature, PublicKey, AttestationObject, UserHandle string
+	}
+}
+
+func parseCredential(t *testing.T, from []byte, err error) (credential publicKeyCredential) {
+	t.Helper()
+	if err == nil {
+		err = json.Unmarshal(from, &credential)
+	}
+	if err != nil {
+		t.Fatal(err)
+	}
+	return credential
+}
+
+func decodeBase64URL(t *testing.T, text string) []byte {
+	t.Helper()
+	found, err := base64.RawURLEncoding.DecodeString(text)
+	if err != nil {
+		t.Fatal(err)
+	}
+	return found
+}
+
+func newKey(t *testing.T) *hidlog.SecurityKey {
+	t.Helper()
+	key, err := hidlog.NewSecurityKey()
+	if err != nil {
+		t.Fatal(err)
+	}
+	t.Cleanup(func() { checkRecordings(t, key.Authenticator); key.Close() })
+	return key
+}
+
+// checkRecordings runs `hidlog check` on each recording, if the program is found.
+func checkRecordings(t *testing.T, key *hidlog.Authenticator) {
+	t.Helper()
+	program := os.Getenv("HIDLOG_PROGRAM")
+	if program == "" {
+		program = "../../release/hidlog"
+	}
+	if _, err := os.Stat(program); err != nil {
+		t.Logf("recordings are not checked: %v", err)
+		return
+	}
+	for _, recording := range key.Recordings() {
+		args := []string{"check"}
+		if len(recording.Snapshot) > 0 {
+			path := filepath.Join(t.TempDir(), "snapshot")
+			if err := os.WriteFile(path, recording.Snapshot, 0o600); err != nil {
+				t.Fatal(err)
+			}
+			args = append(args, "--load", path)
+		}
+		command := exec.Command(program, args...)
+		command.Stdin = bytes.NewReader(recording.Log)
+		if output, err := command.CombinedOutput(); err != nil || !bytes.HasPrefix(output, []byte("same ")) {
+			t.Errorf("hidlog check: %v %s", err, output)
+		}
+	}
+}
+
+// isVerified returns whether a sign-in is valid for the registered public key.
+func isVerified(t *testing.T, registration, assertion publicKeyCredential) bool {
+	t.Helper()
+	public, err := x509.ParsePKIXPublicKey(decodeBase64URL(t, registration.Response.PublicKey))
+	if err != nil {
+		t.Fatal(err)
+	}
+	hash := sha256.Sum256(decodeBase64URL(t, assertion.Response.ClientDataJSON))
+	digest := sha256.Sum256(append(decodeBase64URL(t, assertion.Response.AuthenticatorData), hash[:]...))
+	return ecdsa.VerifyASN1(public.(*ecdsa.PublicKey), digest[:], decodeBase64URL(t, assertion.Response.Signature))
+}
+
+func signCount(t *testing.T, assertion publicKeyCredential) uint32 {
+	t.Helper()
+	return binary.BigEndian.Uint32(decodeBase64URL(t, assertion.Response.AuthenticatorData)[33:])
+}
+
+func TestRegisterAndSignIn(t *testing.T) {
+	key := newKey(t)
+	browser := key.Browser(origin)
+	made, err := browser.Create(create)
+	registered := parseCredential(t, made, err)
+	rp := sha256.Sum256([]byte("example.com"))
+	if data := decodeBase64URL(t, registered.Response.AuthenticatorData); !bytes.Equal(data[:32], rp[:]) || data[32] != 0x41 {
+		t.Fatalf("authenticator data %x", data)
+	}
+	// {"fmt": "packed", "attStmt": {"alg": -7, "sig": signature of authenticator data and clientDataHash}, ..}
+	front := []byte("\xa3\x63fmt\x66packed\x67attStmt\xa2\x63alg\x26\x63sig\x58")
+	attestation := decodeBase64URL(t, registered.Response.AttestationObject)
+	if !bytes.HasPrefix(attestation, front) {
+		t.Fatalf("attestation %x", attestation)
+	}
+	rest := attestation[len(front):]
+	signed := registered
+	signed.Response.Signature = base64.RawURLEncoding.EncodeToString(rest[1 : 1+rest[0]])
+	if !isVerified(t, registered, signed) {
+		t.Fatal("the signature of the self attestation is invalid")
+	}
+	for expected := uint32(1); expected < 4; expected++ {
+		used, err := browser.Get(get)
+		signedIn := parseCredential(t, used, err)
+		if signedIn.ID != registered.ID || signedIn.Response.UserHandle != "YW5u" {
+			t.Fatalf("expected the registered account, got %s", used)
+		}
+		if !isVerified(t, registered, signedIn) || signCount(t, signedIn) != expected {
+			t.Fatalf("sign-in %d: %s", expected, used)
+		}
+		var data struct{ Type, Challenge, Origin string }
+		if err := json.Unmarshal(decodeBase64URL(t, signedIn.Response.ClientDataJSON), &data); err != nil {
+			t.Fatal(err)
+		}
+		if data.Type != "webauthn.get" || data.Challenge != "AAECAwQFBgcICQoLDA0ODw" || data.Origin != origin {
+			t.Fatal(data)
+		}
+	}
+}
+
+func TestPresence(t *testing.T) {
+	key := newKey(t)
+	browser := key.Browser(origin)
+	key.Presence = []hidlog.Presence{hidlog.PresenceDenied, hidlog.PresenceTimedOut, hidlog.PresenceGranted}
+	for _, isAccepted := range []bool{false, false, true, true} {
+		if _, err := browser.Create(create); (err == nil) != isAccepted || err != nil && !isDOMError(err, "NotAllowedError") {
+			t.Fatal(isAccepted, err)
+		}
+	}
+}
+
+func isDOMError(err error, name string) bool {
+	var found *hidlog.DOMError
+	return errors.As(err, &found) && found.Name == name
+}
+
+func TestInvalidCallsAreRejected(t *testing.T) {
+	key := newKey(t)
+	browser := key.Browser(origin)
+	used, err := browser.Create(create)
+	made := parseCredential(t, used, err)
+	// options returns registration options: rp is a prefix of rp's members, user the user ID, rest further members.
+	options := func(rp, user, rest string) string {
+		return fmt.Sprintf(`{"rp": {%s"name": "Example"}, "challenge": "AAECAwQFBgcICQoLDA0ODw",
+			"user": {"id": "%s", "name": "a", "displayName": "A"}, "pubKeyCredParams": [{"type": "public-key", "alg": -7}]%s}`,
+			rp, user, rest)
+	}
+	excluded := options(`"id": "example.com", `, "AA",
+		fmt.Sprintf(`, "excludeCredentials": [{"type": "public-key", "id": "%s"}]`, made.ID))
+	for _, test := range []struct {
+		origin, options, name string
+		isGet                 bool
+	}{
+		{origin, excluded, "InvalidStateError", false},
+		{origin, options(`"id": "example.org", `, "AA", ""), "SecurityError", false},
+		{origin, options(`"id": "com", `, "AA", ""), "SecurityError", false},
+		{"http://example.com", options("", "AA", ""), "SecurityError", false},
+		{"https://127.0.0.1", options("", "AA", ""), "SecurityError", false},
+		// Options without rp, user or parameters, which browsers reject.
+		{origin, `{"challenge": "AAECAwQFBgcICQoLDA0ODw"}`, "TypeError", false},
+		{origin, `{"rp": {"id": "example.com"}, "challenge": "AA", "user": {"id": "AA", "name": "a"}}`, "TypeError", false},
+		{origin, `{"rp": {"id": "example.com"}, "user": {"id": "AA"}}`, "TypeError", false},
+		{origin, `{"rp": `, "TypeError", false},
+		{origin, `{"rp": {"name": "E"}, "challenge": "AA", "user": {"id": "AA", "name": "a", "displayName": "A"},
+			"pubKeyCredParams": [{"type": "public-key", "alg": -99}]}`, "NotAllowedError", false},
+		{origin, `{"challenge": "AA", "rpId": "example.com", "userVerification": "required"}`, "NotAllowedError", true},
+		{origin, `{"challenge": "AA", "rpId": "login.example.com"}`, "NotAllowedError", true},
+	} {
+		browser, call := key.Browser(test.origin), (*hidlog.Browser).Create
+		if test.isGet {
+			call = (*hidlog.Browser).Get
+		}
+		if _, err := call(browser, []byte(test.options)); !isDOMError(err, test.name) {
+			t.Errorf("%s: %v", test.options, err)
+		}
+	}
+}
+
+func TestFaults(t *testing.T) {
+	key := newKey(t)
+	browser := key.Browser(origin)
+	text, err := browser.Create(create)
+	made := parseCredential(t, text, err)
+	signIn := func() publicKeyCredential {
+		text, err := browser.Get(get)
+		return parseCredential(t, text, err)
+	}
+	before := signCount(t, signIn())
+	key.Faults = hidlog.Faults{StaleSignCount: true}
+	if used := signIn(); signCount(t, used) != before || !isVerified(t, made, used) {
+		t.Fatal("the counter should be stale, with a valid signature")
+	}
+	key.Faults = hidlog.Faults{BadSignature: true}
+	if isVerified(t, made, signIn()) {
+		t.Fatal("the signature should be invalid")
+	}
+	key.Faults = hidlog.Faults{WrongRPID: "example.org"}
+	rp, used := sha256.Sum256([]byte("example.org")), signIn()
+	if !bytes.HasPrefix(decodeBase64URL(t, used.Response.AuthenticatorData), rp[:]) || !isVerified(t, made, used) {
+		t.Fatal("the RP ID hash should be example.org's, with a valid signature")
+	}
+	key.Faults = hidlog.Faults{TruncateBy: 4}
+	if used := signIn(); len(decodeBase64URL(t, used.Response.AuthenticatorData)) != 33 {
+		t.Fatal("the authenticator data should be four bytes short")
+	}
+	key.Faults = hidlog.Faults{Status: 0x30}
+	if _, err := browser.Get(get); !isDOMError(err, "NotAllowedError") {
+		t.Fatal(err)
+	}
+	key.Faults = hidlog.Faults{}
+	if used := signIn(); !isVerified(t, made, used) || signCount(t, used) < before+5 {
+		t.Fatal("without faults the sign-in should be valid")
+	}
+}
+
+func TestCredentials(t *testing.T) {
+	key := newKey(t)
+	pair, err := ecdsa.GenerateKey(elliptic.P256(), rand.Reader)
+	if err != nil {
+		t.Fatal(err)
+	}
+	rp := sha256.Sum256([]byte("example.com"))
+	bob := hidlog.Credential{RPIDHash: rp, ID: hidlog.CredentialID{7}, UserID: []byte("bob"), UserName: "Bob",
+		Discoverable: true, SignCount: 41}
+	if err := key.AddWithPrivateKey(bob, pair); err != nil {
+		t.Fatal(err)
+	}
+	text, err := key.Browser(origin).Get(get)
+	if used := parseCredential(t, text, err); signCount(t, used) != 42 || string(decodeBase64URL(t, used.Response.UserHandle)) != "bob" {
+		t.Fatal(string(text))
+	}
+	credentials := key.Credentials()
+	if len(credentials) != 1 || credentials[0].UserName != "Bob" || credentials[0].SignCount != 42 ||
+		string(credentials[0].UserID) != "bob" {
+		t.Fatal(credentials)
+	}
+	snapshot, err := key.Snapshot()
+	if err != nil {
+		t.Fatal(err)
+	}
+	again, err := hidlog.NewAuthenticator(snapshot)
+	if err != nil || len(again.Credentials()) != 1 {
+		t.Fatal(err)
+	}
+	again.Close()
+	if _, err := again.Tick(1); err != hidlog.ErrClosed || again.Add(bob) != hidlog.ErrClosed || again.Need().Kind != 0 {
+		t.Fatal("calls on a closed authenticator should return ErrClosed")
+	}
+	second := hidlog.Credential{ID: hidlog.CredentialID{8}, RPIDHash: rp, UserID: []byte("bob"), Discoverable: true}
+	if err := key.Add(second); err == nil {
+		t.Fatal("a second discoverable credential for the user should be rejected")
+	}
+	if err := key.Add(hidlog.Credential{UserID: make([]byte, 65)}); err == nil {
+		t.Fatal("a user handle of 65 bytes should be rejected")
+	}
+	if err := key.Remove(hidlog.CredentialID{9}); err == nil {
+		t.Fatal("removing a missing credential should fail")
+	}
+	if err := key.Clear(); err != nil || len(key.Credentials()) != 0 || len(key.Recordings()) != 3 {
+		t.Fatal(err)
+	}
+	if _, err := hidlog.NewAuthenticator([]byte{1}); err == nil {
+		t.Fatal("an invalid snapshot should be rejected")
+	}
+}
+
+func TestAccounts(t *testing.T) {
+	key := newKey(t)
+	browser := key.Browser(origin)
+	for _, user := range []string{"YQ", "Yg", "Yw"} {
+		text := bytes.Replace(create, []byte("YW5u"), []byte(user), 1)
+		if _, err := browser.Create(text); err != nil {
+			t.Fatal(err)
+		}
+	}
+	for account, user := range []string{"Yw", "Yg", "YQ"} {
+		browser.Account = account
+		text, err := browser.Get(get)
+		if used := parseCredential(t, text, err); used.Response.UserHandle != user {
+			t.Fatal(account, used)
+		}
+	}
+	browser.Account = 3
+	if _, err := browser.Get(get); !isDOMError(err, "NotAllowedError") {
+		t.Fatal(err)
+	}
+}
+
+// The error of a request that the key rejected ends with the key's cause; the error of an injected status does not.
+func TestCauses(t *testing.T) {
+	key := newKey(t)
+	browser := key.Browser(origin)
+	ends := func(call func([]byte) ([]byte, error), options []byte, cause string) {
+		t.Helper()
+		_, err := call(options)
+		if !isDOMError(err, "NotAllowedError") || !strings.HasSuffix(err.Error(), ": "+cause) || key.Cause() != cause {
+			t.Fatalf("%v; cause %q, expected %q", err, key.Cause(), cause)
+		}
+	}
+	ends(browser.Get, get, "no discoverable credential of this RP on this key")
+	key.Presence = []hidlog.Presence{hidlog.PresenceDenied}
+	ends(browser.Create, create, "the user refused")
+	key.Presence = []hidlog.Presence{hidlog.PresenceGranted}
+	if _, err := browser.Create(create); err != nil || key.Cause() != "" {
+		t.Fatal(err, key.Cause())
+	}
+	key.Faults = hidlog.Faults{Status: 0x30}
+	key.Presence = []hidlog.Presence{hidlog.PresenceDenied}
+	if _, err := browser.Get(get); !isDOMError(err, "NotAllowedError") || strings.Contains(err.Error(), "the user") {
+		t.Fatal(err)
+	}
+}
+
+// An authenticator without a simulated user: packets, needs and time.
+func TestPackets(t *testing.T) {
+	key, err := hidlog.NewAuthenticator(nil)
+	if err != nil {
+		t.Fatal(err)
+	}
+	// The response to INIT on the broadcast channel (CTAP 2.1, section 11.2.9.1.3): nonce, channel ID, versions and
+	// capabilities.
+	packet := hidlog.Packet{0xff, 0xff, 0xff, 0xff, 0x86, 0, 8, 1, 2, 3, 4, 5, 6, 7, 8}
+	sent, err := key.HandlePacket(0, packet)
+	expected := hidlog.Packet{0xff, 0xff, 0xff, 0xff, 0x86, 0, 17, 1, 2, 3, 4, 5, 6, 7, 8, 0, 0, 0, 1, 2, 1, 0, 0, 0x0c}
+	if err != nil || len(sent) != 1 || sent[0] != expected {
+		t.Fatal(err, sent)
+	}
+	// authenticatorSelection sends KEEPALIVEs while it waits for user presence, and returns 0x27 (OPERATION_DENIED) if
+	// the user refuses.
+	selection := hidlog.Packet{0, 0, 0, 1, 0x90, 0, 1, 0x0b}
+	if _, err = key.HandlePacket(10, selection); err != nil || key.Need().Kind != hidlog.NeedPresence {
+		t.Fatal(err, key.Need())
+	}
+	if sent, err = key.Tick(200); err != nil || len(sent) != 1 || sent[0][4] != 0xbb || sent[0][7] != 2 {
+		t.Fatal(err, sent)
+	}
+	if sent, err = key.ProvidePresence(250, hidlog.PresenceDenied); err != nil || len(sent) != 1 || sent[0][7] != 0x27 {
+		t.Fatal(err, sent)
+	}
+	if _, err = key.ProvidePresence(300, 3); err == nil {
+		t.Fatal("presence 3 should be rejected")
+	}
+	if _, err = key.ProvideSignature(300, make([]byte, 73)); err == nil {
+		t.Fatal("a signature of 73 bytes should be rejected")
+	}
+	if _, err = key.Reject(300, hidlog.NeedPresence); err == nil {
+		t.Fatal("Reject(NeedPresence) should fail")
+	}
+	checkRecordings(t, key)
+}
+
+func TestManyGoroutines(t *testing.T) {
+	var group sync.WaitGroup
+	for count := 0; count < 8; count++ {
+		group.Add(1)
+		go func() {
+			defer group.Done()
+			key, err := hidlog.NewSecurityKey()
+			if err != nil {
+				t.Error(err)
+				return
+			}
+			browser := key.Browser(origin)
+			for again := 0; again < 10 && err == nil; again++ {
+				if _, err = browser.Create(create); err == nil {
+					_, err = browser.Get(get)
+				}
+			}
+			if err != nil {
+				t.Error(err)
+			}
+		}()
+	}
+	group.Wait()
+}

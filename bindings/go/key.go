@@ -1,0 +1,272 @@
+package hidlog
+
+// /* The module has the library in lib; a clone of the repository has it in release. Elsewhere portable.c is it. */
+// #cgo CFLAGS: -I${SRCDIR}/lib -I${SRCDIR}/lib/portable -I${SRCDIR}/../../release
+// #cgo linux,amd64,!hidlog_portable LDFLAGS: -L${SRCDIR}/lib/amd64 -L${SRCDIR}/../../release -l:libhidlog.a
+// #cgo linux,arm64,!hidlog_portable LDFLAGS: -L${SRCDIR}/lib/arm64 -L${SRCDIR}/../../release/aarch64 -l:libhidlog.a
+// #include <stdlib.h>
+// #include "hidlog.h"
+import "C"
+
+import (
+	"errors"
+	"fmt"
+	"runtime"
+	"sync"
+	"unsafe"
+)
+
+// causeCapacity is the maximum length of a cause in bytes (hidlog.h).
+const causeCapacity = 160
+
+// PacketSize is the length of a packet in bytes.
+const PacketSize = 64
+
+// CredentialID is a credential ID.
+type CredentialID [32]byte
+
+// Packet is a CTAPHID packet.
+type Packet [PacketSize]byte
+
+// Presence is the user's reaction when the authenticator asks for a touch.
+type Presence int
+
+// The user touches the key, refuses, or does nothing.
+const (
+	PresenceGranted Presence = iota
+	PresenceDenied
+	PresenceTimedOut
+)
+
+// String returns the presence as written in a session log: granted, denied or timeout.
+func (p Presence) String() string {
+	return [...]string{"granted", "denied", "timeout"}[p]
+}
+
+// NeedKind is what an authenticator needs to continue its request.
+type NeedKind int
+
+// An authenticator needs nothing, user presence, a new key pair, or a signature.
+const (
+	NeedNone NeedKind = iota
+	NeedPresence
+	NeedKeyPair
+	NeedSignature
+)
+
+// Need is what an authenticator needs from its caller. For NeedSignature, ID is the credential and ToSign the bytes to
+// sign with ECDSA and SHA-256 (DER).
+type Need struct {
+	Kind   NeedKind
+	ID     CredentialID
+	ToSign []byte
+}
+
+// Credential is a credential without its private key.
+type Credential struct {
+	RPIDHash     [32]byte // SHA-256 of the RP ID
+	ID           CredentialID
+	X, Y         [32]byte // the public key on P-256
+	UserID       []byte   // the user handle, at most 64 bytes
+	UserName     string   // at most 64 bytes
+	Discoverable bool
+	SignCount    uint32
+}
+
+// Recording is a session log and the credential snapshot it starts with, if any: `hidlog check --load SNAPSHOT LOG`.
+type Recording struct {
+	Snapshot []byte
+	Log      []byte
+}
+
+// Authenticator is the authenticator alone: packets and replies in, packets out. Times are in milliseconds, and every
+// input is recorded. Its methods may be called from several goroutines. An input that fails leaves it unchanged.
+type Authenticator struct {
+	mutex      sync.Mutex
+	key        *C.struct_hidlog_key
+	recordings []Recording
+}
+
+// ErrClosed is returned by methods of a closed Authenticator.
+var ErrClosed = errors.New("hidlog: the authenticator is closed")
+
+var errorTexts = map[C.int32_t]string{
+	C.HIDLOG_KEY_ERR_NOT_INITIALIZED:  "the key is not initialized",
+	C.HIDLOG_KEY_ERR_PACKETS_QUEUED:   "packets are queued: read them first",
+	C.HIDLOG_KEY_ERR_INVALID_ARGUMENT: "no such credential, or a text is longer than 64 bytes or not UTF-8",
+	C.HIDLOG_KEY_ERR_BUSY:             "the key is busy",
+	C.HIDLOG_KEY_ERR_DUPLICATE_USER:   "another discoverable credential has the same RP and user",
+	C.HIDLOG_KEY_ERR_NOT_A_SNAPSHOT:   "the bytes are not a snapshot",
+	C.HIDLOG_KEY_ERR_FULL:             "the key is full: its capacity is 64 credentials",
+	C.HIDLOG_KEY_ERR_BAD_CREDENTIAL:   "the snapshot has an invalid credential",
+}
+
+// toError returns the error for a return value of the library, or nil.
+func toError(what string, status C.int32_t) error {
+	if status >= 0 {
+		return nil
+	}
+	text := errorTexts[status]
+	if text == "" {
+		text = fmt.Sprintf("error %d", status)
+	}
+	return fmt.Errorf("hidlog: %s: %s", what, text)
+}
+
+// NewAuthenticator returns an authenticator with the credentials of a snapshot, or without any if it is nil. Close it,
+// or leave it to the garbage collector.
+func NewAuthenticator(snapshot []byte) (*Authenticator, error) {
+	a := &Authenticator{recordings: []Recording{{Snapshot: clone(snapshot)}}}
+	a.key = (*C.struct_hidlog_key)(C.calloc(1, C.sizeof_struct_hidlog_key))
+	// malloc aligns to 16 where there is a prebuilt library; the portable one needs no alignment.
+	a.key.memory = C.malloc(C.hidlog_key_size())
+	var aaguid [16]C.uint8_t
+	status := C.hidlog_key_init(a.key, &aaguid[0], 0, firstByte(snapshot), C.size_t(len(snapshot)))
+	if err := toError("new authenticator", status); err != nil {
+		a.free()
+		return nil, err
+	}
+	runtime.SetFinalizer(a, (*Authenticator).Close)
+	return a, nil
+}
+
+func clone(from []byte) []byte {
+	return append([]byte(nil), from...)
+}
+
+func (a *Authenticator) free() {
+	C.free(a.key.memory)
+	C.free(unsafe.Pointer(a.key))
+	a.key = nil
+}
+
+// Close destroys the authenticator. Its recordings remain.
+func (a *Authenticator) Close() {
+	a.mutex.Lock()
+	defer a.mutex.Unlock()
+	if a.key != nil {
+		C.hidlog_key_destroy(a.key)
+		a.free()
+	}
+}
+
+// handleInput passes an input to the library with call, appends its log line to the recording, and returns the packets
+// that the authenticator sends.
+func (a *Authenticator) handleInput(line string, call func() C.int32_t) ([]Packet, error) {
+	a.mutex.Lock()
+	defer a.mutex.Unlock()
+	if a.key == nil {
+		return nil, ErrClosed
+	}
+	if err := toError("input", call()); err != nil {
+		return nil, err
+	}
+	recording := &a.recordings[len(a.recordings)-1]
+	recording.Log = append(append(recording.Log, line...), '\n')
+	var sent []Packet
+	var packet Packet
+	for C.hidlog_key_read_packet(a.key, firstByte(packet[:])) >= 0 {
+		recording.Log = fmt.Appendf(recording.Log, "< %x\n", packet)
+		sent = append(sent, packet)
+	}
+	return sent, nil
+}
+
+// HandlePacket handles a packet from the host, and returns the packets sent in response.
+func (a *Authenticator) HandlePacket(timeMs uint64, packet Packet) ([]Packet, error) {
+	return a.handleInput(fmt.Sprintf("> %d %x", timeMs, packet), func() C.int32_t {
+		return C.hidlog_key_write_packet(a.key, C.uint64_t(timeMs), firstByte(packet[:]))
+	})
+}
+
+// Tick advances the time, and returns the packets sent.
+func (a *Authenticator) Tick(timeMs uint64) ([]Packet, error) {
+	return a.handleInput(fmt.Sprintf("t %d", timeMs), func() C.int32_t {
+		return C.hidlog_key_tick(a.key, C.uint64_t(timeMs))
+	})
+}
+
+// ProvidePresence reports what the user did.
+func (a *Authenticator) ProvidePresence(timeMs uint64, presence Presence) ([]Packet, error) {
+	if presence < PresenceGranted || presence > PresenceTimedOut {
+		return nil, fmt.Errorf("hidlog: presence must be PresenceGranted, PresenceDenied or PresenceTimedOut, not %d",
+			int(presence))
+	}
+	return a.handleInput(fmt.Sprintf("p %d %s", timeMs, presence), func() C.int32_t {
+		return C.hidlog_key_provide_presence(a.key, C.uint64_t(timeMs), C.uint32_t(presence))
+	})
+}
+
+// ProvideKeyPair provides a new key pair: the credential ID and the public key on P-256.
+func (a *Authenticator) ProvideKeyPair(timeMs uint64, id CredentialID, x, y [32]byte) ([]Packet, error) {
+	return a.handleInput(fmt.Sprintf("k %d %x %x %x", timeMs, id, x, y), func() C.int32_t {
+		return C.hidlog_key_provide_key_pair(a.key, C.uint64_t(timeMs), firstByte(id[:]), firstByte(x[:]), firstByte(y[:]))
+	})
+}
+
+// ProvideSignature provides a signature, 1 to 72 bytes of DER.
+func (a *Authenticator) ProvideSignature(timeMs uint64, signature []byte) ([]Packet, error) {
+	if len(signature) == 0 || len(signature) > 72 {
+		return nil, fmt.Errorf("hidlog: a signature must have 1 to 72 bytes, not %d", len(signature))
+	}
+	return a.handleInput(fmt.Sprintf("s %d %x", timeMs, signature), func() C.int32_t {
+		return C.hidlog_key_provide_signature(a.key, C.uint64_t(timeMs), firstByte(signature), C.size_t(len(signature)))
+	})
+}
+
+// Reject reports that there is no key pair (NeedKeyPair), or no signature (NeedSignature).
+func (a *Authenticator) Reject(timeMs uint64, need NeedKind) ([]Packet, error) {
+	switch need {
+	case NeedKeyPair:
+		return a.handleInput(fmt.Sprintf("k %d no", timeMs), func() C.int32_t {
+			return C.hidlog_key_refuse_key_pair(a.key, C.uint64_t(timeMs))
+		})
+	case NeedSignature:
+		return a.handleInput(fmt.Sprintf("s %d no", timeMs), func() C.int32_t {
+			return C.hidlog_key_refuse_signature(a.key, C.uint64_t(timeMs))
+		})
+	default:
+		return nil, fmt.Errorf("hidlog: Reject needs NeedKeyPair or NeedSignature, not %d; "+
+			"to deny presence, call ProvidePresence with PresenceDenied", int(need))
+	}
+}
+
+// Cause returns why the authenticator rejected its last input, as a sentence without a full stop: with an ERROR packet,
+// or with a status other than 0. It is empty if the input was not rejected, and after power-up.
+func (a *Authenticator) Cause() string {
+	a.mutex.Lock()
+	defer a.mutex.Unlock()
+	if a.key == nil {
+		return ""
+	}
+	var cause C.struct_hidlog_cause
+	text := make([]byte, causeCapacity)
+	length := C.hidlog_key_cause(a.key, 1, &cause, firstByte(text), causeCapacity)
+	return string(text[:max(0, int(length))])
+}
+
+// Need returns what the authenticator needs now.
+func (a *Authenticator) Need() Need {
+	a.mutex.Lock()
+	defer a.mutex.Unlock()
+	if a.key == nil {
+		return Need{}
+	}
+	var need C.struct_hidlog_need
+	C.hidlog_key_get_need(a.key, &need)
+	found := Need{Kind: NeedKind(need.kind)}
+	copy(found.ID[:], C.GoBytes(unsafe.Pointer(&need.id), 32))
+	found.ToSign = C.GoBytes(unsafe.Pointer(&need.to_sign), C.int(need.to_sign_len))
+	return found
+}
+
+// Recordings returns what was recorded. A new recording begins at each Add, Remove and Clear.
+func (a *Authenticator) Recordings() []Recording {
+	a.mutex.Lock()
+	defer a.mutex.Unlock()
+	found := make([]Recording, 0, len(a.recordings))
+	for _, recording := range a.recordings {
+		found = append(found, Recording{clone(recording.Snapshot), clone(recording.Log)})
+	}
+	return found
+}

@@ -1,0 +1,283 @@
+package hidlog
+
+import (
+	"crypto/ecdsa"
+	"crypto/elliptic"
+	"crypto/rand"
+	"crypto/sha256"
+	"encoding/binary"
+	"errors"
+	"fmt"
+	"strings"
+	"sync"
+	"time"
+)
+
+// CTAPHID commands, with the bit of initialization packets set (CTAP 2.1, section 11.2.4).
+const (
+	commandInit      = 0x80 | hidINIT
+	commandCBOR      = 0x80 | hidCBOR
+	commandKeepalive = 0x80 | hidKEEPALIVE
+	commandError     = 0x80 | hidERROR
+)
+
+// Faults are injected into responses, to test how a service handles them. They are injected outside the authenticator,
+// so that its recordings still replay.
+type Faults struct {
+	// Status, if not 0, is the response to every request.
+	Status byte
+	// BadSignature signs with a different private key.
+	BadSignature bool
+	// StaleSignCount repeats the signature counter of the previous response, with a valid signature.
+	StaleSignCount bool
+	// WrongRPID, if not empty, is the RP ID whose hash the authenticator data has, with a valid signature.
+	WrongRPID string
+	// TruncateBy is the number of bytes to remove from the end of the authenticator data.
+	TruncateBy int
+}
+
+// SecurityKey is an authenticator with private keys and a simulated user, for clients that send messages. Its methods
+// must not be called concurrently.
+type SecurityKey struct {
+	*Authenticator
+	// Presence is what the user does each time the key asks for a touch. The last one is repeated; if empty, every touch
+	// is granted.
+	Presence []Presence
+	// Faults are the faults to inject.
+	Faults Faults
+
+	mutex       sync.Mutex
+	poweredUp   time.Time
+	privateKeys map[CredentialID]*ecdsa.PrivateKey
+	channel     [4]byte
+	last        map[CredentialID]uint32 // signature counter of the previous response
+}
+
+// Status is the CTAP status code with which a key rejected a request.
+type Status byte
+
+// Error returns the status code and its name.
+func (s Status) Error() string {
+	return strings.TrimSpace(fmt.Sprintf("hidlog: the key returned status %02x %s", byte(s), statusNames[s]))
+}
+
+// NewSecurityKey returns a key without credentials.
+func NewSecurityKey() (*SecurityKey, error) {
+	authenticator, err := NewAuthenticator(nil)
+	if err != nil {
+		return nil, err
+	}
+	return &SecurityKey{
+		Authenticator: authenticator,
+		poweredUp:     time.Now(),
+		privateKeys:   map[CredentialID]*ecdsa.PrivateKey{},
+		last:          map[CredentialID]uint32{},
+	}, nil
+}
+
+func (k *SecurityKey) nowMs() uint64 {
+	return uint64(time.Since(k.poweredUp).Milliseconds())
+}
+
+// PrivateKey returns the private key of a credential, or nil.
+func (k *SecurityKey) PrivateKey(id CredentialID) *ecdsa.PrivateKey {
+	return k.privateKeys[id]
+}
+
+// AddWithPrivateKey adds a credential with its private key, from which X and Y are set.
+func (k *SecurityKey) AddWithPrivateKey(credential Credential, privateKey *ecdsa.PrivateKey) error {
+	if privateKey == nil || privateKey.Curve != elliptic.P256() {
+		return errors.New("hidlog: the private key must be on P-256")
+	}
+	privateKey.X.FillBytes(credential.X[:])
+	privateKey.Y.FillBytes(credential.Y[:])
+	if err := k.Add(credential); err != nil {
+		return err
+	}
+	k.privateKeys[credential.ID] = privateKey
+	k.channel = [4]byte{}
+	return nil
+}
+
+// Remove removes the credential with this ID.
+func (k *SecurityKey) Remove(id CredentialID) error {
+	k.channel = [4]byte{}
+	return k.Authenticator.Remove(id)
+}
+
+// Clear removes all credentials.
+func (k *SecurityKey) Clear() error {
+	k.channel = [4]byte{}
+	return k.Authenticator.Clear()
+}
+
+// nextPresence returns the user's reply to the next request for user presence.
+func (k *SecurityKey) nextPresence() Presence {
+	if len(k.Presence) == 0 {
+		return PresenceGranted
+	}
+	next := k.Presence[0]
+	if len(k.Presence) > 1 {
+		k.Presence = k.Presence[1:]
+	}
+	return next
+}
+
+func (k *SecurityKey) provideKeyPair() ([]Packet, error) {
+	var id CredentialID
+	privateKey, err := ecdsa.GenerateKey(elliptic.P256(), rand.Reader)
+	if err == nil {
+		_, err = rand.Read(id[:])
+	}
+	if err != nil {
+		return nil, err
+	}
+	var x, y [32]byte
+	privateKey.X.FillBytes(x[:])
+	privateKey.Y.FillBytes(y[:])
+	k.privateKeys[id] = privateKey
+	return k.ProvideKeyPair(k.nowMs(), id, x, y)
+}
+
+func (k *SecurityKey) provideSignature(need Need) ([]Packet, error) {
+	privateKey := k.privateKeys[need.ID]
+	if privateKey == nil {
+		return k.Reject(k.nowMs(), NeedSignature)
+	}
+	signature, err := sign(privateKey, need.ToSign)
+	if err != nil {
+		return nil, err
+	}
+	return k.ProvideSignature(k.nowMs(), signature)
+}
+
+func sign(privateKey *ecdsa.PrivateKey, toSign []byte) ([]byte, error) {
+	digest := sha256.Sum256(toSign)
+	return ecdsa.SignASN1(rand.Reader, privateKey, digest[:])
+}
+
+// provideNeeds provides what the authenticator needs until it needs nothing. It takes the result of an input, and returns
+// all packets sent.
+func (k *SecurityKey) provideNeeds(sent []Packet, err error) ([]Packet, error) {
+	for err == nil {
+		var more []Packet
+		need := k.Need()
+		switch need.Kind {
+		case NeedPresence:
+			more, err = k.ProvidePresence(k.nowMs(), k.nextPresence())
+		case NeedKeyPair:
+			more, err = k.provideKeyPair()
+		case NeedSignature:
+			more, err = k.provideSignature(need)
+		default:
+			return sent, nil
+		}
+		sent = append(sent, more...)
+	}
+	return nil, err
+}
+
+// transact sends a message on a channel, and returns the command and the data of the response.
+func (k *SecurityKey) transact(channel [4]byte, command byte, data []byte) (byte, []byte, error) {
+	var sent []Packet
+	for _, packet := range fragment(channel, command, data) {
+		more, err := k.provideNeeds(k.HandlePacket(k.nowMs(), packet))
+		if err != nil {
+			return 0, nil, err
+		}
+		sent = append(sent, more...)
+	}
+	return reassemble(channel, sent)
+}
+
+// fragment returns the packets of a message.
+func fragment(channel [4]byte, command byte, data []byte) []Packet {
+	var packet Packet
+	copy(packet[:], channel[:])
+	packet[4] = command
+	binary.BigEndian.PutUint16(packet[5:], uint16(len(data)))
+	rest := data[copy(packet[7:], data):]
+	found := []Packet{packet}
+	for sequence := byte(0); len(rest) > 0; sequence++ {
+		packet = Packet{}
+		copy(packet[:], channel[:])
+		packet[4] = sequence
+		rest = rest[copy(packet[5:], rest):]
+		found = append(found, packet)
+	}
+	return found
+}
+
+// reassemble returns the command and the data of the message sent on a channel, without KEEPALIVEs.
+func reassemble(channel [4]byte, sent []Packet) (command byte, data []byte, err error) {
+	length := -1
+	for _, packet := range sent {
+		switch {
+		case *(*[4]byte)(packet[:4]) != channel || packet[4] == commandKeepalive:
+			continue
+		case packet[4]&0x80 != 0:
+			command, length = packet[4], int(binary.BigEndian.Uint16(packet[5:]))
+			data = append([]byte(nil), packet[7:]...)
+		default:
+			data = append(data, packet[5:]...)
+		}
+	}
+	if length < 0 || len(data) < length {
+		return 0, nil, errors.New("hidlog: incomplete response from the key")
+	}
+	return command, data[:length], nil
+}
+
+// openChannel allocates a channel.
+func (k *SecurityKey) openChannel() error {
+	var nonce [8]byte
+	if _, err := rand.Read(nonce[:]); err != nil {
+		return err
+	}
+	_, data, err := k.transact([4]byte{255, 255, 255, 255}, commandInit, nonce[:])
+	if err != nil {
+		return err
+	}
+	copy(k.channel[:], data[8:12])
+	return nil
+}
+
+// causeSuffix returns what to append to an error message: a colon and why the key rejected its last request, if it did.
+func (k *SecurityKey) causeSuffix() string {
+	if cause := k.Cause(); cause != "" && k.Faults.Status == 0 {
+		return ": " + cause
+	}
+	return ""
+}
+
+// Exchange sends an authenticator command and its CBOR parameters, and returns the response after the status byte. The
+// error is a Status if the status is not 0; Cause says why.
+func (k *SecurityKey) Exchange(request []byte) ([]byte, error) {
+	k.mutex.Lock()
+	defer k.mutex.Unlock()
+	if len(request) == 0 || len(request) > longestMessage {
+		return nil, fmt.Errorf("hidlog: a request must have 1 to %d bytes, not %d", longestMessage, len(request))
+	}
+	if k.channel == [4]byte{} {
+		if err := k.openChannel(); err != nil {
+			return nil, err
+		}
+	}
+	command, data, err := k.transact(k.channel, commandCBOR, request)
+	if err != nil {
+		return nil, err
+	}
+	if command == commandError {
+		return nil, fmt.Errorf("hidlog: the key returned a CTAPHID_ERROR: %x", data)
+	}
+	if len(data) == 0 {
+		return nil, errors.New("hidlog: the key returned an empty response")
+	}
+	if k.Faults.Status != 0 {
+		return nil, Status(k.Faults.Status)
+	}
+	if data[0] != 0 {
+		return nil, Status(data[0])
+	}
+	return data[1:], nil
+}

@@ -1,0 +1,36 @@
+#!/usr/bin/env bash
+# Builds the wheels and the sdist of the package hidlog from src/ and release/: bindings/python/build.sh DIR
+#
+# Builds are reproducible. Needs hatchling (apt-get install python3-hatchling), for the aarch64 wheel lld or
+# binutils-aarch64-linux-gnu, and for the one for Windows HIDLOG_PORTABLE, a folder with the portable library's sources
+# and hidlog.dll (bindings/c/build.sh); without these, that wheel is skipped.
+set -euo pipefail
+[ $# = 1 ] || { echo "usage: bindings/python/build.sh DIR" >&2; exit 2; }
+mkdir -p "$1"
+to=$(cd "$1" && pwd)
+cd "$(dirname "${BASH_SOURCE[0]}")"
+for python in python3 /usr/bin/python3; do
+    if "$python" -c 'import hatchling' 2>/dev/null; then break; fi
+    python=
+done
+[ -n "$python" ] ||
+    { echo "bindings/python/build.sh: hatchling is missing (apt-get install python3-hatchling)" >&2; exit 3; }
+# One timestamp for all files, for reproducible builds.
+export SOURCE_DATE_EPOCH="${SOURCE_DATE_EPOCH:-315532800}" PYTHONDONTWRITEBYTECODE=1
+umask 022
+
+build_distribution() {
+    "$python" -m hatchling build -d "$to" "$@"
+}
+
+build_distribution -t sdist
+HIDLOG_PROCESSOR=x86_64 build_distribution -t wheel
+if command -v ld.lld >/dev/null || command -v aarch64-linux-gnu-ld >/dev/null; then
+    HIDLOG_PROCESSOR=aarch64 build_distribution -t wheel
+else
+    echo "bindings/python/build.sh: lld is missing, skipping the aarch64 wheel (apt-get install lld)" >&2
+fi
+if [ -e "${HIDLOG_PORTABLE-}/hidlog.dll" ]; then
+    HIDLOG_PROCESSOR=win_amd64 build_distribution -t wheel
+fi
+chmod 644 "$to"/hidlog-*.whl "$to"/hidlog-*.tar.gz

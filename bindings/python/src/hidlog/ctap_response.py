@@ -1,0 +1,34 @@
+"""Changes to what the core responds: other authenticator data, another attestation statement or another signature."""
+
+from __future__ import annotations
+
+from typing import Any, NamedTuple, Optional
+
+from . import cbor
+
+
+class Change(NamedTuple):
+    """A change to the next response with some authenticator data.
+
+    original, data   the core's authenticator data, and what replaces it.
+    is_fault         whether a fault changed it.
+    statement        format and members of the attestation of a registration, if not the core's.
+    signature        the signature of a sign-in, if not the core's.
+    """
+
+    original: bytes
+    data: bytes
+    is_fault: bool
+    statement: Optional[tuple[str, dict[str, Any]]] = None
+    signature: Optional[bytes] = None
+
+    def apply(self, response: bytes) -> bytes:
+        """Returns a response with authenticator data, changed. Its members are those of CTAP 2.1, sections 6.1, 6.2."""
+        if not self.statement and not self.signature and len(self.data) == len(self.original):
+            return response.replace(self.original, self.data, 1)
+        members: dict[int, Any] = {**cbor.decode(response[1:]), 2: self.data}
+        if self.statement:
+            members[1], members[3] = self.statement
+        elif self.signature:
+            members[3] = self.signature
+        return response[:1] + cbor.encode(members)

@@ -1,0 +1,98 @@
+"""Injected faults, to test how a client or a service handles them. They are injected outside the core.
+
+    key.faults.bad_signature = True      # from now on
+    ...
+    key.faults.clear()
+
+Each fault that takes effect is a comment in the log. The log has what the core sent, so it replays without the faults.
+"""
+
+from __future__ import annotations
+
+from hashlib import sha256
+from typing import Any
+
+from .errors import ArgumentTypeError, check_int, encode_utf8, status_code
+from .suggestions import make_unknown_name_error
+
+_FAULTS_OFF: dict[str, Any] = {
+    "status": None,
+    "delay": 0,
+    "truncate_by": 0,
+    "bad_signature": False,
+    "stale_sign_count": False,
+    "wrong_rp_id": None,
+}
+
+
+class Faults:
+    """The faults of a key, all off by default.
+
+    status            a status, as number or name: the response to every request.
+    delay             milliseconds before a request is signed, with KEEPALIVEs.
+    truncate_by       number of bytes removed from the end of every response.
+    bad_signature     sign with a different private key.
+    stale_sign_count  repeat the signature sign_count of the last response.
+    wrong_rp_id       an RP ID: authenticator data is for that relying party.
+    """
+
+    status: int | str | None
+    delay: int
+    truncate_by: int
+    bad_signature: bool
+    stale_sign_count: bool
+    wrong_rp_id: str | None
+
+    def __init__(self) -> None:
+        self.clear()
+        self._sign_counts: dict[bytes, int] = {}
+
+    def clear(self) -> None:
+        """Switches all faults off."""
+        for name, value in _FAULTS_OFF.items():
+            setattr(self, name, value)
+
+    @property
+    def active(self) -> dict[str, Any]:
+        """The faults that are on, by name."""
+        return {name: getattr(self, name) for name, off in _FAULTS_OFF.items() if getattr(self, name) != off}
+
+    def __setattr__(self, name: str, value: Any) -> None:
+        if name.startswith("_"):
+            return object.__setattr__(self, name, value)
+        if name not in _FAULTS_OFF:
+            raise make_unknown_name_error("fault", name, _FAULTS_OFF)
+        if name == "status" and value is not None:
+            value = status_code(value)
+        elif name in ("delay", "truncate_by"):
+            check_int(name, value, 0, 2**32)
+        elif isinstance(_FAULTS_OFF[name], bool) and not isinstance(value, bool):
+            raise ArgumentTypeError(f"{name} must be bool, not {type(value).__name__}")
+        elif name == "wrong_rp_id" and not isinstance(value, (str, type(None))):
+            raise ArgumentTypeError(f"wrong_rp_id must be an RP ID or None, not {type(value).__name__}")
+        if isinstance(value, str) and name == "wrong_rp_id":
+            encode_utf8("wrong_rp_id", value)
+        object.__setattr__(self, name, value)
+
+    def alter_data(self, credential: bytes, data: bytes) -> bytes:
+        """Returns authenticator data as changed by the faults."""
+        altered = data
+        if self.wrong_rp_id is not None:
+            altered = sha256(self.wrong_rp_id.encode()).digest() + altered[32:]
+        sign_count = int.from_bytes(data[33:37], "big")
+        if self.stale_sign_count and sign_count:
+            sign_count = self._sign_counts.get(credential, sign_count - 1)
+            altered = altered[:33] + sign_count.to_bytes(4, "big") + altered[37:]
+        self._sign_counts[credential] = sign_count
+        return altered
+
+    def alter_response(self, data: bytes) -> tuple[bytes, list[str]]:
+        """Returns a response as changed by the faults, and a description of each change."""
+        done = []
+        if self.truncate_by:
+            data = data[: max(1, len(data) - self.truncate_by)]
+            done.append(f"the answer is cut to {len(data)} bytes")
+        if self.status is not None:
+            data = bytes([status_code(self.status)])
+            done.append(f"the answer is status 0x{data[0]:02X}")
+        return data, done

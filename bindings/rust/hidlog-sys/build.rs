@@ -1,0 +1,60 @@
+//! Links the static library for the target, from HIDLOG_LIBRARY_FOLDER if it is set. Where none fits, or if HIDLOG_PORTABLE
+//! is set, compiles the portable library with the C compiler $CC, or cc.
+
+use std::env::var;
+use std::path::{Path, PathBuf};
+use std::process::Command;
+
+fn main() {
+    for name in ["HIDLOG_LIBRARY_FOLDER", "HIDLOG_PORTABLE", "CC", "AR"] {
+        println!("cargo:rerun-if-env-changed={name}");
+    }
+    let folder = if var("HIDLOG_PORTABLE").is_err() { find_prebuilt() } else { None };
+    let folder = folder.unwrap_or_else(compile_portable);
+    println!("cargo:rustc-link-search=native={}", folder.display());
+    println!("cargo:rustc-link-lib=static=hidlog");
+}
+
+/// Returns the folder with the static library for the target, if there is one.
+fn find_prebuilt() -> Option<PathBuf> {
+    let (system, processor) = (var("CARGO_CFG_TARGET_OS").unwrap(), var("CARGO_CFG_TARGET_ARCH").unwrap());
+    if let Ok(folder) = var("HIDLOG_LIBRARY_FOLDER") {
+        return Some(PathBuf::from(folder));
+    }
+    if system != "linux" {
+        return None;
+    }
+    // The crate has the library in lib; a clone of the repository has it in release.
+    let crate_folder = var("CARGO_MANIFEST_DIR").unwrap();
+    let release = if processor == "x86_64" { "" } else { &processor };
+    let folders = [format!("{crate_folder}/lib/{processor}"), format!("{crate_folder}/../../../release/{release}")];
+    folders.iter().map(PathBuf::from).find(|folder| folder.join("libhidlog.a").exists())
+}
+
+/// Compiles the portable library, and returns its folder.
+fn compile_portable() -> PathBuf {
+    // In a clone bindings/c/sources.sh writes the sources there.
+    let sources = Path::new(&var("CARGO_MANIFEST_DIR").unwrap()).join("lib/portable");
+    let (target, out) = (var("TARGET").unwrap(), PathBuf::from(var("OUT_DIR").unwrap()));
+    if !sources.join("hidlog.c").exists() || target.ends_with("msvc") {
+        panic!("hidlog-sys has no library for {target}; compile the portable one, and set HIDLOG_LIBRARY_FOLDER to its folder");
+    }
+    let prefix = if target.ends_with("windows-gnu") && var("HOST") != Ok(target) { "x86_64-w64-mingw32-" } else { "" };
+    let compiler = var("CC").unwrap_or(if prefix.is_empty() { "cc".into() } else { format!("{prefix}gcc") });
+    let archiver = var("AR").unwrap_or(format!("{prefix}ar"));
+    let object = out.join("hidlog.o");
+    run(Command::new(compiler)
+        .args(["-std=c11", "-O2", "-fPIC", "-c", "-o"])
+        .arg(&object)
+        .arg(sources.join("hidlog.c")));
+    run(Command::new(archiver).arg("crs").arg(out.join("libhidlog.a")).arg(&object));
+    out
+}
+
+/// Runs a command, and ends the build if it fails.
+fn run(command: &mut Command) {
+    match command.status() {
+        Ok(status) if status.success() => {}
+        result => panic!("hidlog-sys: {command:?} failed: {result:?}; set CC to a C11 compiler and AR to an archiver"),
+    }
+}

@@ -1,0 +1,112 @@
+//! Calls of `navigator.credentials`. The C library checks the options, and writes requests and the credential's JSON.
+use crate::standard::LONGEST_MESSAGE;
+use crate::Error;
+use hidlog_sys as sys;
+
+/// Maximum length of a credential's JSON.
+const CREDENTIAL_CAPACITY: usize = 16384;
+const MEDIATION: &[u8] = b"optional";
+
+/// The method of `navigator.credentials`.
+#[derive(Clone, Copy, PartialEq, Eq)]
+pub(crate) enum Ceremony {
+    Create,
+    Get,
+}
+
+/// A call of `navigator.credentials`: the method, the page's options as JSON, and its origin.
+pub(crate) struct Client<'a> {
+    pub(crate) ceremony: Ceremony,
+    pub(crate) options: &'a str,
+    pub(crate) origin: &'a str,
+}
+
+impl Client<'_> {
+    fn ceremony_code(&self) -> u32 {
+        match self.ceremony {
+            Ceremony::Create => sys::HIDLOG_CLIENT_CREATE,
+            Ceremony::Get => sys::HIDLOG_CLIENT_GET,
+        }
+    }
+
+    /// Checks the options, and returns the request for the key: the command byte, then CBOR.
+    pub(crate) fn build_request(&self) -> Result<Vec<u8>, Error> {
+        let mut report = sys::hidlog_client_report::default();
+        let mut out = vec![0; LONGEST_MESSAGE];
+        // SAFETY: each pointer is valid for the length after it, and `out` and `report` overlap no other argument.
+        let length = unsafe {
+            sys::hidlog_client_request(
+                self.ceremony_code(),
+                self.options.as_ptr(),
+                self.options.len(),
+                MEDIATION.as_ptr(),
+                MEDIATION.len(),
+                self.origin.as_ptr(),
+                self.origin.len(),
+                MEDIATION.as_ptr(),
+                0,
+                sys::HIDLOG_CLIENT_RESIDENT_KEY,
+                &mut report,
+                out.as_mut_ptr(),
+                out.len(),
+            )
+        };
+        read_output(length, &report, out, "the request is longer than 7609 bytes")
+    }
+
+    /// Returns the credential as JSON. `response` is the key's: a status byte, then CBOR.
+    pub(crate) fn build_credential(&self, response: &[u8]) -> Result<String, Error> {
+        let mut report = sys::hidlog_client_report::default();
+        let mut out = vec![0; CREDENTIAL_CAPACITY];
+        // SAFETY: each pointer is valid for the length after it, and `out` and `report` overlap no other argument.
+        let length = unsafe {
+            sys::hidlog_client_response(
+                self.ceremony_code(),
+                self.options.as_ptr(),
+                self.options.len(),
+                MEDIATION.as_ptr(),
+                MEDIATION.len(),
+                self.origin.as_ptr(),
+                self.origin.len(),
+                MEDIATION.as_ptr(),
+                0,
+                sys::HIDLOG_CLIENT_RESIDENT_KEY,
+                response.as_ptr(),
+                response.len(),
+                &mut report,
+                out.as_mut_ptr(),
+                out.len(),
+            )
+        };
+        String::from_utf8(read_output(length, &report, out, "the credential's JSON is longer than 16384 bytes")?)
+            .map_err(|_| Error::InvalidResponse)
+    }
+}
+
+/// Returns the output of a library call, or its error; `too_long` is that of an output that does not fit.
+fn read_output(
+    length: i64,
+    report: &sys::hidlog_client_report,
+    mut out: Vec<u8>,
+    too_long: &'static str,
+) -> Result<Vec<u8>, Error> {
+    if let Ok(length) = usize::try_from(length) {
+        out.truncate(length);
+        return Ok(out);
+    }
+    let name = match length {
+        -1 => "TypeError",
+        -2 => "EncodingError",
+        -3 => "RangeError",
+        -4 => "NotSupportedError",
+        -5 => "SecurityError",
+        -6 => "NotAllowedError",
+        -7 => "InvalidStateError",
+        -8 => "SyntaxError",
+        _ => return Err(Error::InvalidArgument(too_long)),
+    };
+    let (member, reason) = (report.member_len as usize, report.reason_len as usize);
+    let text = |from: &[u8]| String::from_utf8_lossy(from).into_owned();
+    let reason = text(&out[member..member + reason]);
+    Err(Error::Dom(name, if member == 0 { reason } else { format!("{}: {reason}", text(&out[..member])) }))
+}

@@ -1,0 +1,141 @@
+// Two logs line by line: which lines correspond, and where they first differ. Timestamps, ticks, comments and what the
+// key asks for are left out. Sets `globalThis.hidlogAlignment`.
+"use strict";
+
+(() => {
+    const { COMMANDS: { CBOR, ERROR, KEEPALIVE }, KIND } = globalThis.hidlogLog;
+    // Lines of each log that are aligned at once: the time is their product.
+    const MAX_ALIGNED = 400;
+    const CODED = [CBOR, ERROR, KEEPALIVE];
+    const TIME = /^([>pks]) \d+ /;
+    const INITIALIZATION = 0x80;
+
+    /**
+     * What is compared: a line's index, its text without timestamp, what it is, whatever its other bytes, and its kind
+     * or command alone.
+     * @typedef {{ place: number, text: string, shape: string, group: string }} Compared
+     */
+
+    /**
+     * What a line is: a packet's sender, command and code, or a reply.
+     * @param {Viewer.Line} line
+     */
+    const findShape = (line) => {
+        if (!line.isPacket) {
+            return { group: line.kind, shape: `${line.kind} ${line.says}` };
+        }
+        const command = line.byte(4);
+        const group = `${line.kind} ${command < INITIALIZATION ? "continuation" : command}`;
+        return { group, shape: CODED.includes(command & 0x7f) ? `${group} ${line.byte(7)}` : group };
+    };
+
+    const COMPARED_KINDS = [KIND.HOST, KIND.KEY, KIND.PRESENCE, KIND.NEW_KEY, KIND.SIGNATURE];
+
+    /**
+     * The lines of a session to compare.
+     * @param {Viewer.Session} session
+     * @returns {Compared[]}
+     */
+    const listLines = (session) => {
+        const found = [];
+        for (let place = 0; place < session.size; place += 1) {
+            if (COMPARED_KINDS.includes(session.kindAt(place))) {
+                const line = session.line(place);
+                found.push({ place, text: line.text.toLowerCase().replace(TIME, "$1 "), ...findShape(line) });
+            }
+        }
+        return found;
+    };
+
+    /**
+     * How a pair differs, in words; "" if it is the same.
+     * @param {Compared} one
+     * @param {Compared} other
+     */
+    const comparePair = (one, other) => {
+        if (one.text === other.text) {
+            return "";
+        }
+        return one.shape === other.shape ? "other bytes" : "differs";
+    };
+
+    /**
+     * The value of pairing two lines: exactly equal ones first.
+     * @param {Compared} one
+     * @param {Compared} other
+     */
+    const rate = (one, other) => {
+        if (one.group !== other.group) {
+            return 0;
+        }
+        return one.text === other.text ? 4 : one.shape === other.shape ? 3 : 1;
+    };
+
+    /**
+     * The best values of pairing the ends of two lists, by where they begin.
+     * @param {Compared[]} ones
+     * @param {Compared[]} others
+     */
+    const rateEnds = (ones, others) => {
+        const width = others.length + 1;
+        const best = new Uint32Array((ones.length + 1) * width);
+        for (let at = ones.length - 1; at >= 0; at -= 1) {
+            for (let by = others.length - 1; by >= 0; by -= 1) {
+                const rated = rate(ones[at], others[by]);
+                const paired = rated ? rated + best[(at + 1) * width + by + 1] : 0;
+                best[at * width + by] = Math.max(paired, best[(at + 1) * width + by], best[at * width + by + 1]);
+            }
+        }
+        return (/** @type {number} */ at, /** @type {number} */ by) => best[at * width + by];
+    };
+
+    /**
+     * Pairs the lines of two short lists.
+     * @param {Compared[]} ones
+     * @param {Compared[]} others
+     * @returns {Viewer.Pair[]}
+     */
+    const alignPart = (ones, others) => {
+        const best = rateEnds(ones, others);
+        const pairs = [];
+        let [at, by] = [0, 0];
+        while (at < ones.length || by < others.length) {
+            const [one, other] = [ones[at], others[by]];
+            const rated = one && other ? rate(one, other) : 0;
+            if (rated && best(at, by) === rated + best(at + 1, by + 1)) {
+                pairs.push({ one: one.place, other: other.place, word: comparePair(one, other) });
+                [at, by] = [at + 1, by + 1];
+            } else if (one && (!other || best(at, by) === best(at + 1, by))) {
+                pairs.push({ one: one.place, other: null, word: "first only" });
+                at += 1;
+            } else {
+                pairs.push({ one: null, other: other.place, word: "second only" });
+                by += 1;
+            }
+        }
+        return pairs;
+    };
+
+    /**
+     * Pairs the lines of two sessions, a slice per step.
+     * @param {Viewer.Session} one @param {Viewer.Session} other
+     */
+    const align = function* aligning(one, other) {
+        const [ones, others] = [listLines(one), listLines(other)];
+        /** @type {Viewer.Pair[]} */
+        const pairs = [];
+        let same = 0;
+        while (same < Math.min(ones.length, others.length) && ones[same].text === others[same].text) {
+            pairs.push({ one: ones[same].place, other: others[same].place, word: "" });
+            same += 1;
+        }
+        for (let from = same; from < Math.max(ones.length, others.length); from += MAX_ALIGNED) {
+            yield from;
+            const [part, otherPart] = [ones, others].map((lines) => lines.slice(from, from + MAX_ALIGNED));
+            pairs.push(...alignPart(part, otherPart));
+        }
+        return pairs;
+    };
+
+    globalThis.hidlogAlignment = { align };
+})();

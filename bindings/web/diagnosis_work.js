@@ -1,0 +1,61 @@
+// What a diagnosis is made of (diagnosis.js): whether the log is this key's, the first difference from what the key
+// sends, the causes of its rejections, and the rules of CTAP 2.1 that packets violate. Runs in a worker. Sets
+// `globalThis.hidlogDiagnosisWork`.
+"use strict";
+
+(() => {
+    // Lines that only this project's recorders write: replies, needs and totals.
+    const OWN_LINES = /^(?:[pks] |# need |= held )/m;
+    // A public key whose coordinates repeat one byte each, as in examples that are written to be read.
+    const PLACEHOLDER = /^k \d+ [0-9a-f]{64} (..)\1{31} (..)\2{31}$/im;
+    const INIT_RESPONSE = /^< [0-9a-f]{8}860011[0-9a-f]*$/gim;
+    const { hasMatch, iterateTexts } = globalThis.hidlogLog;
+    const decoder = new TextDecoder();
+
+    /** @param {Uint8Array} bytes */
+    const listInitResponses = (bytes) =>
+        [...iterateTexts(bytes)].flatMap(({ text }) => text.match(INIT_RESPONSE) ?? []).map((line) => line.toLowerCase());
+
+    /**
+     * Whether a log is of this key: it matches what the key sends, or it has lines of this project's recorders, and an
+     * INIT response of the key, if it has any.
+     * @param {Viewer.Core} core
+     * @param {Uint8Array} log
+     * @param {Uint8Array} snapshot
+     * @param {Viewer.Fault} outcome
+     */
+    const isOwnLog = (core, log, snapshot, outcome) => {
+        if (outcome.status === 0 || !hasMatch(log, OWN_LINES)) {
+            return outcome.status === 0;
+        }
+        const recorded = listInitResponses(log);
+        const sent = new Set(listInitResponses(core.run("replay", log, snapshot).text));
+        return !recorded.length || recorded.some((line) => sent.has(line));
+    };
+
+    /**
+     * Examines a log. `report` is called with what is done next, the share of it that is done, and what was found
+     * before the rules are checked.
+     * @param {Viewer.Core} core
+     * @param {Uint8Array} log
+     * @param {Uint8Array} snapshot
+     * @param {(progress: Viewer.Progress) => void} report
+     * @returns {Promise<Viewer.Examined>}
+     */
+    const examine = async (core, log, snapshot, report) => {
+        report({ stage: "Comparing with the key" });
+        const { text, ...outcome } = core.run("check", log, snapshot);
+        const isOwn = isOwnLog(core, log, snapshot, outcome);
+        /** @type {(stage: string) => Viewer.Report} */
+        const tell = (stage) => (share) => report({ stage, share });
+        const causes = isOwn ? globalThis.hidlogCauses.findCauses(core, log, snapshot, tell("Finding causes")) : [];
+        const hasPlaceholders = hasMatch(log, PLACEHOLDER);
+        const compared = { outcome, says: decoder.decode(text).trim(), isOwn, hasPlaceholders, causes };
+        const stage = "Checking the rules of CTAP 2.1";
+        report({ stage, compared });
+        const judged = await globalThis.hidlogJudge.judge(core, log, tell(stage));
+        return { ...compared, ...judged };
+    };
+
+    globalThis.hidlogDiagnosisWork = { examine };
+})();

@@ -1,0 +1,155 @@
+// What a file is that is no log and no capture, by its first bytes, and what to do with it. Sets
+// `globalThis.hidlogFileKinds`.
+"use strict";
+
+(() => {
+    const { toHex } = globalThis.hidlogBytes;
+    const FIRST_BYTES = 4096;
+    const OPEN_LOG = "Open a session log or a USB capture.";
+    const OPEN_SOURCE = "Open the log from which it was made.";
+    /** @type {[front: string, name: string][]} */
+    const BINARIES = [
+        ["504b0304", "a ZIP archive: unpack it first"], ["89504e47", "a picture"], ["ffd8ff", "a picture"],
+        ["47494638", "a picture"], ["25504446", "a PDF document"], ["7f454c46", "a program"], ["4d5a", "a program"],
+        ["0061736d", "a WebAssembly module"], ["1f9d", "packed by compress: unpack it first"],
+        ["425a68", "packed by bzip2: unpack it first"], ["fd377a585a00", "packed by xz: unpack it first"],
+        ["28b52ffd", "packed by zstd: unpack it first"],
+    ];
+    // Texts that `hidlog import` converts (docs/use/CAPTURES.md).
+    /** @type {[pattern: RegExp, name: string][]} */
+    const IMPORTABLE = [
+        [/^fido_[rt]x: /m, "the output of libfido2's FIDO_DEBUG"],
+        [/\bfido2\.\w+.*\b(?:SEND|RECV): [0-9a-f]/m, "python-fido2's logging"],
+        [/^[0-9a-f]{4,16} \d+ [SCE] [CBIZ][io]:/m, "usbmon's text"],
+        [/\b(?:openat|read|write|ioctl|newfstatat)\(.*\) += -?\d/m, "the output of strace"],
+        [/\bFIDO\b.*(?:<-|->) /m, "Chromium's device log"],
+    ];
+    /** @type {[pattern: RegExp, name: string, advice: string][]} */
+    const OTHERS = [
+        [/^\s*\{"kind":"format"/, "the output of hidlog show --json", OPEN_SOURCE],
+        [/^\s*[{[]\s*["{[\]}\d]/, "JSON; a page's key returns its log by key.log() and key.recordings()",
+            "Save what key.log() returns as a text file."],
+        [/^\s*<(?:!doctype|html|\?xml|svg)/i, "an HTML page",
+            "Open it in a browser, if it was saved here with a log."],
+        [/^\d+ [<>] (?:\d+ )?[0-9a-f]{8} [A-Z+]/, "the output of hidlog show", OPEN_SOURCE],
+        [/^hidlog: line \d+: /, "the output of hidlog check", OPEN_SOURCE],
+    ];
+
+    // The comments of a log, and another line of it.
+    const LOG_FRONT = /^(?:(?:#.*)?\n)*[<>tpks=] /;
+
+    /** Why a file cannot be opened, and what to do. `isImportable` is whether `hidlog import` may convert it. */
+    class UnreadableFileError extends Error {
+        /**
+         * @param {string} message
+         * @param {string} advice
+         */
+        constructor(message, advice = OPEN_LOG, isImportable = false) {
+            super(message);
+            this.advice = advice;
+            this.isImportable = isImportable;
+        }
+    }
+
+    /**
+     * The start of a file as text, or null if it is not UTF-8, or has control characters.
+     * @param {Uint8Array} bytes
+     */
+    const readText = (bytes) => {
+        try {
+            // A character that is cut off at the end of the part is no error.
+            const decoder = new TextDecoder("utf-8", { fatal: true });
+            const text = decoder.decode(bytes.subarray(0, FIRST_BYTES), { stream: true });
+            return /[^\P{Cc}\t\n\r]/u.test(text) ? null : text;
+        } catch {
+            return null;
+        }
+    };
+
+    /**
+     * The error of a file that is of another known kind, or null.
+     * @param {Uint8Array} bytes
+     */
+    const findKindError = (bytes) => {
+        const binary = BINARIES.find(([front]) => toHex(bytes.subarray(0, front.length / 2)) === front);
+        if (binary) {
+            return new UnreadableFileError(`it is ${binary[1]}`);
+        }
+        const text = readText(bytes);
+        if (text === null || LOG_FRONT.test(text)) {
+            return null;
+        }
+        const other = OTHERS.find(([pattern]) => pattern.test(text));
+        if (other) {
+            return new UnreadableFileError(`it is ${other[1]}`, other[2]);
+        }
+        const importable = IMPORTABLE.find(([pattern]) => pattern.test(text));
+        return importable ? new UnreadableFileError(`it is ${importable[1]}`, "", true) : null;
+    };
+
+    // A line of a log that is no comment.
+    const RECORD = /^(?:(?:> \d+|<) [0-9a-f]{128}|[tpks] \d+(?: .*)?)$/i;
+    // Hexadecimal digits of a packet, and characters of a line that are shown.
+    const [PACKET_DIGITS, MAX_SHOWN] = [128, 60];
+
+    /**
+     * Why a line is no log line, as far as it is a common mistake, or "".
+     * @param {string} line
+     */
+    const explainLine = (line) => {
+        if (/^[0-9a-f]+$/i.test(line)) {
+            return "it is a part of a packet: the lines are wrapped, or the beginning of the log is missing";
+        }
+        const digits = /^(?:> \d+|<) ([0-9a-f]*)$/i.exec(line)?.[1];
+        return digits === undefined || digits.length === PACKET_DIGITS ? ""
+            : `its packet has ${digits.length} hexadecimal digits, not ${PACKET_DIGITS}: it is cut, wrapped or changed`;
+    };
+
+    /**
+     * The number of a file's first lines that are empty or comments, as far as it begins with text.
+     * @param {Uint8Array} bytes
+     */
+    const countComments = (bytes) => {
+        const lines = (readText(bytes) ?? "").split("\n");
+        const count = lines.findIndex((line) => line && !line.startsWith("#"));
+        return count < 0 ? 0 : count;
+    };
+
+    /**
+     * Throws if the first line of a file, after its comments, is no log line.
+     * @param {Uint8Array} bytes
+     * @param {Viewer.Fault} outcome - of playing the line
+     */
+    const checkFirstLine = (bytes, outcome) => {
+        if (outcome.status !== 1) {
+            return;
+        }
+        const text = readText(bytes);
+        if (text === null) {
+            const first = toHex(bytes.subarray(0, 4)).match(/../g) ?? [];
+            throw new UnreadableFileError(`it is not a text file: it starts with the bytes ${first.join(" ")}`);
+        }
+        const [line, next = ""] = text.split("\n").slice(countComments(bytes));
+        const shown = line.length > MAX_SHOWN ? `${line.slice(0, MAX_SHOWN)}…` : line;
+        const mistake = explainLine(line) || (RECORD.test(next) ? "its beginning is missing" : "");
+        const fault = `${globalThis.hidlog.formatError(outcome)}: ${mistake || `“${shown}”`}`;
+        throw new UnreadableFileError(`it is not a session log: ${fault}`, "Copy the whole log.", !mistake);
+    };
+
+    /**
+     * What to do with a file that was not opened.
+     * @param {string} name
+     * @param {Error & { advice?: string, isImportable?: boolean }} error
+     */
+    const adviseOn = (name, { advice, isImportable }) => {
+        if (!isImportable) {
+            return advice ?? "";
+        }
+        // A name that a shell takes literally; of others, the user knows the file.
+        const isPlain = /^\w[\w.,+@ -]*$/.test(name);
+        const quoted = /^[\w.,+@-]+$/.test(name) ? name : `'${name}'`;
+        return `Convert it to a log: hidlog import ${isPlain ? quoted : "FILE"} -o session.log`;
+    };
+
+    globalThis.hidlogFileKinds = { UnreadableFileError, adviseOn, checkFirstLine, countComments, explainLine, findKindError };
+})();

@@ -1,0 +1,130 @@
+// Checks a log against CTAP 2.1, by the same rules as `hidlog judge`: dist/judge.js is translated from its Python. It
+// runs in a worker (worker.js), since a long log takes seconds. Sets `globalThis.hidlogJudge`.
+"use strict";
+
+(() => {
+    const { hasMatch, NEWLINE } = globalThis.hidlogLog;
+    const decoder = new TextDecoder();
+
+    /**
+     * @param {any} finding - an object of the rules
+     * @returns {Viewer.Finding}
+     */
+    const toFinding = ({ line, side, level, section, also, rule, expected, actual }) =>
+        ({ line, side, level, section, relatedSections: also, rule, expected, actual });
+
+    // The length of a part from which on another one begins, as far as no transaction is open.
+    const PART_BYTES = 1024 * 1024;
+    // Recorders' notes about what lies between the lines around them: such a log is checked as a whole.
+    const WHOLE = /^# (?:power cycle|cut to )/m;
+
+    /**
+     * Runs the core's `transactions` on lines, before which there are others: which transaction each belongs to.
+     * @param {Viewer.Core} core
+     * @param {Uint8Array} lines
+     * @param {number} before
+     */
+    const findTransactions = (core, lines, before) => {
+        const { status, text, ...fault } = core.run("transactions", lines);
+        if (status) {
+            throw new Error(globalThis.hidlog.formatError({ status, ...fault, line: fault.line + before }));
+        }
+        return text;
+    };
+
+    /**
+     * The number of the last line after which no transaction is open, from the core's `transactions`.
+     * @param {Uint8Array} owners
+     */
+    const findLastQuiet = (owners) => {
+        /** @type {Set<string>} */
+        const open = new Set();
+        let last = 0;
+        for (const row of decoder.decode(owners).split("\n").slice(0, -1)) {
+            const [number, transaction, , ...words] = row.split(" ");
+            if (transaction === number) {
+                open.add(number);
+            }
+            // A response ends its transaction with its last packet; a late packet (l) ends none.
+            words.filter((word) => !word.startsWith("l")).forEach((word) => open.delete(word.slice(1).split(":")[0]));
+            last = open.size ? last : Number(number);
+        }
+        return last;
+    };
+
+    /**
+     * Where the lines up to a position end, at least one.
+     * @param {Uint8Array} log
+     * @param {number} from
+     */
+    const findLineEnd = (log, from) => {
+        const end = from < log.length ? log.indexOf(NEWLINE, from) : -1;
+        return end < 0 ? log.length : end + 1;
+    };
+
+    /**
+     * The parts of a log between which no transaction is open, so that the rules hold one at a time. `report` is called
+     * with the share that is done.
+     * @param {Viewer.Core} core
+     * @param {Uint8Array} log
+     * @param {Viewer.Report} report
+     */
+    const iterateParts = function* iterating(core, log, report) {
+        let [from, before, length] = [0, 0, hasMatch(log, WHOLE) ? Infinity : PART_BYTES];
+        while (from + length < log.length) {
+            const part = log.subarray(from, findLineEnd(log, from + length - 1));
+            const count = findLastQuiet(findTransactions(core, part, before));
+            const quiet = globalThis.hidlogLog.firstLines(part, count);
+            length = quiet.length ? PART_BYTES : 2 * length;
+            if (quiet.length) {
+                report(from / log.length);
+                yield new globalThis.hidlogPython.Bytes(quiet);
+                [from, before] = [from + quiet.length, before + count];
+            }
+        }
+        findTransactions(core, log.subarray(from), before);
+        yield new globalThis.hidlogPython.Bytes(log.subarray(from));
+    };
+
+    /**
+     * Runs the rules. Their exceptions become errors with Python's message.
+     * @param {Viewer.Core} core
+     * @param {Uint8Array} log
+     * @param {Viewer.Report} report
+     */
+    const runRules = async (core, log, report) => {
+        const python = globalThis.hidlogPython;
+        /** @param {{ data: Uint8Array }} part */
+        const walk = (part) => new python.Bytes(findTransactions(core, part.data, 0));
+        const rules = () => python.module("judged_log").judge_parts(iterateParts(core, log, report), walk);
+        try {
+            return await globalThis.hidlogVerified(rules);
+        } catch (error) {
+            throw /** @type {any} */ (error).args ? new Error(python.format(error, ""), { cause: error }) : error;
+        }
+    };
+
+    /**
+     * Judges a log: its findings, notes on what was not checked, the totals as a line, and the line from which the
+     * recorder may have lost packets (0 for the whole log), or null. `report` is called with the share that is done.
+     * @param {Viewer.Core} core
+     * @param {Uint8Array} log
+     * @param {Viewer.Report} [report]
+     * @returns {Promise<Viewer.Judged>}
+     */
+    const judge = async (core, log, report = () => {}) => {
+        const format = globalThis.hidlogPython.module("judged_report");
+        const { found, unsure } = await runRules(core, log, report);
+        const notes = format.list_notes(found);
+        if (unsure) {
+            notes.push(`${unsure} signatures were not verified: this browser does not support their algorithm`);
+        }
+        const gap = found.is_imported ? found.gap : null;
+        return {
+            findings: found.findings.map(toFinding), notes, total: format.format_total(found),
+            lostFrom: found.has_lost ? 0 : gap,
+        };
+    };
+
+    globalThis.hidlogJudge = { judge };
+})();

@@ -1,0 +1,244 @@
+// CTAP2 over CTAPHID to the verified core: requests in, responses out, and what the key needs is provided.
+import { concatBytes, equalBytes, toHex } from "./bytes.js";
+import { changeResponse } from "./ctap_response.js";
+import { Collector } from "./packets.js";
+import { throwIfAborted, clearInterval, sleepUnlessAborted, setInterval, raceWithSignal } from "./platform.js";
+import { Recordings } from "./recordings.js";
+import { BROADCAST, CANCEL, CBOR, INIT, KEEPALIVE_MS } from "./standard.js";
+import { formatStatus } from "./statuses.js";
+
+// The first channel the key allocates: there is no other host.
+const CHANNEL = 1;
+const NOTHING = new Uint8Array(0);
+// The hash of client data, after the authenticator data in what is signed.
+const HASH_BYTES = 32;
+// The nonce of INIT need not be random without other hosts.
+const NONCE = Uint8Array.of(0, 1, 2, 3, 4, 5, 6, 7);
+
+/**
+ * @typedef {object} PageRequest a request of the page in progress
+ * @property {AbortSignal} signal aborts it
+ * @property {() => Promise<string>} ask asks the user
+ * @property {(id: Uint8Array) => void} made is called with the ID of a new key pair
+ * @property {boolean} isVerified whether the user is verified
+ * @property {import("./departures.js").Departures} departures what it has outside the core
+ * @property {() => Promise<void>} enter is called before the credentials change, and may start another session
+ */
+
+/** A response with a status other than success. */
+export class CtapError extends Error {
+    /** @param {number} status @param {string} cause the cause, if known */
+    constructor(status, cause) {
+        super(`the authenticator returned ${formatStatus(status)}${cause && `: ${cause}`}`);
+        this.name = "CtapError";
+        this.status = status;
+    }
+}
+
+export class Authenticator {
+    #collector = new Collector(CHANNEL);
+    #recordings;
+    /** @type {import("./ctap_response.js").Change | null} to the next response with the core's authenticator data */
+    #change = null;
+
+    /**
+     * @param {import("./private_keys.js").PrivateKeys} privateKeys
+     * @param {import("./faults.js").Faults} faults
+     * @param {(passed?: number) => number} clock
+     * @param {{ snapshot: Uint8Array, kept: import("./recordings.js").StoredRecordings | null, records: boolean }} start the
+     * initial credentials, their recordings in storage, and whether to record
+     */
+    constructor(privateKeys, faults, clock, { snapshot, kept, records }) {
+        this.privateKeys = privateKeys;
+        this.faults = faults;
+        this.clock = clock;
+        this.#recordings = new Recordings(snapshot, clock, kept, records);
+    }
+
+    /** @returns {import("./session.js").Session} */
+    get session() {
+        return this.#recordings.session;
+    }
+
+    get recordings() {
+        return this.#recordings;
+    }
+
+    /**
+     * Starts a session with other credentials.
+     * @param {Uint8Array} snapshot
+     */
+    begin(snapshot) {
+        this.#cancel();
+        this.#recordings.begin(snapshot);
+        this.#collector = new Collector(CHANNEL);
+    }
+
+    /**
+     * Continues a recording from storage.
+     * @param {import("./recordings.js").StoredRecordings} kept @param {Uint8Array} snapshot
+     */
+    take(kept, snapshot) {
+        this.#cancel();
+        this.#recordings.take(kept, snapshot);
+        this.#collector = new Collector(CHANNEL);
+    }
+
+    /**
+     * Sends a request; INIT first, if the session has no channel yet.
+     * @param {Uint8Array} bytes
+     */
+    #send(bytes) {
+        if (!this.session.isOpen) {
+            this.session.send(BROADCAST, INIT, NONCE);
+        }
+        return this.#collector.add(this.session.send(CHANNEL, CBOR, bytes));
+    }
+
+    /** Cancels the pending request, so that the key accepts the next one. */
+    #cancel() {
+        if (this.session.need.kind !== "nothing") {
+            this.#collector.add(this.session.send(CHANNEL, CANCEL, NOTHING));
+        }
+    }
+
+    /**
+     * Sends a request, and returns the response. If it fails or is aborted, it is cancelled.
+     * @param {Uint8Array} bytes @param {PageRequest} turn
+     */
+    async request(bytes, turn) {
+        let isOver = false;
+        const end = () => {
+            if (!isOver) {
+                this.#cancel();
+            }
+            isOver = true;
+        };
+        throwIfAborted(turn.signal);
+        turn.signal.addEventListener("abort", end);
+        try {
+            const original = await this.#exchange(bytes, turn);
+            const cause = original[0] === 0 ? "" : this.session.cause();
+            const response = this.faults.applyTo(this.#applyChange(original), this.session.recording);
+            if (response[0] !== 0) {
+                throw new CtapError(response[0], response[0] === original[0] ? cause : "");
+            }
+            return response;
+        } catch (error) {
+            end();
+            throw error;
+        } finally {
+            turn.signal.removeEventListener("abort", end);
+        }
+    }
+
+    /** @param {Uint8Array} bytes @param {PageRequest} turn */
+    async #exchange(bytes, turn) {
+        let message = this.#send(bytes);
+        if (!message && this.session.need.kind === "presence") {
+            message = await this.#askUser(bytes, turn);
+        }
+        if (!message && this.faults.delay) {
+            this.session.recording.addComment(`fault: ${this.faults.delay} ms pass before the answer`);
+            await this.#withTicks(sleepUnlessAborted(this.faults.delay, turn.signal), turn.signal);
+            throwIfAborted(turn.signal);
+        }
+        while (!message) {
+            throwIfAborted(turn.signal);
+            message = this.#collector.add(await this.#provide(turn));
+        }
+        if (message.command !== CBOR) {
+            throw new Error(`unexpected message ${message.command} from the authenticator: ${toHex(message.bytes)}`);
+        }
+        return message.bytes;
+    }
+
+    /**
+     * Asks the user, and provides presence.
+     * @param {Uint8Array} bytes @param {PageRequest} turn
+     */
+    async #askUser(bytes, turn) {
+        const { session } = this;
+        const word = await this.#withTicks(turn.ask(), turn.signal);
+        if (word === "granted") {
+            await this.#withTicks(turn.enter(), turn.signal);
+        }
+        throwIfAborted(turn.signal);
+        // If the credentials changed meanwhile, the request is sent again to the new session.
+        const message = session === this.session ? null : this.#send(bytes);
+        return message ?? this.#collector.add(this.session.providePresence(word));
+    }
+
+    /**
+     * Provides a key pair or a signature. After each wait the request may have been aborted, and replaced by another.
+     * @param {PageRequest} turn
+     */
+    async #provide(turn) {
+        const { signal, made, departures } = turn;
+        const { need } = this.session;
+        if (need.kind === "key") {
+            const pair = await raceWithSignal(this.privateKeys.make(departures.algorithm), signal);
+            throwIfAborted(signal);
+            made(pair.id);
+            return this.session.provideKeyPair(pair);
+        }
+        if (need.kind === "signature") {
+            const signature = await raceWithSignal(this.#sign(need, turn), signal);
+            throwIfAborted(signal);
+            return this.session.provideSignature(signature);
+        }
+        throw new Error(`the authenticator did not respond, and needs ${need.kind}`);
+    }
+
+    /**
+     * Signs for the core, and prepares the change of the response.
+     * @param {import("./wasm_key.js").Need} need @param {PageRequest} turn
+     */
+    async #sign({ id, toSign }, { departures, isVerified }) {
+        const privateKey = this.privateKeys.get(id);
+        if (!privateKey) {
+            return null;
+        }
+        const original = toSign.slice(0, -HASH_BYTES);
+        const { data: changed, comments } = await departures.alter(id, original, isVerified);
+        comments.forEach((text) => this.session.recording.addComment(`outside of the core: ${text}`));
+        const data = await this.faults.alterData(id, changed);
+        const signed = concatBytes(data, toSign.subarray(-HASH_BYTES));
+        const { badSignature } = this.faults;
+        if (badSignature) {
+            this.session.recording.addComment("fault injected: signed with a different private key");
+        }
+        const own = await departures.complete(id, signed, badSignature);
+        this.#change = { original, data, isFault: !equalBytes(changed, data), ...own };
+        return badSignature ? this.privateKeys.signWithOtherKey(signed) : this.privateKeys.sign(privateKey, signed);
+    }
+
+    /**
+     * Applies the change of a response, if it has the authenticator data.
+     * @param {Uint8Array} response
+     */
+    #applyChange(response) {
+        const changed = this.#change ? changeResponse(response, this.#change) : response;
+        if (changed === response) {
+            return response;
+        }
+        if (this.#change?.isFault) {
+            this.session.recording.addComment("fault: the authenticator data is altered");
+        }
+        this.#change = null;
+        return changed;
+    }
+
+    /**
+     * Waits while time passes for the key, which sends KEEPALIVEs.
+     * @template T @param {Promise<T>} awaited @param {AbortSignal} signal
+     */
+    async #withTicks(awaited, signal) {
+        const ticking = setInterval(() => this.session.pass(KEEPALIVE_MS), KEEPALIVE_MS);
+        try {
+            return await raceWithSignal(awaited, signal);
+        } finally {
+            clearInterval(ticking);
+        }
+    }
+}

@@ -1,0 +1,176 @@
+// A registration or a sign-in of a page: its request to the key, and the credential of the key's response. The core's
+// client checks the options and writes both (client.js); here is what it lacks.
+import { ES256 } from "./algorithms.js";
+import { equalBytes, fromHex, toBase64url } from "./bytes.js";
+import { ClientCall, MAX_BUFFER_BYTES } from "./client.js";
+import { makeNotAllowed } from "./errors.js";
+import { checkExtensions } from "./extensions.js";
+import { encodeClientData, makeCrossOriginMembers } from "./frames.js";
+import { checkRequired, withoutRequired } from "./key_extensions.js";
+
+const PUBLIC_KEY = "public-key";
+const LISTS = { create: "excludeCredentials", get: "allowCredentials" };
+// A longer ID is sent as its hash. The client checks the options before the hash is known.
+const MAX_SENT_ID_BYTES = 64;
+// Before the hash of the client data in a request: the head of a byte string of 32 bytes.
+const HASH_HEAD = [0x58, 0x20];
+// The end of a request for a discoverable credential: the member 7, {"rk": true}.
+const DISCOVERABLE_END = fromHex("07a162726bf5");
+
+/** @typedef {import("./client.js").CeremonyName} CeremonyName */
+/** @typedef {(bytes: Uint8Array) => Promise<Uint8Array>} Hash SHA-256 */
+
+/**
+ * Returns a request with another hash of the client data.
+ * @param {Uint8Array} message @param {Uint8Array} hash
+ */
+const withHash = (message, hash) => {
+    // Before it are at most an RP ID, which has no spaces, and heads.
+    const at = message.findIndex((byte, index) => byte === HASH_HEAD[0] && message[index + 1] === HASH_HEAD[1]);
+    const changed = message.slice();
+    changed.set(hash, at + HASH_HEAD.length);
+    return changed;
+};
+
+/**
+ * Rejects an RP ID that a page may not use.
+ * @param {string} rpId @param {string} origin
+ */
+export const checkRpId = (rpId, origin) => {
+    new ClientCall("get", { challenge: "", rpId }, "optional", origin, 0).request();
+};
+
+/** clientDataJSON that the client can't write: of a cross-origin frame, or with a long challenge; otherwise null. */
+const makeOwnClientData = (/** @type {Ceremony} */ { name, options: { challenge }, origin }) => {
+    const members = makeCrossOriginMembers(origin);
+    const isOwn = members.crossOrigin || challenge.length > MAX_BUFFER_BYTES;
+    return isOwn ? encodeClientData(name, challenge, origin, members) : null;
+};
+
+export class Ceremony {
+    #abilities;
+    #call;
+    #checked;
+    #ownClientData;
+
+    /**
+     * Checks the options. Throws what a page gets if they are invalid.
+     * @param {CeremonyName} name @param {any} options converted ones @param {string} mediation @param {string} origin
+     * @param {import("./abilities.js").AuthenticatorOptions} abilities
+     */
+    constructor(name, options, mediation, origin, abilities) {
+        this.name = name;
+        this.options = options;
+        this.mediation = mediation;
+        this.origin = origin;
+        this.#abilities = abilities;
+        const listed = options[LISTS[name]] ?? [];
+        /** @type {Uint8Array[]} the credential IDs of the page's list */
+        this.ids = listed.filter((/** @type {any} */ { type }) => type === PUBLIC_KEY)
+            .map((/** @type {any} */ { id }) => id);
+        checkExtensions(name, options.extensions ?? {}, this.ids);
+        /** @type {number} the algorithm of a new credential */
+        this.algorithm = name === "create" ? abilities.selectAlgorithm(options.pubKeyCredParams) : ES256;
+        this.#call = this.#makeCall(this.ids.map((id) => id.subarray(0, MAX_SENT_ID_BYTES)));
+        this.#checked = this.#call.request();
+        this.#ownClientData = makeOwnClientData(this);
+        if (name === "create" && abilities.supports("largeBlob")) {
+            checkRequired(options.extensions ?? {}, this.isDiscoverable);
+        }
+        /** @type {string} */
+        this.rpId = (name === "create" ? options.rp.id : options.rpId) ?? new URL(origin).hostname;
+    }
+
+    /**
+     * A call of the client, with these credential IDs.
+     * @param {Uint8Array[]} ids
+     */
+    #makeCall(ids) {
+        const { extensions, [LISTS[this.name]]: listed, ...rest } = this.options;
+        const left = [...ids];
+        const descriptors = listed?.map((/** @type {any} */ { id, type, transports }) => ({
+            id: type === PUBLIC_KEY ? left.shift() : "", type,
+            transports: transports?.map(this.#abilities.toClientTransport, this.#abilities),
+        }));
+        const options = {
+            ...rest, [LISTS[this.name]]: descriptors, timeout: undefined,
+            // The client refuses credProps in a sign-in even if it is false.
+            extensions: extensions && {
+                ...withoutRequired(extensions, this.#abilities), credProps: extensions.credProps || undefined,
+            },
+        };
+        if (this.algorithm !== ES256) {
+            options.pubKeyCredParams = [{ type: PUBLIC_KEY, alg: ES256 }];
+        }
+        return new ClientCall(this.name, options, this.mediation, this.origin, this.#abilities.bits);
+    }
+
+    /** Whether a registration requests a discoverable credential. */
+    get isDiscoverable() {
+        return equalBytes(this.#checked.message.subarray(-DISCOVERABLE_END.length), DISCOVERABLE_END);
+    }
+
+    /** Whether the user is to be verified. */
+    get isVerified() {
+        return this.#checked.isVerified;
+    }
+
+    /** What the user is asked. */
+    get question() {
+        const { name, options, rpId } = this;
+        return name === "create" ? `Register ${options.user.name} at ${rpId}?` : `Sign in at ${rpId}?`;
+    }
+
+    /** The names of a new credential. */
+    get label() {
+        return { rpId: this.rpId, userName: this.options.user.name, userDisplayName: this.options.user.displayName };
+    }
+
+    /**
+     * The same sign-in with these credentials alone.
+     * @param {Uint8Array[]} ids
+     */
+    withCredentials(ids) {
+        const options = { ...this.options, allowCredentials: ids.map((id) => ({ type: PUBLIC_KEY, id })) };
+        return new Ceremony(this.name, options, "optional", this.origin, this.#abilities);
+    }
+
+    /**
+     * Returns the request, with these credential IDs of the core.
+     * @param {Uint8Array[]} ids @param {Hash} hash
+     */
+    async encode(ids, hash) {
+        if (!ids.every((id, index) => equalBytes(id, this.ids[index]))) {
+            this.#call = this.#makeCall(ids);
+            this.#checked = this.#call.request();
+        }
+        const { message } = this.#checked;
+        return this.#ownClientData ? withHash(message, await hash(this.#ownClientData)) : message;
+    }
+
+    /**
+     * Returns the page's credential as JSON.
+     * @param {Uint8Array} response of the key @returns {any}
+     */
+    read(response) {
+        const json = this.#call.response(response);
+        if (this.#ownClientData) {
+            json.response.clientDataJSON = toBase64url(this.#ownClientData);
+        }
+        this.#abilities.adapt(json);
+        return json;
+    }
+
+    /**
+     * Returns the error that a page gets for a status.
+     * @param {import("./authenticator.js").CtapError} error
+     */
+    makeError({ status, message }) {
+        try {
+            this.#call.response(Uint8Array.of(status));
+        } catch (error) {
+            return /** @type {Error} */ (error).name === "NotAllowedError" ? makeNotAllowed(message) : error;
+        }
+        return new Error(message);
+    }
+}

@@ -1,0 +1,145 @@
+// Faults injected into responses. They are injected outside the verified core, so that its log still replays; each is a
+// comment in the log.
+import { toHex, encodeUtf8 } from "./bytes.js";
+import { checkType, checkName, warnRenamed } from "./argument_checks.js";
+import { STATUSES } from "./standard.js";
+import { formatStatus } from "./statuses.js";
+
+/** @type {Record<string, any>} */
+const FAULTS_OFF = {
+    status: null, delay: 0, truncateBy: 0, badSignature: false, staleSignCount: false, wrongRpId: null,
+};
+// Names before version 0.3.
+/** @type {Record<string, string>} */
+const RENAMED_FAULTS = {
+    counterStays: "staleSignCount", wrongSignature: "badSignature", cutShort: "truncateBy", otherRp: "wrongRpId",
+};
+const SIGN_COUNT_OFFSET = 33;
+
+/** @type {Record<string, string>} */
+const EXPECTED_VALUES = {
+    delay: "a number of milliseconds", truncateBy: "a number of bytes", badSignature: "true or false",
+    staleSignCount: "true or false", wrongRpId: "an RP ID or null",
+};
+
+/**
+ * The current name of a fault, with a warning for an old one.
+ * @param {string | symbol} name
+ */
+const toCurrentName = (name) => {
+    if (typeof name !== "string" || !Object.hasOwn(RENAMED_FAULTS, name)) {
+        return name;
+    }
+    warnRenamed(`faults.${name}`, `faults.${RENAMED_FAULTS[name]}`);
+    return RENAMED_FAULTS[name];
+};
+
+/**
+ * Parses a status: a number, or a name with or without CTAP2_ERR_.
+ * @param {any} value
+ */
+const parseStatus = (value) => {
+    if (value === null || (Number.isInteger(value) && value > 0 && value < 256)) {
+        return value;
+    }
+    const name = String(value).replace(/^CTAP[12]_ERR_/, "");
+    const found = Object.entries(STATUSES).find(([number, statusName]) => statusName === name && number !== "0");
+    if (!found) {
+        const names = Object.values(STATUSES).slice(1).join(", ");
+        throw new TypeError(`faults.status must be null, 1 to 255 or one of ${names}, not ${JSON.stringify(value)}`);
+    }
+    return Number(found[0]);
+};
+
+/**
+ * Checks the value of a fault, and returns it.
+ * @param {string} name @param {any} value
+ */
+const checkFault = (name, value) => {
+    checkName("fault", name, Object.keys(FAULTS_OFF));
+    if (name === "status") {
+        return parseStatus(value);
+    }
+    const isText = name === "wrongRpId" && (value === null || typeof value === "string");
+    const isNumber = typeof FAULTS_OFF[name] === "number" && Number.isInteger(value) && value >= 0;
+    const isBoolean = typeof FAULTS_OFF[name] === "boolean" && typeof value === "boolean";
+    checkType(`faults.${name}`, value, isText || isNumber || isBoolean, EXPECTED_VALUES[name]);
+    return value;
+};
+
+/**
+ * The faults of a key, all off at first.
+ *
+ * status: respond to every request with this status, a number or a name.
+ * delay: milliseconds before each response, with KEEPALIVEs.
+ * truncateBy: number of bytes to remove from the end of each response.
+ * badSignature: sign with a different private key.
+ * staleSignCount: repeat the signature counter of the previous response, with a valid signature.
+ * wrongRpId: the RP ID whose hash the authenticator data has, with a valid signature.
+ */
+export class Faults {
+    /** @type {Map<string, number>} the signature counter sent last, by credential ID in hex */
+    #signCounts = new Map();
+    /** @param {(bytes: Uint8Array) => Promise<Uint8Array>} hash SHA-256 */
+    constructor(hash) {
+        this.hash = hash;
+        this.values = { ...FAULTS_OFF };
+    }
+
+    /** The faults as an object whose members can be set. Unknown names and invalid values are rejected. */
+    settings() {
+        const clear = () => Object.assign(this.values, FAULTS_OFF);
+        return new Proxy(this.values, {
+            get: (values, name) => (name === "clear" ? clear : Reflect.get(values, toCurrentName(name))),
+            set: (values, name, value) => Reflect.set(values, toCurrentName(name), checkFault(String(toCurrentName(name)), value)),
+        });
+    }
+
+    get delay() {
+        return this.values.delay;
+    }
+
+    get badSignature() {
+        return this.values.badSignature;
+    }
+
+    /**
+     * Applies the faults to authenticator data.
+     * @param {Uint8Array} id @param {Uint8Array} data
+     */
+    async alterData(id, data) {
+        const altered = data.slice();
+        if (this.values.wrongRpId !== null) {
+            altered.set(await this.hash(encodeUtf8(this.values.wrongRpId)));
+        }
+        this.#setSignCount(toHex(id), new DataView(altered.buffer));
+        return altered;
+    }
+
+    /** @param {string} id the credential ID in hex @param {DataView} view */
+    #setSignCount(id, view) {
+        const raised = view.getUint32(SIGN_COUNT_OFFSET);
+        if (this.values.staleSignCount && raised > 0) {
+            view.setUint32(SIGN_COUNT_OFFSET, this.#signCounts.get(id) ?? raised - 1);
+        }
+        this.#signCounts.set(id, view.getUint32(SIGN_COUNT_OFFSET));
+    }
+
+    /**
+     * Applies the faults to a response, with a comment in the log for each.
+     * @param {Uint8Array} response @param {import("./recording.js").Recording} recording
+     */
+    applyTo(response, recording) {
+        let sent = response;
+        const { truncateBy, status } = this.values;
+        if (truncateBy) {
+            sent = sent.subarray(0, Math.max(1, sent.length - truncateBy));
+            recording.addComment(`fault: the answer is cut to ${sent.length} bytes`);
+        }
+        if (status !== null) {
+            recording.addComment(`fault: the answer is status ${formatStatus(status)}`);
+            return Uint8Array.of(status);
+        }
+        return sent;
+    }
+}

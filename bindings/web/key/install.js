@@ -1,0 +1,141 @@
+// Installing a key: it replaces functions of navigator.credentials and PublicKeyCredential, and restores them.
+import { warnRenamed } from "./argument_checks.js";
+import { makeNotSupported } from "./errors.js";
+import { checkPage, warnOfTestKey } from "./allowed_origins.js";
+import { completeAll, getType, isOwnObject } from "./idl_objects.js";
+import { SecurityKey } from "./security_key.js";
+import { makeStaticMethods } from "./static_methods.js";
+
+const ONE_TYPE_ERROR = "Only exactly one of 'password', 'federated', and 'publicKey' credential types are currently"
+    + " supported.";
+const WEBAUTHN_TYPES = ["CredentialsContainer", "Credential", "PublicKeyCredential", "AuthenticatorResponse",
+    "AuthenticatorAttestationResponse", "AuthenticatorAssertionResponse"];
+
+/**
+ * The installed key, and a function that restores what it replaced.
+ * @type {{ key: InstalledKey, undo: () => void } | null}
+ */
+let installed = null;
+
+/**
+ * Sets a property, and returns a function that restores it.
+ * @param {object} object @param {string} name @param {unknown} value
+ */
+const replaceProperty = (object, name, value) => {
+    const before = Object.getOwnPropertyDescriptor(object, name);
+    const enumerable = before?.enumerable ?? false;
+    Object.defineProperty(object, name, { value, writable: true, configurable: true, enumerable });
+    return () => (before ? Object.defineProperty(object, name, before) : Reflect.deleteProperty(object, name));
+};
+
+/** Defines the WebAuthn types that a platform such as node lacks. Returns functions that remove them. */
+const defineMissing = () => {
+    const missing = WEBAUTHN_TYPES.filter((name) => !(/** @type {any} */ (globalThis)[name]));
+    const parts = missing.map((name) => replaceProperty(globalThis, name, getType(name)));
+    if (!globalThis.navigator) {
+        parts.push(replaceProperty(globalThis, "navigator", {}));
+    }
+    if (!navigator.credentials) {
+        parts.push(replaceProperty(navigator, "credentials", Object.create(globalThis.CredentialsContainer.prototype)));
+    }
+    return parts;
+};
+
+/**
+ * A method of CredentialsContainer that handles public keys, and passes other calls to the native one.
+ * @param {"create" | "get"} name @param {SecurityKey} key @param {Function | undefined} native
+ * @param {(options: any) => void} checkOthers
+ */
+const wrapMethod = (name, key, native, checkOthers) => ({
+    /** @this {unknown} @param {any[]} args */
+    async [name](...args) {
+        if (!(this instanceof globalThis.CredentialsContainer)) {
+            throw new TypeError("Illegal invocation");
+        }
+        const [options] = args;
+        if (options?.publicKey !== undefined) {
+            checkOthers(options);
+            return key[name](options);
+        }
+        if (!native) {
+            throw makeNotSupported(ONE_TYPE_ERROR);
+        }
+        return native.apply(this, args);
+    },
+}[name]);
+
+const rejectOthers = (/** @type {any} */ options) => {
+    if (options.password !== undefined || options.federated !== undefined) {
+        throw makeNotSupported(ONE_TYPE_ERROR);
+    }
+};
+
+/**
+ * A method that rejects the key's credentials, which no browser stores, and passes others to the native one.
+ * @param {Function} native
+ */
+const wrapStore = (native) => ({
+    /** @this {unknown} @param {any[]} args */
+    async store(...args) {
+        if (isOwnObject(args[0])) {
+            throw makeNotSupported("Store operation not permitted for PublicKey credentials.");
+        }
+        return native.apply(this, args);
+    },
+}.store);
+
+/**
+ * Replaces the functions.
+ * @param {InstalledKey} key
+ */
+const replaceFunctions = (key) => {
+    const undo = defineMissing();
+    completeAll();
+    const { prototype } = globalThis.CredentialsContainer;
+    undo.push(replaceProperty(prototype, "create", wrapMethod("create", key, prototype.create, rejectOthers)));
+    undo.push(replaceProperty(prototype, "get", wrapMethod("get", key, prototype.get, () => {})));
+    if (prototype.store) {
+        undo.push(replaceProperty(prototype, "store", wrapStore(prototype.store)));
+    }
+    for (const [name, value] of Object.entries(makeStaticMethods(key))) {
+        undo.push(replaceProperty(globalThis.PublicKeyCredential, name, value));
+    }
+    installed = { key, undo: () => undo.reverse().forEach((step) => step()) };
+};
+
+/** A key that replaces navigator.credentials. */
+export class InstalledKey extends SecurityKey {
+    /** Restores what `install` replaced, and aborts a pending request. */
+    uninstall() {
+        this.close();
+        if (installed?.key === this) {
+            installed.undo();
+            installed = null;
+        }
+    }
+}
+
+/**
+ * Replaces navigator.credentials by a new key.
+ * @param {import("../dist/security_key.js").Options} [options]
+ */
+export const install = (options) => {
+    if (installed) {
+        throw new Error("hidlogKey: a key is already installed; uninstall it first:"
+            + " hidlogKey.installedKey().uninstall()");
+    }
+    checkPage(options?.allowedOrigins ?? options?.allowOrigins, options?.origin);
+    const key = new InstalledKey(options);
+    replaceFunctions(key);
+    warnOfTestKey();
+    return key;
+};
+
+/** The installed key, or null. */
+export const installedKey = () => installed?.key ?? null;
+
+/** @deprecated Use installedKey. */
+export const current = () => {
+    warnRenamed("current()", "installedKey()");
+    return installedKey();
+};

@@ -1,0 +1,70 @@
+// The requests of a page: one at a time, each ended by its response, its signal, its timeout, or another that replaces
+// it.
+import { makeBusy, makeDomError, makeNotAllowed } from "./errors.js";
+import { clearTimeout, setTimeout } from "./platform.js";
+
+// Chromium's maximum timeout.
+const DEFAULT_TIMEOUT_MS = 600_000;
+const MAX_TIMER_MS = 2 ** 31 - 1;
+
+/**
+ * @typedef {object} Limits what ends a request early
+ * @property {AbortSignal} [signal] the page's
+ * @property {number} [timeout] in milliseconds
+ * @property {boolean} isConditional whether it waits for an account without a dialog, until another request replaces it
+ */
+
+/** @typedef {{ end: (reason: unknown) => void, isConditional: boolean }} Current */
+
+export class Requests {
+    /** @type {Current | null} */
+    #current = null;
+
+    /**
+     * Runs a request. The next can start once it has ended, at once if it is aborted.
+     * @template T @param {Limits} limits @param {(signal: AbortSignal) => Promise<T>} serve @returns {Promise<T>}
+     */
+    async run({ signal, timeout = DEFAULT_TIMEOUT_MS, isConditional }, serve) {
+        if (this.#current && (isConditional || !this.#current.isConditional)) {
+            throw makeBusy();
+        }
+        this.#current?.end(makeDomError("AbortError", "Another request took over."));
+        if (timeout === 0 && !isConditional) {
+            throw makeNotAllowed("the timeout is 0");
+        }
+        const ending = new AbortController();
+        /** @type {Current} */
+        const current = { isConditional, end: (reason) => this.#end(current, ending, reason) };
+        this.#current = current;
+        const abort = () => current.end(signal?.reason);
+        const late = () => current.end(makeNotAllowed(`no user action within ${timeout} ms`));
+        const timer = isConditional ? undefined : setTimeout(late, Math.min(timeout, MAX_TIMER_MS));
+        signal?.addEventListener("abort", abort);
+        try {
+            return await serve(ending.signal);
+        } finally {
+            clearTimeout(timer);
+            signal?.removeEventListener("abort", abort);
+            this.#forget(current);
+        }
+    }
+
+    /**
+     * Aborts the pending request, if any.
+     * @param {unknown} reason
+     */
+    end(reason) {
+        this.#current?.end(reason);
+    }
+
+    /** @param {Current} current @param {AbortController} ending @param {unknown} reason */
+    #end(current, ending, reason) {
+        this.#forget(current);
+        ending.abort(reason);
+    }
+
+    /** @param {Current} current */
+    #forget(current) {
+        this.#current = this.#current === current ? null : this.#current;
+    }
+}

@@ -1,0 +1,136 @@
+// Recordings in storage, in parts: a write appends what is new, so that its cost does not depend on what is stored. The
+// state under "hidlogKey" has the number of parts of each recording; the parts are under "hidlogKey/INDEX/NUMBER", the
+// snapshot with which it starts under "hidlogKey/INDEX/snapshot".
+
+const PREFIX = "hidlogKey/";
+
+/** @typedef {import("./recordings.js").StoredSession} StoredSession */
+/** @typedef {import("./recordings.js").StoredRecordings} StoredRecordings */
+/** @typedef {{ index: number, parts: number }} PartReference */
+/** @typedef {{ ended: PartReference[], last: PartReference }} References */
+
+const keyOfPart = (/** @type {number} */ index, /** @type {number} */ number) => `${PREFIX}${index}/${number}`;
+const keyOfSnapshot = (/** @type {number} */ index) => `${PREFIX}${index}/snapshot`;
+
+export class RecordingParts {
+    /**
+     * What is stored, by index.
+     * @type {Map<number, { snapshot: string, log: string, parts: number }>}
+     */
+    #stored = new Map();
+    #isClean = false;
+
+    /** @param {import("./store.js").StateStorage} storage */
+    constructor(storage) {
+        this.storage = storage;
+    }
+
+    /** Forgets what is stored, after a page has cleared it. */
+    forget() {
+        this.#stored.clear();
+    }
+
+    /** @param {string} key */
+    #removeItem(key) {
+        const { storage } = this;
+        if (typeof storage.removeItem === "function") {
+            storage.removeItem(key);
+        } else {
+            storage.setItem(key, "");
+        }
+    }
+
+    /**
+     * Removes the parts of a recording.
+     * @param {number} index
+     */
+    #remove(index) {
+        const { parts = 0 } = this.#stored.get(index) ?? {};
+        Array.from({ length: parts }, (_, number) => keyOfPart(index, number)).forEach((key) => this.#removeItem(key));
+        this.#removeItem(keyOfSnapshot(index));
+        this.#stored.delete(index);
+    }
+
+    /** Removes parts that belong to no state, once. */
+    #clean() {
+        const { storage } = this;
+        if (!this.#isClean && !this.#stored.size && typeof storage.key === "function") {
+            const keys = Array.from({ length: storage.length ?? 0 }, (_, at) => storage.key?.(at) ?? "");
+            keys.filter((key) => key.startsWith(PREFIX)).forEach((key) => this.#removeItem(key));
+        }
+        this.#isClean = true;
+    }
+
+    /**
+     * Appends what is new of a recording.
+     * @param {StoredSession} recording @returns {PartReference}
+     */
+    #append({ index, snapshot, log }) {
+        const before = this.#stored.get(index);
+        if (before && !(before.snapshot === snapshot && log.startsWith(before.log))) {
+            this.#remove(index);
+        }
+        const { log: known = "", parts = 0 } = this.#stored.get(index) ?? {};
+        if (!parts) {
+            this.storage.setItem(keyOfSnapshot(index), snapshot);
+        }
+        const isAhead = log.length > known.length || !parts;
+        if (isAhead) {
+            this.storage.setItem(keyOfPart(index, parts), log.slice(known.length));
+        }
+        this.#stored.set(index, { snapshot, log, parts: parts + (isAhead ? 1 : 0) });
+        return { index, parts: parts + (isAhead ? 1 : 0) };
+    }
+
+    /**
+     * Stores recordings, and returns what the state says of them.
+     * @param {StoredRecordings} recordings @returns {References}
+     */
+    write({ ended, last }) {
+        this.#clean();
+        const indexes = new Set([...ended, last].map(({ index }) => index));
+        [...this.#stored.keys()].filter((index) => !indexes.has(index)).forEach((index) => this.#remove(index));
+        return { ended: ended.map((recording) => this.#append(recording)), last: this.#append(last) };
+    }
+
+    /** Removes all parts. */
+    removeAll() {
+        [...this.#stored.keys()].forEach((index) => this.#remove(index));
+    }
+
+    /**
+     * Reads a recording; one that older versions stored has its log in the state.
+     * @param {any} reference
+     */
+    #read(reference) {
+        if (typeof reference?.log === "string") {
+            return reference;
+        }
+        const { index, parts } = reference;
+        const texts = Array.from({ length: parts }, (_, number) => this.storage.getItem(keyOfPart(index, number)));
+        const snapshot = this.storage.getItem(keyOfSnapshot(index));
+        if (snapshot === null || texts.includes(null)) {
+            return null;
+        }
+        const recording = { index, snapshot, log: texts.join("") };
+        this.#stored.set(index, { snapshot, log: recording.log, parts });
+        return recording;
+    }
+
+    /**
+     * Reads the recordings that a state refers to; undefined if a part is missing. What is no reference is returned as
+     * it is, and rejected when the state is checked.
+     * @param {any} references
+     */
+    read(references) {
+        this.forget();
+        const list = references && Array.isArray(references.ended) ? [...references.ended, references.last] : null;
+        const isReference = (/** @type {any} */ entry) => typeof entry?.log === "string"
+            || (Number.isSafeInteger(entry?.index) && Number.isSafeInteger(entry?.parts) && entry.parts < 1e6);
+        if (!list?.every(isReference)) {
+            return references;
+        }
+        const recordings = list.map((entry) => this.#read(entry));
+        return recordings.includes(null) ? undefined : { ended: recordings.slice(0, -1), last: recordings.at(-1) };
+    }
+}

@@ -1,0 +1,526 @@
+// A security key in a page: registrations and sign-ins, as by navigator.credentials, and the methods of a virtual
+// authenticator. The key is the verified core; each session is a log that replays exactly.
+import { AuthenticatorOptions, AUTHENTICATOR_OPTION_NAMES, pickAuthenticatorOptions } from "./abilities.js";
+import { readOrigin } from "./allowed_origins.js";
+import { makeCredential } from "./answers.js";
+import { Authenticator, CtapError } from "./authenticator.js";
+import { equalBytes } from "./bytes.js";
+import { Ceremony } from "./ceremony.js";
+import { checkType, checkMembers, checkName, renameOptions, warnRenamed } from "./argument_checks.js";
+import { checkAccountSelector, Selections } from "./account_selection.js";
+import { createClock } from "./clock.js";
+import { Departures } from "./departures.js";
+import { Credentials } from "./credentials.js";
+import { makeDomError } from "./errors.js";
+import { Faults } from "./faults.js";
+import { checkPolicy } from "./frames.js";
+import { readCreation, readRequest } from "./options.js";
+import { CredentialMetadata } from "./credential_metadata.js";
+import { throwIfAborted, raceWithSignal, getWebCrypto } from "./platform.js";
+import { PrivateKeys } from "./private_keys.js";
+import { Requests } from "./pending_request.js";
+import { SignIn } from "./sign_in.js";
+import { encodeSnapshot } from "./snapshots.js";
+import { checkState, exportState, readRows, readTimeMs } from "./state.js";
+import { checkStorage, Store } from "./store.js";
+import { User } from "./user_presence.js";
+
+const OPTION_NAMES = ["presence", "delay", "account", "clock", "state", "storage", "origin", "crypto", "allowedOrigins",
+    "record", ...AUTHENTICATOR_OPTION_NAMES];
+const EVENT_TYPES = ["credentialAdded", "credentialAsserted", "credentialDeleted", "credentialUpdated"];
+// Names before version 0.3.
+const RENAMED_OPTIONS = { store: "storage", allowOrigins: "allowedOrigins" };
+
+/** @typedef {import("./wasm_key.js").Row} Row */
+/**
+ * @typedef {import("./authenticator.js").PageRequest & { leave: () => Promise<void> }} Turn a request of the page
+ */
+
+export class SecurityKey extends EventTarget {
+    #authenticatorOptions;
+    /** @type {Authenticator | null} */
+    #authenticator = null;
+    /** @type {any} */
+    #account;
+    #selections = new Selections();
+    #clock;
+    #credentials;
+    #faults;
+    /** @type {import("./recordings.js").StoredRecordings | null} */
+    #kept = null;
+    #origin;
+    #metadata = new CredentialMetadata();
+    #privateKeys;
+    #requests = new Requests();
+    /** @type {Row[]} */
+    #initialRows = [];
+    #store;
+    #time = { timeMs: 0 };
+    #user;
+    #records;
+
+    static {
+        for (const name of AUTHENTICATOR_OPTION_NAMES) {
+            Object.defineProperty(this.prototype, name, {
+                get() {
+                    return this.#authenticatorOptions.get(name);
+                },
+                set(value) {
+                    this.#authenticatorOptions.take({ [name]: value });
+                },
+            });
+        }
+    }
+
+    /** @param {import("../dist/security_key.js").Options} [options] */
+    constructor(options = {}) {
+        super();
+        checkType("the options", options, typeof options === "object" && options !== null, "an object");
+        const named = renameOptions(options, RENAMED_OPTIONS);
+        checkMembers("option", named, OPTION_NAMES);
+        const { presence = "granted", delay = 0, account = 0, record = true, clock, state, storage, crypto } = named;
+        checkType("record", record, typeof record === "boolean", "true or false");
+        this.#records = record;
+        checkType("clock", clock, ["undefined", "function"].includes(typeof clock), "a function of milliseconds");
+        this.#user = new User({ presence, delay });
+        this.account = account;
+        this.#authenticatorOptions = new AuthenticatorOptions(pickAuthenticatorOptions(named));
+        this.#origin = named.origin;
+        this.#privateKeys = new PrivateKeys(crypto ? () => crypto : getWebCrypto);
+        this.#faults = new Faults((bytes) => this.#privateKeys.hash(bytes));
+        this.#credentials = new Credentials(this.#privateKeys, this.#metadata);
+        if (storage !== undefined) {
+            checkStorage(storage);
+        }
+        this.#store = new Store(storage);
+        this.#restore(state);
+        this.#clock = createClock(clock, this.#time.timeMs, this.#time);
+        this.faults = this.#faults.settings();
+        // Setting an unknown property, such as a typo, throws.
+        Object.freeze(this);
+    }
+
+    /**
+     * Starts with the state in storage, or otherwise with `state`.
+     * @param {any} state
+     */
+    #restore(state) {
+        if (state !== undefined) {
+            checkState(state);
+        }
+        const stored = this.#store.readChanges();
+        const start = stored ?? state;
+        if (start) {
+            this.#initialRows = readRows(start, this.#credentials);
+            this.#time.timeMs = readTimeMs(start);
+            this.#kept = stored?.recordings ?? null;
+        }
+    }
+
+    /**
+     * The verified key, created on first use.
+     * @returns {Authenticator}
+     */
+    get #key() {
+        if (!this.#authenticator) {
+            const start = { snapshot: this.#snapshot, kept: this.#kept, records: this.#records };
+            this.#authenticator = new Authenticator(this.#privateKeys, this.#faults, this.#clock, start);
+            this.#kept = null;
+        }
+        return this.#authenticator;
+    }
+
+    get #rows() {
+        return this.#authenticator ? this.#key.session.core.rows() : this.#initialRows;
+    }
+
+    get #snapshot() {
+        return this.#authenticator ? this.#key.session.snapshot() : encodeSnapshot(this.#initialRows);
+    }
+
+    get presence() {
+        return this.#user.presence;
+    }
+
+    set presence(presence) {
+        this.#user.presence = presence;
+    }
+
+    get delay() {
+        return this.#user.delay;
+    }
+
+    set delay(delay) {
+        this.#user.delay = delay;
+    }
+
+    get account() {
+        return this.#account;
+    }
+
+    set account(account) {
+        checkAccountSelector("account", account);
+        this.#account = account;
+    }
+
+    // Recordings and state.
+
+    /**
+     * The recording since the credentials were last changed by a method: a log for `hidlog check`. It is empty without
+     * recording.
+     */
+    log() {
+        return this.recordings().at(-1)?.log ?? "";
+    }
+
+    /** All recordings, each with the snapshot it starts with, for `hidlog check --load`. */
+    recordings() {
+        return this.#key.recordings.list();
+    }
+
+    /** The credentials, with private keys and counters, and the time, as JSON. */
+    state() {
+        return exportState(this.#time.timeMs, this.#rows, this.#credentials);
+    }
+
+    /** Reads what another tab has stored. */
+    #refresh() {
+        const stored = this.#store.readChanges();
+        if (stored) {
+            this.#time.timeMs = Math.max(this.#time.timeMs, readTimeMs(stored));
+            this.#take(readRows(stored, this.#credentials), stored.recordings);
+        }
+    }
+
+    /**
+     * Continues with other credentials, and with the recording that led to them, if any.
+     * @param {Row[]} rows @param {import("./recordings.js").StoredRecordings} [recordings]
+     */
+    #take(rows, recordings) {
+        const snapshot = encodeSnapshot(rows);
+        if (recordings && this.#records) {
+            this.#key.take(recordings, snapshot);
+        } else if (!equalBytes(snapshot, this.#snapshot)) {
+            this.#key.begin(snapshot);
+        }
+    }
+
+    /** Stores the state and the recordings. */
+    async #write() {
+        const kept = () => ({ state: this.state(), recordings: this.#key.recordings.kept(this.#snapshot) });
+        if (await this.#store.write(kept)) {
+            this.#key.recordings.wasKept();
+        }
+    }
+
+    /** Locks the storage and reads it. Returns a function that writes to it and unlocks it. */
+    async #lock() {
+        const unlock = await this.#store.lock();
+        const release = async () => {
+            try {
+                await this.#write();
+            } finally {
+                unlock();
+            }
+        };
+        try {
+            this.#refresh();
+            return release;
+        } catch (error) {
+            unlock();
+            throw error;
+        }
+    }
+
+    /** Stores recordings that are not stored yet. */
+    async #storeRecordings() {
+        this.#authenticator?.recordings.bound(() => this.#snapshot);
+        if (this.#store.isPresent && this.#authenticator?.recordings.isAhead) {
+            await (await this.#lock())();
+        }
+    }
+
+    // Registrations and sign-ins.
+
+    /**
+     * As navigator.credentials.create.
+     * @param {any} options
+     */
+    async create(options) {
+        const { publicKey, signal, mediation } = readCreation(options);
+        throwIfAborted(signal);
+        const ceremony = this.#begin("create", publicKey, mediation);
+        return this.#requests.run({ signal, timeout: publicKey.timeout, isConditional: false }, (ending) =>
+            this.#during(ceremony, ending, async (turn) => {
+                const json = ceremony.read(await this.#send(ceremony, turn));
+                await turn.departures.adapt(json);
+                const credential = makeCredential(json);
+                this.#dispatchFor("credentialAdded", credential.id);
+                return credential;
+            }));
+    }
+
+    /**
+     * As navigator.credentials.get.
+     * @param {any} options
+     */
+    async get(options) {
+        const { publicKey, signal, mediation } = readRequest(options);
+        throwIfAborted(signal);
+        const ceremony = this.#begin("get", publicKey, mediation);
+        const isConditional = mediation === "conditional";
+        return this.#requests.run({ signal, timeout: publicKey.timeout, isConditional }, (ending) =>
+            this.#during(ceremony, ending, async (turn) => {
+                const json = await this.#makeSignIn(turn).run(ceremony, isConditional);
+                await turn.departures.adapt(json);
+                const credential = makeCredential(json);
+                this.#dispatchFor("credentialAsserted", credential.id);
+                return credential;
+            }));
+    }
+
+    /**
+     * Begins a registration or a sign-in. Throws what a page gets if it can't.
+     * @param {"create" | "get"} name @param {any} publicKey @param {string} mediation
+     */
+    #begin(name, publicKey, mediation) {
+        const origin = this.pageOrigin;
+        checkPolicy(name, origin);
+        return new Ceremony(name, publicKey, mediation, origin, this.#authenticatorOptions);
+    }
+
+    /**
+     * Sends the request of a ceremony, and returns the response. Verifies the user.
+     * @param {Ceremony} ceremony @param {Turn} turn
+     */
+    async #send(ceremony, turn) {
+        const hash = (/** @type {Uint8Array} */ bytes) => this.#privateKeys.hash(bytes);
+        const ids = await raceWithSignal(this.#metadata.sentIds(ceremony.ids, hash), turn.signal);
+        const request = await raceWithSignal(ceremony.encode(ids, hash), turn.signal);
+        if (ceremony.isVerified) {
+            this.#authenticatorOptions.verifyUser();
+        }
+        turn.isVerified = ceremony.isVerified;
+        return this.#exchange(ceremony, request, turn);
+    }
+
+    /** The origin of requests: that of the options, or the page's. */
+    get pageOrigin() {
+        return readOrigin(this.#origin);
+    }
+
+    /**
+     * Runs a request of the page. Changes of the credentials are stored, and other tabs are locked out meanwhile.
+     * @template T @param {Ceremony} ceremony @param {AbortSignal} signal @param {(turn: Turn) => Promise<T>} run
+     */
+    async #during(ceremony, signal, run) {
+        /** @type {(() => Promise<void>) | null} */
+        let release = null;
+        /** @type {Turn} */
+        const turn = {
+            signal,
+            isVerified: false,
+            ask: () => this.#user.answer(ceremony.question, signal),
+            departures: new Departures(ceremony, this.#authenticatorOptions, this.#metadata, this.#privateKeys),
+            made: (id) => {
+                this.#credentials.setLabel(id, ceremony.label);
+                turn.departures.made(id);
+            },
+            enter: async () => {
+                release = await this.#lock();
+                if (signal.aborted) {
+                    await turn.leave();
+                }
+            },
+            leave: async () => {
+                const pending = release;
+                release = null;
+                await pending?.();
+            },
+        };
+        try {
+            this.#refresh();
+            return await run(turn);
+        } finally {
+            await turn.leave();
+            await this.#storeRecordings();
+        }
+    }
+
+    /**
+     * Sends bytes, and returns the response. Throws the error that a page sees if it fails.
+     * @param {Ceremony} ceremony @param {Uint8Array} bytes @param {Turn} turn
+     */
+    async #exchange(ceremony, bytes, turn) {
+        try {
+            return await this.#key.request(bytes, turn);
+        } catch (error) {
+            throw error instanceof CtapError ? ceremony.makeError(error) : error;
+        }
+    }
+
+    /** @param {Turn} turn */
+    #makeSignIn(turn) {
+        return new SignIn({
+            signal: turn.signal, metadata: this.#metadata, selections: this.#selections, account: this.#account,
+            isAutomatic: this.#authenticatorOptions.get("autofill") === "automatic",
+            send: (ceremony) => this.#send(ceremony, turn),
+            exchange: (ceremony, bytes) => this.#exchange(ceremony, bytes, turn),
+            listCredentials: () => this.getCredentials(), find: (id) => this.#find(id),
+        });
+    }
+
+    /** Selects the account of the pending sign-in with mediation "conditional", or of the next one. */
+    selectAccount(selector = 0) {
+        return this.#selections.select(selector);
+    }
+
+    /** @deprecated Use selectAccount. */
+    choose(selector = 0) {
+        warnRenamed("choose()", "selectAccount()");
+        return this.selectAccount(selector);
+    }
+
+    /** Aborts a pending request, and releases the storage. */
+    close() {
+        this.#requests.end(makeDomError("AbortError", "The key was uninstalled."));
+        this.#store.close();
+    }
+
+    // The commands of a virtual authenticator.
+
+    /** @param {string} credentialId */
+    #find(credentialId) {
+        const rows = this.#rows;
+        return this.#credentials.fromRow(rows[this.#credentials.indexOf(rows, credentialId)]);
+    }
+
+    /**
+     * Changes the credentials, while no request can change them.
+     * @param {(rows: Row[]) => Row[] | Promise<Row[]>} change
+     */
+    async #change(change) {
+        const release = await this.#lock();
+        try {
+            this.#take(await change(this.#rows));
+        } finally {
+            await release();
+        }
+    }
+
+    /**
+     * Adds a credential, and returns it as stored.
+     * @param {any} credential
+     */
+    async addCredential(credential) {
+        const { isResidentCredential: isResident } = credential ?? {};
+        checkType("isResidentCredential", isResident, !isResident || this.#authenticatorOptions.get("hasResidentKey"),
+            "false: the key does not support discoverable credentials (hasResidentKey is false)");
+        const row = await this.#credentials.create(credential, this.#authenticatorOptions);
+        await this.#change((rows) => this.#credentials.with(rows, row));
+        return this.#credentials.fromRow(row);
+    }
+
+    /** The credentials, newest last. */
+    async getCredentials() {
+        this.#refresh();
+        return this.#rows.map((row) => this.#credentials.fromRow(row));
+    }
+
+    /**
+     * Restores the credentials of a state.
+     * @param {any} state from `key.state()`
+     */
+    async restore(state) {
+        checkState(state);
+        await this.#change(() => readRows(state, this.#credentials));
+    }
+
+    /** @param {string} credentialId */
+    async getCredential(credentialId) {
+        this.#refresh();
+        return this.#find(credentialId);
+    }
+
+    /** @param {string} credentialId */
+    async removeCredential(credentialId) {
+        await this.#change((rows) => this.#credentials.without(rows, credentialId));
+        this.#dispatch("credentialDeleted", { credentialId });
+    }
+
+    async removeAllCredentials() {
+        await this.#change(() => []);
+    }
+
+    async clearCredentials() {
+        await this.removeAllCredentials();
+    }
+
+    /** @param {string} credentialId @param {any} properties */
+    async setCredentialProperties(credentialId, properties) {
+        await this.#change((rows) => this.#credentials.update(rows, credentialId, properties));
+        this.#dispatchFor("credentialUpdated", credentialId);
+    }
+
+    /**
+     * Sets whether presence is granted automatically.
+     * @param {boolean} enabled
+     */
+    async setAutomaticPresenceSimulation(enabled) {
+        checkType("enabled", enabled, typeof enabled === "boolean", "true or false");
+        this.presence = enabled ? "granted" : "none";
+    }
+
+    /**
+     * Sets whether user verification succeeds.
+     * @param {boolean} isUserVerified
+     */
+    async setUserVerified(isUserVerified) {
+        this.#authenticatorOptions.take({ isUserVerified });
+    }
+
+    /**
+     * Sets all these authenticator options, or none if one is invalid.
+     * @param {any} options
+     */
+    setAuthenticatorOptions(options) {
+        this.#authenticatorOptions.take(options);
+    }
+
+    /**
+     * @deprecated Use setAuthenticatorOptions.
+     * @param {any} options
+     */
+    setAbilities(options) {
+        warnRenamed("setAbilities()", "setAuthenticatorOptions()");
+        this.setAuthenticatorOptions(options);
+    }
+
+    /** The client capabilities that depend on the key. */
+    get capabilities() {
+        return this.#authenticatorOptions.capabilities;
+    }
+
+    // Events.
+
+    /** @param {string} type @param {string} credentialId */
+    #dispatchFor(type, credentialId) {
+        this.#dispatch(type, { credential: this.#find(credentialId) });
+    }
+
+    /** @param {string} type @param {object} detail */
+    #dispatch(type, detail) {
+        this.dispatchEvent(new CustomEvent(type, { detail }));
+    }
+
+    /**
+     * Resolves to the detail of the next event of a type.
+     * @param {string} type
+     */
+    once(type) {
+        checkName("event", type, EVENT_TYPES);
+        return new Promise((done) => {
+            this.addEventListener(type, (event) => done(/** @type {CustomEvent} */ (event).detail), { once: true });
+        });
+    }
+}

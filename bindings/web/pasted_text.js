@@ -1,0 +1,55 @@
+// Undoes what mail, chats and editors do to a log that is copied as text: a quotation, a code fence, blanks around
+// lines, tabs and no-break spaces. Sets `globalThis.hidlogPastedText`.
+"use strict";
+
+(() => {
+    // Longer texts are not copied by hand.
+    const MAX_BYTES = 4 * 1024 * 1024;
+    // A comment, a total, an empty line, or another line as a log has it, without other blanks than between its words.
+    const PLAIN = /^(?:[#=].*|[<>tpks](?: [^\s\u00a0]+)+)?$/;
+    const QUOTED = /^>(?: ?$| [<>tpks#=])/;
+    const FENCE = /^\s*(?:```|~~~)/;
+
+    /**
+     * The lines inside the first code fence, if there is one.
+     * @param {string[]} lines
+     */
+    const openFence = (lines) => {
+        const from = lines.findIndex((line) => FENCE.test(line));
+        if (from < 0) {
+            return lines;
+        }
+        const rest = lines.slice(from + 1);
+        const end = rest.findIndex((line) => FENCE.test(line));
+        return end < 0 ? rest : [...rest.slice(0, end), ""];
+    };
+
+    /** @param {string} line */
+    const removeBlanks = (line) => (PLAIN.test(line) ? line : line.replace(/[\s\u00a0]+/g, " ").trim());
+
+    /**
+     * The bytes of a text as a log has them, and what was changed. Each line that a log can have stays as it is.
+     * @param {Uint8Array} bytes
+     * @returns {{ bytes: Uint8Array, changes: string[] }}
+     */
+    const tidy = (bytes) => {
+        const unchanged = { bytes, changes: [] };
+        const text = bytes.length > MAX_BYTES ? "" : new TextDecoder().decode(bytes);
+        const lines = text.split("\n");
+        const inside = openFence(lines);
+        const hasQuotes = inside.some(Boolean) && inside.every((line) => !line.trim() || QUOTED.test(line));
+        if (!hasQuotes && lines.every((line) => PLAIN.test(line))) {
+            return unchanged;
+        }
+        const unquoted = hasQuotes ? inside.map((line) => line.replace(/^> ?/, "")) : inside;
+        const made = unquoted.map(removeBlanks);
+        const isLog = PLAIN.test(made[0]);
+        const changes = [
+            inside !== lines ? "a code fence" : "", hasQuotes ? "a quotation" : "",
+            made.some((line, at) => line !== unquoted[at]) ? "other blanks" : "",
+        ].filter(Boolean);
+        return isLog && changes.length ? { bytes: new TextEncoder().encode(made.join("\n")), changes } : unchanged;
+    };
+
+    globalThis.hidlogPastedText = { tidy };
+})();

@@ -1,4 +1,0 @@
-// The key as a module, over the script beside it.
-import "./security_key.js";
-
-export const { SecurityKey, current, install, installedKey, send, sendDevToolsCommand } = globalThis.hidlogKey;
