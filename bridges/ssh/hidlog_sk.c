@@ -1,7 +1,7 @@
 // A security key for OpenSSH without a device: a library for SSH_SK_PROVIDER.
 //
 //     gcc -shared -fPIC -fvisibility=hidden -I release -I examples/c -o libhidlog_sk.so
-//     examples/ssh/{hidlog_sk,state}.c
+//     bridges/ssh/{hidlog_sk,state}.c
 //         examples/c/{fido_device,virtual_key,private_file,software_keys,snapshot}.c release/libhidlog.a
 //         -Wl,--exclude-libs,ALL
 //         -lfido2 -lcrypto

@@ -1,7 +1,7 @@
 // A virtual USB security key for Linux: creates /dev/hidrawN by /dev/uhid, so that browsers, libfido2 and OpenSSH find
 // it like a plugged-in key.
 //
-//     gcc -I release -I examples/c -I examples/ssh -o hidlog-uhid examples/uhid/*.c examples/ssh/state.c
+//     gcc -I release -I examples/c -I bridges/ssh -o hidlog-uhid bridges/uhid/*.c bridges/ssh/state.c
 //         examples/c/{virtual_key,private_file,software_keys,snapshot}.c release/libhidlog.a -lcrypto
 //     sudo ./hidlog-uhid --record session.log key.state
 //
@@ -87,7 +87,7 @@ static bool send_packet(const uint8_t digits[2 * PACKET]) {
     return write_whole(device, (const uint8_t *)&event, sizeof event) || print_system_error("cannot send a packet");
 }
 
-// Saves the key. Records have no application names, since the bridge knows only their hashes.
+// Saves the key. The application (RP ID) of a new credential is left empty, since the key gives only the RP ID's hash.
 static bool save_state(void) {
     struct hidlog_credential credential;
     for (size_t i = 0; hidlog_key_get_credential(&state.vkey.key, i, &credential) == 0; i++) {
