@@ -5,7 +5,7 @@ from __future__ import annotations
 import os
 import sys
 
-sys.path.append(os.path.join(os.path.dirname(os.path.abspath(__file__)), "..", "python", "src"))
+sys.path.append(os.path.join(os.path.dirname(os.path.abspath(__file__)), "..", "bindings", "python", "src"))
 
 from hidlog import logs  # noqa: E402
 from hidlog_conformance import judged_log  # noqa: E402

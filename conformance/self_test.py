@@ -16,7 +16,7 @@ import time
 from concurrent.futures import ThreadPoolExecutor
 
 HERE = os.path.dirname(os.path.abspath(__file__))
-for folder in ("self_tests", "others"):
+for folder in ("self_tests", "others", "mutants"):
     sys.path.insert(0, os.path.join(HERE, folder))
 
 import generated  # noqa: E402
@@ -24,6 +24,7 @@ import interrupted  # noqa: E402
 import kept_device  # noqa: E402
 import odd_clients  # noqa: E402
 import odd_devices  # noqa: E402
+import reports  # noqa: E402
 import walked  # noqa: E402
 import walks  # noqa: E402
 import ways  # noqa: E402
@@ -37,6 +38,7 @@ TESTS = {
     **walked.TESTS,
     **generated.TESTS,
     **interrupted.TESTS,
+    **reports.TESTS,
 }
 
 

@@ -434,7 +434,7 @@ CBOR_FAULTS: List[Fault] = [
         "unknown_refused",
         "8",
         "An unknown parameter is refused.",
-        request=respond_with_status(lambda r: 64 in decode_parameters(r), 0x12),
+        request=respond_with_status(lambda r: bool({64, 65, 255} & set(decode_parameters(r))), 0x12),
     ),
     Fault(
         "command_taken",

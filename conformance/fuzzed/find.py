@@ -17,7 +17,7 @@ from typing import Any, List, Optional, Tuple
 
 HERE = os.path.dirname(os.path.abspath(__file__))
 TOP = os.path.join(HERE, "..", "..")
-for place in ("conformance", "conformance/faults", "tests/fuzz", "python/src"):
+for place in ("conformance", "conformance/checks", "conformance/faults", "tests/fuzz", "bindings/python/src"):
     sys.path.insert(0, os.path.join(TOP, place))
 
 from faults import FAULTS  # noqa: E402

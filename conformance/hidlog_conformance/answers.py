@@ -7,6 +7,7 @@ from dataclasses import dataclass, field
 from typing import Any, Dict, List, Optional, Tuple
 
 from hidlog_conformance import ctap_cbor, curve, keys
+from hidlog_conformance.certificates import find_certificate_fault
 from hidlog_conformance.quantity import quantity
 from hidlog_conformance.skipped import CaseSkipped
 
@@ -118,6 +119,7 @@ def check_auth_data(auth: bytes, rp: str, words: List[str]) -> None:
 def check_extensions(data: bytes, flags: int, words: List[str]) -> Dict[Any, Any]:
     """Checks the extension outputs at the end of authenticator data: a map with flag ED, nothing without it. A device
     may send outputs of extensions that were not requested (WebAuthn, 9)."""
+    place = words.index("no-extension") + 1 if "no-extension" in words else 0
     if not flags & ED:
         check(not data, "no bytes after the authenticator data, since flag ED is not set", data)
         check("extension" not in words, "flag ED and an extension output", f"flags {flags:02x}")
@@ -129,6 +131,7 @@ def check_extensions(data: bytes, flags: int, words: List[str]) -> Dict[Any, Any
             "a map of extensions in canonical CBOR, since flag ED is set", f"{fault}: {data.hex()}"
         ) from None
     check(isinstance(found, dict) and all(isinstance(key, str) for key in found), "a map of extensions", found)
+    check(not place or words[place] not in found, f"no output of the extension {words[place]}", found)
     if "extension" in words:
         place = words.index("extension")
         name, expected = words[place + 1 : place + 3]
@@ -189,6 +192,13 @@ def check_attestation(item: Dict[Any, Any], auth: bytes, cose: Dict[int, Any], c
         "a signature that verifies under the new key",
         signature,
     )
+
+
+def check_certificate(item: Dict[Any, Any]) -> None:
+    """Checks the certificate of packed attestation, if the response to a registration has one."""
+    if item[1] == "packed" and "x5c" in item[3]:
+        fault = find_certificate_fault(item[3]["x5c"][0], item[2][37:53])
+        check(not fault, fault, item[3]["x5c"][0])
 
 
 def check_credential_id(credential: bytes, length: int, user: bytes, known: Dict[bytes, Credential]) -> None:

@@ -1,40 +1,19 @@
-"""Saves touches: cases that need any credential reuse one that another case registered, and cases that need an
-authenticator without credentials use RPs of their own instead of a reset, if possible.
-"""
+"""Saves touches: cases that need any credential reuse one that another case registered."""
 
 from __future__ import annotations
 
 from typing import Any, Dict, List, Optional
 
 from hidlog_conformance import ctap_cbor
-from hidlog_conformance import hid_packets as hid
 from hidlog_conformance.answers import GET, MAKE, RESET, Credential
-from hidlog_conformance.session_file import Session, Step
+from hidlog_conformance.outline import CHANGE_PIN, MAX_REGISTRATIONS, PIN, REGISTRATION, SET_PIN
+from hidlog_conformance.outline import decode_parameters, get_cbor_request
+from hidlog_conformance.session_file import Session
 
-PIN, SET_PIN, CHANGE_PIN, BLOBS = 0x06, 3, 4, 0x0C
-# The steps of a registration: request, touch, key pair, signature.
-REGISTRATION, PLAIN = (">", "p", "k", "s"), ["made up"]
-# A case with more registrations needs an authenticator without other credentials.
-MAX_REGISTRATIONS = 6
-# Commands that see all credentials, so that those of other cases would interfere.
-GLOBAL_COMMANDS = ("credMgmt", "largeBlobs", "no protection")
-
-
-def get_cbor_request(step: Step) -> bytes:
-    """Returns the CBOR request that a step sends, or empty."""
-    collector = hid.Collector(of_host=True)
-    messages = [collector.feed(packet) for _, packet in step.packets]
-    last = messages[-1] if messages else None
-    return last.data if last is not None and not last.problem and last.command == hid.CBOR else b""
-
-
-def decode_parameters(request: bytes) -> Dict[Any, Any]:
-    """Returns a request's parameters; empty if they are invalid."""
-    try:
-        found = ctap_cbor.decode(request[1:])
-    except ctap_cbor.CborError:
-        return {}
-    return dict(found) if isinstance(found, dict) else {}
+# What a registration has to expect so that its credential serves for any.
+PLAIN = ["made", "up"]
+# Features whose commands see all credentials, so that those of other cases would interfere.
+GLOBAL_FEATURES = ("credMgmt", "largeBlobs", "no protection")
 
 
 def prefix_rp_id(request: bytes, front: str) -> bytes:
@@ -51,59 +30,61 @@ def prefix_rp_id(request: bytes, front: str) -> bytes:
     return request[:1] + ctap_cbor.encode(asked)
 
 
+def without_values(asked: Dict[Any, Any]) -> Dict[Any, Any]:
+    """Returns the parameters of a registration without its challenge, and without the user ID if it is not
+    discoverable, which makes no difference then."""
+    user, found = asked.get(3), dict(asked)
+    found[1] = b""
+    is_discoverable = isinstance(asked.get(7), dict) and bool(asked[7].get("rk"))
+    if not is_discoverable and isinstance(user, dict) and isinstance(user.get("id"), bytes):
+        found[3] = {**user, "id": bytes(len(user["id"]))}
+    return found
+
+
+def sets_pin(request: bytes) -> bool:
+    """Returns whether a request sets or changes a PIN."""
+    return request[:1] == bytes([PIN]) and decode_parameters(request).get(2) in (SET_PIN, CHANGE_PIN)
+
+
+def may_have_own_rps(session: Session) -> bool:
+    """Returns whether RPs of its own can replace an authenticator without credentials."""
+    requests = [get_cbor_request(step) for step in session.steps]
+    makes = sum(request[:1] == bytes([MAKE]) for request in requests)
+    alone = "reset" not in session.needs or "capacity 64" in session.needs or makes > MAX_REGISTRATIONS or not makes
+    alone = alone or bool(set(GLOBAL_FEATURES) & set(session.uses))
+    return not alone and not any(request[:1] == bytes([RESET]) or sets_pin(request) for request in requests)
+
+
 class CredentialReuse:
-    """The credentials that cases left on the device."""
+    """The credentials that cases left on the device, by the requests that made them."""
 
     def __init__(self) -> None:
         self.made: Dict[bytes, List[Credential]] = {}
-        self.has_pin = False
-        self.count = 0
 
-    def forget(self) -> None:
-        """Processes a reset."""
-        self.made, self.has_pin = {}, False
-
-    def front(self, session: Session) -> str:
-        """Returns the prefix of RP IDs for a case that runs beside other cases' credentials, or empty."""
-        requests = [get_cbor_request(step) for step in session.steps]
-        makes = sum(request[:1] == bytes([MAKE]) for request in requests)
-        alone = "reset" not in session.needs or "capacity 64" in session.needs or makes > MAX_REGISTRATIONS or not makes
-        alone = alone or bool(set(GLOBAL_COMMANDS) & set(session.uses)) or self.has_pin
-        if alone or any(request[:1] == bytes([RESET]) or self.sets_pin(request) for request in requests):
-            return ""
-        self.count += 1
-        return f"c{self.count}."
-
-    def empties(self, session: Session) -> bool:
-        """Returns whether a case is only about large blobs, so that an empty array can replace a reset."""
-        commands = {get_cbor_request(step)[:1] for step in session.steps}
-        is_whole = {"largeBlobs", "no protection"} <= set(session.uses) and not self.has_pin
-        return is_whole and commands <= {b"", bytes([BLOBS])}
-
-    def sets_pin(self, request: bytes) -> bool:
-        """Returns whether a request sets or changes a PIN."""
-        return request[:1] == bytes([PIN]) and decode_parameters(request).get(2) in (SET_PIN, CHANGE_PIN)
-
-    def played(self, session: Session) -> None:
-        """Records what a case may have left on the device."""
-        requests = [get_cbor_request(step) for step in session.steps]
-        self.has_pin = self.has_pin or any(map(self.sets_pin, requests))
-        if any(request[:1] == bytes([RESET]) for request in requests):
-            self.made = {}
+    def leaves(self, session: Session, number: int) -> bytes:
+        """Returns the request of a registration whose credential later cases can reuse, without values that make no
+        difference; empty for other steps."""
+        request = get_cbor_request(session.steps[number])
+        if request[:1] != bytes([MAKE]) or "reset" in session.needs:
+            return b""
+        for step in session.steps[number:]:
+            if step is not session.steps[number] and get_cbor_request(step)[:1] == bytes([MAKE]):
+                break
+            words = step.expects[0].split(" ") if step.expects else []
+            if words[:1] == ["made"]:
+                is_plain = words[: len(PLAIN)] == PLAIN and not {"or", "on"} & set(words)
+                return request[:1] + ctap_cbor.encode(without_values(decode_parameters(request))) if is_plain else b""
+        return b""
 
     def serves(self, session: Session, number: int) -> bytes:
-        """Returns the request of a registration that a reused credential can replace: a plain one that the case is not
-        about. Empty if there is none."""
+        """Returns the same of a registration that a reused credential can replace: one that was made with the same
+        request and expectation, and is not the last step of the case."""
         steps = session.steps[number : number + len(REGISTRATION)]
         if tuple(step.kind for step in steps) != REGISTRATION or any(step.expects for step in steps[:-1]):
             return b""
-        is_about = session.section == "6.1.2" and not session.name.startswith("lists/")
         rest = [get_cbor_request(step)[:1] for step in session.steps[number + 1 :]]
         is_last = not {bytes([MAKE]), bytes([GET])} & set(rest)
-        if steps[-1].expects != PLAIN or "reset" in session.needs or is_about or is_last:
-            return b""
-        request = get_cbor_request(steps[0])
-        return request if request[:1] == bytes([MAKE]) else b""
+        return b"" if is_last or steps[-1].expects != [" ".join(PLAIN)] else self.leaves(session, number)
 
     def credential(self, request: bytes, place: int) -> Optional[Credential]:
         """Returns the credential that this request made before; a case with several registrations gets a different one

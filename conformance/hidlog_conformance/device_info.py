@@ -89,16 +89,10 @@ def prepare(device: Device, again: bool) -> str:
     return ""
 
 
-def empty_blobs(device: Device) -> bool:
-    """Writes an empty large-blob array; returns whether the device accepted it."""
+def empty_array() -> Dict[Any, Any]:
+    """Returns the parameters that write an empty large-blob array."""
     array = b"\x80" + hashlib.sha256(b"\x80").digest()[:16]
-    try:
-        channel = int.from_bytes(send_init(device)[8:12], "big")
-        request = ctap_cbor.encode({2: array, 3: 0, 4: len(array)})
-        answer = ask(device, channel, hid.CBOR, bytes([answers.BLOBS]) + request)
-        return answer is not None and answer.data == b"\0"
-    finally:
-        device.close()
+    return {2: array, 3: 0, 4: len(array)}
 
 
 def list_requests(session: Session) -> List[bytes]:
@@ -123,8 +117,12 @@ class DeviceInfo:
     """What a device reports about itself."""
 
     capabilities: int = 0
+    # The highest credProtect level that it set unasked.
+    protection: int = 1
     greeting: bytes = b""
     selects: bool = False
+    # Whether CTAPHID_LOCK is supported, which no capability says.
+    locks: bool = False
     info: Dict[Any, Any] = field(default_factory=dict)
     # Why getInfo could not be read, and whether --display was given.
     unread: str = ""
@@ -134,7 +132,7 @@ class DeviceInfo:
 
     @staticmethod
     def ask(device: Device, touch: bool, display: bool = False) -> DeviceInfo:
-        """Sends INIT, authenticatorGetInfo, and authenticatorSelection."""
+        """Sends INIT, authenticatorGetInfo, authenticatorSelection, and LOCK of zero seconds."""
         device_info = DeviceInfo(display=display)
         try:
             device_info.greeting = send_init(device, STARTING)
@@ -145,6 +143,9 @@ class DeviceInfo:
             device_info.selects = answer is not None and answer.command == hid.KEEPALIVE
             if device_info.selects:
                 ask(device, channel, hid.CANCEL, b"", 1.0)
+            # Zero seconds: it ends a lock.
+            answer = ask(device, channel, hid.LOCK, b"\0")
+            device_info.locks = answer is not None and answer.command == hid.LOCK
         finally:
             device.close()
         return device_info
@@ -211,10 +212,31 @@ class DeviceInfo:
             old=self.old,
             display=self.display,
             min_pin_length=self.min_pin_length,
+            protection=self.protection,
         )
 
     def has(self, use: str) -> bool:
         """Returns whether the device supports a feature that a case uses."""
+        named = self.has_named(use)
+        return self.has_feature(use) if named is None else named
+
+    def has_named(self, use: str) -> Optional[bool]:
+        """Returns whether getInfo has the option, member, protocol or extension that a use names; None for others."""
+        if use.startswith("pin protocol "):
+            protocols = self.info.get(6)
+            return isinstance(protocols, list) and int(use.split(" ")[2]) in protocols
+        if use.startswith(("option ", "no option ")):
+            return (use.split(" ")[-1] in self.options) is use.startswith("option ")
+        if use.startswith("minPINLength "):
+            return self.min_pin_length <= int(use.split(" ")[1])
+        if use.startswith("member "):
+            return int(use.split(" ")[1], 16) in self.info
+        if use.startswith(("extension ", "no extension ")):
+            return (use.split(" ")[-1] in self.extensions) is use.startswith("extension ")
+        return None
+
+    def has_feature(self, use: str) -> bool:
+        """Returns whether the device supports a feature without a name in getInfo."""
         algorithms = self.algorithms or [-7]
         known = {
             "rk": self.options.get("rk") is True,
@@ -242,15 +264,11 @@ class DeviceInfo:
             "msg": not self.capabilities & 0x08 and "U2F_V2" in self.versions,
             "wink": bool(self.capabilities & 0x01),
             "no wink": not self.capabilities & 0x01,
+            "lock": self.locks,
             "messages of 7609": self.info.get(5, 1024) >= 7609,
             "messages of 2048": self.info.get(5, 1024) >= 2048,
             "credMgmt": self.options.get("credMgmt") is True,
         }
-        if use.startswith("pin protocol "):
-            protocols = self.info.get(6)
-            return isinstance(protocols, list) and int(use.split(" ")[2]) in protocols
-        if use.startswith("extension "):
-            return use.split(" ")[1] in self.extensions
         return bool(known[use])
 
     def unsuited(self, session: Session) -> str:
@@ -302,7 +320,7 @@ class DeviceInfo:
         """Returns why a case is skipped, or an empty string."""
         for use in session.uses:
             if not self.has(use):
-                return f"the device does not support: {use} ({self.unread or 'getInfo: ' + ctap_cbor.to_diagnostic(self.info)})"
+                return f"the device does not support: {use}" + f" ({self.unread})" * bool(self.unread)
         reason = self.unsuited(session)
         if reason:
             return reason

@@ -105,8 +105,15 @@ class Device:
     saves = False
     # The exit status of the session's command, once it ended.
     status: Optional[int] = None
+    # When the runner started or power cycled it.
+    powered_at = 0.0
     # The runner's worst delay of an input in this session, in seconds: the device may have timed out.
     late = 0.0
+
+    @property
+    def powered_for(self) -> float:
+        """The seconds since it was powered up, or at least."""
+        return time.monotonic() - self.powered_at if self.powered_at else 0.0
 
     def start(self) -> None:
         """Begins a session."""
@@ -362,6 +369,7 @@ class HidrawDevice(RealTimeDevice):
             time.sleep(0.05)
         self.packets.clear()
         self.file = self.opened()
+        self.powered_at = time.monotonic()
         if not unplugged:
             raise CaseSkipped("nobody unplugged the device within a minute")
 
@@ -412,6 +420,7 @@ class PipeDevice(RealTimeDevice):
         """Starts the command."""
         super().start()
         self.process = start_command(self.command)
+        self.powered_at = time.monotonic()
         self.rest = b""
 
     def close(self) -> None:

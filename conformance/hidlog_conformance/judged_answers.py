@@ -19,6 +19,7 @@ from hidlog_conformance.judged_parts import (
     check_extension_outputs,
     read_credential_id,
 )
+from hidlog_conformance.judged_settings import BIO, CONFIG, SettingsJudge
 from hidlog_conformance.judged_statuses import NOT_ALLOWED, StatusJudge
 from hidlog_conformance.judged_stored import (
     BLOB_KEY,
@@ -30,11 +31,14 @@ from hidlog_conformance.judged_stored import (
     StoredJudge,
     named_credential_id,
 )
+from hidlog_conformance.judged_u2f import U2fJudge
 from hidlog_conformance.requests import PIN, find_fault, decode_parameters
 from hidlog_conformance.transactions import Entry, Transaction
 
 # Milliseconds within which no credential is deleted outside the log (on the key, or through NFC).
 MIN_DELETION_MS = 1000
+SETTINGS = (BIO, CONFIG)
+PIN_INVALID = 0x31
 EXPECTED = {MAKE: "made", GET: "asserted", NEXT: "asserted", INFO: "info"}
 
 
@@ -59,6 +63,8 @@ class AnswerJudge:
         self.pending: Optional[Pending] = None
         self.pins = Pins()
         self.stored = StoredJudge()
+        self.settings = SettingsJudge()
+        self.u2f = U2fJudge()
         self.statuses = StatusJudge(self)
         # Whether the log has all credentials of the key, since a reset.
         self.is_complete = False
@@ -73,6 +79,7 @@ class AnswerJudge:
         self.pending = Pending(b"", 0, 0)
         self.pins.retries, self.pins.wrong = None, 0
         self.stored.power_cycle()
+        self.settings.power_cycle()
         self.powered = at
 
     def restart(self, at: int, is_likely: bool) -> None:
@@ -82,11 +89,12 @@ class AnswerJudge:
         if is_likely:
             self.pending, self.pins.retries = None, None
             self.stored.coming = None
+            self.settings.power_cycle()
 
     def passed(self, transaction: Transaction) -> None:
         """Processes an unreadable response: its effects are unknown."""
         self.pending, self.is_complete = None, False
-        self.pins, self.stored = Pins(), StoredJudge()
+        self.pins, self.stored, self.settings = Pins(), StoredJudge(), SettingsJudge()
 
     def unanswered(self, transaction: Transaction) -> None:
         """Processes a request whose effects are unknown."""
@@ -97,9 +105,9 @@ class AnswerJudge:
         request = transaction.data
         asked = decode_parameters(request) or {}
         if request[0] == RESET:
-            self.kept, self.strangers = KnownCredentials(), {}
+            self.kept, self.strangers, self.u2f = KnownCredentials(), {}, U2fJudge()
             self.passed(transaction)
-        elif request[0] in (MAKE, PIN, MANAGE, PREVIEW, BLOBS):
+        elif request[0] in (MAKE, PIN, MANAGE, PREVIEW, BLOBS, *SETTINGS):
             self.passed(transaction)
             if request[0] == MAKE and find_fault(request) is None:
                 self.forget_account(asked[2]["id"], asked[3]["id"])
@@ -114,14 +122,21 @@ class AnswerJudge:
             if one.credential.user == user:
                 self.kept.remove(name)
 
-    def take_u2f(self, request: bytes, data: bytes) -> None:
-        """Processes a U2F response: a registration makes a credential without a known RP ID."""
+    def take_u2f(self, transaction: Transaction, data: bytes) -> None:
+        """Checks a U2F response: a registration makes a credential without a known RP ID."""
+        request = transaction.data
         if request[1:2] == b"\1" and data[-2:] == b"\x90\x00":
             self.is_complete = False
+        is_sure = self.is_recent(self.u2f.when_shown(request), transaction)
+        self.u2f.judge(request, data, transaction.last, is_sure)
+
+    def is_recent(self, at: int, transaction: Transaction) -> bool:
+        """Returns whether nothing outside the log can have changed what the key showed at a time."""
+        return not self.recording.has_no_timestamps and transaction.last - at < MIN_DELETION_MS
 
     def is_fresh(self, kept: KnownCredential, transaction: Transaction) -> bool:
         """Returns whether the key showed the credential so recently that it cannot have been deleted since."""
-        return not self.recording.has_no_timestamps and transaction.last - kept.shown < MIN_DELETION_MS
+        return self.is_recent(kept.shown, transaction)
 
     def user_needed(self, entry: Entry, transaction: Transaction) -> None:
         """Checks that no touch is requested for a request that must fail first or needs no user presence."""
@@ -163,13 +178,16 @@ class AnswerJudge:
             if command in EXPECTED and data[0] == 0:
                 getattr(self, "check_" + EXPECTED[command])(transaction, data)
             if command == PIN:
-                self.pins.judge(request, data)
+                self.check_pin_response(request, data)
             elif command in (MANAGE, BLOBS):
                 self.check_stored(transaction, data)
             elif command == PREVIEW:
                 self.take_preview(request, data)
+            elif command in SETTINGS:
+                self.check_settings(request, data)
         except ExtensionMismatch as differs:
-            self.recording.find(entry.line, KEY, differs.section, differs.expected, differs.actual)
+            level = MUST if differs.is_sure else SHOULD
+            self.recording.find(entry.line, KEY, differs.section, differs.expected, differs.actual, level)
         except Mismatch as differs:
             fault = find_fault(request)
             is_should = isinstance(differs, UncertainMismatch) or (fault is not None and fault.section == "8")
@@ -179,6 +197,20 @@ class AnswerJudge:
             shape = Mismatch("a response with the standard's structure", describe_error(fault))
             self.recording.judged(self.seen(transaction, expected, message), entry.line, shape)
         self.follow(entry, transaction, data)
+
+    def check_pin_response(self, request: bytes, data: bytes) -> None:
+        """Checks a response to authenticatorClientPIN. A PIN that must be changed may count as a wrong one."""
+        asked = decode_parameters(request) or {}
+        self.settings.check_issued(asked, data[0])
+        if not self.settings.is_forced or data[0] != PIN_INVALID:
+            self.pins.judge(request, data)
+
+    def check_settings(self, request: bytes, data: bytes) -> None:
+        """Checks a response to authenticatorConfig or authenticatorBioEnrollment, after which getInfo may differ."""
+        info = self.info
+        if data[0] == 0:
+            self.info = {}
+        self.settings.judge(decode_parameters(request) or {}, request, data, self.pins, info)
 
     def check_stored(self, transaction: Transaction, data: bytes) -> None:
         """Checks a response to credential management or large blobs. The key may have fewer credentials than the
@@ -214,8 +246,9 @@ class AnswerJudge:
         self.info = item
         self.facts.aaguid = item[3]
         self.facts.algorithms = [one["alg"] for one in item.get(10, [])]
-        self.pins.check_info(item)
         self.facts.old = answers.is_before_ctap_2_1(item[1])
+        self.pins.check_info(item)
+        self.settings.check_info(item, self.is_recent(self.settings.shown, transaction), transaction.last)
 
     def check_made(self, transaction: Transaction, data: bytes) -> None:
         """Checks a registration, and keeps its credential."""
@@ -236,7 +269,16 @@ class AnswerJudge:
         kept = KnownCredential(made, bool(asked.get(7, {}).get("rk")), extensions)
         kept.shown = transaction.last
         self.kept.add(kept)
+        self.settings.made += kept.discoverable
         self.stored.check_key(data, self.served(extensions), made.id, 5, True)
+        self.check_setting_use(transaction, asked, data)
+        answers.check_certificate(answers.decode_map(data))
+
+    def check_setting_use(self, transaction: Transaction, asked: Dict[Any, Any], data: bytes) -> None:
+        """Checks what settings change in a registration or sign-in, of a key with CTAP 2.1."""
+        if not self.facts.old:
+            is_sure = self.is_recent(self.settings.shown, transaction)
+            self.settings.check_use(transaction.data, asked, data, is_sure)
 
     def served(self, extensions: Dict[str, Any]) -> Dict[str, Any]:
         """Returns the extensions that getInfo names."""
@@ -291,6 +333,8 @@ class AnswerJudge:
         if kept is not None:
             kept.shown = transaction.last
             self.stored.check_key(data, self.served(asked.get(4, {})), identity, 7, BLOB_KEY in extensions)
+        if not follows:
+            self.check_setting_use(transaction, asked, data)
 
     def check_series(self, item: Dict[Any, Any], follows: bool, identity: bytes) -> None:
         """Checks a further assertion: another credential, the same flags, no numberOfCredentials."""
@@ -379,6 +423,8 @@ class AnswerJudge:
             self.kept, self.is_complete = KnownCredentials(), not self.facts.old and not self.recording.has_lost
             self.pins, self.pending = Pins(is_set=False), Pending(b"", 0, entry.at)
             self.stored.reset()
+            self.settings.reset(entry.at)
+            self.u2f = U2fJudge()
         elif command == GET and status == 0:
             item = decode_parameters(data) or {}
             number, auth = item.get(5), item.get(2)

@@ -7,7 +7,8 @@ from typing import TYPE_CHECKING, Optional, Tuple
 from hidlog_conformance import hid_packets as hid
 from hidlog_conformance import rules
 from hidlog_conformance.init_response import NMSG, WINK
-from hidlog_conformance.judged_log import seen
+from hidlog_conformance.judged_log import SHOULD, seen
+from hidlog_conformance.judged_statuses import JITTER_MS
 from hidlog_conformance.quantity import quantity
 from hidlog_conformance.transactions import BUSY, INVALID_COMMAND, NO_TIME_OUT, TIMED_OUT, Entry, Transaction
 
@@ -15,6 +16,8 @@ if TYPE_CHECKING:
     from hidlog_conformance.judged_key import KeyJudge
 
 OTHER_ERROR = 0x7F
+# The maximum number of seconds of a lock.
+MAX_LOCK = 10
 SERVED = (hid.PING, hid.MSG, hid.LOCK, hid.INIT, hid.WINK, hid.CBOR)
 # Optional commands.
 OPTIONAL = (hid.MSG, hid.LOCK, hid.WINK)
@@ -25,6 +28,9 @@ class ErrorJudge:
 
     def __init__(self, key: "KeyJudge") -> None:
         self.key = key
+        # The channel that has the lock, until when it certainly has it, and until when it may have it.
+        self.locked: Tuple[int, int, int] = (0, 0, 0)
+        self.was_locked = False
 
     def check_error(self, entry: Entry, message: Optional[hid.Message]) -> None:
         """Checks an ERROR."""
@@ -93,9 +99,32 @@ class ErrorJudge:
 
     def is_locked_out(self, transaction: Transaction) -> bool:
         """Returns whether another channel may have the lock (11.2.9.2.2)."""
-        channel, until = self.key.locked
+        channel, _, until = self.locked
         has_time = self.key.recording.has_no_timestamps or transaction.began <= until
         return channel != 0 and channel != transaction.channel and has_time
+
+    def check_lock_response(self, entry: Entry, transaction: Transaction, message: hid.Message) -> None:
+        """Checks a response to LOCK, and records the lock."""
+        if message.data:
+            self.key.find(entry.line, rules.LOCK, "a response without data", quantity(len(message.data), "byte"))
+        if len(transaction.data) != 1:
+            actual = f"a response to {quantity(transaction.length, 'byte')}"
+            self.key.find(entry.line, rules.LOCK, "error 03, since the length is not 1", actual)
+            return
+        seconds = transaction.data[0]
+        if seconds > MAX_LOCK:
+            actual = f"a lock of {seconds}"
+            self.key.find(entry.line, rules.LOCK, f"an error, above {MAX_LOCK} seconds", actual, SHOULD)
+        owner, self.was_locked = transaction.channel if seconds else 0, True
+        self.locked = (owner, transaction.last + 1000 * seconds - JITTER_MS, entry.at + 1000 * seconds + JITTER_MS)
+
+    def check_lock(self, entry: Entry, transaction: Transaction, name: str) -> None:
+        """Checks that no channel is served while another one has the lock. INIT is always answered."""
+        channel, until, _ = self.locked
+        if not channel or transaction.channel == channel or transaction.command == hid.INIT:
+            return
+        if not self.key.recording.has_no_timestamps and transaction.began <= until and entry.at <= until:
+            self.key.find(entry.line, rules.LOCK, f"error 06, since {channel:08x} has the lock", name)
 
     def codes_of_unfinished(self, transaction: Transaction, entry: Entry) -> Tuple[int, ...]:
         """Returns the possible codes for an incomplete message: after a wrong sequence number, or a timeout."""
@@ -115,6 +144,9 @@ class ErrorJudge:
             code == BUSY and (self.key.recording.is_single_client or self.is_locked_out(transaction))
         ):
             return
+        if transaction.command == hid.LOCK and code == BUSY and self.was_locked:
+            self.key.find(entry.line, rules.LOCK, "a response, since no other channel has the lock", "ERROR 06")
+            return
         if transaction.command in (hid.MSG, hid.WINK, hid.LOCK):
             self.check_capability(transaction, code)
             return
@@ -122,6 +154,7 @@ class ErrorJudge:
             expected = {hid.PING: "echo", hid.INIT: "init", hid.CBOR: "status"}[transaction.command]
             actual = hid.Message(transaction.channel, hid.ERROR, bytes([code]))
             section = rules.find_violated_section(seen(transaction, expected, actual))
+            section = rules.LOCK if code == BUSY and self.was_locked else section
             self.key.find(entry.line, section, "a response", f"ERROR {code:02x}")
 
     def check_capability(self, transaction: Transaction, code: Optional[int]) -> None:

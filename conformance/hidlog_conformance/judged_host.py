@@ -15,6 +15,7 @@ INVALID_CHANNEL = 0x0B
 # The minimum and maximum length of messages of the transport.
 LENGTHS = {
     hid.INIT: (8, 8),
+    hid.LOCK: (1, 1),
     hid.CANCEL: (0, 0),
     hid.WINK: (0, 0),
     hid.CBOR: (1, hid.LONGEST),

@@ -10,9 +10,8 @@ from hidlog_conformance.answers import Mismatch
 from hidlog_conformance.init_response import CBOR, is_valid_keepalive, check_init_response
 from hidlog_conformance.judged_answers import AnswerJudge
 from hidlog_conformance.judged_errors import SERVED, ErrorJudge
-from hidlog_conformance.judged_parts import check_u2f
+from hidlog_conformance.judged_parts import ExtensionMismatch
 from hidlog_conformance.judged_log import KEY, MUST, SHOULD, SILENCE_MS, Recording, message_of, seen
-from hidlog_conformance.judged_statuses import JITTER_MS
 from hidlog_conformance.quantity import quantity
 from hidlog_conformance.transactions import CANCELLED, NO_TIME_OUT, Entry, Transaction
 
@@ -54,9 +53,8 @@ class KeyJudge:
         self.missed: Set[int] = set()
         # Channels on which it is unknown which request was answered.
         self.unsure: Set[bytes] = set()
-        # The time of the key's last packet; and the channel that has the lock, with the lock's end.
+        # The time of the key's last packet.
         self.sent_at: Optional[int] = None
-        self.locked: Tuple[int, int] = (0, 0)
         # The time of the last KEEPALIVE, by the first line of its unfinished transaction.
         self.last_keepalive: Dict[int, int] = {}
 
@@ -87,7 +85,8 @@ class KeyJudge:
     def forget(self) -> None:
         """Resets the transport state."""
         self.guest, self.open, self.allocated, self.parts = hid.Collector(), [], {}, {}
-        self.unsure, self.locked = set(), (0, 0)
+        self.unsure = set()
+        self.errors.locked = (0, 0, 0)
 
     def take_input(self, entry: Entry) -> None:
         """Records a packet of the host."""
@@ -210,6 +209,7 @@ class KeyJudge:
             self.check_unasked(entry, command, name)
             return
         self.check_gap(entry, transaction)
+        self.errors.check_lock(entry, transaction, name)
         if transaction.channel == 0 or (transaction.channel == hid.BROADCAST and command != hid.INIT):
             self.find(entry.line, rules.CHANNELS, "error 0b", f"{name} on a reserved channel")
         if transaction.command not in SERVED and transaction.command < 0x40:
@@ -306,11 +306,13 @@ class KeyJudge:
             elif message.command in (hid.MSG, hid.WINK):
                 self.errors.check_capability(transaction, None)
                 if message.command == hid.MSG:
-                    check_u2f(transaction.data, message.data)
-                    self.answers.take_u2f(transaction.data, message.data)
-            elif message.command == hid.LOCK and len(transaction.data) == 1:
-                seconds = transaction.data[0]
-                self.locked = (transaction.channel if seconds else 0, entry.at + 1000 * seconds + JITTER_MS)
+                    self.answers.take_u2f(transaction, message.data)
+            elif message.command == hid.LOCK:
+                self.errors.check_lock_response(entry, transaction, message)
+        except ExtensionMismatch as differs:
+            self.find(
+                entry.line, differs.section, differs.expected, differs.actual, MUST if differs.is_sure else SHOULD
+            )
         except Mismatch as differs:
             expected = {hid.INIT: "init", hid.MSG: "message"}.get(message.command, "echo")
             self.recording.judged(seen(transaction, expected, message), entry.line, differs)

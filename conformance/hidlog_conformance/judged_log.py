@@ -8,7 +8,7 @@ from __future__ import annotations
 
 import re
 from dataclasses import dataclass
-from typing import TYPE_CHECKING, Callable, Dict, List, Optional, Set, Tuple
+from typing import TYPE_CHECKING, Callable, Dict, Iterable, List, Optional, Set, Tuple
 
 from hidlog_conformance import hid_packets as hid
 from hidlog_conformance import rules
@@ -27,6 +27,7 @@ MUST, SHOULD = "must", "should"
 # Milliseconds of silence after which a response, or the rest of one, is missing; ten KEEPALIVEs would have come.
 SILENCE_MS = 1000
 POWER_CYCLE = b"# power cycle"
+TRUNCATED = b"# note: the capture is truncated in its last record"
 # Recorders' notes about missing packets; logs of version 1.0 have "it was passed over".
 LOST = (b"the recorder lost ", b"it was passed over", b"skipped a", b": skipped", b"is left out: ")
 _CUT = re.compile(rb"# cut to \d+ bytes: ([<>]) (\d{1,20}) ((?:[0-9a-f]{2}){8,63})")
@@ -72,8 +73,9 @@ class Recording:
         self.has_no_timestamps = False
         # Whether it has only one client's packets.
         self.is_single_client = False
-        # Whether it was imported from a capture, and whether the recorder lost packets.
+        # Whether it was imported from a capture, which may end early, and whether the recorder lost packets.
         self.is_imported = False
+        self.is_truncated = False
         self.has_lost = False
         # The first line that does not continue the packets before it.
         self.gap: Optional[int] = None
@@ -112,6 +114,8 @@ class Recording:
             self.is_single_client = True
         if line.startswith(b"# imported from "):
             self.is_imported = True
+        if line == TRUNCATED:
+            self.is_truncated = True
         if line.startswith(b"# note: ") and any(word in line for word in LOST):
             self.has_lost = True
         found = _CUT.fullmatch(line)
@@ -217,6 +221,11 @@ def whole_line(line: bytes) -> bytes:
 
 def judge(log: bytes, walk: Callable[[bytes], bytes]) -> Recording:
     """Checks a log. `walk` returns the output of `hidlog_transactions`, and raises an exception at an invalid line."""
+    return judge_parts([log], walk)
+
+
+def judge_parts(parts: Iterable[bytes], walk: Callable[[bytes], bytes]) -> Recording:
+    """Checks a log in parts, between which no transaction is open."""
     # These import names of this module.
     from hidlog_conformance.judged_host import HostJudge
     from hidlog_conformance.judged_key import KeyJudge
@@ -224,7 +233,7 @@ def judge(log: bytes, walk: Callable[[bytes], bytes]) -> Recording:
     recording = Recording()
     host, key = HostJudge(recording), KeyJudge(recording)
     number = 0
-    for part in split_at_power_cycles(log):
+    for part in (piece for whole in parts for piece in split_at_power_cycles(whole)):
         owners, lines = Owners(walk(walked(part)), number), Lines(part)
         block = lines.block()
         while block:

@@ -15,7 +15,7 @@ GET_RETRIES, GET_AGREEMENT, SET_PIN, CHANGE_PIN, GET_TOKEN, TOKENS = 1, 2, 3, 4,
 USER_TOKEN, GET_USER_RETRIES = 6, 7
 # The number of consecutive wrong PINs after which a power cycle is needed (6.5.5.7).
 WRONG_IN_A_ROW = 3
-USER_INVALID = 0x3F
+USER_INVALID, POLICY = 0x3F, 0x37
 # Why a credential may be missing.
 OTHERWISE = "unless it was deleted on the key"
 
@@ -110,11 +110,13 @@ def read_credential_id(data: bytes) -> bytes:
 
 
 class ExtensionMismatch(Mismatch):
-    """A violation of an extension's section."""
+    """A violation of another section than the command's, such as an extension's."""
 
-    def __init__(self, section: str, expected: str, actual: str) -> None:
+    def __init__(self, section: str, expected: str, actual: str, is_sure: bool = True) -> None:
         super().__init__(expected, actual)
         self.section = section
+        # Whether nothing outside the log may explain it.
+        self.is_sure = is_sure
 
 
 class UncertainMismatch(Mismatch):
@@ -216,6 +218,9 @@ class Pins:
             self.user_retries -= 1
         elif status in (0x32, 0x33, 0x34):
             self.retries = None
+        elif status == POLICY:
+            # The PIN may have been right, and must be changed, or the new one is invalid.
+            self.retries, self.wrong = None, 0
         elif status == 0:
             self.take(kind, asked, data)
 
@@ -270,15 +275,3 @@ class Pins:
             return
         check(bool(self.permissions & needed), "status 33, since the token does not permit this", "status 00")
         check(self.rp is None or self.rp == rp, f"status 33, since the token is for {self.rp}", "status 00")
-
-
-def check_u2f(request: bytes, data: bytes) -> None:
-    """Checks the U2F version, and the errors for unknown classes and instructions."""
-    if len(request) < 4:
-        return
-    if request[0] != 0:
-        check(data[-2:] == b"\x6e\x00", "6e00, since the U2F class is 00", data)
-    elif request[1] == 3 and request[2:4] == b"\0\0" and data[-2:] == b"\x90\x00":
-        check(data == b"U2F_V2\x90\x00", "U2F_V2 and 9000", data)
-    elif request[1] not in (1, 2, 3) and request[1] < 0xC0:
-        check(data[-2:] != b"\x90\x00", "an error, since U2F has no such instruction", data)

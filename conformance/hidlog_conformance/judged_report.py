@@ -43,6 +43,8 @@ def list_notes(recording: Recording) -> List[str]:
     if recording.cut:
         are = "is truncated: its" if len(recording.cut) == 1 else "are truncated: their"
         notes.append(f"{quantity(len(recording.cut), 'packet')} {are} contents were not checked")
+    if recording.is_truncated:
+        notes.append("the capture is truncated in its last record: what came after it was not checked")
     if recording.is_single_client:
         notes.append("the log covers one client only: responses to other clients were not checked")
     if recording.unread:

@@ -190,6 +190,7 @@ class StatusJudge:
         listed = [entry["alg"] for entry in asked[4] if entry["type"] == "public-key"]
         served = self.answers.facts.algorithms
         self.check_capabilities(asked, status)
+        self.answers.settings.check_refused(asked, status)
         if served and not set(served) & set(listed):
             allowed = (UNSUPPORTED, *ANY_REQUEST_STATUSES, *((EXCLUDED,) if asked.get(5) else ()))
             check(status in allowed or 8 in asked, "status 26, since no algorithm is supported", f"status {status:02x}")

@@ -15,6 +15,7 @@ from hidlog_conformance.judged_parts import (
     GET_AGREEMENT,
     GET_RETRIES,
     GET_TOKEN,
+    POLICY,
     SET_PIN,
     TOKENS,
     USER_TOKEN,
@@ -22,6 +23,7 @@ from hidlog_conformance.judged_parts import (
     KnownCredential,
     read_credential_id,
 )
+from hidlog_conformance.judged_settings import CONFIG
 from hidlog_conformance.judged_statuses import EXCLUDED, NO_CREDENTIALS
 from hidlog_conformance.platform_side import Filled, Platform
 from hidlog_conformance.quantity import quantity
@@ -53,6 +55,8 @@ class Secrets:
 
     def __init__(self, most: int = MAX_RETRIES) -> None:
         self.pin: Optional[bytes] = None
+        # The PIN before the last change, or empty.
+        self.former = b""
         # The retries after the right PIN, and those left.
         self.most = self.retries = most
         self.in_a_row = 0
@@ -87,9 +91,12 @@ class KnownAnswers(AnswerJudge):
         self.values: Dict[str, Set[bytes]] = {}
         self.knows_retries = False
         self.shared: bytes = b""
+        # The minimum PIN length, and whether the PIN must be changed, before the last response. None is unknown.
+        self.length: Optional[int] = None
+        self.is_forced: Optional[bool] = None
 
-    def is_fresh(self, kept: KnownCredential, transaction: Transaction) -> bool:
-        """Returns True: nothing else deletes credentials."""
+    def is_recent(self, at: int, transaction: Transaction) -> bool:
+        """Returns True: nothing else deletes credentials, or changes settings."""
         return True
 
     def power_cycle(self, at: int) -> None:
@@ -106,7 +113,7 @@ class KnownAnswers(AnswerJudge):
 
     def judge(self, entry: Entry, transaction: Transaction, message: hid.Message) -> None:
         """Checks a response."""
-        was_old = self.facts.old
+        was_old, self.length, self.is_forced = self.facts.old, self.settings.length, self.settings.is_forced
         super().judge(entry, transaction, message)
         request, data = transaction.data, message.data
         filled = self.filled.pop(request, Filled())
@@ -116,6 +123,9 @@ class KnownAnswers(AnswerJudge):
                 self.check_pin(entry, asked, filled, data)
             elif request[0] in (MAKE, GET):
                 self.check_token_use(entry, transaction, filled, data)
+            elif request[0] == CONFIG and data[0] == 0 and self.secrets.token is not None:
+                # A demand to change the PIN ends tokens.
+                self.secrets.token.is_sure = False
             if request[0] == MAKE and data[0] == 0:
                 self.check_new(entry, MAKE, "credential ID", read_credential_id(data))
                 auth = (decode_parameters(data) or {})[2]
@@ -153,8 +163,9 @@ class KnownAnswers(AnswerJudge):
         elif kind == SET_PIN and status == 0 and not self.secrets.pin:
             self.secrets.pin = filled.new_pin
         elif kind in (CHANGE_PIN, *TOKENS) and filled.pin is not None:
-            self.check_used(entry, filled, status)
+            self.check_used(entry, kind, filled, status)
             if kind == CHANGE_PIN and status == 0:
+                self.secrets.former = self.secrets.pin or b""
                 self.secrets.pin, self.secrets.token = filled.new_pin, None
             elif kind in TOKENS and status == 0:
                 self.take_token(entry, asked, data)
@@ -169,14 +180,34 @@ class KnownAnswers(AnswerJudge):
             words = [quantity(number, "retry", "retries") for number in (secrets.retries, left)]
             self.find_known(entry, PIN, words[0] + ", also after a power cycle", words[1])
 
-    def check_used(self, entry: Entry, filled: Filled, status: int) -> None:
+    def check_used(self, entry: Entry, kind: int, filled: Filled, status: int) -> None:
         """Checks the status of a request with a PIN."""
         pin = self.secrets.pin
         due = self.secrets.use(filled.pin or b"")
-        if status == due or (due and status and not self.knows_retries):
-            return
+        allowed: Tuple[int, ...] = (due,)
         why = "the PIN is right" if filled.pin == pin else "the PIN is wrong" if pin else "no PIN is set"
-        self.find_known(entry, PIN, f"status {due:02x}, since {why}", f"status {status:02x}")
+        if not due:
+            allowed, why = self.after_right_pin(kind, filled)
+        if status in allowed or (due and status and not self.knows_retries):
+            return
+        self.find_known(entry, PIN, f"status {allowed[0]:02x}, since {why}", f"status {status:02x}")
+
+    def after_right_pin(self, kind: int, filled: Filled) -> Tuple[Tuple[int, ...], str]:
+        """Returns the possible statuses of a request with the right PIN, and why: the PIN may have to be changed, or the
+        new one may be too short (6.5.5.6, 6.5.5.7)."""
+        why, policy = "the PIN is right", (POLICY, PIN_INVALID) if kind == GET_TOKEN else (POLICY,)
+        if kind == CHANGE_PIN:
+            is_same, length = filled.new_pin == self.secrets.pin, len(
+                (filled.new_pin or b"").decode("utf-8", "replace")
+            )
+            if self.length is not None and length < self.length:
+                return policy, f"a PIN has at least {self.length} characters"
+            if is_same and self.is_forced:
+                return policy, "the PIN must be changed"
+            return ((0, *policy) if self.length is None or (is_same and self.is_forced is None) else (0,)), why
+        if self.is_forced:
+            return policy, "the PIN must be changed first"
+        return ((0, *policy) if self.is_forced is None else (0,)), why
 
     def take_token(self, entry: Entry, asked: Dict[int, Any], data: bytes) -> None:
         """Checks a new token and the initialization vector of its encryption, and records the token."""

@@ -1,7 +1,8 @@
-"""Judges a session while it is played, by the rules of `hidlog judge` and by what its host knows beyond the packets.
+"""Checks the log of a test run line by line while it runs, by the rules of `hidlog judge`.
 
-Nothing but the session uses the device, so what the log shows stays true until the session changes it, also across power
-cycles. The session's host knows each request's transaction: a channel has one at a time.
+It can check more than that command, since only the test runner uses the device: the device's state is known from the
+log, also after power cycles. The runner sends one request at a time on each channel, so it is known which request each
+response belongs to.
 """
 
 from __future__ import annotations

@@ -27,6 +27,8 @@ class Outcome:
     broken: str = ""
     # Whether the case reached its deadline.
     hung: bool = False
+    # Whether the packets violate a MUST, whatever the session expects.
+    is_violation: bool = False
     # The packets of each time that the case was played, as a log.
     recordings: List[str] = field(default_factory=list)
 

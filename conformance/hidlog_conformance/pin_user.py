@@ -8,9 +8,10 @@ from typing import Any, Callable, Dict, Iterable, Optional, Tuple
 
 from hidlog_conformance import answers, ctap_cbor
 from hidlog_conformance.answers import Credential
-from hidlog_conformance.credential_reuse import CredentialReuse, decode_parameters, get_cbor_request
+from hidlog_conformance.credential_reuse import may_have_own_rps
 from hidlog_conformance.device_info import DeviceInfo, list_requests
 from hidlog_conformance.judged_stored import DELETE, MANAGE
+from hidlog_conformance.outline import decode_parameters, get_cbor_request
 from hidlog_conformance.platform_side import Platform
 from hidlog_conformance.requests import PIN, find_fault
 from hidlog_conformance.session_file import Session, Step, sends_reset
@@ -94,7 +95,7 @@ class PinUser:
     def front(self, session: Session) -> str:
         """Returns a prefix of RP IDs for a session that needs an authenticator without credentials, which are deleted
         afterwards; empty if that is not possible."""
-        may_stay = CredentialReuse().front(session) or self.can_replace(session)
+        may_stay = may_have_own_rps(session) or self.can_replace(session)
         if self.device_info.options.get("credMgmt") is not True or not may_stay:
             return ""
         return os.urandom(4).hex() + "."
@@ -115,11 +116,13 @@ class PinUser:
         asked: Dict[int, Any] = {1: protocol, 2: GET_AGREEMENT}
         platform.agree(answers.decode_map(exchange(bytes([PIN]) + ctap_cbor.encode(asked))), asked)
         asked = {1: protocol, 2: GET_TOKEN, 3: b"=agreement", 6: b"=hash:" + self.pin}
-        if self.device_info.options.get("pinUvAuthToken") is True and rp:
-            asked.update({2: NEW_TOKEN, 9: permission, 10: rp})
+        if self.device_info.options.get("pinUvAuthToken") is True and (rp or permission not in PERMISSIONS.values()):
+            asked.update({2: NEW_TOKEN, 9: permission})
+            if rp:
+                asked[10] = rp
         data = exchange(platform.fill(bytes([PIN]) + ctap_cbor.encode(asked)))
         if data[:1] != b"\0":
-            raise WrongPinError(f"the device refused the PIN of --pin with status {data.hex()}; nothing else was tried")
+            raise WrongPinError(f"the device refused the PIN with status {data.hex()}; nothing else was tried")
         platform.take_token(answers.decode_map(data))
         return platform
 

@@ -3,7 +3,7 @@
 Byte strings in a session's request are placeholders: `=agreement`, the platform's key; `=encrypt:BYTES`; `=hash:PIN`,
 the encrypted PIN hash; `=auth:5+6`, pinUvAuthParam of members by the shared secret; `=token:1`, of a member by the
 token, `=former:1`, by the token before it, and `=cut:8:1`, the first 8 bytes of that by the token; `=manage`, of a
-subcommand with its parameters; `=blob`, of a large-blob fragment.
+subcommand with its parameters, `=config` and `=enroll` the same of the other commands; `=blob`, of a large-blob fragment.
 """
 
 from __future__ import annotations
@@ -25,6 +25,13 @@ except ImportError:
     pass
 
 
+# What pinUvAuthParam of a command with subcommands covers (6.8, 6.11, 6.7): the bytes before the subcommand, and the keys
+# of the subcommand and its parameters.
+COMMAND_PLACEHOLDERS = {
+    b"=manage": (b"", 1, 2),
+    b"=config": (b"\xff" * 32 + b"\x0d", 1, 2),
+    b"=enroll": (b"\x01", 2, 3),
+}
 # The lowest minimum length of a PIN in characters, and the length of a padded one in bytes (6.5.1).
 MIN_PIN_LENGTH, PADDED_PIN = 4, 64
 
@@ -119,13 +126,16 @@ class Platform:
         self.tokens.append(self.token)
 
     def take_secret(self, name: str, encrypted: Any) -> None:
-        """Checks hmac-secret outputs: the same under the same name, different from others."""
+        """Checks hmac-secret outputs: the same under the same name, different from others. `one+two` are two."""
         check(isinstance(encrypted, bytes), "an encrypted secret", encrypted)
         found = self.decrypt(encrypted)
         check(len(found) in (32, 64), "one or two secrets of 32 bytes", quantity(len(found), "byte"))
-        check(self.secrets.setdefault(name, found) == found, f"the secret {name} again", found)
-        others = [other for other, secret in self.secrets.items() if other != name and secret[:32] == found[:32]]
-        check(not others, f"another secret than {' '.join(others)}", found)
+        names = name.split("+")
+        parts = [found[32 * place :][:32] for place in range(len(names))] if len(names) > 1 else [found]
+        for name, part in zip(names, parts):
+            check(self.secrets.setdefault(name, part) == part, f"the secret {name} again", part)
+            others = [other for other, secret in self.secrets.items() if other != name and secret[:32] == part[:32]]
+            check(not others, f"another secret than {' '.join(others)}", part)
 
     def fill(self, request: bytes) -> bytes:
         """Returns a request with its placeholders filled in."""
@@ -180,9 +190,10 @@ class Platform:
         if value == b"=blob":
             front = b"\xff" * 32 + b"\x0c\0" + item[3].to_bytes(4, "little")
             return self.authenticate(self.token, front + hashlib.sha256(item[2]).digest())
-        if value == b"=manage":
-            parameters = ctap_cbor.encode(item[2]) if 2 in item else b""
-            return self.authenticate(self.token, bytes([item[1]]) + parameters)
+        if value in COMMAND_PLACEHOLDERS:
+            front, subcommand, parameters = COMMAND_PLACEHOLDERS[value]
+            more = ctap_cbor.encode(item[parameters]) if parameters in item else b""
+            return self.authenticate(self.token, front + bytes([item[subcommand]]) + more)
         return value
 
     def by_token(self, words: List[bytes], item: Dict[Any, Any]) -> bytes:

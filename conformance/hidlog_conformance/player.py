@@ -14,15 +14,33 @@ from hidlog_conformance.quantity import quantity
 from hidlog_conformance.skipped import CaseSkipped
 from hidlog_conformance.init_response import check_init_response
 from hidlog_conformance.judged_parts import GET_AGREEMENT, TOKENS, read_credential_id
+from hidlog_conformance.judged_settings import BIO, TEMPLATE
 from hidlog_conformance.requests import PIN
-from hidlog_conformance.response_reader import ANSWER, MIN_CHANNELS, MAX_PACKETS, GOES_ON, IN_TIME, ResponseReader, REST
+from hidlog_conformance.response_reader import ANSWER, MIN_CHANNELS, MAX_PACKETS, GOES_ON, IN_TIME, REST
 from hidlog_conformance.check_credential_management import check_fragment
+from hidlog_conformance.check_settings import SettingsReader
 from hidlog_conformance.outcome import Outcome
+from hidlog_conformance.transactions import NO_TIME_OUT
 from hidlog_conformance.session_file import Step
-from hidlog_conformance.credential_reuse import REGISTRATION
+from hidlog_conformance.outline import REGISTRATION
 
 
-class Player(ResponseReader):
+# Milliseconds after power-up in which a device accepts a reset.
+RESET_TIME = 10000
+# How the reason of a case begins that was skipped since no credential fits.
+FULL = "the device is full (28)"
+
+
+def check_further_extensions(auth: bytes, words: List[str]) -> None:
+    """Checks the extension outputs that words name, of authenticator data whose form was checked."""
+    behind = auth[37:]
+    if auth[32] & answers.AT:
+        behind = answers.read_cose_key(auth[55 + int.from_bytes(auth[53:55], "big") :])[1]
+    for place in [number for number, word in enumerate(words) if word == "extension"][1:]:
+        answers.check_extensions(behind, auth[32], words[place : place + 3])
+
+
+class Player(SettingsReader):
     """Plays one session to a device."""
 
     def play(self) -> Outcome:
@@ -34,6 +52,7 @@ class Player(ResponseReader):
             steps = self.session.steps
             passed = 0
             for number, (step, after) in enumerate(zip(steps, steps[1:] + [None])):
+                self.number = number
                 passed = passed or self.reused_steps(number) or self.is_left_out(step)
                 if passed:
                     passed -= 1
@@ -53,8 +72,9 @@ class Player(ResponseReader):
         except CaseSkipped as unplayable:
             return Outcome(self.session, "skip", str(unplayable))
         except Mismatch as differs:
-            if self.is_hidden_by_cred_protect():
-                return Outcome(self.session, "skip", "the device applies credProtect unasked")
+            reason = self.excuse()
+            if reason:
+                return Outcome(self.session, "skip", reason)
             return self.failed(differs.expected, differs.actual, step)
         except (KeyError, TypeError, ValueError, IndexError, AttributeError) as fault:
             # The response's structure is unexpected.
@@ -69,8 +89,16 @@ class Player(ResponseReader):
 
     def reused_steps(self, number: int) -> int:
         """Replaces a registration by a credential of another case, if possible; returns the number of skipped steps."""
-        request = self.reuse.serves(self.session, number) if self.reuse is not None else b""
-        if self.reuse is None or not request:
+        shared = self.sharing.find_credential(number) if self.sharing is not None else None
+        if self.sharing is not None and shared is not None:
+            self.known[self.sharing.name_of(number)] = shared
+            self.reused.append(shared)
+            return len(REGISTRATION)
+        if self.reuse is None:
+            return 0
+        request = self.reuse.serves(self.session, number)
+        if not request:
+            self.keeps = self.reuse.leaves(self.session, number) or self.keeps
             return 0
         place = self.taken.get(request, 0)
         self.taken[request] = place + 1
@@ -78,12 +106,16 @@ class Player(ResponseReader):
         if found is None:
             self.keeps = request
             return 0
+        same = [one for one in self.known.values() if one.id == found.id]
+        check(not same, "a new credential ID", found.id)
         self.known[bytes.fromhex(self.session.steps[number + 2].words[0])] = found
         self.reused.append(found)
         return len(REGISTRATION)
 
     def is_left_out(self, step: Step) -> bool:
-        """Returns whether a step sets a PIN, and --pin has set it."""
+        """Returns whether a step sets a PIN that is set already."""
+        if self.sharing is not None and self.sharing.leaves_out(self.number):
+            return True
         return self.pin_user is not None and self.pin_user.sets_pin(step)
 
     def failed(self, expected: str, actual: str, step: Optional[Step]) -> Outcome:
@@ -96,12 +128,40 @@ class Player(ResponseReader):
         line = step.line if step else 0
         return Outcome(self.session, "not ok", "", expected, actual, line, broken, expected == IN_TIME)
 
+    def judge_choice(self, outcome: Outcome) -> Outcome:
+        """Returns the outcome of a session about a choice, which a device may make otherwise: a violation of the rules
+        of `hidlog judge` if its packets have one. When an incomplete message times out is such a choice."""
+        if any(step.packets and step.packets[-1][0] - step.packets[0][0] >= NO_TIME_OUT for step in self.session.steps):
+            return outcome
+        self.live.take(self.log)
+        found = self.live.violation
+        if found is None:
+            return outcome
+        line, is_hung = outcome.line, outcome.hung
+        return Outcome(
+            self.session, "not ok", "", found.expected, found.actual, line, found.section, is_hung, is_violation=True
+        )
+
     def is_hidden_by_cred_protect(self) -> bool:
         """Returns whether a sign-in found no credential because the device applies credProtect unasked."""
         found = self.actual is not None and self.actual.command == hid.CBOR and self.actual.data == b"\x2e"
         if not found or self.request[:1] != b"\2" or self.facts.protection < 2:
             return False
         return self.facts.protection >= (3 if answers.decode_parameters(self.request).get(3) else 2)
+
+    def excuse(self) -> str:
+        """Returns why a difference is not the device's fault, or empty."""
+        if self.is_hidden_by_cred_protect():
+            return "the device applies credProtect unasked"
+        if self.is_late_reset():
+            late = quantity(int(self.device.powered_for), "second")
+            return f"the reset came {late} after power-up, since the device is slow"
+        return ""
+
+    def is_late_reset(self) -> bool:
+        """Returns whether a device refused a reset that came too late, since it or its user is slow (6.6)."""
+        found = self.actual is not None and self.actual.command == hid.CBOR and self.actual.data == b"\x30"
+        return found and self.request == bytes([answers.RESET]) and self.device.powered_for * 1000 > RESET_TIME
 
     def cancel_pending_requests(self) -> None:
         """Cancels pending requests of a device that keeps running."""
@@ -160,12 +220,6 @@ class Player(ResponseReader):
             words = [word for word in words if word not in ("no-uv", "no-name")]
         getattr(self, "check_" + words[0])(words[1:], self.channel(number), expected)
 
-    def whole(self, command: int, channel: int, expected: str) -> bytes:
-        """Returns the data of the next message, which must have this command and channel."""
-        message = self.answer(expected)
-        check(message.command == command and message.channel == channel, expected, message.shown())
-        return message.data
-
     def check_nothing(self, words: List[str], channel: int, expected: str) -> None:
         """`nothing`: no message comes but KEEPALIVEs of pending requests."""
         end = time.monotonic() + 0.3
@@ -216,9 +270,9 @@ class Player(ResponseReader):
             self.check_error(words[1:], channel, expected)
 
     def check_message(self, words: List[str], channel: int, expected: str) -> None:
-        """`message 03 HEX`: a response with this command, and with these bytes if given."""
+        """`message 03 HEX`: a response with this command, and with these bytes if given; `none`: without data."""
         data = self.whole(int(words[0], 16), channel, expected)
-        check(len(words) == 1 or data.hex() == words[1], expected, data)
+        check(len(words) == 1 or data.hex() == words[1].replace("none", ""), expected, data)
 
     def check_echo(self, words: List[str], channel: int, expected: str) -> None:
         """`echo`: a PING with the bytes of the request."""
@@ -269,14 +323,22 @@ class Player(ResponseReader):
     def check_made(self, words: List[str], channel: int, expected: str) -> None:
         """`made`: a registration. Keeps its credential under the ID of the session's k line."""
         data = self.whole(hid.CBOR, channel, expected)
-        if data == b"\x28" and not self.device.fresh and ("reset" not in self.session.needs or self.front):
-            raise CaseSkipped("the device is full (28): use --reset or another device")
+        if (
+            data == b"\x28"
+            and not self.device.fresh
+            and ("reset" not in self.session.needs or self.front or self.sharing)
+        ):
+            raise CaseSkipped(f"{FULL}: use --reset or another device")
         if data == b"\x28" and "or" in words:
             return
+        if data == b"\x28" and self.known and "capacity 64" not in self.session.needs:
+            raise CaseSkipped(f"{FULL} after {quantity(len(self.known), 'registration')}")
         made = answers.check_make_credential_response(
             data, self.asked[channel, answers.MAKE], words, self.known, self.facts
         )
         self.known[self.name] = made
+        check_further_extensions(answers.decode_map(data)[2], words)
+        self.check_attestation(answers.decode_map(data), words)
         if self.reuse is not None and self.keeps and (self.pin_user is None or not made.discoverable):
             self.reuse.made.setdefault(self.keeps, []).append(made)
             self.keeps = b""
@@ -291,7 +353,8 @@ class Player(ResponseReader):
         if "newest" in words:
             rp = answers.decode_parameters(self.asked[channel, answers.GET])[1]
             made = [one for one in self.known.values() if one.discoverable and one.rp == rp]
-            identity, words = made[-1].id, [*words, "number", str(len(made))]
+            number = ["number", str(len(made))] if len(made) > 1 else ["no-number"]
+            identity, words = made[-1].id, [*words, *number]
         answers.check_assertion_response(
             data, self.asked[channel, answers.GET], words, self.known, identity, self.facts
         )
@@ -350,14 +413,9 @@ class Player(ResponseReader):
         """`piece HEX`: a fragment of the large-blob array."""
         check_fragment(answers.decode_map(self.whole(hid.CBOR, channel, expected)), bytes.fromhex("".join(words)))
 
-    def check_option(self, words: List[str], channel: int, expected: str) -> None:
-        """`option clientPin true`: an option of authenticatorGetInfo."""
-        options = answers.check_get_info_response(self.whole(hid.CBOR, channel, expected)).get(4, {})
-        check(options.get(words[0]) is (words[1] == "true"), expected, options)
-
     def check_judged(self, words: List[str], channel: int, expected: str) -> None:
         """`judged`, `judged as NAME`: a response that the rules of `hidlog judge` accept after all that came before. The
-        user touches if the device asks; NAME stands for the ID of a credential that was made."""
+        user touches if the device asks; NAME stands for the ID of a credential or template that was made."""
         self.device.provide(self.at)
         message = self.answer(expected)
         self.live.take(self.log)
@@ -372,6 +430,8 @@ class Player(ResponseReader):
             made = self.live.answers.kept.get(read_credential_id(message.data))
             if made is not None:
                 self.known[bytes.fromhex(words[1])] = made.credential
+        elif request[:1] == bytes([BIO]) and words[:1] == ["as"]:
+            self.other_ids[bytes.fromhex(words[1])] = answers.decode_map(message.data)[TEMPLATE]
         elif request[:1] == bytes([PIN]):
             asked = answers.decode_parameters(request)
             if asked.get(2) == GET_AGREEMENT:

@@ -11,13 +11,14 @@ from hidlog_conformance import __version__, ctap_cbor, report_page
 from hidlog_conformance.device_info import DeviceInfo
 from hidlog_conformance.outcome import FAILED, UNSTABLE, Outcome
 from hidlog_conformance.quantity import quantity
+from hidlog_conformance.response_reader import GOES_ON, IN_TIME
 from hidlog_conformance.sanitize import escape_text
 from hidlog_conformance.sections import SECTIONS
 
 TITLES = {title.split(" ")[0]: "CTAP 2.1, " + title for title in SECTIONS.values()}
 Header = Dict[str, str]
 DISCLAIMER = (
-    "This is not a FIDO certification, whose tools test more: metadata, biometric enrolment, configuration, NFC, BLE and "
+    "This is not a FIDO certification, whose tools test more: metadata, NFC, BLE and "
     "others. These tests were written from knowledge of the standard and have not been checked against its text line by "
     "line. Skipped cases were not tested."
 )
@@ -103,16 +104,31 @@ def count_violated_rules(outcomes: List[Outcome]) -> List[str]:
     return [f"violated  {TITLES[rule]}: {quantity(count, 'failed case')}" for rule, count in sorted(counts.items())]
 
 
+def describe_no_case(only: str, skip: List[str]) -> str:
+    """Returns the error that --only and --skip leave no case."""
+    excluded = " and ".join(f"--skip {word!r}" for word in skip)
+    if only and skip:
+        return f"no case contains --only {only!r} and not {excluded}"
+    return f"{excluded} excludes all cases" if skip else f"no case contains {only!r}"
+
+
+def rank_severity(outcome: Outcome) -> int:
+    """Returns the place of an outcome in the report: first a device that stopped, other violations of a MUST, unstable
+    results, violations of a SHOULD, and cases that were skipped."""
+    if outcome.status == "not ok":
+        return 0 if outcome.hung or outcome.expected in (GOES_ON, IN_TIME) else 1
+    return {UNSTABLE: 2, "warn": 3, "skip": 4}.get(outcome.status, 5)
+
+
 def write_text(outcomes: List[Outcome], header: Header) -> None:
-    """Writes skipped, warned and failed cases, and the totals."""
-    for outcome in outcomes:
-        if outcome.status == "skip":
+    """Writes failed, unstable, warned and skipped cases, the violated rules, and the totals."""
+    words = {"not ok": "failed ", UNSTABLE: UNSTABLE, "warn": "warned "}
+    for outcome in sorted(outcomes, key=rank_severity):
+        if outcome.status in words:
+            print(f"{words[outcome.status]}  {outcome.session.name}")
+            print("\n".join(f"         {line}" for line in format_details(outcome)))
+        elif outcome.status == "skip":
             print(f"skipped  {outcome.session.name}: {escape_text(outcome.reason)}")
-    for status, word in (("warn", "warned "), (UNSTABLE, UNSTABLE), ("not ok", "failed ")):
-        for outcome in outcomes:
-            if outcome.status == status:
-                print(f"{word}  {outcome.session.name}")
-                print("\n".join(f"         {line}" for line in format_details(outcome)))
     for line in count_violated_rules(outcomes):
         print(line)
     for name, value in header.items():
@@ -177,7 +193,13 @@ def to_rows(outcomes: List[Outcome]) -> List[report_page.Row]:
         text = escape_text(outcome.reason) if outcome.status == "skip" else ""
         text = "; ".join(format_details(outcome)[2:4]) if outcome.status in (*FAILED, "warn") else text
         recordings = outcome.recordings if outcome.status == UNSTABLE else []
-        found.append(report_page.Row(outcome.session.name, get_title(outcome), outcome.status, text, recordings))
+        row = report_page.Row(outcome.session.name, get_title(outcome), outcome.status, text, recordings)
+        if outcome.status in (*FAILED, "warn"):
+            place, expected, actual = outcome.session.file, outcome.expected, outcome.actual
+            row = row._replace(
+                file=place, line=outcome.line, expected=escape_text(expected), actual=escape_text(actual)
+            )
+        found.append(row)
     return found
 
 

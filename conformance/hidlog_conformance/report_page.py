@@ -14,13 +14,18 @@ STATUS_WORDS = {"ok": "passed", "not ok": "failed", UNSTABLE: "unstable", "warn"
 
 
 class Row(NamedTuple):
-    """A case: its name, its rule, its status, the reason of a failure or skip, and recordings if it is unstable."""
+    """A case: its name, its rule, its status, the reason of a failure or skip, and recordings if it is unstable; of a
+    failure also the file and line of the step, what was expected, and what came."""
 
     name: str
     rule: str
     status: str
     details: str
     recordings: List[str]
+    file: str = ""
+    line: int = 0
+    expected: str = ""
+    actual: str = ""
 
 
 def counts(rows: List[Row]) -> Dict[str, int]:
@@ -45,6 +50,8 @@ def case_object(row: Row) -> Dict[str, object]:
     """Returns a case as an object of the JSON report."""
     case: Dict[str, object] = {"name": row.name, "rule": row.rule, "result": STATUS_WORDS[row.status]}
     case.update({"details": row.details, "said": row.details})
+    if row.file:
+        case.update({"file": row.file, "line": row.line, "expected": row.expected, "actual": row.actual})
     if row.recordings:
         case["recordings"] = row.recordings
     return case

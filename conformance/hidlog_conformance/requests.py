@@ -10,6 +10,7 @@ from hidlog_conformance import ctap_cbor, rules
 from hidlog_conformance.quantity import quantity
 
 MAKE, GET, INFO, PIN, RESET, NEXT, SELECTION = 0x01, 0x02, 0x04, 0x06, 0x07, 0x08, 0x0B
+ENROLL, CONFIGURE = 0x09, 0x0D
 # Other commands of CTAP 2.1, and vendor commands (8.1).
 OTHER_COMMANDS = (0x09, 0x0A, 0x0C, 0x0D, *range(0x40, 0xC0))
 NAMES = {
@@ -98,6 +99,11 @@ def is_bytes(item: Any) -> bool:
     return isinstance(item, bytes)
 
 
+def is_true_or_false(item: Any) -> bool:
+    """Returns whether an item is true or false."""
+    return isinstance(item, bool)
+
+
 Member = Tuple[str, bool, Callable[[Any], bool]]
 # By command and key: the member's name, whether it is required, and its type.
 MEMBERS: Dict[int, Dict[int, Member]] = {
@@ -121,6 +127,20 @@ MEMBERS: Dict[int, Dict[int, Member]] = {
         5: ("options", False, is_options),
         6: ("pinUvAuthParam", False, is_bytes),
         7: ("pinUvAuthProtocol", False, is_number),
+    },
+    ENROLL: {
+        1: ("modality", False, is_number),
+        2: ("subCommand", False, is_number),
+        3: ("subCommandParams", False, is_map),
+        4: ("pinUvAuthProtocol", False, is_number),
+        5: ("pinUvAuthParam", False, is_bytes),
+        6: ("getModality", False, is_true_or_false),
+    },
+    CONFIGURE: {
+        1: ("subCommand", True, is_number),
+        2: ("subCommandParams", False, is_map),
+        3: ("pinUvAuthProtocol", False, is_number),
+        4: ("pinUvAuthParam", False, is_bytes),
     },
     PIN: {
         1: ("pinUvAuthProtocol", False, is_number),

@@ -3,7 +3,7 @@
 from __future__ import annotations
 
 import time
-from typing import Dict, List, Optional, Set, Tuple
+from typing import Any, Dict, List, Optional, Set, Tuple
 
 from hidlog_conformance import answers, ctap_cbor
 from hidlog_conformance import hid_packets as hid
@@ -19,6 +19,7 @@ from hidlog_conformance.platform_side import Platform
 from hidlog_conformance.quantity import quantity
 from hidlog_conformance.session_file import Session, Step
 from hidlog_conformance.credential_reuse import CredentialReuse, prefix_rp_id
+from hidlog_conformance.touch_saver import Sharing
 
 # Expectations of any session.
 GOES_ON = "a device that keeps running"
@@ -31,10 +32,21 @@ STRANGE = 0x7EAD0000
 START, ANSWER, PERSON = 30.0, 3.0, 40.0
 # The time limit of a case in seconds, beyond its own timestamps; and the maximum number of packets from the device.
 CASE_SECONDS, MAX_PACKETS = 60.0, 5000
+# The most cases whose time a session of several cases has.
+MAX_SHARE = 10
 # Seconds to read from a real-time device after a case.
 REST = 0.1
 # Each device has at least this number of channels.
 MIN_CHANNELS = 4
+
+
+def rename_handles(apdu: bytes, handles: Dict[bytes, bytes]) -> bytes:
+    """Returns a U2F request with the session's key handle replaced by the device's, and its length."""
+    for name, handle in handles.items():
+        if bytes([len(name)]) + name in apdu:
+            data = apdu[7:].replace(bytes([len(name)]) + name, bytes([len(handle)]) + handle)
+            return apdu[:5] + len(data).to_bytes(2, "big") + data
+    return apdu
 
 
 class ResponseReader:
@@ -65,6 +77,9 @@ class ResponseReader:
         # Who gets tokens for requests that need them, and whether the last registration or sign-in has one.
         self.pin_user: Optional[PinUser] = None
         self.has_token = False
+        # What the case shares with others on the device, and the number of the current step.
+        self.sharing: Optional[Sharing] = None
+        self.number = 0
         # The judge of sessions with `expect judged`, and the section that it found violated.
         self.live = LiveJudge(self.platform)
         self.violated = ""
@@ -72,7 +87,10 @@ class ResponseReader:
         self.user_retries = 0
         # The RP ID hash whose credentials are being enumerated.
         self.listed_rp = b""
-        self.deadline = time.monotonic() + seconds + (session.steps[-1].at if session.steps else 0) / 1000
+        # A session of several cases has the time and packets of as many, but not longer than a person waits.
+        share = min(session.cases, MAX_SHARE)
+        self.max_packets = MAX_PACKETS * share
+        self.deadline = time.monotonic() + seconds * share + (session.steps[-1].at if session.steps else 0) / 1000
         # Messages received early, the channels in use, and whether the device asked for a touch.
         self.early: List[Message] = []
         self.used: Set[int] = {hid.BROADCAST}
@@ -88,6 +106,13 @@ class ResponseReader:
         # The channels before the last power cycle.
         self.former: List[int] = []
         self.known: Dict[bytes, Credential] = {}
+        # The device's IDs of fingerprint templates and U2F key handles, by those of the session.
+        self.other_ids: Dict[bytes, bytes] = {}
+        # Numbers of getInfo by member, how many samples an enrolment needs, and of U2F the points and counters.
+        self.numbers: Dict[int, Any] = {}
+        self.samples = 0
+        self.points: Dict[bytes, bytes] = {}
+        self.counters: Dict[bytes, int] = {}
         self.name = b""
         self.sent: Dict[int, Message] = {}
         # The last request by channel and command.
@@ -205,11 +230,14 @@ class ResponseReader:
         """Replaces the credential IDs of a complete CBOR message by the device's."""
         collector = hid.Collector()
         messages = [message for message in map(collector.feed, packets) if message]
-        if len(messages) != 1 or messages[0].problem or messages[0].command != hid.CBOR:
+        if len(messages) != 1 or messages[0].problem or messages[0].command not in (hid.CBOR, hid.MSG):
             return packets
+        if messages[0].command == hid.MSG:
+            return hid.fragment_message(messages[0].channel, hid.MSG, rename_handles(messages[0].data, self.other_ids))
         data = messages[0].data
         for name, identity in self.names():
-            data = data.replace(ctap_cbor.encode(name), ctap_cbor.encode(identity))
+            if name in data:
+                data = data.replace(ctap_cbor.encode(name), ctap_cbor.encode(identity))
         data = self.platform.fill(data)
         self.live.sent(data, self.platform.last_filled)
         data = prefix_rp_id(data, self.front) if self.front else data
@@ -225,6 +253,11 @@ class ResponseReader:
 
     def with_token(self, number: int, data: bytes) -> bytes:
         """Returns a request with a token of --pin, if it needs one and the device is not busy."""
+        if self.sharing is not None:
+            channel = self.channel(number)
+            found = self.sharing.with_token(self.number, data, lambda request: self.exchange(channel, request))
+            self.has_token = found != data if data[:1] == bytes([answers.MAKE]) else self.has_token
+            return found
         if self.pin_user is None or any(self.working.values()) or any(map(self.pin_user.sets_pin, self.session.steps)):
             return data
         channel = self.channel(number)
@@ -248,6 +281,7 @@ class ResponseReader:
     def names(self) -> List[Tuple[bytes, bytes]]:
         """Returns pairs of the session's credential IDs and the device's, including derived IDs."""
         found = [(name, credential.id) for name, credential in self.known.items()]
+        found += list(self.other_ids.items())
         for name, (kind, origin) in self.session.derived.items():
             if origin in self.known:
                 found.append((name, derive_id(kind, self.known[origin].id)))
@@ -273,7 +307,7 @@ class ResponseReader:
                 return None
             self.packets += 1
             self.log.append("< " + packet.hex())
-            check(self.packets <= MAX_PACKETS, IN_TIME, f"more than {MAX_PACKETS} packets")
+            check(self.packets <= self.max_packets, IN_TIME, f"more than {self.max_packets} packets")
             if self.for_others(packet):
                 self.others += 1
                 continue

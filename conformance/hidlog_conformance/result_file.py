@@ -4,9 +4,11 @@ from __future__ import annotations
 
 import json
 import os
+import sys
 from typing import Any, Dict, List
 
 from hidlog_conformance.outcome import UNSTABLE, Outcome
+from hidlog_conformance.sanitize import escape_text
 from hidlog_conformance.session_file import Session
 
 # Members of an outcome that are written as they are.
@@ -18,6 +20,7 @@ class ResultFile:
 
     def __init__(self, path: str, header: Dict[str, Any], sessions: List[Session]) -> None:
         self.path = path
+        self.is_broken = False
         self.done: Dict[str, Outcome] = {}
         lines = self.read_lines()
         if lines and lines[0] != header:
@@ -30,12 +33,18 @@ class ResultFile:
                 members = {name: line[name] for name in MEMBERS}
                 self.done[line["name"]] = Outcome(by_name[line["name"]], **members)
         if not lines:
-            self.write(header)
+            try:
+                self.write(header)
+            except OSError as fault:
+                # An error of a write does not have the file's name.
+                raise OSError(fault.errno, fault.strerror, path) from None
 
     def read_lines(self) -> List[Dict[str, Any]]:
         """Returns the lines of the file; removes a last one that was not written whole."""
         if not os.path.exists(self.path):
             return []
+        if not os.path.isfile(self.path):
+            raise ValueError(f"{self.path} is not a regular file, so the results cannot be read again")
         with open(self.path, "rb") as file:
             whole, newline, rest = file.read().rpartition(b"\n")
         if rest:
@@ -54,7 +63,15 @@ class ResultFile:
             file.write(json.dumps(members) + "\n")
 
     def add(self, outcome: Outcome) -> None:
-        """Appends an outcome; the packets only of an unstable one, whose report has them."""
+        """Appends an outcome; the packets only of an unstable one, whose report has them. If the file cannot be written
+        any more, the run goes on, and its report has all results."""
+        if self.is_broken:
+            return
         members = {name: getattr(outcome, name) for name in MEMBERS}
         members["recordings"] = outcome.recordings if outcome.status == UNSTABLE else []
-        self.write({"name": outcome.session.name, **members})
+        try:
+            self.write({"name": outcome.session.name, **members})
+        except OSError as fault:
+            self.is_broken = True
+            text = f"{self.path}: {fault.strerror or fault}: the results from {outcome.session.name} on are not in it"
+            print(f"hidlog-conformance: {escape_text(text)}", file=sys.stderr)

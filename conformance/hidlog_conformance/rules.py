@@ -21,17 +21,20 @@ COMMANDS: Dict[int, str] = {
     0x06: "6.5",
     0x07: "6.6",
     0x08: "6.3",
+    0x09: "6.7",
     0x0A: "6.8",
     0x0B: "6.9",
     0x0C: "6.10",
+    0x0D: "6.11",
 }
 # The rule about unknown commands, and those of the transport's messages.
 COMMANDS_OTHER = "8.1"
 RESET = "6.6"
-MSG, WINK = "11.2.9.1.1", "11.2.9.2.1"
+MSG, WINK, LOCK = "11.2.9.1.1", "11.2.9.2.1", "11.2.9.2.2"
 OF_COMMAND: Dict[int, str] = {
     hid.PING: PING,
     hid.MSG: MSG,
+    hid.LOCK: LOCK,
     hid.INIT: INIT,
     hid.WINK: WINK,
     hid.CBOR: CBOR,
@@ -39,7 +42,7 @@ OF_COMMAND: Dict[int, str] = {
     hid.KEEPALIVE: KEEPALIVE,
     hid.ERROR: ERROR,
 }
-MAPS = ("made", "asserted", "info", "managed", "piece", "user_retries")
+MAPS = ("made", "asserted", "info", "managed", "piece", "user_retries", "sample", "templates", "sensor", "modality")
 # Expectations of a response to a CBOR request, and the CTAPHID commands that may respond to one.
 ANSWERS = (*MAPS, "status", "refused")
 REPLY_COMMANDS = (hid.CBOR, hid.ERROR, hid.KEEPALIVE)
@@ -82,6 +85,8 @@ def find_violated_section(seen: Seen) -> str:
         return PACKETS
     if kind == "init":
         return INIT
+    if seen.own == LOCK:
+        return LOCK
     if kind == "maybe":
         return TIMEOUT
     if kind != "silence" and seen.actual is not None and seen.actual.command == hid.KEEPALIVE:
@@ -108,11 +113,10 @@ def find_response_section(kind: str, seen: Seen) -> str:
     """Returns the rule that a wrong, early or missing response to a request violates."""
     if kind == "status" and seen.cancelled and "2d" in seen.expected:
         return CANCEL
-    if seen.own.startswith("12.") and {"extension", "secret", "blob-key", "no-blob-key"} & set(
-        seen.expected.split(" ")
-    ):
+    words = set(seen.expected.split(" "))
+    if seen.own.startswith("12.") and {"extension", "no-extension", "secret", "blob-key", "no-blob-key"} & words:
         return seen.own
-    if seen.own == RESET and kind in ("managed", "piece"):
+    if seen.own == RESET and (kind in ("managed", "piece") or "no-extension" in words):
         # Something survived a reset.
         return seen.own
     if kind == "keepalive":

@@ -15,7 +15,7 @@ import argparse
 import os
 import sys
 import threading
-from typing import Dict, List, Optional, Tuple, TypeVar
+from typing import Callable, Dict, List, Optional, Tuple, TypeVar
 
 from hidlog_conformance import __version__, executor, interrupts, keys, report
 from hidlog_conformance.client_runner import (
@@ -25,23 +25,26 @@ from hidlog_conformance.client_runner import (
     play_clients,
     read_client_session,
 )
+from hidlog_conformance.combined import Combined
 from hidlog_conformance.devices import Device, PipeDevice, kill_running
 from hidlog_conformance.device_options import add_device_options, make_device
 from hidlog_conformance.expected_failures import parse_list
 from hidlog_conformance.answers import MAKE
 from hidlog_conformance import hid_packets as hid
-from hidlog_conformance.device_info import DeviceInfo, ask, empty_blobs, prepare, send_init
+from hidlog_conformance.device_info import DeviceInfo, ask, prepare, send_init
 from hidlog_conformance.pin_user import PERMISSIONS, PinUser
 from hidlog_conformance.outcome import FAILED, UNSTABLE, Outcome
 from hidlog_conformance.quantity import quantity
 from hidlog_conformance.response_reader import CASE_SECONDS, GOES_ON, IN_TIME
 from hidlog_conformance.result_file import ResultFile
 from hidlog_conformance.results import Results, collect
+from hidlog_conformance.fault_text import describe_fault
 from hidlog_conformance.sanitize import escape_text
-from hidlog_conformance.player import Player
+from hidlog_conformance.play_order import PINS, asks_person, find_combined, order_sessions
+from hidlog_conformance.player import FULL, Player
 from hidlog_conformance.session_cache import session_name, session_path, sessions_folder
 from hidlog_conformance.session_file import Session, read_session, sends_reset
-from hidlog_conformance.credential_reuse import CredentialReuse
+from hidlog_conformance.touch_saver import Sharing, TouchSaver
 from hidlog_conformance.walk_command import parse_walk, run_walk
 
 Result = TypeVar("Result")
@@ -50,8 +53,6 @@ Result = TypeVar("Result")
 MAX_HANGS = 3
 # Seconds that a packet may be sent late before a device may drop its message.
 MAX_DELAY = 0.05
-# In `uses`: the session sets a PIN.
-PINS = "pin token"
 
 
 def all_sessions(only: str = "", paths: Tuple[str, ...] = (), skip: Tuple[str, ...] = ()) -> List[Session]:
@@ -68,11 +69,18 @@ def all_sessions(only: str = "", paths: Tuple[str, ...] = (), skip: Tuple[str, .
     return [session for session in sessions if chosen(session)]
 
 
+def is_choice(session: Session, options: argparse.Namespace, device_info: DeviceInfo) -> bool:
+    """Returns whether a session is about what a device may do otherwise: a choice of this project's profile, or a rule
+    that is new in CTAP 2.1."""
+    is_new = bool(session.head.get("since")) and device_info.old
+    return not options.profile_choices and (bool(session.head.get("profile")) or is_new)
+
+
 def adjust_outcome(outcome: Outcome, options: argparse.Namespace, device_info: DeviceInfo) -> Outcome:
     """Returns the outcome to report: SHOULD violations are warnings, and choices of this project's profile are
     skipped."""
     session = outcome.session
-    if outcome.status != "not ok" or outcome.expected in (GOES_ON, IN_TIME):
+    if outcome.status != "not ok" or outcome.expected in (GOES_ON, IN_TIME) or outcome.is_violation:
         return outcome
     if session.head.get("profile") and not options.profile_choices:
         actual = f"{outcome.actual} instead of {outcome.expected}"
@@ -115,7 +123,9 @@ def check_pin(device: Device, options: argparse.Namespace, device_info: DeviceIn
     if not keys.AVAILABLE:
         raise ValueError("--pin needs python3-cryptography")
     if device_info.options.get("clientPin") is not True:
-        raise ValueError("--pin is for a device whose PIN is set: its getInfo has no clientPin true")
+        raise ValueError(
+            "--pin requires a device whose PIN is set: getInfo of this one does not report clientPin: true"
+        )
     device_info.has_pin = True
     user = PinUser(options.pin, device_info)
     try:
@@ -132,65 +142,61 @@ def answer_of(message: Optional[hid.Message]) -> bytes:
     return message.data
 
 
+def prepare_case(
+    device: Device, session: Session, options: argparse.Namespace, saver: Optional[TouchSaver], front: str
+) -> Tuple[str, Optional[Sharing]]:
+    """Resets a device if the case needs it; returns why the case cannot be played, or empty, and what it shares."""
+    if saver is not None and options.reset:
+        return saver.begin(session)
+    if "reset" not in session.needs or device.fresh or front:
+        return "", None
+    print(f"resetting the device for {session.name}", file=sys.stderr)
+    return prepare(device, any(map(sends_reset, session.steps))), None
+
+
 def play_one(
     device: Device,
     session: Session,
     options: argparse.Namespace,
     device_info: DeviceInfo,
-    reuse: Optional[CredentialReuse] = None,
+    saver: Optional[TouchSaver] = None,
     again: bool = True,
 ) -> Outcome:
-    """Plays a session, or skips it with a reason. With `reuse` it may use credentials of earlier cases and not reset.
+    """Plays a session, or skips it with a reason. With `saver` it may use credentials of earlier cases and not reset.
     A case that failed while the runner was late is played once more, and is unstable if it then passes."""
     pin_user = make_pin_user(session, options, device_info)
     front = pin_user.front(session) if pin_user is not None and not device.fresh else ""
     needed = pin_user.without_own_pin(session) if pin_user is not None else session
     reason = device_info.lacking(needed, device, options.touch, options.reset or bool(front))
     reason = reason or (pin_user.unsuited(session) if pin_user is not None else "")
-    front = reuse.front(session) if reuse is not None and not reason and not front else front
-    is_empty = reuse is not None and not reason and reuse.empties(session) and empty_blobs(device)
-    if not reason and "reset" in session.needs and not device.fresh and not front and not is_empty:
-        print(f"resetting the device for {session.name}", file=sys.stderr)
-        try:
-            reason = prepare(device, any(map(sends_reset, session.steps)))
-        except OSError as fault:
-            return Outcome(session, "not ok", "", GOES_ON, f"at the reset before the case: {fault}")
-        if reuse is not None:
-            reuse.forget()
+    try:
+        reason, sharing = (reason, None) if reason else prepare_case(device, session, options, saver, front)
+    except OSError as fault:
+        return Outcome(session, "not ok", "", GOES_ON, f"before the case: {fault}")
     if reason:
         return Outcome(session, "skip", reason)
+    reuse = saver.pool if saver is not None else None
+    front = sharing.front if sharing is not None else front
     player = Player(device, session, options.profile_choices, device_info.facts(), options.deadline, reuse, front)
     player.use_pin(pin_user)
+    player.sharing = sharing
     outcome = player.play()
+    if outcome.status == "not ok" and not outcome.hung and is_choice(session, options, device_info):
+        outcome = player.judge_choice(outcome)
+    device_info.protection = max(device_info.protection, player.facts.protection)
     outcome.recordings = [player.recording()]
-    if reuse is not None:
-        reuse.played(session)
+    if saver is not None and options.reset:
+        saver.end(session, outcome.status == "ok", player.known)
     if may_be_late(device, outcome, options) and again:
         late = device.late
-        second = play_one(device, session, options, device_info, reuse, False)
+        second = play_one(device, session, options, device_info, saver, False)
         first = adjust_outcome(outcome, options, device_info)
         return second if second.status in FAILED else mark_unstable(first, second, late)
-    if front and outcome.status == "skip" and reuse is not None and pin_user is None:
-        # The device is full, because of other cases' credentials.
-        return play_one(device, session, options, device_info)
+    if sharing is not None and outcome.status == "skip" and outcome.reason.startswith(FULL) and again:
+        # Because of other cases' credentials.
+        saver = None if saver is None else saver.forget()
+        return play_one(device, session, options, device_info, saver, False)
     return adjust_outcome(outcome, options, device_info)
-
-
-def count_touches(session: Session) -> int:
-    """Returns how many touches a session needs."""
-    return sum(step.kind == "p" and step.words[:1] == ["granted"] for step in session.steps)
-
-
-def order_sessions(device: Device, sessions: List[Session], asks: bool) -> List[Session]:
-    """Returns sessions in the order to play them: those that set a PIN last if the device keeps it; and if a person
-    touches, by the number of touches."""
-    if asks:
-        asking = [count for count in map(count_touches, sessions) if count]
-        first = quantity(len(sessions) - len(asking), "case")
-        most = quantity(sum(asking), "touch", "touches")
-        print(f"{first} without a touch first, then {len(asking)} with at most {most}", file=sys.stderr)
-    by_touches = sorted(sessions, key=count_touches) if asks else sessions
-    return sorted(by_touches, key=lambda session: bool(device.lasting and PINS in session.uses))
 
 
 def play_in_worker(task: Tuple[Session, argparse.Namespace, DeviceInfo]) -> Outcome:
@@ -209,6 +215,27 @@ def play_on_cluster(
         results.add(number, outcome)
 
 
+def play_alone(
+    sessions: List[Session],
+    combined: List[Combined],
+    play_whole: Callable[[Session], Outcome],
+    play: Callable[[Session, Device], Outcome],
+    device: Device,
+    results: Results[Outcome],
+) -> None:
+    """Plays sessions one after another; combined ones as one, and each by itself if that does not pass."""
+    wholes = {part.name: one for one in combined for part in one.parts}
+    for number, session in enumerate(sessions):
+        whole = wholes.get(session.name)
+        if whole is None:
+            results.add(number, play(session, device))
+            continue
+        if whole.outcome is None:
+            whole.outcome = play_whole(whole.whole)
+        has_passed = whole.outcome.status == "ok"
+        results.add(number, Outcome(session, "ok") if has_passed else whole.add_part(play(session, device)))
+
+
 def play_all(
     device: Device,
     sessions: List[Session],
@@ -219,15 +246,16 @@ def play_all(
     """Plays sessions one after another, or in parallel against commands that share no state and ask nobody. Adds each
     outcome when its case ends."""
     hangs, lock = [0], threading.Lock()
-    asks = options.touch and not options.touch_line
-    reuse = CredentialReuse() if asks and device.lasting and not options.isolated else None
+    asks = asks_person(options)
+    saver = TouchSaver(device, device_info) if asks and device.lasting and not options.isolated else None
 
     def play(session: Session, own: Device) -> Outcome:
         if hangs[0] >= MAX_HANGS:
             return Outcome(session, "not ok", "", IN_TIME, f"not played: {MAX_HANGS} cases reached their deadline")
         if options.device and options.report == "text":
-            print(f"playing {session.name}", file=sys.stderr)
-        outcome = play_one(own, session, options, device_info, reuse)
+            # One write, since other threads write lines, too.
+            sys.stderr.write(f"playing {session.name}\n")
+        outcome = play_one(own, session, options, device_info, saver)
         interrupts.wait_for_end(own.status)
         with lock:
             hangs[0] += outcome.hung
@@ -244,8 +272,10 @@ def play_all(
             "--executor needs a --device COMMAND without --persistent, and --touch-line instead of a person"
         )
     if alone:
-        for number, session in enumerate(sessions):
-            results.add(number, play(session, device))
+        combined = find_combined(device, sessions, options, device_info)
+        play_alone(
+            sessions, combined, lambda one: play_one(device, one, options, device_info, saver), play, device, results
+        )
     else:
         collect(lambda session: play(session, make_device(options)), sessions, options.jobs, results)
 
@@ -332,7 +362,7 @@ def play_to_client(options: argparse.Namespace) -> int:
     paths = options.sessions or client_sessions(options.only)
     paths = [path for path in paths if not any(word in path for word in options.skip)]
     if not paths:
-        raise ValueError(f"no case contains {options.only!r}")
+        raise ValueError(report.describe_no_case(options.only, options.skip))
     results: Results[Played] = Results()
     interrupted = False
     try:
@@ -370,24 +400,35 @@ def is_done(session: Session, done: List[Outcome]) -> bool:
     return any(outcome.session is session for outcome in done)
 
 
+def ask_device(device: Device, options: argparse.Namespace) -> DeviceInfo:
+    """Asks what a device supports. With --reset a PIN is removed first, perhaps that of an interrupted run, since cases
+    set one."""
+    device_info = DeviceInfo.ask(device, options.touch, options.display)
+    if options.reset and options.touch and not device.fresh and device_info.options.get("clientPin") is True:
+        print("resetting the device to remove its PIN", file=sys.stderr)
+        if not prepare(device, False):
+            device_info = DeviceInfo.ask(device, options.touch, options.display)
+    return device_info
+
+
 def play_to_device(options: argparse.Namespace) -> int:
     """Tests a device: plays the host to it, and writes the report."""
     sessions = all_sessions(options.only, tuple(options.sessions), tuple(options.skip))
     if not sessions:
-        raise ValueError(f"no case contains {options.only!r}")
+        raise ValueError(report.describe_no_case(options.only, options.skip))
     device = make_device(options)
     device_info, results = DeviceInfo(display=options.display), Results[Outcome]()
     interrupted = False
     done: List[Outcome] = []
     try:
-        device_info = DeviceInfo.ask(device, options.touch, options.display)
+        device_info = ask_device(device, options)
         if options.pin:
             check_pin(device, options, device_info)
         if not keys.AVAILABLE:
             print("skipped: signatures not checked: python3-cryptography is not installed", file=sys.stderr)
         if options.reset and not device.fresh:
             print("RESETTING the device: all its credentials are deleted", file=sys.stderr)
-        ordered = order_sessions(device, sessions, options.touch and not options.touch_line)
+        ordered = order_sessions(device, sessions, options, device_info)
         if options.resume:
             earlier = open_result_file(ordered, options, device_info)
             results.write = earlier.add
@@ -413,11 +454,14 @@ def main(arguments: List[str]) -> int:
             return run_walk(options)
         if options.list:
             return print_list(options)
+        if options.expected_failures:
+            # Before the run, since a wrong name is found at its end otherwise.
+            parse_list(options.expected_failures)
         return play_to_client(options) if options.client else play_to_device(options)
     except BrokenPipeError:
         raise
     except (OSError, ValueError) as fault:
-        print(f"hidlog-conformance: {escape_text(str(fault))}", file=sys.stderr)
+        print(f"hidlog-conformance: {escape_text(describe_fault(fault))}", file=sys.stderr)
         return 2
 
 

@@ -45,6 +45,8 @@ class Session:
     file: str = ""
     # IDs derived from credential IDs: the kind of change, and the credential ID.
     derived: Dict[bytes, Tuple[str, bytes]] = field(default_factory=dict)
+    # The number of cases that it is played in place of.
+    cases: int = 1
 
     @property
     def section(self) -> str:
@@ -132,7 +134,7 @@ class SessionReader:
             self.session.steps.append(Step(kind, self.parse_time(at, line), words, line))
             self.open = False
         else:
-            raise self.wrong(line, "not a line of a session file")
+            raise self.wrong(line, f"unknown line kind {kind[:40]!r}; expected >, <, t, p, k, s or #")
 
 
 def sends_reset(step: Step) -> bool:
@@ -142,12 +144,17 @@ def sends_reset(step: Step) -> bool:
 
 def read_session(path: str, name: str) -> Session:
     """Reads a session file."""
-    reader = SessionReader(name)
     try:
         with open(path, encoding="utf-8") as file:
             lines = file.read().splitlines()
     except UnicodeDecodeError:
         raise SessionSyntaxError(f"{name} is not UTF-8") from None
+    return parse_session(lines, name)
+
+
+def parse_session(lines: List[str], name: str) -> Session:
+    """Parses the lines of a session."""
+    reader = SessionReader(name)
     for line, text in enumerate(lines, 1):
         if text.startswith("# "):
             reader.comment(text[2:], line)

@@ -14,7 +14,8 @@ from hidlog_conformance.player import Player
 from hidlog_conformance.response_reader import GOES_ON
 from hidlog_conformance.sections import SECTIONS
 from hidlog_conformance.session_file import SessionReader, Step
-from hidlog_conformance.walk_steps import Block, Steps
+from hidlog_conformance.walk_settings import SettingSteps
+from hidlog_conformance.walk_steps import Block
 
 # Seconds for one step of a device in real time.
 STEP_SECONDS = 60.0
@@ -104,7 +105,7 @@ class Walk:
 
     def __init__(self, device: Device, device_info: DeviceInfo, seed: int) -> None:
         self.device, self.device_info = device, device_info
-        self.steps = Steps(seed, device_info)
+        self.steps = SettingSteps(seed, device_info)
         self.player = WalkPlayer(device, device_info)
         self.blocks: List[Block] = []
 

@@ -17,6 +17,7 @@ from hidlog_conformance.device_options import make_device, add_device_options
 from hidlog_conformance.devices import Device, kill_running
 from hidlog_conformance.quantity import quantity
 from hidlog_conformance.report import TITLES
+from hidlog_conformance.fault_text import describe_fault
 from hidlog_conformance.sanitize import escape_text
 from hidlog_conformance.walk import ANY, Walk, Walked, shrink
 
@@ -90,8 +91,15 @@ def run_walk(options: argparse.Namespace) -> int:
         return interrupts.INTERRUPTED
     if walked.outcome is not None:
         path = options.output or f"walk-{options.seed}.log"
-        with open(path, "w", encoding="utf-8") as file:
-            file.write(format_session(walked, options.seed))
+        session = format_session(walked, options.seed)
+        try:
+            with open(path, "w", encoding="utf-8") as file:
+                file.write(session)
+        except OSError as fault:
+            # The walk may have taken an hour.
+            print_violation(walked, options.seed, f"below, since it cannot be written ({describe_fault(fault)})")
+            print(session, end="")
+            return 1
         print_violation(walked, options.seed, path)
     else:
         print(f"no violation in {quantity(len(walked.blocks), 'step')} with the seed {options.seed}")

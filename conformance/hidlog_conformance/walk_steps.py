@@ -78,17 +78,20 @@ class Steps:
         # The RP of each credential by its number; those since the last reset.
         self.rps: Dict[int, str] = {}
         self.present: List[int] = []
+        # The user of each of those that is discoverable.
+        self.users: Dict[int, bytes] = {}
         protocols = device_info.info.get(6) if isinstance(device_info.info.get(6), list) else []
         self.protocol = self.random.choice(protocols) if protocols else 0
         self.secrets = Secrets()
         self.actions = self.weighted()
 
-    def weighted(self) -> List[Tuple[int, Callable[[], Block]]]:
+    def weighted(self) -> List[Tuple[float, Callable[[], Block]]]:
         """Returns the possible actions with their weights."""
-        found: List[Tuple[int, Callable[[], Block]]] = [
+        found: List[Tuple[float, Callable[[], Block]]] = [
             (14, self.make),
             (22, self.get),
             (8, self.next),
+            (3, self.accounts),
             (4, self.info),
             (2, self.ping),
             (5, self.power_cycle),
@@ -97,6 +100,7 @@ class Steps:
         ]
         if self.has_pin:
             found += [(10, self.token), (5, self.retries), (4, self.set_or_change), (4, self.two_uses), (3, self.guess)]
+            found += [(0.3, self.exhaust)]
         return found
 
     @property
@@ -130,6 +134,7 @@ class Steps:
     def reset(self) -> Block:
         """Resets the device right after a power cycle. The first step: then the host knows all that the device has."""
         self.present = []
+        self.users = {}
         block = self.power_cycle()
         self.at = block.at
         return block.ask(RESET).ask(INFO)
@@ -178,6 +183,17 @@ class Steps:
         """Asks for a further assertion."""
         return self.block().ask(NEXT)
 
+    def accounts(self) -> Block:
+        """Signs in without a list, and asks for all further assertions, and for one more."""
+        block, rp = self.block(), self.random.choice(RPS)
+        asked: Dict[int, Any] = {1: rp, 2: self.random.randbytes(32)}
+        if self.chance(0.5):
+            asked[5] = {"up": False}
+        block.ask(GET + encode(asked))
+        for _ in range(len({user for number, user in self.users.items() if self.rps[number] == rp}) + 1):
+            block.ask(NEXT)
+        return block
+
     # Registrations and sign-ins.
 
     def listed(self, rp: str) -> Optional[List[Dict[str, Any]]]:
@@ -214,6 +230,9 @@ class Steps:
         }
         if self.device_info.options.get("rk") and self.chance(0.6):
             asked[7] = {"rk": True}
+            # Its number is that of the next credential.
+            self.users[self.made + 1] = user
+            self.rps[self.made + 1] = rp
         return MAKE + encode(asked)
 
     def new_credential(self, rp: str) -> str:
@@ -245,15 +264,15 @@ class Steps:
             return self.by_new_token(rp, GETS, lambda block: self.add_get(block, rp))
         return self.add_get(self.block(), rp)
 
-    def add_get(self, block: Block, rp: str) -> Block:
-        """Adds a sign-in."""
+    def add_get(self, block: Block, rp: str, silent: float = 0.2) -> Block:
+        """Adds a sign-in, in this part of the cases without a touch."""
         asked: Dict[int, Any] = {1: rp, 2: self.random.randbytes(32)}
         listed = self.listed(rp)
         if listed is not None:
             asked[3] = listed
-        if self.chance(0.2):
+        if self.chance(silent):
             asked[5] = {"up": False}
-        if self.secrets.pin and self.chance(0.5):
+        if self.secrets.pin and self.chance(0.5 if silent < 0.5 else 0.9):
             asked.update(self.param(6))
         return block.ask(GET + encode(asked))
 
@@ -275,6 +294,8 @@ class Steps:
             return b"1234567"
         if self.chance(0.75 if self.secrets.retries > 2 else 0.97):
             return pin
+        if self.secrets.former and self.chance(0.3):
+            return self.secrets.former
         return make_colliding_pin(pin, self.random) if self.chance(0.6) else pin[::-1] + b"0"
 
     def asks_token(self, block: Block, pin: bytes, permissions: int, rp: str) -> Block:
@@ -300,8 +321,8 @@ class Steps:
         block = self.asks_token(self.block(), pin or b"", MAKES | GETS, rp)
         if pin and self.chance(0.3):
             self.changes(block, pin, pin[::-1])
-        for _ in range(2):
-            self.add_make(block, rp, {}) if self.chance(0.6) else self.add_get(block, rp)
+        for silent in (0.6, 0.2):
+            self.add_make(block, rp, {}) if self.chance(0.5) else self.add_get(block, rp, silent)
         return block
 
     def retries(self) -> Block:
@@ -319,6 +340,21 @@ class Steps:
             block.channel = 1
             block.greet_hosts().ask(INFO)
         return block.ask(self.pin_request(GET_RETRIES))
+
+    def exhaust(self) -> Block:
+        """Tries wrong PINs until the PIN is blocked, which only a reset ends: not a power cycle, nor the right PIN."""
+        pin = self.secrets.pin
+        if not pin or not self.chance(0.5):
+            return self.retries()
+        block = self.power_cycle()
+        for number in range(self.secrets.retries):
+            self.asks_token(block, make_colliding_pin(pin, self.random), MAKES, RPS[0])
+            if number % 3 == 2:
+                block.tick().power_cycle()
+                block.greet_hosts()
+        block.tick().power_cycle()
+        block.greet_hosts().ask(self.pin_request(GET_RETRIES))
+        return self.asks_token(block, pin, MAKES, RPS[0])
 
     def new_pin(self) -> bytes:
         """Returns a PIN of digits."""

@@ -128,7 +128,7 @@ MANAGEMENT_MUTANTS: List[Mutant] = [
         "manage_counts_all",
         MANAGE,
         "Non-discoverable credentials are counted.",
-        change_listing_member("metadata", 1, 3),
+        change_listing_member("metadata", 1, 6),
     ),
     Mutant("manage_no_rest", MANAGE, "The remaining capacity is missing.", change_listing_member("metadata", 2, None)),
     Mutant("manage_permits_all", MANAGE, "Any token manages.", wrap_method("management.authorize", permit_any_token)),

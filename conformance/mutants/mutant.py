@@ -42,13 +42,20 @@ def replace_method(path: str, body: Callable[..., Any]) -> Change:
     return plant
 
 
+def plant_once(owner: Any, name: str, body: Callable[..., Any], method: Callable[..., Any]) -> None:
+    """Replaces a method unless it was replaced by the same body, before a power cycle."""
+    if getattr(getattr(owner, name), "planted", None) is not body:
+        setattr(method, "planted", body)
+        setattr(owner, name, method)
+
+
 def change_result(path: str, change: Callable[..., Any]) -> Change:
     """Returns a change of a method's result: `change` gets the authenticator, the result and the arguments."""
 
     def plant(authenticator: Authenticator) -> None:
         owner, name = resolve_path(authenticator, path)
         old = getattr(owner, name)
-        setattr(owner, name, lambda *words: change(authenticator, old(*words), *words))
+        plant_once(owner, name, change, lambda *words: change(authenticator, old(*words), *words))
 
     return plant
 
@@ -59,7 +66,7 @@ def wrap_method(path: str, body: Callable[..., Any]) -> Change:
     def plant(authenticator: Authenticator) -> None:
         owner, name = resolve_path(authenticator, path)
         old = getattr(owner, name)
-        setattr(owner, name, lambda *words: body(authenticator, old, *words))
+        plant_once(owner, name, body, lambda *words: body(authenticator, old, *words))
 
     return plant
 

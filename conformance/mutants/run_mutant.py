@@ -2,31 +2,53 @@
 
 from __future__ import annotations
 
+import contextlib
+import io
 from typing import Dict, Iterator, List, Tuple
 
 from mutant import Mutant
 from answer_mutants import ANSWER_MUTANTS
 from credential_mutants import CREDENTIAL_MUTANTS
+from family_mutants import FAMILY_MUTANTS
+from lock_mutants import LOCK_MUTANTS
 from management_mutants import MORE_MUTANTS
 from pin_mutants import PIN_MUTANTS
+from pin_state_mutants import PIN_STATE_MUTANTS
+from setting_state_mutants import SETTING_STATE_MUTANTS
+from more_state_mutants import MORE_STATE_MUTANTS
 from state_mutants import STATE_MUTANTS
 from wire_mutants import WIRE_MUTANTS
 
 from hidlog_conformance.device_info import DeviceInfo
 from hidlog_conformance.outcome import Outcome
+from hidlog_conformance.play_order import order_sessions
+from hidlog_conformance.quantity import quantity
 from hidlog_conformance.reference.device import ReferenceDevice
-from hidlog_conformance.run import all_sessions, play_one, parse_options
+from hidlog_conformance.reference.kept_key import KeptKey
+from hidlog_conformance.results import Results
+from hidlog_conformance.run import all_sessions, parse_options, play_all, play_one
 from hidlog_conformance.walk import walk
 
-MUTANTS: Dict[str, Mutant] = {
-    fault.name: fault for fault in CREDENTIAL_MUTANTS + ANSWER_MUTANTS + WIRE_MUTANTS + PIN_MUTANTS + MORE_MUTANTS
-}
-assert len(MUTANTS) == len(
-    CREDENTIAL_MUTANTS + ANSWER_MUTANTS + WIRE_MUTANTS + PIN_MUTANTS + MORE_MUTANTS
-), "a mutant's name is not unique"
+TABLE = CREDENTIAL_MUTANTS + ANSWER_MUTANTS + WIRE_MUTANTS + PIN_MUTANTS + MORE_MUTANTS + FAMILY_MUTANTS
+TABLE += LOCK_MUTANTS
+MUTANTS: Dict[str, Mutant] = {fault.name: fault for fault in TABLE}
+assert len(MUTANTS) == len(TABLE), "a mutant's name is not unique"
 # Those that only a walk detects: it must do so with each of these seeds, within this number of steps.
-STATEFUL: Dict[str, Mutant] = {fault.name: fault for fault in STATE_MUTANTS}
+STATE_TABLE = STATE_MUTANTS + PIN_STATE_MUTANTS + MORE_STATE_MUTANTS + SETTING_STATE_MUTANTS
+STATEFUL: Dict[str, Mutant] = {fault.name: fault for fault in STATE_TABLE}
+assert len(STATEFUL) == len(STATE_TABLE), "a mutant's name is not unique"
 SEEDS, STEPS = (1, 2), 5000
+# Those that no run detects in which a person touches a key, with the reason.
+NEVER_FULL, NEVER_DENIES = "60 touches do not fill a key", "a person who tests a key does not deny"
+NOT_KEPT = {
+    "full_overwrites": NEVER_FULL,
+    "full_forgets": NEVER_FULL,
+    "denial_is_consent": NEVER_DENIES,
+    "selection_lies": NEVER_DENIES,
+    "exclude_denied": NEVER_DENIES,
+    "user_retries_stay": NEVER_DENIES,
+    "pin_long_refused": "the first reset repairs the reference authenticator",
+}
 
 
 def iter_outcomes(device: ReferenceDevice, section: str) -> Iterator[Outcome]:
@@ -48,11 +70,11 @@ def run_mutant(name: str, whole: bool = False) -> Tuple[bool, str]:
         for outcome in iter_outcomes(ReferenceDevice(fault.traits, fault.change), fault.section):
             if outcome.status == "not ok":
                 failed.append(outcome)
-            if not whole and sum(one.broken == fault.section for one in failed) > 1:
+            if not whole and sum(one.broken in fault.section.split("|") for one in failed) > 1:
                 break
     except OSError as ended:
         return True, f"found   {text}\n        before the first case: {ended}"
-    own = [outcome for outcome in failed if outcome.broken == fault.section]
+    own = [outcome for outcome in failed if outcome.broken in fault.section.split("|")]
     good = not own if fault.missed else len(own) > 1
     word = "found " if own else "listed" if good else "MISSED"
     for outcome in (own or failed)[:1]:
@@ -66,6 +88,50 @@ def run_mutant(name: str, whole: bool = False) -> Tuple[bool, str]:
         counts[outcome.broken] = counts.get(outcome.broken, 0) + 1
     violated = ", ".join(f"{rule}: {count}" for rule, count in sorted(counts.items()))
     return good, f"{word}  {text}" + (f"\n        failed cases by rule: {violated or 'none'}" if whole else "")
+
+
+def run_kept_mutant(name: str) -> Tuple[bool, str]:
+    """Runs one mutant as a key that keeps its state, where cases share what saves touches; returns whether a case
+    detects it, and a report."""
+    fault = MUTANTS[name]
+    text = f"{name} ({fault.section}): {fault.says}"
+    options = parse_options(["--device", "reference", "--touch", "--reset"])
+    device, results = KeptKey(fault.change, **vars(fault.traits)), FirstFailure(fault.section)
+    try:
+        with contextlib.redirect_stderr(io.StringIO()):
+            device_info = DeviceInfo.ask(device, True)
+            sessions = order_sessions(device, all_sessions(), options, device_info)
+            sessions.sort(key=lambda session: session.section != fault.section and "reset" not in session.needs)
+            play_all(device, sessions, options, device_info, results)
+    except OSError as ended:
+        return True, f"found   {text}\n        before the first case: {ended}"
+    except FoundError as found:
+        return True, f"found   {text}\n        by {found}"
+    if results.others:
+        return True, f"found   {text}\n        under another section, by {quantity(len(results.others), 'case')}"
+    reason = fault.missed or NOT_KEPT.get(name, "")
+    more = f"\n        not found: {reason}" if reason else ""
+    return bool(reason), f"{'listed' if reason else 'MISSED'}  {text}{more}"
+
+
+class FoundError(Exception):
+    """A case failed under the section of the fault."""
+
+
+class FirstFailure(Results[Outcome]):
+    """Ends a run at the first case that fails under a section."""
+
+    def __init__(self, section: str) -> None:
+        super().__init__()
+        self.section = section
+        self.others: List[Outcome] = []
+
+    def add(self, number: int, result: Outcome) -> None:
+        """Adds a result."""
+        if result.status == "not ok" and result.broken == self.section:
+            raise FoundError(f"{result.session.name}: {result.expected}; actual: {result.actual}"[:200])
+        if result.status == "not ok":
+            self.others.append(result)
 
 
 def walk_mutant(name: str, steps: int = STEPS) -> Tuple[bool, str]:

@@ -46,7 +46,7 @@ DESCRIPTION = """Sessions of a host and of a device, with the responses that CTA
 an authenticator or a client, and reports violations.
 
 The tests were written from knowledge of the standard and have not been checked against its text line by line. This is
-not a FIDO certification, whose tools test more: metadata, biometric enrolment, configuration, NFC, BLE and others.
+not a FIDO certification, whose tools test more: metadata, NFC, BLE and others.
 """
 SCRIPT = "#!/usr/bin/python3\nimport sys\n\nfrom hidlog_conformance.run import main_installed\n\nsys.exit(main_installed())\n"
 

@@ -56,9 +56,9 @@ def test_keepalive_first() -> None:
 
 
 def test_skip_reason() -> None:
-    """A case skipped for a missing feature prints the getInfo response."""
+    """A case skipped for a missing feature names it; the getInfo response is in the report's header alone."""
     _, out, _ = run_command([*make_device_arguments("plain"), "--only", "ping/bytes_7609"])
-    assert "does not support: messages of 7609 (getInfo: {1: " in out, out
+    assert "does not support: messages of 7609\n" in out and out.count("{1: ") == 1, out
 
 
 def test_busy_device() -> None:
@@ -232,14 +232,14 @@ def first_message(device: Any, channel: int, nonce: bytes, seconds: float, until
 
 
 def skips(self: Any, session: Session, device: Any, touch: bool, reset: bool) -> str:
-    """Returns why a case is skipped, without the getInfo response."""
-    return next((f"the device does not support: {use}" for use in session.uses if not self.has(use)), "")
+    """Returns a reason with the whole getInfo response."""
+    return "" if self.has(session.uses[0]) else f"the device does not support: {session.uses[0]}\n{{1: {self.info}}}"
 
 
 TESTS: Dict[str, Test] = {
     "device/other_hosts": check_detected(test_other_hosts, (Player, "for_others", lambda self, packet: False)),
     "device/keepalive_first": check_detected(test_keepalive_first, (device_info, "read_message", first_message)),
-    "device/skip_names_info": check_detected(test_skip_reason, (device_info.DeviceInfo, "lacking", skips)),
+    "device/skip_reason": check_detected(test_skip_reason, (device_info.DeviceInfo, "lacking", skips)),
     "device/busy": check_detected(test_busy_device, (Player, "until_asked", never_asked)),
     "device/for_ever": test_endless_keepalives,
     "device/without_line_feed": test_line_without_newline,

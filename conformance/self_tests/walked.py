@@ -21,7 +21,7 @@ from run_mutant import STATEFUL, walk_mutant  # noqa: E402
 # Faults, and the number of steps within which the walk with the first seed finds each.
 QUICK = ["retries_restored", "pin_by_one_byte", "param_by_prefix", "token_registers_twice", "vector_of_zeros"]
 QUICK += ["random_restarts", "rp_hash_of_previous", "allow_list_stays", "pin_lost", "token_of_always"]
-QUICK_STEPS, MAX_STEPS = 200, 6
+QUICK_STEPS, MAX_STEPS = 400, 6
 
 
 def test_found() -> None:

@@ -24,8 +24,10 @@ from typing import List
 
 
 from hidlog_conformance import run
+from hidlog_conformance.device_info import DeviceInfo
 from hidlog_conformance.devices import LiveDevice, PipeDevice
 from hidlog_conformance.outcome import UNSTABLE
+from hidlog_conformance.outline import count_touches
 from hidlog_conformance.paths import CLIENTS
 from hidlog_conformance.session_cache import sessions_folder
 from python_key import Key
@@ -166,12 +168,13 @@ def test_help() -> None:
 def test_order() -> None:
     """Cases that need no touch run before the first request for one."""
     sessions = run.all_sessions()
+    asking, alone = (run.parse_options(["--device", "x", *words]) for words in (["--touch"], ["--touch-line", "touch"]))
     with redirect_stderr(io.StringIO()):
-        played = run.order_sessions(LiveDevice(), sessions, True)
-    counts = [run.count_touches(session) for session in played]
+        played = run.order_sessions(LiveDevice(), sessions, asking, DeviceInfo())
+    counts = [count_touches(session) for session in played]
     assert counts == sorted(counts) and counts[0] == 0 < counts[-1], counts[:9]
     assert {session.name for session in played} == {session.name for session in sessions}
-    assert run.order_sessions(LiveDevice(), sessions, False) == sessions
+    assert run.order_sessions(LiveDevice(), sessions, alone, DeviceInfo()) == sessions
 
 
 class LateDevice(PipeDevice):

@@ -22,7 +22,59 @@ def make_variant(says: str, **traits: Any) -> Variant:
 WITHOUT: Dict[str, Any] = {"extensions": (), "management": False, "large_blobs": False}
 OLD: Dict[str, Any] = {"versions": ("U2F_V2", "FIDO_2_0"), "selection": False, **WITHOUT}
 BARE: Dict[str, Any] = {"has_pin": False, "u2f": False, **WITHOUT}
+TELLING = ("credBlob", "credProtect", "hmac-secret", "largeBlobKey", "minPinLength")
 
+SLOW: Dict[str, Variant] = {
+    "slow": make_variant("Each request takes five seconds (11.2.9.1.7).", work_time=5000),
+    "slow_user": make_variant("The user touches after 2.5 seconds.", touch_time=2500),
+    "slow_both": make_variant("Each request takes a second, and the touch five.", work_time=1000, touch_time=5000),
+    "slow_pin_of_8": make_variant(
+        "A slow key with a PIN of at least eight characters.", pin="12345678", shortest_pin=8, work_time=5000
+    ),
+    "slow_always_uv": make_variant("A slow key with alwaysUv.", pin="1234", always_uv=True, work_time=2500),
+    "slow_old": make_variant("A slow 2.0 key.", work_time=5000, **OLD),
+}
+MIXED: Dict[str, Variant] = {
+    "configurable": make_variant("authenticatorConfig is served (6.11).", config=True),
+    "configurable_pin_of_6": make_variant("The same with minPINLength 6.", config=True, shortest_pin=6),
+    "pin_length_told": make_variant("minPinLength is served (12.4).", config=True, extensions=TELLING),
+    "pin_length_told_of_6": make_variant(
+        "The same with minPINLength 6, and two RPs.", config=True, extensions=TELLING, shortest_pin=6, told_rps=2
+    ),
+    "fingerprints": make_variant("Fingerprints can be enrolled (6.7).", bio=True),
+    "fingerprints_and_config": make_variant("Both.", bio=True, config=True, says_remaining=True),
+    "pin_of_6_set": make_variant("A PIN of at least six characters is set.", pin="123456", shortest_pin=6),
+    "pin_of_12_always": make_variant(
+        "The same of twelve, with alwaysUv.", pin="1" * 12, shortest_pin=12, always_uv=True
+    ),
+    "always_uv_protocol_1": make_variant("alwaysUv with PIN protocol 1.", always_uv=True, protocols=(1,)),
+    "between_pin_set": make_variant("FIDO_2_1_PRE with a PIN.", versions=("FIDO_2_0", "FIDO_2_1_PRE"), pin="1234"),
+    "between_fingerprint": make_variant(
+        "The same by fingerprint.", versions=("FIDO_2_0", "FIDO_2_1_PRE"), built_in_uv=True
+    ),
+    "capacity_of_3": make_variant("Three credentials fit.", capacity=3),
+    "capacity_of_1": make_variant("One credential fits.", capacity=1),
+    "small_tables": make_variant("Small tables.", capacity=5, longest_list=2, channels=4, largest_array=1024),
+    "time_out_100_slow": make_variant("A timeout of 100 ms, but slow.", time_out=100, work_time=2000),
+    "random_channels": make_variant("Channels are random.", random_channels=True),
+    "lock": make_variant("LOCK is served (11.2.9.2.2).", lock=True),
+    "vendor": make_variant("Vendor commands are served (11.2.9.3).", vendor=True),
+    "vendor_lock_wink": make_variant("LOCK, WINK and vendor commands.", vendor=True, lock=True, wink=True),
+    "ids_of_1023_protocol_1": make_variant(
+        "IDs of 1023 bytes with protocol 1.", id_length=1023, longest_id=1023, protocols=(1,)
+    ),
+    "messages_of_1200_ids_of_255": make_variant(
+        "maxMsgSize 1200.", longest_message=1200, id_length=255, longest_list=3
+    ),
+    "messages_of_2048_pin_set": make_variant("maxMsgSize 2048 with a PIN.", longest_message=2048, pin="1234"),
+    "names_withheld": make_variant("The user's names are never returned (6.2.2).", user_names=False),
+    "names_withheld_fingerprint": make_variant("The same by fingerprint.", user_names=False, built_in_uv=True),
+    "counter_none_pin_set": make_variant("The counter stays 0, with a PIN.", counter="none", pin="1234"),
+    "counter_none_old": make_variant("The counter of a 2.0 key stays 0.", counter="none", **OLD),
+    "old_always_touch": make_variant(
+        "2.0 with a PIN and a touch before 2E.", pin="1234", touch_before_none=True, **OLD
+    ),
+}
 USERS: Dict[str, Variant] = {
     "plain": make_variant("The reference authenticator as it is."),
     "no_pin": make_variant(
@@ -77,6 +129,7 @@ ANSWERS: Dict[str, Variant] = {
     "secret_alone": make_variant("hmac-secret alone.", extensions=("hmac-secret",)),
     "blob_alone": make_variant("credBlob alone.", extensions=("credBlob",)),
     "attestation_none": make_variant("Attestation none (6.1.2: any format).", format="none"),
+    "attestation_x5c_aaguid": make_variant("The certificate has the AAGUID.", format="x5c aaguid"),
     "attestation_x5c": make_variant("Packed attestation by a certificate.", format="x5c"),
     "attestation_x5c_eddsa": make_variant(
         "The same with EdDSA credentials first.", format="x5c", algorithms=(EDDSA, ES256)
@@ -124,7 +177,8 @@ INFOS: Dict[str, Variant] = {
     "more_info": make_variant(
         "getInfo's other members.",
         largest_array=1024,
-        more_info={11: 1024, 12: False, 13: 4, 14: 0x050403, 16: 1, 17: 3, 18: 2, 19: {"FIDO": 1}, 20: 99, 21: [1]},
+        says_remaining=True,
+        more_info={11: 1024, 12: False, 13: 4, 14: 0x050403, 16: 1, 17: 3, 18: 2, 19: {"FIDO": 1}, 21: [1]},
     ),
     "unknown_info": make_variant(
         "Members and options that are not known.", more_info={96: [1, {"a": 2}]}, more_options={"zz": True}
@@ -133,7 +187,6 @@ INFOS: Dict[str, Variant] = {
     "platform": make_variant("Option plat true.", more_options={"plat": True}),
     "bare": make_variant("The minimum.", **BARE),
     "bare_old": make_variant("The minimum, FIDO_2_0.", **{**BARE, "versions": ("FIDO_2_0",), "selection": False}),
-    "configured": make_variant("authnrCfg is named.", more_options={"authnrCfg": True}),
 }
 WIRE: Dict[str, Variant] = {
     "time_out_100": make_variant("A timeout of 100 ms.", time_out=100),
@@ -158,4 +211,4 @@ WIRE: Dict[str, Variant] = {
     "malformed_01": make_variant("Malformed CBOR is refused with 10.", malformed=0x10),
     "length_02": make_variant("A wrong length is refused with 02.", wrong_length=0x02),
 }
-VARIANTS: Dict[str, Variant] = {**USERS, **ANSWERS, **INFOS, **WIRE}
+VARIANTS: Dict[str, Variant] = {**USERS, **ANSWERS, **INFOS, **WIRE, **SLOW, **MIXED}

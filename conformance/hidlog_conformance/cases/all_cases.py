@@ -5,12 +5,15 @@ from __future__ import annotations
 import os
 from typing import Dict, List
 
-from hidlog_conformance.cases import blobs, cbor, checks, flows, fuzzed, manage, order, pin, power_cycle, recorded
-from hidlog_conformance.cases import similar_ids, time, transport, user, variations
+from hidlog_conformance.cases import blobs, cbor, checks, ctap1, enroll, flows, fuzzed, lock, manage, order, pin
+from hidlog_conformance.cases import pin_length, power_cycle, recorded, settings, similar_ids, time, transport, truth
+from hidlog_conformance.cases import user, variations
 from hidlog_conformance.cases.corpus import Case
+from hidlog_conformance.cases.steps import check_patterns, cite_step
 
 MODULES = (
     transport,
+    lock,
     order,
     time,
     similar_ids,
@@ -23,6 +26,11 @@ MODULES = (
     checks,
     flows,
     power_cycle,
+    settings,
+    pin_length,
+    enroll,
+    ctap1,
+    truth,
     recorded,
     fuzzed,
 )
@@ -36,7 +44,8 @@ def build_session_texts() -> Dict[str, str]:
     found: Dict[str, str] = {}
     for case in cases:
         assert case.name not in found, f"{case.name} is not unique"
-        found[case.name] = case.text()
+        found[case.name] = cite_step(case.name, case.text())
+    check_patterns(list(found))
     return found
 
 

@@ -5,8 +5,7 @@ from __future__ import annotations
 import hashlib
 from typing import TYPE_CHECKING, Any, Dict, List, Optional, Tuple
 
-from hidlog_conformance.cases.corpus import RESET, Case, descriptor
-from hidlog_conformance.cases.flows import user
+from hidlog_conformance.cases.corpus import RESET, Case, descriptor, user
 from hidlog_conformance.cases.manage import CREDENTIALS, ManageCase, rp_parameters
 from hidlog_conformance.cases.pin import GET, MAKE, PinCase
 from hidlog_conformance.ctap_cbor import encode

@@ -4,7 +4,7 @@ from __future__ import annotations
 
 from typing import Any, Dict, List, Tuple
 
-from hidlog_conformance.cases.corpus import MAKE, Case, make_request
+from hidlog_conformance.cases.corpus import MAKE, Case, registration_parameters
 from hidlog_conformance.ctap_cbor import Raw, encode
 
 PROFILE_CHOICE = "allowed by the canonical form, but not accepted by this authenticator"
@@ -92,7 +92,7 @@ IGNORED_ITEMS: Dict[str, Any] = {
 def nest_item(item: bytes, level: int) -> bytes:
     """Returns a request whose unknown parameter 64 has the item at a level of nesting."""
     value = Raw(b"\x81" * (level - 2) + item)
-    return MAKE + encode(make_request(p64=value))
+    return MAKE + encode(registration_parameters(p64=value))
 
 
 def list_kinds() -> List[Tuple[str, bytes, str, Dict[str, str]]]:
@@ -126,7 +126,7 @@ def refusal_cases() -> List[Case]:
 def message_cases() -> List[Case]:
     """Errors of a message as a whole, and nesting."""
     cases = []
-    good = encode(make_request())
+    good = encode(registration_parameters())
     for name, more in (("integer", b"\0"), ("null", b"\xf6"), ("map", b"\xa0"), ("break", b"\xff")):
         case = Case(f"cbor/trailing_{name}", "cbor", "Bytes after the map of parameters are refused.", level="should")
         cases.append(case.greet().cbor(MAKE + good + more).expect("status 12").alive())
@@ -155,16 +155,16 @@ def message_cases() -> List[Case]:
 def ignored_item_cases() -> List[Case]:
     """Canonical but unknown items, which are ignored."""
     cases = []
-    for name, value in IGNORED_ITEMS.items():
-        for number in (64,) if name != "null" else (64, 255):
-            requirement = f"An unknown parameter is ignored: {name.replace('_', ' ')} under the key {number}."
-            case = Case(f"cbor/taken_{name}_{number}", "cbor", requirement, needs=["touch"])
-            asked = {**make_request(), number: value}
-            cases.append(case.greet().cbor(MAKE + encode(asked)).made(1))
+    ignored = [(64 + place, name, value) for place, (name, value) in enumerate(IGNORED_ITEMS.items())]
+    for number, name, value in [*ignored, (255, "last_null", None)]:
+        requirement = f"An unknown parameter is ignored: {name.replace('_', ' ')} under the key {number}."
+        case = Case(f"cbor/taken_{name}", "cbor", requirement, needs=["touch"])
+        asked = {**registration_parameters(), number: value}
+        cases.append(case.greet().cbor(MAKE + encode(asked)).made(1))
     others: List[Any] = [0, -1, b"\1", "1"]
     for key in others:
         case = Case(f"cbor/taken_key_{encode(key).hex()}", "cbor", "An unknown key is ignored.", needs=["touch"])
-        cases.append(case.greet().cbor(MAKE + encode({**make_request(), key: 0})).made(1))
+        cases.append(case.greet().cbor(MAKE + encode({**registration_parameters(), key: 0})).made(1))
     case = Case("cbor/taken_members", "cbor", "Unknown members are ignored, also in rp and user.", needs=["touch"])
     rp = {"id": "example.com", "name": "Example", "icon": "x"}
     user = {"id": b"\1", "name": "alice", "displayName": "Alice", "icon": "x", "more": [1]}

@@ -10,8 +10,8 @@ from hidlog_conformance.cases.corpus import (
     MAKE,
     Case,
     descriptor,
-    get_request,
-    make_request,
+    sign_in_parameters,
+    registration_parameters,
     credential_name,
 )
 from hidlog_conformance.ctap_cbor import encode
@@ -168,7 +168,10 @@ def member_type_cases() -> List[Case]:
             f"make/inside_{name}", "make", requirement, profile="the standard requires an error, but not this status"
         )
         cases.append(
-            case.greet().cbor(MAKE + replace_value(make_request(), key, value)).expect(f"status {status}").alive()
+            case.greet()
+            .cbor(MAKE + replace_value(registration_parameters(), key, value))
+            .expect(f"status {status}")
+            .alive()
         )
     for name, allow, status in (
         ("type", [{"id": credential_name(1), "type": 1}], "11"),
@@ -273,6 +276,10 @@ def order_cases(chapter: str, command: bytes, good: Callable[[], Asked], checks:
 
 def cases() -> List[Case]:
     """Returns the cases of this file."""
-    found = type_cases("make", MAKE, make_request(), MAKE_TYPES) + type_cases("get", GET, get_request(), GET_TYPES)
-    found += order_cases("make", MAKE, make_request, MAKE_ORDER) + order_cases("get", GET, get_request, GET_ORDER)
+    found = type_cases("make", MAKE, registration_parameters(), MAKE_TYPES) + type_cases(
+        "get", GET, sign_in_parameters(), GET_TYPES
+    )
+    found += order_cases("make", MAKE, registration_parameters, MAKE_ORDER) + order_cases(
+        "get", GET, sign_in_parameters, GET_ORDER
+    )
     return found + member_type_cases() + invalid_value_cases() + valid_value_cases()

@@ -36,18 +36,23 @@ def similar_name(number: int, kind: str) -> bytes:
     )
 
 
-def make_request(**changes: Any) -> Dict[Any, Any]:
+def user(number: int) -> Dict[str, Any]:
+    """Returns a user; the first registers unless the case names another one."""
+    return {"id": bytes([number]), "name": f"user{number}", "displayName": f"User {number}"}
+
+
+def registration_parameters(**changes: Any) -> Dict[Any, Any]:
     """Returns valid parameters of authenticatorMakeCredential. p1, p2 .. replace a parameter, or remove it (None)."""
     asked: Dict[Any, Any] = {
         1: b"\x11" * 32,
         2: {"id": "example.com", "name": "Example"},
-        3: {"id": b"\1", "name": "alice", "displayName": "Alice"},
+        3: user(1),
         4: [{"alg": -7, "type": KIND}],
     }
     return change_parameters(asked, changes)
 
 
-def get_request(**changes: Any) -> Dict[Any, Any]:
+def sign_in_parameters(**changes: Any) -> Dict[Any, Any]:
     """Returns valid parameters of authenticatorGetAssertion."""
     return change_parameters({1: "example.com", 2: b"\x22" * 32}, changes)
 
@@ -128,11 +133,11 @@ class Case:
 
     def make(self, channel: int = 1, **changes: Any) -> Self:
         """Sends an authenticatorMakeCredential."""
-        return self.cbor(MAKE + encode(make_request(**changes)), channel)
+        return self.cbor(MAKE + encode(registration_parameters(**changes)), channel)
 
     def get(self, channel: int = 1, **changes: Any) -> Self:
         """Sends an authenticatorGetAssertion."""
-        return self.cbor(GET + encode(get_request(**changes)), channel)
+        return self.cbor(GET + encode(sign_in_parameters(**changes)), channel)
 
     def tick(self, milliseconds: int = 0) -> Self:
         """Lets time pass."""

@@ -5,17 +5,12 @@ from __future__ import annotations
 from typing import Any, Dict, List
 
 from hidlog_conformance import hid_packets as hid
-from hidlog_conformance.cases.corpus import INFO, KIND, NEXT, RESET, SELECTION, Case, descriptor
+from hidlog_conformance.cases.corpus import INFO, KIND, NEXT, RESET, SELECTION, Case, descriptor, user
 
 TOUCH: Dict[str, Any] = {"needs": ["touch"]}
 NEW_TOUCH: Dict[str, Any] = {"needs": ["touch", "reset"]}
 EMPTY: Dict[str, Any] = {"needs": ["touch", "reset"], "uses": ["rk"]}
 COUNTER_INCREASES = "rp example.com up counter-rises"
-
-
-def user(number: int) -> Any:
-    """Returns a user."""
-    return {"id": bytes([number]), "name": f"user{number}", "displayName": f"User {number}"}
 
 
 def info_cases() -> List[Case]:

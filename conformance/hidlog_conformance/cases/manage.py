@@ -5,8 +5,7 @@ from __future__ import annotations
 import hashlib
 from typing import TYPE_CHECKING, Any, Dict, List, Optional
 
-from hidlog_conformance.cases.corpus import RESET, Case, descriptor
-from hidlog_conformance.cases.flows import user
+from hidlog_conformance.cases.corpus import RESET, Case, descriptor, user
 from hidlog_conformance.cases.pin import GET, MAKE, PinCase
 from hidlog_conformance.ctap_cbor import encode
 
@@ -57,12 +56,17 @@ class ManageCase(PinCase):
             self.register(number, rk=True, p3=user(number), **more)
         return self
 
+    def stored_at_several(self) -> Self:
+        """Registers three credentials of one RP, one of another RP, and two that are not discoverable."""
+        self.stored(1, 2, 3).stored(4, p2=OTHER_RP).register(5)
+        return self.register(6, p2={"id": "hidden.example", "name": "x"})
+
 
 def count_cases(protocol: int) -> List[Case]:
     """The number of credentials."""
     cases: List[Case] = []
     case = ManageCase("count", "The metadata has the number of discoverable credentials.", protocol)
-    cases.append(case.stored(1, 2).register(3).with_pin().managing().manage(COUNT).expect("managed count 2"))
+    cases.append(case.stored_at_several().with_pin().managing().manage(COUNT).expect("managed count 4"))
     case = ManageCase("count_of_none", "Without credentials the number is 0.", protocol)
     cases.append(case.with_pin().managing().manage(COUNT).expect("managed count 0"))
     case = ManageCase("count_after_replacing", "A replaced credential is not counted.", protocol)
@@ -78,7 +82,7 @@ def listing_cases(protocol: int) -> List[Case]:
     """Enumerations of RPs and credentials."""
     cases: List[Case] = []
     case = ManageCase("rps", "Each RP with a discoverable credential is listed once.", protocol)
-    case.stored(1, 2).stored(3, p2=OTHER_RP).register(4, p2={"id": "hidden.example", "name": "x"}).with_pin()
+    case.stored_at_several().with_pin()
     case.managing().manage(RPS).expect("managed rps 2").go_on_listing(NEXT_RP).expect("managed rp")
     cases.append(case.go_on_listing(NEXT_RP).expect("status 30"))
     case = ManageCase("rps_of_one", "A single RP is listed.", protocol)
@@ -87,7 +91,7 @@ def listing_cases(protocol: int) -> List[Case]:
     case = ManageCase("rps_of_none", "Without a discoverable credential the status is 2e.", protocol)
     cases.append(case.register(1).with_pin().managing().manage(RPS).expect("status 2e"))
     case = ManageCase("credentials", "Each discoverable credential of an RP is listed once.", protocol)
-    case.stored(1, 2, 3).stored(4, p2=OTHER_RP).register(5).with_pin().managing()
+    case.stored_at_several().with_pin().managing()
     case.manage(CREDENTIALS, rp_parameters()).expect("managed credentials 3")
     for _ in range(2):
         case.go_on_listing(NEXT_CREDENTIAL).expect("managed credential")

@@ -5,8 +5,8 @@ from __future__ import annotations
 from typing import Any, Dict, List
 
 from hidlog_conformance import hid_packets as hid
-from hidlog_conformance.cases.flows import COUNTER_INCREASES, register_three_users, user
-from hidlog_conformance.cases.corpus import NEXT, RESET, Case, descriptor
+from hidlog_conformance.cases.flows import COUNTER_INCREASES, register_three_users
+from hidlog_conformance.cases.corpus import NEXT, RESET, Case, descriptor, user
 
 POWER_CYCLE_RULE: Dict[str, Any] = {"needs": ["touch", "power cycle"]}
 FOUND: Dict[str, Any] = {"needs": ["touch", "reset", "power cycle"], "uses": ["rk"]}

@@ -77,7 +77,18 @@ TRANSPORT: Dict[str, Rows] = {
     ],
     "11.2.6 Channel locking, 11.2.9.2 Optional commands": [
         ("WINK is supported if the capabilities say so", "commands/wink*"),
-        ("LOCK excludes other channels for its duration", ""),
+        (
+            "LOCK excludes other channels for its duration",
+            "lock/excludes_* lock/runs_* lock/lasts lock/renewed lock/shor*",
+        ),
+        ("zero seconds release it", "lock/released* lock/passes_*"),
+    ],
+    "11.2.9.2.2 CTAPHID_LOCK": [
+        ("its response has no data", "lock/response"),
+        ("its length is 1", "lock/length_*"),
+        ("a lock is for at most ten seconds", "lock/of_*"),
+        ("other channels are refused, until it ends", "lock/excludes_* lock/runs_* lock/lasts lock/renewed lock/shor*"),
+        ("zero seconds release it", "lock/released* lock/passes_*"),
     ],
     "11.2.7 Protocol version and compatibility": [
         ("the version in INIT's response is 2", "init/nonce_*"),
@@ -166,7 +177,10 @@ AUTHENTICATOR: Dict[str, Rows] = {
         ("option up may not be false; other options are ignored", "make/option* make/two_unknown_options"),
         ("alwaysUv and makeCredUvNotRqd", ""),
         ("unsupported enterprise attestation is refused", "make/alone_enterprise make/enterprise_2"),
-        ("supported enterprise attestation", ""),
+        (
+            "enabled enterprise attestation is served",
+            "config/enterprise_[123]* config/enterprise_of_* config/enterprise_d*",
+        ),
         ("PIN and user verification: token, permissions, flag UV", "pin/* user/registers* user/token_of_*"),
         ("with user verification configured, registrations need it", "user/needed* user/denied_make"),
         ("the exclude list ends it, after a touch", "lists/exclude_* fuzzed/excluded_*"),
@@ -256,7 +270,8 @@ AUTHENTICATOR: Dict[str, Rows] = {
     "6.4 authenticatorGetInfo": [
         ("versions, AAGUID, options, sizes and algorithms by their shape", "info/* client:info/* client:plain/info"),
         ("members 2, 6 to 9 and 11 to 21", ""),
-        ("its contents are true", ""),
+        ("commands that no option names are not supported, and numbers are true", "truth/*"),
+        ("maxRPIDsForSetMinPINLength, with minPinLength", "config/told_shown_*"),
     ],
     "6.5 authenticatorClientPIN": [
         ("the key agreement key, both protocols", "pin/set_[12] pin/wrong_authentication_*"),
@@ -271,16 +286,28 @@ AUTHENTICATOR: Dict[str, Rows] = {
         ("a client rejects wrong keys and tokens", "client:pin/*_off_* client:pin/*_key client:pin/*token*"),
         ("with a token the user is verified", "client:pin/sound"),
         ("built-in user verification, its retries and tokens", "user/token_* user/retries_*"),
-        ("minPINLength and forcePINChange", ""),
+        ("minPINLength and forcePINChange", "config/forced_change* config/short_pin_*"),
+        ("without retries only a reset helps", "blocked/token_* blocked/change_*"),
     ],
     "6.6 authenticatorReset": [
         ("it is refused more than ten seconds after power-up", "reset/too_late reset/at_* power/reset_in_*"),
         ("the user touches, denies or times out", "reset/granted reset/asks_* reset/user_* reset/cancelled"),
         ("all credentials are deleted", "reset/forgets* reset/serves_again power/reset_stays"),
         ("PIN and large blobs are deleted", "blobs/reset* manage/count_after_reset_*"),
-        ("configuration is reset", ""),
+        (
+            "configuration and a blocked PIN are reset",
+            "config/reset_* config/told_reset_* config/enterprise_reset_* blocked/reset_*",
+        ),
     ],
-    "6.7 authenticatorBioEnrollment": [("all of it", "")],
+    "6.7 authenticatorBioEnrollment": [
+        ("the modality and the sensor are named", "enroll/modality_* enroll/sensor_*"),
+        (
+            "a finger is enrolled by its samples, and listed",
+            "enroll/whole_* enroll/half_* enroll/cancelled_* enroll/none_*",
+        ),
+        ("a template is named and removed", "enroll/name_[12] enroll/removed_* enroll/*_unknown_*"),
+        ("each needs a token with the permission be", "enroll/*_token_* enroll/*_not_*"),
+    ],
     "6.8 authenticatorCredentialManagement": [
         ("the number of discoverable credentials is returned", "manage/count_*"),
         ("it lists RPs, and the credentials of one", "manage/rps_* manage/credentials_* manage/blob_key_*"),
@@ -310,7 +337,20 @@ AUTHENTICATOR: Dict[str, Rows] = {
         ),
         ("it survives power cycles", "blobs/stays blobs/half_is_gone*"),
     ],
-    "6.11 authenticatorConfig": [("all of it", "")],
+    "6.11 authenticatorConfig": [
+        ("enterprise attestation is enabled", "config/enterprise_[12]"),
+        ("alwaysUv is turned on", "config/always_uv_[12]"),
+        (
+            "minPINLength is raised",
+            "config/min_pin_length_[12] config/min_pin_length_not_l* config/short_* config/forced_w*",
+        ),
+        ("RPs are chosen that are told it", "config/told_chosen_* config/rps_*"),
+        (
+            "each needs a token with the permission acfg",
+            "config/*_token_* config/*_not_authentic_* config/*_not_permitted_*",
+        ),
+        ("an unknown or missing subcommand is refused", "config/unknown_* config/without_sub*"),
+    ],
     "8 Message Encoding": [
         ("heads are the shortest", "cbor/*_in_?_*"),
         (
@@ -333,7 +373,9 @@ AUTHENTICATOR: Dict[str, Rows] = {
         ("commands without parameters have none", "commands/bytes_behind_*"),
     ],
     "10 Interoperating with CTAP1": [
-        ("a device's side", ""),
+        ("a device registers and signs in by U2F", "u2f/registers u2f/signs_in"),
+        ("key handles are those of the application", "u2f/unknown_* u2f/other_*"),
+        ("wrong lengths are refused", "u2f/short_* u2f/long_*"),
         ("a client uses U2F if CBOR is not supported", "client:u2f/registers client:u2f/signs_in"),
         ("a client retries until the user touches", "client:u2f/touched_later"),
         ("a client rejects wrong U2F responses", "client:u2f/*_* client:u2f/unknown_handle"),
@@ -356,6 +398,10 @@ AUTHENTICATOR: Dict[str, Rows] = {
         ("a credential's key never changes, and differs from others", "blobkey/same blobkey/without_list"),
         ("no key without the extension", "blobkey/not_asked* blobkey/of_none"),
         ("it must be true, for discoverable credentials", "blobkey/false blobkey/not_discoverable"),
+    ],
+    "12.4 Minimum PIN Length Extension": [
+        ("chosen RPs are told minPINLength", "config/told_chosen_* config/told_one_* config/told_kept_*"),
+        ("others are not", "config/told_not_*"),
     ],
     "12.5 HMAC Secret Extension": [
         ("a registration returns true", "secret/made* secret/not_asked"),

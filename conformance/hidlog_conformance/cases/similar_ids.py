@@ -5,8 +5,8 @@ from __future__ import annotations
 from typing import Any, Dict, List
 
 from hidlog_conformance import hid_packets as hid
-from hidlog_conformance.cases.corpus import KIND, NEXT, RESET, Case, descriptor
-from hidlog_conformance.cases.flows import NEW_TOUCH, EMPTY, COUNTER_INCREASES, TOUCH, register_three_users, user
+from hidlog_conformance.cases.corpus import KIND, NEXT, RESET, Case, descriptor, user
+from hidlog_conformance.cases.flows import NEW_TOUCH, EMPTY, COUNTER_INCREASES, TOUCH, register_three_users
 from hidlog_conformance.quantity import quantity
 
 EDDSA: Dict[str, Any] = {"needs": ["touch"], "uses": ["algorithm -8"]}
@@ -45,7 +45,9 @@ def similar_id_cases() -> List[Case]:
 def state_cases() -> List[Case]:
     """State that must not outlast its request."""
     cases = []
-    case = register_three_users(Case("next/after_reset", "next", "After a reset nothing is pending.", **EMPTY))
+    case = Case("next/after_reset", "next", "After a reset nothing is pending.", **EMPTY)
+    case.greet().register(1, rk=True, p3=user(1)).register(2, rk=True, p3=user(2))
+    case.get().asserted(f"{COUNTER_INCREASES} user 02 number 2")
     cases.append(case.cbor(RESET).presence().expect("status 00").cbor(NEXT).expect("status 30"))
     case = register_three_users(
         Case(

@@ -5,7 +5,7 @@ from __future__ import annotations
 from typing import Any, Dict, List
 
 from hidlog_conformance import hid_packets as hid
-from hidlog_conformance.cases.corpus import INFO, MAKE, NONCE, Case, count_bytes, make_request
+from hidlog_conformance.cases.corpus import INFO, MAKE, NONCE, Case, count_bytes, registration_parameters
 from hidlog_conformance.ctap_cbor import encode
 from hidlog_conformance.quantity import quantity
 
@@ -174,7 +174,7 @@ def sequence_cases() -> List[Case]:
     case = Case("sequence/after_the_last", "sequence", "A continuation packet after a complete message is ignored.")
     cases.append(case.greet().send(1, hid.PING, count_bytes(100)).expect("echo").go_on(1, 1).expect("silence").alive())
     case = Case("sequence/cbor_message", "sequence", "A CBOR message out of order is refused, and not processed.")
-    packets = hid.fragment_message(1, hid.CBOR, MAKE + encode(make_request()))
+    packets = hid.fragment_message(1, hid.CBOR, MAKE + encode(registration_parameters()))
     cases.append(case.greet().packets([packets[0], packets[2]]).expect("error 04").tick(150).expect("silence").alive())
     case = Case("sequence/init_packet_inside", "sequence", "An initialization packet within a message aborts it.")
     case.comment("profile: the standard does not say how a host that starts over without INIT is answered")

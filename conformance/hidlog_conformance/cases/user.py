@@ -4,8 +4,7 @@ from __future__ import annotations
 
 from typing import Any, Dict, List
 
-from hidlog_conformance.cases.corpus import Case, descriptor
-from hidlog_conformance.cases.flows import user
+from hidlog_conformance.cases.corpus import Case, descriptor, user
 from hidlog_conformance.cases.pin import GET, MAKE, PinCase
 
 VERIFIED: Dict[str, Any] = {"needs": ["touch"], "uses": ["uv"]}

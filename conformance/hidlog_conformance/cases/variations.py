@@ -5,8 +5,8 @@ from __future__ import annotations
 from typing import Any, Dict, List
 
 from hidlog_conformance import hid_packets as hid
-from hidlog_conformance.cases.corpus import KIND, NEXT, RESET, SELECTION, Case, descriptor
-from hidlog_conformance.cases.flows import NEW_TOUCH, EMPTY, COUNTER_INCREASES, TOUCH, register_three_users, user
+from hidlog_conformance.cases.corpus import KIND, NEXT, RESET, SELECTION, Case, descriptor, user
+from hidlog_conformance.cases.flows import NEW_TOUCH, EMPTY, COUNTER_INCREASES, TOUCH, register_three_users
 from hidlog_conformance.cases.similar_ids import LONG, VERSION
 
 ORG: Dict[str, Any] = {"p2": {"id": "example.org", "name": "x"}}
@@ -125,9 +125,11 @@ def pending_cases() -> List[Case]:
         case.cbor(NEXT).asserted(f"no-up user 0{number}", presence=False)
     cases.append(case)
     case = Case("next/two_rps_newer", "next", "Newer credentials of other RPs are not counted.", **EMPTY)
-    case.greet().register(1, rk=True, p3=user(1)).register(2, rk=True, p3=user(2))
-    case.register(3, rk=True, p3=user(3), **ORG).register(4, rk=True, p3=user(4), **ORG)
-    case.get().asserted(f"{COUNTER_INCREASES} user 02 number 2").cbor(NEXT).asserted(
+    case.greet().register(1, rk=True, p3=user(1))
+    case.register(2, rk=True, p3=user(2), **ORG).register(3, rk=True, p3=user(3)).register(
+        4, rk=True, p3=user(4), **ORG
+    )
+    case.get().asserted(f"{COUNTER_INCREASES} user 03 number 2").cbor(NEXT).asserted(
         f"{COUNTER_INCREASES} user 01", presence=False
     )
     cases.append(case.cbor(NEXT).expect("status 30"))

@@ -19,7 +19,9 @@ from hidlog_conformance.reference.traits import DeviceTraits
 def take(authenticator: Authenticator, at: int, line: bytes) -> None:
     """Processes a line."""
     if line == b"touch":
-        authenticator.u2f.touched = at
+        now = authenticator.transport.now
+        if now is None or now.work is None:
+            authenticator.u2f.touched = at
         authenticator.transport.touch(at)
     else:
         authenticator.transport.packet(at, bytes.fromhex(line.decode()))

@@ -12,12 +12,15 @@ from typing import Any, Dict, List, Optional
 from hidlog_conformance.answers import is_before_ctap_2_1
 from hidlog_conformance.ctap_cbor import encode
 from hidlog_conformance.reference import requests
+from hidlog_conformance.reference.asked import Asked, Pending
+from hidlog_conformance.reference.bio import BioEnrollment
+from hidlog_conformance.reference.config import Config
 from hidlog_conformance.reference.credential import Attestor, Credential, new_key
 from hidlog_conformance.reference.extensions import Extensions
 from hidlog_conformance.reference.large_blobs import LargeBlobs
 from hidlog_conformance.reference.management import Management
-from hidlog_conformance.reference.pin import AUTH_INVALID, GET, GET_USER_RETRIES, MAKE, MANAGE, NOT_SET
-from hidlog_conformance.reference.pin import SHORTEST_PIN, USER_TOKEN, WRITE, Pin, RequestError
+from hidlog_conformance.reference.pin import AUTH_INVALID, CONFIGURE, ENROLL, GET, GET_USER_RETRIES, MAKE, MANAGE
+from hidlog_conformance.reference.pin import NOT_SET, SHORTEST_PIN, USER_TOKEN, WRITE, Pin, RequestError
 from hidlog_conformance.reference.requests import Requests
 from hidlog_conformance.reference.traits import DeviceTraits
 from hidlog_conformance.reference.transport import Transport, Work
@@ -28,29 +31,8 @@ ALGORITHM, DENIED, FULL, UNSUPPORTED, INVALID_OPTION = 0x26, 0x27, 0x28, 0x2B, 0
 NO_CREDENTIALS, TIMEOUT, NOT_ALLOWED, PIN_REQUIRED = 0x2E, 0x2F, 0x30, 0x36
 UP, UV, AT, ED = 0x01, 0x04, 0x40, 0x80
 RESET_TIME = 10000
-# authenticatorCredentialManagementPreview, before CTAP 2.1.
-PREVIEW = 0x41
-
-
-class Asked:
-    """A request in progress: user presence, and user verification."""
-
-    def __init__(self, at: int, channel: int, item: Dict[Any, Any], options: Dict[str, Any]) -> None:
-        self.at = at
-        self.channel = channel
-        self.item = item
-        self.options = options
-        self.present = False
-        self.verified = False
-
-
-class Pending:
-    """The pending assertions for authenticatorGetNextAssertion."""
-
-    def __init__(self, asked: Asked, left: List[Credential], at: int) -> None:
-        self.asked = asked
-        self.left = left
-        self.at = at
+# The first and last vendor command (6), and authenticatorCredentialManagementPreview of before CTAP 2.1.
+VENDOR, LAST_VENDOR, PREVIEW = 0x40, 0xBF, 0x41
 
 
 class Authenticator:
@@ -65,16 +47,21 @@ class Authenticator:
         self.management = Management(self)
         self.large_blobs = LargeBlobs(self)
         self.u2f = U2f(self)
+        self.config = Config(self)
+        self.bio = BioEnrollment(self)
         self.transport.serve_message = self.u2f.serve
-        self.attestor = Attestor()
+        self.attestor = Attestor(traits.aaguid if "aaguid" in traits.format else b"")
         self.credentials: List[Credential] = []
         self.pending: Optional[Pending] = None
         self.counter = traits.first_counter
+        # Whether the registration in progress has enterprise attestation.
+        self.is_enterprise = False
 
     def new_pin(self, pin: str) -> Pin:
         """Returns a PIN whose tokens may have all supported permissions."""
         traits = self.traits
         more = (MANAGE if traits.management else 0) | (WRITE if traits.large_blobs else 0)
+        more |= (CONFIGURE if traits.config else 0) | (ENROLL if traits.bio else 0)
         return Pin(traits.protocols, pin, MAKE | GET | more, traits.shortest_pin)
 
     def power_cycle(self) -> None:
@@ -120,8 +107,14 @@ class Authenticator:
             return self.management.serve(self.requests.read(data, requests.MANAGE))
         if command == 12 and self.traits.large_blobs:
             return self.large_blobs.serve(self.requests.read(data, requests.BLOBS))
+        if command == 9 and self.traits.bio:
+            return (yield from self.bio.serve(self.requests.read(data, requests.ENROLLMENT)))
+        if command == 13 and self.traits.config:
+            return self.config.serve(self.requests.read(data, requests.MANAGE))
         if command == 11 and self.traits.selection:
             yield from self.consent(TIMEOUT)
+            return {}
+        if VENDOR <= command <= LAST_VENDOR and command != PREVIEW and self.traits.vendor:
             return {}
         raise RequestError(INVALID_COMMAND)
 
@@ -163,8 +156,12 @@ class Authenticator:
             found["largeBlobs"] = True
         if traits.built_in_uv:
             found["uv"] = True
-        if traits.always_uv:
-            found["alwaysUv"] = True
+        if self.config.always_uv or traits.config:
+            found["alwaysUv"] = self.config.always_uv
+        if traits.config:
+            found.update({"authnrCfg": True, "setMinPINLength": True, "ep": self.config.is_enterprise})
+        if traits.bio:
+            found["bioEnroll"] = bool(self.bio.templates)
         if traits.make_without_uv:
             found["makeCredUvNotRqd"] = True
         return found
@@ -188,10 +185,16 @@ class Authenticator:
             answer[10] = [{"alg": alg, "type": "public-key"} for alg in traits.algorithms]
         if traits.large_blobs:
             answer[11] = max(1024, traits.largest_array)
-        if traits.shortest_pin != SHORTEST_PIN:
-            answer[13] = traits.shortest_pin
+        if self.pin.shortest != SHORTEST_PIN or traits.config:
+            answer[13] = self.pin.shortest
+        if traits.config:
+            answer[12] = self.pin.must_change
         if "credBlob" in traits.extensions:
             answer[15] = 32
+        if "minPinLength" in traits.extensions:
+            answer[16] = traits.told_rps
+        if traits.says_remaining:
+            answer[20] = traits.capacity - len(self.credentials)
         answer.update(traits.more_info)
         return answer
 
@@ -207,8 +210,7 @@ class Authenticator:
         algorithm = self.algorithm(item[4])
         self.make_options(asked)
         self.make_wants_user(asked)
-        if 10 in item:
-            raise RequestError(INVALID_PARAMETER)
+        self.enterprise(item)
         self.verify(asked, 8, 9, MAKE, item[2]["id"])
         self.extensions.first(asked)
         yield from self.exclude(asked)
@@ -217,6 +219,13 @@ class Authenticator:
         asked.present = True
         self.use_token(asked)
         return self.made(asked, algorithm)
+
+    def enterprise(self, item: Dict[int, Any]) -> None:
+        """Refuses enterprise attestation that is not enabled, and unknown kinds of it (6.1.2, step 9)."""
+        if 10 in item and not self.config.is_enterprise:
+            raise RequestError(INVALID_PARAMETER)
+        if 10 in item and item[10] not in (1, 2):
+            raise RequestError(INVALID_OPTION)
 
     def use_token(self, asked: Asked) -> None:
         """Takes the token's permissions after a user presence test (6.1.2, step 14; 6.2.2, step 9), which CTAP 2.0 does
@@ -257,7 +266,7 @@ class Authenticator:
     def make_wants_user(self, asked: Asked) -> None:
         """Refuses a registration without user verification if it is required."""
         without = 8 not in asked.item and not asked.options.get("uv")
-        if without and self.traits.always_uv:
+        if without and self.config.always_uv:
             raise RequestError(PIN_REQUIRED)
         needed = bool(asked.options.get("rk")) or not self.traits.make_without_uv
         if without and self.protected and needed:
@@ -304,6 +313,7 @@ class Authenticator:
         rp, user, discoverable = item[2]["id"], dict(item[3]), bool(asked.options.get("rk"))
         new = Credential(self.new_id(rp, user), rp, user, discoverable, algorithm, self.new_private(algorithm))
         outputs = self.extensions.of_make(asked, new)
+        self.is_enterprise = item.get(10) == 2
         self.store(new)
         auth = self.data(asked, new, self.start_counter(new), self.attested(new), outputs)
         return self.attestation(new, auth, item[1])
@@ -335,15 +345,15 @@ class Authenticator:
 
     def attestation(self, new: Credential, auth: bytes, client_hash: bytes) -> Dict[int, Any]:
         """Returns the response with the attestation statement."""
-        kind, statement = "packed", {}
-        if self.traits.format == "none":
-            kind = "none"
-        elif self.traits.format == "x5c":
+        kind, statement = "none" if self.traits.format == "none" else "packed", {}
+        if self.traits.format.startswith("x5c"):
             signature = self.attestor.sign(auth + client_hash)
             statement = {"alg": -7, "sig": signature, "x5c": [self.attestor.certificate]}
-        else:
+        elif kind == "packed":
             statement = {"alg": new.algorithm, "sig": new.sign(auth + client_hash)}
         answer: Dict[int, Any] = {1: kind, 2: auth, 3: statement}
+        if self.is_enterprise:
+            answer[4] = True
         if new.blob_key is not None:
             answer[5] = new.blob_key
         return answer
@@ -397,7 +407,7 @@ class Authenticator:
     def get_wants_user(self, asked: Asked) -> None:
         """Refuses a sign-in without user verification if it is required."""
         without = 6 not in asked.item and not asked.options.get("uv")
-        if self.traits.always_uv and without and asked.options.get("up", True):
+        if self.config.always_uv and without and asked.options.get("up", True):
             raise RequestError(PIN_REQUIRED)
 
     def named(self, listed: List[Dict[str, Any]], one: Credential) -> bool:
@@ -441,7 +451,7 @@ class Authenticator:
 
     def user(self, asked: Asked, one: Credential) -> Dict[str, Any]:
         """Returns the user entity of an assertion: names only with user verification."""
-        return dict(one.user) if asked.verified else {"id": one.user["id"]}
+        return dict(one.user) if asked.verified and self.traits.user_names else {"id": one.user["id"]}
 
     def assertion(self, asked: Asked, one: Credential, listed: bool) -> Dict[int, Any]:
         """Returns an assertion."""
@@ -487,3 +497,5 @@ class Authenticator:
         self.pending = None
         self.pin = self.new_pin("")
         self.large_blobs.forget()
+        self.config.forget()
+        self.bio.forget()

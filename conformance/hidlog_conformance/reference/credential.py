@@ -58,19 +58,36 @@ def signed(private: Any, algorithm: int, data: bytes) -> bytes:
     return bytes(found)
 
 
+# The extension id-fido-gen-ce-aaguid, and the subject of an attestation certificate (WebAuthn, 8.2.1).
+AAGUID_EXTENSION = "1.3.6.1.4.1.45724.1.1.4"
+SUBJECT = {
+    NameOID.COUNTRY_NAME: "SE",
+    NameOID.ORGANIZATION_NAME: "Reference",
+    NameOID.ORGANIZATIONAL_UNIT_NAME: "Authenticator Attestation",
+    NameOID.COMMON_NAME: "Reference",
+}
+
+
 class Attestor:
     """The attestation key and certificate."""
 
-    def __init__(self) -> None:
+    def __init__(self, aaguid: bytes = b"") -> None:
         self.private = ec.generate_private_key(ec.SECP256R1())
-        parts = ((NameOID.COUNTRY_NAME, "SE"), (NameOID.ORGANIZATION_NAME, "Reference"))
-        more = ((NameOID.ORGANIZATIONAL_UNIT_NAME, "Authenticator Attestation"), (NameOID.COMMON_NAME, "Reference"))
-        name = x509.Name([x509.NameAttribute(kind, value) for kind, value in parts + more])
+        self.certificate = self.certify(SUBJECT, aaguid)
+
+    def certify(
+        self, subject: Dict[Any, str], aaguid: bytes = b"", is_ca: bool = False, is_critical: bool = False
+    ) -> bytes:
+        """Returns a certificate; with an AAGUID its extension has it."""
+        name = x509.Name([x509.NameAttribute(kind, value) for kind, value in subject.items()])
         day = datetime.datetime(2026, 1, 1)
         builder = x509.CertificateBuilder(name, name, self.private.public_key(), 1, day, day.replace(year=2056))
-        builder = builder.add_extension(x509.BasicConstraints(False, None), True)
+        builder = builder.add_extension(x509.BasicConstraints(is_ca, None), True)
+        if aaguid:
+            extension = x509.UnrecognizedExtension(x509.ObjectIdentifier(AAGUID_EXTENSION), b"\x04\x10" + aaguid)
+            builder = builder.add_extension(extension, is_critical)
         made = builder.sign(self.private, hashes.SHA256())
-        self.certificate = made.public_bytes(serialization.Encoding.DER)
+        return made.public_bytes(serialization.Encoding.DER)
 
     def sign(self, data: bytes) -> bytes:
         """Returns a signature."""

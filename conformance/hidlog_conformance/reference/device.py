@@ -3,7 +3,7 @@
 from __future__ import annotations
 
 from collections import deque
-from typing import Any, Callable, Deque, Optional
+from typing import Any, Callable, Deque, Optional, Tuple
 
 from hidlog_conformance.devices import Device
 from hidlog_conformance.reference.authenticator import Authenticator
@@ -17,13 +17,15 @@ class ReferenceDevice(Device):
 
     virtual = True
     fresh = True
-    features = ("touch", "reset", "denial", "exact time", "two channels", "capacity 64", "power cycle")
+    features: Tuple[str, ...] = ("touch", "reset", "denial", "exact time", "two channels", "capacity 64", "power cycle")
 
     def __init__(self, traits: DeviceTraits, change: Optional[Change] = None) -> None:
         self.traits = traits
         self.change = change
         self.packets: Deque[bytes] = deque()
         self.base = 0
+        # The session's time of the last input.
+        self.at = 0
         self.authenticator = Authenticator(traits)
 
     def start(self) -> None:
@@ -32,7 +34,19 @@ class ReferenceDevice(Device):
         if self.change is not None:
             self.change(self.authenticator)
         self.packets.clear()
-        self.base = 0
+        self.base = self.at = 0
+
+    @property
+    def powered_for(self) -> float:
+        """The seconds since the authenticator was powered up, by its clock."""
+        return self.authenticator.transport.at / 1000
+
+    def advance(self, milliseconds: int) -> None:
+        """Lets the authenticator's clock run ahead of the session's, which it does while it works or a user waits."""
+        step = max(1, self.authenticator.traits.keepalive)
+        for passed in range(0, milliseconds, step):
+            self.base -= min(step, milliseconds - passed)
+            self.tick(self.at)
 
     def power_cycle(self, at: int) -> None:
         """Power cycles the authenticator."""
@@ -53,19 +67,34 @@ class ReferenceDevice(Device):
 
     def send(self, at: int, packet: bytes) -> None:
         """Sends a packet to the authenticator."""
+        self.at = at
         self.do(self.authenticator.transport.packet, at - self.base, packet)
 
     def tick(self, at: int) -> None:
         """Lets time pass."""
+        self.at = at
         self.do(self.authenticator.transport.tick, at - self.base)
 
     def presence(self, at: int, word: str) -> None:
         """Lets the user touch, deny or time out."""
-        at -= self.base
+        self.at = at
         if word == "granted":
+            self.work()
+            self.advance(self.traits.touch_time)
+        at -= self.base
+        now = self.authenticator.transport.now
+        if word == "granted" and (now is None or now.work is None):
             self.authenticator.u2f.touched = at
         self.do(self.authenticator.transport.touch, at, word)
 
+    def work(self) -> None:
+        """Lets a slow authenticator serve its request."""
+        now = self.authenticator.transport.now
+        if now is not None and now.ready_at is not None:
+            self.advance(now.ready_at - self.authenticator.transport.at)
+
     def read(self, seconds: float) -> Optional[bytes]:
-        """Returns the next packet, if any."""
+        """Returns the next packet, if any; lets a slow authenticator work until it has one."""
+        if not self.packets:
+            self.work()
         return self.packets.popleft() if self.packets else None

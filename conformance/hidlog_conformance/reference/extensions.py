@@ -1,4 +1,4 @@
-"""Extensions of the reference authenticator: credProtect, credBlob and hmac-secret (CTAP 2.1, 12)."""
+"""Extensions of the reference authenticator: credProtect, credBlob, minPinLength and hmac-secret (CTAP 2.1, 12)."""
 
 from __future__ import annotations
 
@@ -11,7 +11,8 @@ from hidlog_conformance.reference.credential import Credential
 from hidlog_conformance.reference.pin import AUTH_INVALID, INVALID_PARAMETER, MISSING, RequestError
 
 if TYPE_CHECKING:
-    from hidlog_conformance.reference.authenticator import Asked, Authenticator
+    from hidlog_conformance.reference.asked import Asked
+    from hidlog_conformance.reference.authenticator import Authenticator
 
 LONGEST_BLOB, INVALID_OPTION = 32, 0x2C
 
@@ -39,6 +40,8 @@ class Extensions:
             outputs["credBlob"] = self.keep_blob(new, inputs["credBlob"])
         if inputs.get("hmac-secret") is True:
             outputs["hmac-secret"] = True
+        if inputs.get("minPinLength") is True and self.authenticator.config.is_told(new.rp):
+            outputs["minPinLength"] = self.authenticator.pin.shortest
         if "largeBlobKey" in inputs:
             self.blob_key_wanted(inputs["largeBlobKey"], new.discoverable)
             new.blob_key = self.new_blob_key()

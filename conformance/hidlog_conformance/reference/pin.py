@@ -16,7 +16,7 @@ INVALID_PARAMETER, MISSING, PIN_INVALID, PIN_BLOCKED, AUTH_INVALID = 0x02, 0x14,
 AUTH_BLOCKED, NOT_SET, POLICY, UNAUTHORIZED = 0x34, 0x35, 0x37, 0x40
 NOT_ALLOWED, INVALID_SUBCOMMAND = 0x30, 0x3E
 USER_INVALID, USER_BLOCKED, USER_TIMEOUT = 0x3F, 0x3C, 0x2F
-MAKE, GET, MANAGE, WRITE = 0x01, 0x02, 0x04, 0x10
+MAKE, GET, MANAGE, ENROLL, WRITE, CONFIGURE = 0x01, 0x02, 0x04, 0x08, 0x10, 0x20
 RETRIES, IN_A_ROW, USER_RETRIES = 8, 3, 5
 # The minimum length of a PIN in characters, unless getInfo has another.
 SHORTEST_PIN = 4
@@ -100,6 +100,9 @@ class Pin:
         self.shortest = shortest
         self.protocols = {number: Protocol(number) for number in numbers}
         self.hash = hashlib.sha256(pin.encode()).digest()[:16] if pin else b""
+        # The PIN's length in characters, and whether it must be changed before it is used (6.11.4).
+        self.length = len(pin)
+        self.must_change = False
         self.retries = RETRIES
         self.user_retries = USER_RETRIES
         self.in_a_row = 0
@@ -158,7 +161,10 @@ class Pin:
         pin = padded.rstrip(b"\0")
         if not self.is_long_enough(pin):
             raise RequestError(POLICY)
-        self.hash = hashlib.sha256(pin).digest()[:16]
+        found = hashlib.sha256(pin).digest()[:16]
+        if self.must_change and found == self.hash:
+            raise RequestError(POLICY)
+        self.hash, self.length, self.must_change = found, len(pin.decode("utf-8", "replace")), False
         self.retries, self.in_a_row = RETRIES, 0
 
     def is_long_enough(self, pin: bytes) -> bool:
@@ -229,7 +235,13 @@ class Pin:
         self.check_not_blocked()
         key = protocol.shared(asked[3])
         self.compare(protocol, key, asked[6])
+        self.check_unchanged()
         return self.grant(protocol, key, MAKE | GET, "")
+
+    def check_unchanged(self) -> None:
+        """Refuses a token if the PIN must be changed first."""
+        if self.must_change:
+            raise RequestError(POLICY)
 
     def new_token(self, asked: Dict[int, Any]) -> Dict[int, Any]:
         """getPinUvAuthTokenUsingPinWithPermissions: returns a token with permissions."""
@@ -239,6 +251,7 @@ class Pin:
         self.check_not_blocked()
         key = protocol.shared(asked[3])
         self.compare(protocol, key, asked[6])
+        self.check_unchanged()
         return self.grant(protocol, key, asked[9], asked.get(10, ""))
 
     def permissible(self, asked: Dict[int, Any]) -> None:

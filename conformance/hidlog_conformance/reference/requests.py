@@ -45,6 +45,9 @@ MANAGE: Types = {1: (int, False), 2: (dict, False), 3: (int, False), 4: (bytes, 
 BLOBS: Types = {1: (int, False), 2: (bytes, False), 3: (int, False), 4: (int, False)}
 BLOBS.update({5: (bytes, False), 6: (int, False)})
 
+ENROLLMENT: Types = {1: (int, False), 2: (int, False), 3: (dict, False), 4: (int, False), 5: (bytes, False)}
+ENROLLMENT.update({6: (bool, False)})
+
 
 class LooseReader(ctap_cbor.Reader):
     """Decodes well-formed items that are not canonical."""

@@ -23,6 +23,7 @@ class DeviceTraits:
     longest_list: Optional[int] = 128
     longest_id: Optional[int] = 256
     says_algorithms: bool = True
+    says_remaining: bool = False
     more_info: Dict[int, Any] = field(default_factory=dict)
     more_options: Dict[str, bool] = field(default_factory=dict)
     # Supported features.
@@ -39,7 +40,14 @@ class DeviceTraits:
     large_blobs: bool = True
     largest_array: int = 2048
     u2f: bool = True
+    # authenticatorConfig, fingerprint enrolment, and how many RPs may be told minPINLength.
+    config: bool = False
+    told_rps: int = 8
+    bio: bool = False
     wink: bool = False
+    lock: bool = False
+    # Vendor commands of CTAPHID (40 to 7f) and of CTAP (from 40 on).
+    vendor: bool = False
     display: bool = False
     capacity: int = 100
     # Responses.
@@ -50,6 +58,7 @@ class DeviceTraits:
     counter: str = "each"
     first_counter: int = 0
     user_with_any: bool = False
+    user_names: bool = True
     last_of_list: bool = False
     oldest_first: bool = False
     # Differences of CTAP 2.0.
@@ -69,11 +78,15 @@ class DeviceTraits:
     channels: int = 1000
     first_channel: int = 0x01000000
     channel_step: int = 0x0101
+    random_channels: bool = False
     version_bytes: bytes = b"\1\2\3"
     empty_cbor_status: int = 0
     begins_anew: bool = False
     padding: int = 0
     patience: int = 30000
+    # Milliseconds that a request takes, and until the user touches.
+    work_time: int = 0
+    touch_time: int = 0
     pending_time: int = 30000
     pending_outlasts_commands: bool = False
     one_state: bool = False

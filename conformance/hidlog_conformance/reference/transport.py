@@ -2,7 +2,8 @@
 
 from __future__ import annotations
 
-from typing import Callable, Dict, Generator, List, Optional
+import os
+from typing import Callable, Dict, Generator, List, Optional, Tuple
 
 from hidlog_conformance.reference.traits import DeviceTraits
 
@@ -10,6 +11,9 @@ PING, MSG, LOCK, INIT, WINK, CBOR, CANCEL, KEEPALIVE, ERROR = 1, 3, 4, 6, 8, 16,
 BROADCAST = 0xFFFFFFFF
 INVALID_COMMAND, INVALID_LENGTH, INVALID_SEQUENCE, TIMEOUT, BUSY, OTHER, INVALID_CHANNEL = 1, 3, 4, 5, 6, 0x7F, 11
 CANCELLED = 0x2D
+# The first vendor command. KEEPALIVE and ERROR are below it.
+VENDOR = 0x40
+INVALID_PARAMETER, LONGEST_LOCK = 2, 10
 LONGEST = 7609
 
 # A request in progress: each yield requests a touch, and evaluates to granted, denied or timeout. Returns the response.
@@ -29,6 +33,8 @@ class Transaction:
         self.work: Optional[Work] = None
         self.began = at
         self.alive_at = at
+        # When a slow authenticator begins to serve the request; None once it did.
+        self.ready_at: Optional[int] = None
 
 
 class Transport:
@@ -41,6 +47,8 @@ class Transport:
         self.out: List[bytes] = []
         self.channels: List[int] = []
         self.now: Optional[Transaction] = None
+        # The channel that has the lock, and until when.
+        self.locked: Tuple[int, int] = (BROADCAST, 0)
         self.at = 0
 
     def packets(self, channel: int, command: int, data: bytes) -> List[bytes]:
@@ -92,7 +100,7 @@ class Transport:
             self.init(channel, length, data[:8])
         elif channel == BROADCAST:
             self.error(channel, INVALID_CHANNEL)
-        elif self.now is not None and self.now.channel != channel:
+        elif self.now is not None and self.now.channel != channel or self.is_locked_out(channel):
             self.error(channel, BUSY)
         elif self.now is not None and self.now.work is not None:
             self.error(channel, BUSY)
@@ -102,9 +110,25 @@ class Transport:
         else:
             self.take(channel, command, length, data)
 
+    def is_locked_out(self, channel: int) -> bool:
+        """Returns whether another channel has the lock."""
+        owner, until = self.locked
+        return owner != channel and self.at < until
+
+    def lock(self, channel: int, data: bytes) -> None:
+        """Locks the device for a channel, for up to ten seconds; 0 ends the lock (11.2.9.2.2)."""
+        if len(data) != 1:
+            self.error(channel, INVALID_LENGTH)
+        elif data[0] > LONGEST_LOCK:
+            self.error(channel, INVALID_PARAMETER)
+        else:
+            self.locked = (channel, self.at + 1000 * data[0])
+            self.send(channel, LOCK, b"")
+
     def serves(self, command: int) -> bool:
         """Returns whether a command is supported."""
-        return command in (PING, CBOR) or command == MSG and self.traits.u2f or command == WINK and self.traits.wink
+        optional = {MSG: self.traits.u2f, WINK: self.traits.wink, LOCK: self.traits.lock}
+        return command in (PING, CBOR) or optional.get(command, command >= VENDOR and self.traits.vendor)
 
     def take(self, channel: int, command: int, length: int, data: bytes) -> None:
         """Processes the first packet of an acceptable message."""
@@ -125,6 +149,10 @@ class Transport:
 
     def new_channel(self) -> int:
         """Returns a channel that was not allocated before."""
+        while self.traits.random_channels:
+            found = int.from_bytes(os.urandom(4), "big")
+            if found not in (0, BROADCAST, *self.channels):
+                return found
         return (self.traits.first_channel + len(self.channels) * self.traits.channel_step) & 0xFFFFFFFF
 
     def init(self, channel: int, length: int, nonce: bytes) -> None:
@@ -152,9 +180,12 @@ class Transport:
         if len(now.data) < now.length:
             return
         data = now.data[: now.length]
-        if now.command in (PING, WINK):
+        if now.command in (PING, WINK) or now.command >= VENDOR:
             self.now = None
-            self.send(now.channel, now.command, data if now.command == PING else b"")
+            self.send(now.channel, now.command, b"" if now.command == WINK else data)
+        elif now.command == LOCK:
+            self.now = None
+            self.lock(now.channel, data)
         elif now.command == MSG:
             self.now = None
             self.send(now.channel, MSG, self.serve_message(self.at, data))
@@ -164,9 +195,12 @@ class Transport:
         else:
             now.work = self.serve(self.at, now.channel, data)
             now.began = self.at
-            if self.traits.works_first:
+            if self.traits.works_first or self.traits.work_time:
                 self.send(now.channel, KEEPALIVE, b"\1")
-            self.work_on()
+            if self.traits.work_time:
+                now.ready_at, now.alive_at = self.at + self.traits.work_time, self.at
+            else:
+                self.work_on()
 
     def empty(self, channel: int) -> None:
         """Refuses a CBOR message without a command."""
@@ -198,7 +232,7 @@ class Transport:
     def touch(self, at: int, reply: str = "granted") -> None:
         """Processes a touch, if one was requested."""
         self.tick(at)
-        if self.now is not None and self.now.work is not None:
+        if self.now is not None and self.now.work is not None and self.now.ready_at is None:
             self.work_on(reply)
 
     def tick(self, at: int) -> None:
@@ -212,11 +246,22 @@ class Transport:
                 self.now = None
                 if not self.traits.silent_time_out:
                     self.error(now.channel, TIMEOUT)
+        elif now.ready_at is not None:
+            self.work_slowly(now, now.ready_at)
         elif self.at - now.began >= self.traits.patience:
             self.work_on("timeout")
         elif self.at - now.alive_at >= self.traits.keepalive:
             now.alive_at = self.at
             self.send(now.channel, KEEPALIVE, b"\2")
+
+    def work_slowly(self, now: Transaction, ready_at: int) -> None:
+        """Sends KEEPALIVEs until a slow authenticator serves the request."""
+        if self.at >= ready_at:
+            now.ready_at = None
+            self.work_on()
+        elif self.at - now.alive_at >= self.traits.keepalive:
+            now.alive_at = self.at
+            self.send(now.channel, KEEPALIVE, b"\1")
 
 
 COMMANDS: Dict[str, int] = {"cbor": CBOR, "msg": MSG}

@@ -1,8 +1,7 @@
-#!/usr/bin/env python3
 """Runs the conformance tests and a walk against conforming variants of the reference authenticator: none may violate a
 MUST.
 
-    conformance/conforming_variants.py [--jobs N] [--steps N] [WORD ..]    the variants whose names contain a word
+    conformance/check.py lawful [--jobs N] [--steps N] [WORD ..]    the variants whose names contain a word
 """
 
 from __future__ import annotations
@@ -14,7 +13,7 @@ import os
 import sys
 from typing import List, Tuple
 
-HERE = os.path.dirname(os.path.abspath(__file__))
+HERE = os.path.dirname(os.path.dirname(os.path.abspath(__file__)))
 sys.path.insert(0, os.path.join(HERE, "variants"))
 
 from variant_list import VARIANTS  # noqa: E402
@@ -44,7 +43,9 @@ def run_variant(name: str, steps: int) -> Tuple[str, List[Outcome]]:
 
 def main(arguments: List[str]) -> int:
     """Runs the chosen variants."""
-    parser = argparse.ArgumentParser(description="Run the conformance tests against conforming authenticators.")
+    parser = argparse.ArgumentParser(
+        prog="check.py lawful", description="Run the conformance tests against conforming authenticators."
+    )
     parser.add_argument("--jobs", type=int, default=2, help="number of processes (default: 2)")
     parser.add_argument("--steps", type=int, default=STEPS, help=f"number of steps of a walk (default: {STEPS})")
     parser.add_argument("words", nargs="*", metavar="WORD", help="the variants whose names contain a word")
@@ -62,7 +63,3 @@ def main(arguments: List[str]) -> int:
                 print(f"        {outcome.session.name}: {outcome.expected}; actual: {outcome.actual}"[:200])
     print(f"{good} passed, {len(chosen) - good} failed")
     return 0 if chosen and good == len(chosen) else 1
-
-
-if __name__ == "__main__":
-    sys.exit(main(sys.argv[1:]))

@@ -1,8 +1,7 @@
-#!/usr/bin/env python3
 """Runs the conformance tests against others/python_key.py, which shares no code with the core, by the log's clock.
 
-    conformance/other_authenticators.py             fail if other cases fail than listed in others/python_key.failed
-    conformance/other_authenticators.py --report    print the report of each failed case
+    conformance/check.py others             fail if other cases fail than listed in others/python_key.failed
+    conformance/check.py others --report    print the report of each failed case
 
 Choices of the profile and SHOULD violations do not count, as for any other authenticator.
 """
@@ -14,7 +13,7 @@ import sys
 from collections import deque
 from typing import Any, Callable, Deque, List, Optional
 
-HERE = os.path.dirname(os.path.abspath(__file__))
+HERE = os.path.dirname(os.path.dirname(os.path.abspath(__file__)))
 sys.path.insert(0, os.path.join(HERE, "others"))
 
 from hidlog_conformance import report  # noqa: E402
@@ -91,7 +90,3 @@ def main(words: List[str]) -> int:
         report.write("text", outcomes, {})
         return 0
     return 0 if compare_failures(KNOWN, outcomes) else 1
-
-
-if __name__ == "__main__":
-    sys.exit(main(sys.argv[1:]))

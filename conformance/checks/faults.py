@@ -1,8 +1,7 @@
-#!/usr/bin/env python3
 """Runs the conformance tests against faulty authenticators, each of which they must detect.
 
-    conformance/faults.py [--jobs N]          all
-    conformance/faults.py [--jobs N] WORD ..  those whose names contain a word
+    conformance/check.py faults [--jobs N]          all
+    conformance/check.py faults [--jobs N] WORD ..  those whose names contain a word
 
 Faults are filters between the runner and hidlog live: all cases are run without the choices of the profile, and cases
 of other rules may not fail, except those in `implies`. Mutants are wrong methods of the reference authenticator: cases
@@ -19,13 +18,13 @@ import os
 import sys
 from typing import Callable, Dict, List, Mapping, Tuple
 
-HERE = os.path.dirname(os.path.abspath(__file__))
+HERE = os.path.dirname(os.path.dirname(os.path.abspath(__file__)))
 sys.path[:0] = [os.path.join(HERE, "faults"), os.path.join(HERE, "mutants")]
 
 from hidlog_conformance import keys  # noqa: E402
 from answer_faults import CBOR_FAULTS  # noqa: E402
 from faulty import Fault, FaultyDevice  # noqa: E402
-from run_mutant import MUTANTS, STATEFUL, run_mutant, walk_mutant  # noqa: E402
+from run_mutant import MUTANTS, STATEFUL, run_kept_mutant, run_mutant, walk_mutant  # noqa: E402
 from hidlog_conformance.devices import LiveDevice  # noqa: E402
 from hidlog_conformance.device_info import DeviceInfo  # noqa: E402
 from hidlog_conformance.outcome import Outcome  # noqa: E402
@@ -101,20 +100,26 @@ class Judge:
 
 def main(arguments: List[str]) -> int:
     """Runs the chosen faults and mutants."""
-    parser = argparse.ArgumentParser(description="Run the conformance tests against faulty authenticators.")
+    parser = argparse.ArgumentParser(
+        prog="check.py faults", description="Run the conformance tests against faulty authenticators."
+    )
     parser.add_argument("--jobs", type=int, default=2, help="number of processes (default: 2)")
     parser.add_argument("--whole", action="store_true", help="run all cases, even once a mutant is detected")
+    parser.add_argument("--kept", action="store_true", help="run only mutants, as keys where cases save touches")
     parser.add_argument("words", nargs="*", metavar="WORD", help="run those whose names contain a word")
     options = parser.parse_args(arguments)
     names: Dict[str, Callable[[], Tuple[bool, str]]] = {name: functools.partial(judge_fault, name) for name in FAULTS}
     for name in MUTANTS:
         # Some exist both as a filter and as a mutant.
         other = name if name not in names else f"{name}_of_reference"
-        names[other] = functools.partial(run_mutant, name, whole=options.whole)
+        kept = functools.partial(run_kept_mutant, name)
+        names[other] = kept if options.kept else functools.partial(run_mutant, name, whole=options.whole)
     names.update({name: functools.partial(walk_mutant, name) for name in STATEFUL})
+    if options.kept:
+        names = {name: run for name, run in names.items() if name not in (*FAULTS, *STATEFUL)}
     chosen = [name for name in names if not options.words or any(word in name for word in options.words)]
     if not chosen:
-        print(f"faults.py: no fault matches {' '.join(options.words)}", file=sys.stderr)
+        print(f"check.py faults: no fault matches {' '.join(options.words)}", file=sys.stderr)
         return 2
     keys.is_valid_signature = verify_cached
     # Without the choices of the profile: each fault must violate the standard.
@@ -128,7 +133,3 @@ def main(arguments: List[str]) -> int:
             print(text, flush=True)
     print(f"{good} passed, {len(chosen) - good + failed} failed")
     return 0 if good == len(chosen) and not failed else 1
-
-
-if __name__ == "__main__":
-    sys.exit(main(sys.argv[1:]))

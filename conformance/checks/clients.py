@@ -1,7 +1,6 @@
-#!/usr/bin/env python3
 """Runs the client tests against python-fido2 and libfido2, and compares their failures with the lists.
 
-    conformance/clients.py    fail if other sessions fail than listed in clients/NAME.failed
+    conformance/check.py clients    fail if other sessions fail than listed in clients/NAME.failed
 
 SHOULD violations count as failures here.
 """
@@ -13,6 +12,7 @@ import shutil
 import subprocess
 import sys
 import tempfile
+from typing import List
 
 from hidlog_conformance.client_runner import client_sessions, play_clients
 from hidlog_conformance.expected_failures import compare_failures
@@ -22,9 +22,8 @@ from hidlog_conformance.paths import CLIENTS
 def check_client(name: str, command: str) -> bool:
     """Runs all sessions with a client; returns whether exactly the listed ones fail."""
     print(f"{name}: ", end="")
-    return compare_failures(
-        f"clients/{name}.failed", [outcome for outcome, _ in play_clients(command, client_sessions(), False)]
-    )
+    outcomes = [outcome for outcome, _ in play_clients(command, client_sessions(), False)]
+    return bool(compare_failures(f"clients/{name}.failed", outcomes))
 
 
 def compile_client(room: str) -> str:
@@ -37,7 +36,7 @@ def compile_client(room: str) -> str:
     return program
 
 
-def main() -> int:
+def main(arguments: List[str]) -> int:
     """Checks both clients."""
     good = check_client("python_fido2", f"{sys.executable} {os.path.join(CLIENTS, 'python_fido2.py')}")
     with tempfile.TemporaryDirectory() as room:
@@ -47,7 +46,3 @@ def main() -> int:
         else:
             print("libfido2: skipped, gcc or libfido2-dev is missing")
     return 0 if good else 1
-
-
-if __name__ == "__main__":
-    sys.exit(main())

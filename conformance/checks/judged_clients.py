@@ -1,7 +1,6 @@
-#!/usr/bin/env python3
 """Records clients during the sessions of conformance/clients, and checks the recordings as `hidlog judge` does.
 
-    conformance/judged_clients.py     python-fido2, and libfido2 if gcc and its header are installed
+    conformance/check.py judged --clients     python-fido2, and libfido2 if gcc and its header are installed
 
 Recordings of nonconforming devices must violate the session's section, whatever the client did. Those that packets do
 not show are in `conformance/judged_clients.known` and `judged_libfido2.known`, with reasons. Recordings of conforming
@@ -67,7 +66,7 @@ def count_detected(name: str, command: str, expected: Dict[str, str]) -> Tuple[i
     return hits, wrong
 
 
-def main() -> int:
+def main(arguments: List[str]) -> int:
     """Checks the recordings of both clients."""
     expected = read_list("judged_clients.known")
     wrong = count_detected("python_fido2", f"{sys.executable} {os.path.join(CLIENTS, 'python_fido2.py')}", expected)[1]
@@ -80,7 +79,3 @@ def main() -> int:
             print("libfido2: skipped, gcc or libfido2-dev is missing")
     print("passed" if not wrong else f"{wrong} differ from conformance/judged_clients.known")
     return 1 if wrong else 0
-
-
-if __name__ == "__main__":
-    sys.exit(main())

@@ -1,8 +1,7 @@
-#!/usr/bin/env python3
 """Records authenticators during the conformance tests, and checks the recordings with the rules of `hidlog judge`.
 
-    conformance/judged.py [--jobs N] [WORD ..]                faulty ones, by packets and timestamps alone
-    conformance/judged.py --conforming [--jobs N] [WORD ..]   conforming ones: no MUST violation is allowed
+    conformance/check.py judged [--jobs N] [WORD ..]                faulty ones, by packets and timestamps alone
+    conformance/check.py judged --conforming [--jobs N] [WORD ..]   conforming ones: no MUST violation is allowed
 
 A faulty one is detected if a recording of a session that detects it violates its section. `conformance/judged.known`
 lists those that packets do not show, with reasons.
@@ -17,7 +16,7 @@ import os
 import sys
 from typing import Any, Callable, Dict, Iterator, List, Optional, Tuple
 
-HERE = os.path.dirname(os.path.abspath(__file__))
+HERE = os.path.dirname(os.path.dirname(os.path.abspath(__file__)))
 sys.path[:0] = [os.path.join(HERE, "faults"), os.path.join(HERE, "mutants")]
 sys.path.insert(0, os.path.join(HERE, "variants"))
 
@@ -219,11 +218,12 @@ def iter_recordings(name: str) -> Iterator[Tuple[str, bytes, bool]]:
     first = record_get_info(device, recorder)
     served = SESSIONS if name in FAULTS else all_sessions()
     found = 0
-    for session in sorted(served, key=lambda one: bool(one.section != section)):
+    sections = section.split("|")
+    for session in sorted(served, key=lambda one: bool(one.section not in sections)):
         for player in (StoppingPlayer, FullPlayer):
             setattr(run, "Player", player)
             outcome = play(device, session)
-            if outcome.status != "not ok" or outcome.broken != section:
+            if outcome.status != "not ok" or outcome.broken not in sections:
                 break
             found += 1
             yield session.name, recorder.log(first), recorder.short
@@ -240,7 +240,7 @@ def judge_fault(name: str) -> Tuple[str, bool, str]:
         for session, log, _ in iter_recordings(name):
             count += 1
             findings = [finding for finding in judge(log).findings if finding.side == KEY]
-            hits = [finding for finding in findings if section in finding.sections]
+            hits = [one for one in findings if set(section.split("|")) & set(one.sections)]
             if hits:
                 return (
                     name,
@@ -297,7 +297,9 @@ def list_supported_sessions() -> List[Session]:
 
 def main(arguments: List[str]) -> int:
     """Checks recordings of the chosen authenticators."""
-    parser = argparse.ArgumentParser(description="Check recordings of faulty or conforming authenticators.")
+    parser = argparse.ArgumentParser(
+        prog="check.py judged", description="Check recordings of faulty or conforming authenticators."
+    )
     parser.add_argument("--jobs", type=int, default=2, help="number of processes (default: 2)")
     parser.add_argument(
         "--conforming",
@@ -321,7 +323,3 @@ def main(arguments: List[str]) -> int:
             missed += not well
     print(f"{good} passed, {len(chosen) - good} failed; {missed} not detected by packets alone")
     return 0 if chosen and good == len(chosen) else 1
-
-
-if __name__ == "__main__":
-    sys.exit(main(sys.argv[1:]))

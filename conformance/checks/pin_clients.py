@@ -1,4 +1,3 @@
-#!/usr/bin/env python3
 """Checks the reference authenticator with python-fido2 and libfido2: PINs, sign-ins, credential management, large blobs
 and built-in user verification."""
 
@@ -15,7 +14,7 @@ from typing import Dict, List, Tuple
 from hidlog_conformance.reference.authenticator import Authenticator
 from hidlog_conformance.reference.traits import DeviceTraits
 
-HERE = os.path.dirname(os.path.abspath(__file__))
+HERE = os.path.dirname(os.path.dirname(os.path.abspath(__file__)))
 KEEPALIVE = 0xBB
 
 
@@ -80,7 +79,7 @@ def list_runs(folder: str) -> Dict[str, Tuple[List[str], DeviceTraits]]:
     return found
 
 
-def main() -> int:
+def main(arguments: List[str]) -> int:
     """Runs the clients with each protocol."""
     good = failed = 0
     with tempfile.TemporaryDirectory() as folder:
@@ -93,7 +92,3 @@ def main() -> int:
             print(f"{name}: {result}")
     print(f"{good} passed, {failed} failed")
     return 1 if failed else 0
-
-
-if __name__ == "__main__":
-    sys.exit(main())

@@ -1,0 +1,42 @@
+#!/usr/bin/env python3
+"""Checks the corpus itself.
+
+    conformance/check.py faults [WORD ..]       faulty authenticators are found, under the section that they violate
+    conformance/check.py lawful [WORD ..]       conforming authenticators have no violation, in the cases and in a walk
+    conformance/check.py others                 an authenticator that shares no code with this project
+    conformance/check.py judged [WORD ..]       recordings of authenticators, by the rules of `hidlog judge`
+    conformance/check.py judged --clients       recordings of clients
+    conformance/check.py clients                python-fido2 and libfido2 play the sessions for clients
+    conformance/check.py clients --pin          and use the PIN of the reference authenticator
+
+`conformance/check.py NAME --help` lists further options of faults, lawful and judged.
+"""
+
+from __future__ import annotations
+
+import importlib
+import os
+import sys
+from typing import List
+
+HERE = os.path.dirname(os.path.abspath(__file__))
+sys.path.insert(0, os.path.join(HERE, "checks"))
+
+NAMES = ("faults", "lawful", "others", "judged", "clients")
+# Modules of two names with an option.
+WITH_OPTION = {("judged", "--clients"): "judged_clients", ("clients", "--pin"): "pin_clients"}
+
+
+def main(arguments: List[str]) -> int:
+    """Runs a check; returns its exit status."""
+    name, more = arguments[0] if arguments else "", arguments[1:]
+    if name not in NAMES:
+        print(f"check.py: expected one of {', '.join(NAMES)}, got {name!r}", file=sys.stderr)
+        return 2
+    module = next((found for (first, option), found in WITH_OPTION.items() if name == first and option in more), name)
+    chosen = [word for word in more if (name, word) not in WITH_OPTION]
+    return int(importlib.import_module(module).main(chosen))
+
+
+if __name__ == "__main__":
+    sys.exit(main(sys.argv[1:]))

@@ -1,0 +1,84 @@
+"""Cases about CTAPHID_LOCK, for devices that support this optional command (CTAP 2.1, 11.2.6 and 11.2.9.2.2)."""
+
+from __future__ import annotations
+
+from typing import TYPE_CHECKING, List
+
+from hidlog_conformance import hid_packets as hid
+from hidlog_conformance.cases.corpus import INFO, Case
+
+if TYPE_CHECKING:
+    from typing_extensions import Self
+
+# Seconds of a lock: short ones, since the next case of a device that fails has to wait for their end; and the maximum.
+SHORT, LONGER, MAX_LOCK = 1, 2, 10
+OTHER = 2
+
+
+class LockCase(Case):
+    """A case with two hosts, the first of which may lock the device."""
+
+    def __init__(self, name: str, requirement: str, level: str = "") -> None:
+        super().__init__(f"lock/{name}", "lock", requirement, uses=["lock"], level=level)
+        self.greet(2)
+
+    def lock(self, seconds: int = SHORT, channel: int = 1) -> Self:
+        """Sends a LOCK."""
+        self.send(channel, hid.LOCK, bytes([seconds]))
+        return self
+
+    def locked(self, seconds: int = SHORT) -> Self:
+        """Locks the device for the first host."""
+        return self.lock(seconds).expect("message 04 none")
+
+    def released(self) -> Self:
+        """Releases the lock, so that the next case finds none."""
+        return self.lock(0).expect("message 04 none")
+
+    def other_is_refused(self) -> Self:
+        """Sends a PING of the other host, which the lock excludes."""
+        self.send(OTHER, hid.PING, b"let me in").expect(f"error 06 on {OTHER:08x}")
+        return self
+
+
+def cases() -> List[Case]:
+    """Returns the cases of this file."""
+    found: List[Case] = []
+    case = LockCase("response", "The response to LOCK has no data.")
+    found.append(case.locked().released().alive())
+    case = LockCase("of_the_longest_time", "A lock of ten seconds is accepted.")
+    found.append(case.locked(MAX_LOCK).alive().released())
+    case = LockCase("excludes_others", "During a lock other channels are refused.")
+    found.append(case.locked().other_is_refused().alive().other_is_refused().released())
+    case = LockCase("excludes_requests", "During a lock requests of other channels are refused.")
+    found.append(
+        case.locked().cbor(INFO, OTHER).expect(f"error 06 on {OTHER:08x}").cbor(INFO).expect("info").released()
+    )
+    case = LockCase("excludes_locks", "During a lock another channel cannot lock.")
+    case.locked().lock(SHORT, OTHER).expect(f"error 06 on {OTHER:08x}")
+    found.append(case.alive().other_is_refused().released())
+    case = LockCase("excludes_releases", "Another channel cannot release a lock.")
+    found.append(case.locked().lock(0, OTHER).expect(f"error 06 on {OTHER:08x}").other_is_refused().released())
+    case = LockCase("released", "A LOCK of zero seconds releases the device.")
+    found.append(case.locked().released().alive(OTHER).alive())
+    case = LockCase("released_unlocked", "A LOCK of zero seconds without a lock has no effect.")
+    found.append(case.released().alive(OTHER).alive())
+    case = LockCase("runs_out", "A lock ends after its time.")
+    found.append(case.locked().other_is_refused().tick(1500).alive(OTHER).alive())
+    case = LockCase("passes_on", "After a lock another channel can lock.")
+    case.locked().released().lock(SHORT, OTHER).expect(f"message 04 none on {OTHER:08x}")
+    case.send(1, hid.PING, b"and me").expect("error 06").alive(OTHER)
+    found.append(case.lock(0, OTHER).expect(f"message 04 none on {OTHER:08x}").alive())
+    case = LockCase("lasts", "A lock lasts for its time.")
+    found.append(case.locked(LONGER).tick(1400).other_is_refused().released())
+    case = LockCase("renewed", "A further LOCK begins its time anew.")
+    case.locked(LONGER).tick(1400).locked(LONGER).tick(1400)
+    found.append(case.other_is_refused().released().alive(OTHER))
+    case = LockCase("shortened", "A further LOCK may shorten a lock.")
+    found.append(case.locked(MAX_LOCK).locked().tick(1500).alive(OTHER).alive())
+    for length in (0, 2):
+        case = LockCase(f"length_{length}", "A LOCK with an invalid length is refused.")
+        found.append(case.send(1, hid.LOCK, bytes(length)).expect("error 03").alive(OTHER).alive())
+    case = LockCase("of_eleven_seconds", "A lock is for at most ten seconds.", "should")
+    found.append(case.lock(MAX_LOCK + 1).expect("error 02").alive(OTHER))
+    return found

@@ -1,0 +1,191 @@
+"""Cases about authenticatorConfig, enterprise attestation, forced changes of the PIN, and a blocked PIN."""
+
+from __future__ import annotations
+
+from typing import TYPE_CHECKING, Any, Dict, List, Optional
+
+from hidlog_conformance.cases.corpus import INFO, RESET, Case
+from hidlog_conformance.cases.pin import GET, MAKE, OTHER, RIGHT, WRONG, PinCase
+from hidlog_conformance.ctap_cbor import encode
+
+if TYPE_CHECKING:
+    from typing_extensions import Self
+
+COMMAND, CONFIGURE = b"\x0d", 0x20
+ENTERPRISE, ALWAYS_UV, MIN_PIN_LENGTH, UNKNOWN = 1, 2, 3, 0x7E
+LONG_PIN, RAISED, IN_A_ROW, RETRIES = b"1234567890", 10, 3, 8
+# Members of getInfo: forcePINChange and minPINLength.
+FORCED, LENGTH = "0c", "0d"
+
+
+class ConfigCase(PinCase):
+    """A case with subcommands of authenticatorConfig by a protocol."""
+
+    def __init__(self, name: str, requirement: str, protocol: int, section: str = "config", *options: str) -> None:
+        super().__init__(f"config/{name}", section, requirement, protocol)
+        for option in ("authnrCfg", *options):
+            self.comment(f"uses: option {option}")
+
+    def configure(self, command: int, parameters: Optional[Dict[int, Any]] = None, auth: Optional[bytes] = b"") -> Self:
+        """Sends a subcommand, with the token's pinUvAuthParam, other bytes, or none."""
+        asked: Dict[int, Any] = {1: command}
+        if parameters is not None:
+            asked[2] = parameters
+        if auth is not None:
+            asked.update({3: self.protocol, 4: auth or b"=config"})
+        self.cbor(COMMAND + encode(asked))
+        return self
+
+    def configuring(self) -> Self:
+        """Gets a token with the permission acfg."""
+        return self.token(permissions=CONFIGURE, rp="")
+
+    def shows(self, *expected: str) -> Self:
+        """Asks for getInfo."""
+        for text in expected:
+            self.cbor(INFO).expect(text)
+        return self
+
+
+def min_pin_cases(protocol: int) -> List[Case]:
+    """setMinPINLength (6.11.4)."""
+    cases: List[ConfigCase] = []
+
+    def add(name: str, requirement: str, section: str = "config") -> ConfigCase:
+        """Returns a new case."""
+        cases.append(ConfigCase(name, requirement, protocol, section, "setMinPINLength"))
+        cases[-1].comment(f"uses: minPINLength {RAISED - 1}")
+        return cases[-1]
+
+    case = add("min_pin_length", "minPINLength can be raised, and getInfo shows it (6.11.4).")
+    case.with_pin(LONG_PIN).token(pin=LONG_PIN, permissions=CONFIGURE, rp="").configure(MIN_PIN_LENGTH, {1: RAISED})
+    case.expect("status 00").shows(f"member {LENGTH} {RAISED}", f"member {FORCED} false")
+    case.agree().change(LONG_PIN, b"54321").expect("status 37")
+    case = add("min_pin_length_not_lowered", "minPINLength cannot be lowered (6.11.4).")
+    case.with_pin(LONG_PIN).token(pin=LONG_PIN, permissions=CONFIGURE, rp="").configure(MIN_PIN_LENGTH, {1: RAISED})
+    case.expect("status 00").token(pin=LONG_PIN, permissions=CONFIGURE, rp="").configure(
+        MIN_PIN_LENGTH, {1: RAISED - 1}
+    )
+    case.expect("status 37").shows(f"member {LENGTH} {RAISED}")
+    case = add("short_pin_must_change", "A PIN below a raised minPINLength must be changed (6.11.4).")
+    case.with_pin().configuring().configure(MIN_PIN_LENGTH, {1: RAISED}).expect("status 00").shows(
+        f"member {FORCED} true"
+    )
+    case.ask_token().expect("refused 37").change(RIGHT, LONG_PIN).expect("status 00").shows(f"member {FORCED} false")
+    case.token(pin=LONG_PIN)
+    case = add("forced_change", "With forceChangePin no token is issued before the PIN is changed (6.5.5.7).", "pin")
+    case.with_pin().configuring().configure(MIN_PIN_LENGTH, {3: True}).expect("status 00").shows(
+        f"member {FORCED} true"
+    )
+    case.ask_token().expect("refused 37").change(RIGHT, OTHER).expect("status 00").shows(f"member {FORCED} false")
+    case.token(pin=OTHER)
+    case = add("forced_change_to_the_same", "A forced change to the same PIN is refused (6.5.5.6).", "pin")
+    case.with_pin().configuring().configure(MIN_PIN_LENGTH, {3: True}).expect("status 00")
+    case.change(RIGHT, RIGHT).expect("refused 37").shows(f"member {FORCED} true")
+    case = add("forced_without_pin", "forceChangePin without a PIN is refused (6.11.4).")
+    case.configure(MIN_PIN_LENGTH, {3: True}, None).expect("refused 35").shows(f"member {FORCED} false")
+    case = add("reset", "A reset restores minPINLength and forcePINChange (6.6).", "reset")
+    case.shows(f"member {LENGTH} any").with_pin().configuring().configure(MIN_PIN_LENGTH, {1: RAISED}).expect(
+        "status 00"
+    )
+    case.shows(f"member {LENGTH} {RAISED}").cbor(RESET).presence().expect("status 00")
+    case.shows(f"member {LENGTH} less", f"member {FORCED} false")
+    return list(cases)
+
+
+def always_uv_cases(protocol: int) -> List[Case]:
+    """toggleAlwaysUv (6.11.2)."""
+    case = ConfigCase("always_uv", "alwaysUv can be turned on, and then requests need a token (6.11.2).", protocol)
+    case.comment("uses: option alwaysUv")
+    case.with_pin().configuring().configure(ALWAYS_UV).expect("status 00").shows("option alwaysUv true")
+    return [case.make().expect("refused 36").get().expect("refused 36")]
+
+
+def enterprise_cases(protocol: int) -> List[Case]:
+    """Enterprise attestation (6.1.2, step 9; 6.11.1)."""
+    cases: List[Case] = []
+    for name, kind, words in (("enterprise", 2, "up uv ep"), ("enterprise_of_vendor", 1, "up uv")):
+        case = ConfigCase(name, "Enabled enterprise attestation is accepted (6.1.2, step 9).", protocol, "make", "ep")
+        case.with_pin().configuring().configure(ENTERPRISE).expect("status 00").shows("option ep true")
+        cases.append(case.token().register_with_token(p10=kind).made(1, words))
+    case = ConfigCase(
+        "enterprise_3", "An unknown enterpriseAttestation is refused (6.1.2, step 9).", protocol, "make", "ep"
+    )
+    case.with_pin().configuring().configure(ENTERPRISE).expect("status 00")
+    cases.append(case.token().register_with_token(p10=3).expect("status 2c"))
+    case = ConfigCase("enterprise_disabled", "Disabled, it is refused (6.1.2, step 9).", protocol, "make", "ep")
+    cases.append(case.shows("option ep false").make(p10=2).expect("status 02"))
+    case = ConfigCase("enterprise_reset", "A reset disables enterprise attestation (6.6).", protocol, "reset", "ep")
+    case.with_pin().configuring().configure(ENTERPRISE).expect("status 00").cbor(RESET).presence().expect("status 00")
+    cases.append(case.shows("option ep false").make(p10=2).expect("status 02"))
+    return cases
+
+
+def refusal_cases(protocol: int) -> List[Case]:
+    """Requests without a token, with a wrong one, or with an unknown subcommand (6.11)."""
+    cases: List[Case] = []
+    asked: Dict[str, Any] = {
+        "enterprise": (ENTERPRISE, None, "ep"),
+        "always_uv": (ALWAYS_UV, None, "alwaysUv"),
+        "min_pin_length": (MIN_PIN_LENGTH, {1: RAISED}, "setMinPINLength"),
+    }
+    wrong = bytes(16 if protocol == 1 else 32)
+    for name, (command, parameters, option) in asked.items():
+        shown = f"option {option} false" if option != "setMinPINLength" else f"member {FORCED} false"
+        case = ConfigCase(
+            f"{name}_without_token", "Without a token the status is 36 (6.11).", protocol, "config", option
+        )
+        cases.append(case.with_pin().configure(command, parameters, None).expect("status 36").shows(shown))
+        case = ConfigCase(
+            f"{name}_not_authentic", "A wrong pinUvAuthParam is refused (6.11).", protocol, "config", option
+        )
+        cases.append(
+            case.with_pin().configuring().configure(command, parameters, wrong).expect("status 33").shows(shown)
+        )
+        case = ConfigCase(f"{name}_not_permitted", "Without acfg it is refused (6.11).", protocol, "config", option)
+        case.with_pin().token(permissions=MAKE | GET).configure(command, parameters).expect("status 33")
+        cases.append(case.shows(shown))
+    case = ConfigCase("unknown", "An unknown subcommand is refused (6.11).", protocol)
+    cases.append(case.with_pin().configuring().configure(UNKNOWN).expect("refused 02").alive())
+    case = ConfigCase("without_subcommand", "A request without a subcommand is refused (6.11).", protocol)
+    cases.append(case.cbor(COMMAND + b"\xa0").expect("refused 14").alive())
+    return cases
+
+
+def block_pin(case: PinCase) -> PinCase:
+    """Sends wrong PINs until it is blocked, and power cycles the device."""
+    for number in range(1, RETRIES + 1):
+        # The status of the last try, and of the last before a power cycle.
+        status = "32" if number == RETRIES else "34" if number % IN_A_ROW == 0 else "31"
+        case.ask_token(WRONG).expect(f"status {status}")
+        if number % IN_A_ROW == 0:
+            case.power_cycle().greet()
+    case.power_cycle().greet()
+    return case
+
+
+def blocked_cases(protocol: int) -> List[Case]:
+    """A PIN without retries (6.5.5.7, steps of both token subcommands)."""
+    cases: List[Case] = []
+    for name in ("token", "change", "reset"):
+        section = "reset" if name == "reset" else "pin"
+        case = PinCase(f"blocked/{name}", section, "Without retries only a reset helps (6.5.5.7).", protocol)
+        case.comment("needs: power cycle")
+        block_pin(case.with_pin().pin(1).expect("retries 8"))
+        if name == "token":
+            case.pin(1).expect("retries 0").ask_token().expect("status 32")
+        elif name == "change":
+            case.change(RIGHT, OTHER).expect("status 32")
+        else:
+            case.cbor(RESET).presence().expect("status 00").with_pin(OTHER).token(pin=OTHER)
+        cases.append(case)
+    return cases
+
+
+def cases() -> List[Case]:
+    """Returns the cases of this file."""
+    found: List[Case] = []
+    for protocol in (1, 2):
+        found += min_pin_cases(protocol) + always_uv_cases(protocol) + enterprise_cases(protocol)
+        found += refusal_cases(protocol) + blocked_cases(protocol)
+    return found

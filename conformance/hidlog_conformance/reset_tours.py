@@ -1,0 +1,431 @@
+"""Saves touches: tours of cases that reset a device, or need one without other credentials (tours.py)."""
+
+from __future__ import annotations
+
+import functools
+import itertools
+from typing import Any, Dict, Iterator, List, Tuple
+
+from hidlog_conformance import hid_packets as hid
+from hidlog_conformance.cases.blobs import ARRAY_WITH_ENTRY, EMPTY_ARRAY, OTHER_ARRAY, Blobs
+from hidlog_conformance.cases.corpus import INFO, KIND, MAKE, NEXT, RESET, Case, descriptor, user
+from hidlog_conformance.cases.manage import COUNT, CREDENTIALS, DELETE, MANAGE, RPS, ManageCase, rp_parameters
+from hidlog_conformance.cases.pin import OTHER, RIGHT
+from hidlog_conformance.cases.settings import block_pin
+from hidlog_conformance.ctap_cbor import encode
+from hidlog_conformance.merged_requests import list_ignored, merge_ignored
+from hidlog_conformance.tours import (
+    EDDSA,
+    ES256,
+    LONG_NAMES,
+    SILENT,
+    UNKNOWN,
+    es256_registration,
+    Tour,
+    make_tour,
+    refuse_earlier_touch,
+    sign_in_silently,
+)
+
+
+LONGEST_PIN = b"x" * 63
+BLOBS_OF = (b"a blob", bytes(range(32)))
+RK, BOTH_KEYS = {"rk": True}, {"hmac-secret": True, "largeBlobKey": True}
+
+
+def user_of(length: int) -> Dict[str, Any]:
+    """Returns a user with an ID of this length."""
+    return {"id": bytes((7 * number + 3) % 256 for number in range(length)), "name": "x", "displayName": "x"}
+
+
+class TourCase(Blobs, ManageCase):
+    """A session with all commands, by either PIN protocol."""
+
+    def __init__(self, is_first: bool = True) -> None:
+        super().__init__("tour", "", 1)
+        if not is_first:
+            # The channel is that of the part before.
+            self.lines = self.lines[:1]
+
+    def by(self, protocol: int) -> "TourCase":
+        """Chooses the PIN protocol of what follows."""
+        self.protocol = protocol
+        return self
+
+    def starts_again(self) -> "TourCase":
+        """Power cycles the device."""
+        self.power_cycle().greet()
+        return self
+
+    def resets(self) -> "TourCase":
+        """Resets the device, with a touch."""
+        self.cbor(RESET).presence().expect("status 00")
+        return self
+
+    def shows_no_pin(self) -> "TourCase":
+        """Expects that no PIN is set."""
+        self.cbor(INFO).expect("option clientPin false")
+        return self
+
+
+def reset_in_time(tour: TourCase, rp: str = "example.com", hidden: bytes = descriptor(5)["id"]) -> TourCase:
+    """Resets a device with credentials, assertions that are pending, and large blobs, too late and in time."""
+    tour.wait(10500).cbor(RESET).expect("status 30")
+    tour.starts_again().get(p5=SILENT).asserted("no-up user 04 number 4", presence=False)
+    tour.cbor(NEXT).asserted("no-up user 03", presence=False)
+    tour.cbor(RESET).expect("keepalive 02").tick(100).expect("nothing").presence().expect("status 00").alive()
+    tour.cbor(NEXT).expect("status 30").holds(EMPTY_ARRAY)
+    for _ in range(2):
+        tour.get().expect("status 2e").get(p3=[descriptor(1)]).expect("status 2e")
+        tour.get(p1=rp, p3=[{"id": hidden, "type": KIND}]).expect("status 2e").starts_again()
+    return tour
+
+
+def store_everything(tour: TourCase, has_hidden: bool = True) -> TourCase:
+    """Registers credentials, and writes a large-blob array in pieces."""
+    tour.stored(1, 2, 3, 4)
+    if has_hidden:
+        tour.register(5)
+    tour.write(OTHER_ARRAY[:30], 0, len(OTHER_ARRAY)).expect("status 00").write(OTHER_ARRAY[30:], 30)
+    tour.expect("status 00")
+    return tour
+
+
+def serve_again(tour: TourCase, rp: str, hidden: bytes) -> TourCase:
+    """Signs in with a credential that is not discoverable, cancels a reset, and writes a large-blob array."""
+    allow = [{"id": hidden, "type": KIND}]
+    tour.get(p1=rp, p3=allow, p5=SILENT).asserted("no-up counter-rises no-name", presence=False)
+    for _ in range(2):
+        tour.get(p1=rp).expect("status 2e").starts_again()
+    tour.cbor(RESET).expect("keepalive 02").send(1, hid.CANCEL).expect("status 2d")
+    tour.get(p1=rp, p3=allow, p5=SILENT).asserted("no-up counter-rises", presence=False)
+    tour.whole(ARRAY_WITH_ENTRY).expect("status 00").holds(ARRAY_WITH_ENTRY)
+    return tour
+
+
+def set_and_block(tour: TourCase, pin: bytes) -> TourCase:
+    """Sets a PIN, and sends wrong ones until it is blocked."""
+    tour.with_pin(pin).cbor(INFO).expect("option clientPin true").token(pin=pin).pin(1).expect("retries 8")
+    block_pin(tour).pin(1).expect("retries 0").ask_token(pin=pin).expect("status 32").change(pin, OTHER)
+    tour.expect("status 32")
+    return tour.starts_again()
+
+
+def forgetful_reset(case: Case, made: List[bytes]) -> Case:
+    """A reset of a device without a PIN."""
+    tour = reset_in_time(store_everything(TourCase()))
+    return serve_again(tour.register(6), "example.com", descriptor(6)["id"])
+
+
+def resets_with_pin(case: Case, made: List[bytes]) -> Case:
+    """Resets that remove a PIN, blocked and not, for each protocol."""
+    tour = TourCase()
+    tour.stored(1).whole(ARRAY_WITH_ENTRY).expect("status 00")
+    for protocol in (1, 2):
+        set_and_block(tour.by(protocol), RIGHT).resets().shows_no_pin().with_pin(LONGEST_PIN).token(pin=LONGEST_PIN)
+        for other in (1, 2):
+            tour.by(other).token(pin=LONGEST_PIN, permissions=MANAGE, rp="").manage(COUNT).expect("managed count 0")
+        tour.holds(EMPTY_ARRAY).starts_again().resets().shows_no_pin()
+    return tour.with_pin().token()
+
+
+def all_stored(case: Case, made: List[bytes]) -> Case:
+    """What is stored before all resets, but for a credential of Firefox's and the PIN."""
+    return store_everything(TourCase(), False)
+
+
+def all_resets(case: Case, made: List[bytes]) -> Case:
+    """A reset of all that is stored, and of a PIN."""
+    tour = TourCase(False)
+    tour.with_pin().cbor(INFO).expect("option clientPin true")
+    return reset_in_time(tour, "localhost", made[-1]).shows_no_pin()
+
+
+def all_pins(case: Case, made: List[bytes]) -> Case:
+    """What python-fido2 registered is served; then PINs of both protocols are reset, set and blocked."""
+    tour = TourCase(False)
+    serve_again(tour, "relying.example", made[-1]).by(2).with_pin().cbor(INFO).expect("option clientPin true")
+    for protocol in (1, 2):
+        tour.by(protocol).token(permissions=MANAGE, rp="").manage(COUNT).expect("managed count 0")
+    tour.starts_again().resets().shows_no_pin().holds(EMPTY_ARRAY)
+    for protocol in (1, 2):
+        set_and_block(tour.by(protocol), LONGEST_PIN).resets().shows_no_pin()
+    return tour.with_pin().token()
+
+
+def touches_of_libfido2(case: Case, made: List[bytes]) -> Case:
+    """Sign-ins with and without touches, after one of libfido2's."""
+    rp, allow = "relying.example", [{"id": made[-1], "type": KIND}]
+    for options, words in ((SILENT, "no-up"), ({"up": True, "uv": False}, "up no-uv"), (SILENT, "no-up")):
+        case.get(p1=rp, p3=allow, p5=options)
+        if words != "no-up":
+            case.expect("keepalive 02")
+        case.asserted(f"{words} counter-rises", presence=words != "no-up")
+    refuse_earlier_touch(case.get(p1=rp, p3=allow)).get(p1=rp, p3=allow, p5=SILENT)
+    return case.asserted("no-up counter-rises", presence=False)
+
+
+def registered_between(case: Case, made: List[bytes]) -> Case:
+    """A registration while assertions are pending, with the counter 0."""
+    case.greet()
+    for number in (1, 2, 3):
+        case.register(number, rk=True, p3=user(number))
+    case.get(p5=SILENT).asserted("no-up user 03 number 3", presence=False)
+    return case.make(p2={"id": "nobody.example", "name": "x"}).made(4, "up counter 0").cbor(NEXT).expect("status 30")
+
+
+def find_credentials(case: Case, rp: str, words: str) -> Case:
+    """Signs in without an allow list and a touch."""
+    return case.get(p1=rp, p5=SILENT).asserted(f"no-up counter-rises {words}", presence=False)
+
+
+def same_users(
+    case: Case, made: List[bytes], is_long: bool = True, has_eddsa: bool = True, has_protection: bool = True
+) -> Case:
+    """Credentials of Firefox's user and of others, discoverable and not, of two RPs. Some are replaced or excluded, and
+    each registration has other unusual members."""
+    first, com, org = (
+        {"id": made[0], "type": KIND},
+        {"id": "localhost", "name": "x"},
+        {"id": "ü.example:443", "name": "x"},
+    )
+    bob, eddsa = {"id": b"bob", "name": "bob"}, EDDSA if has_eddsa else ES256
+    case.register(2, rk=True, p2=org, p3=bob, p5=[first])
+    for rp, identity in (("localhost", made[0]), (org["id"], descriptor(2)["id"])):
+        find_credentials(case, rp, f"no-number id {identity.hex()}").cbor(NEXT).expect("status 30")
+    is_first = f"no-number id {made[0].hex()}"
+    es256_registration(case, 3, {**com, "name": "x" * (1800 if is_long else 1)}, bob)
+    find_credentials(case, "localhost", is_first)
+    asked = merge_ignored()
+    asked.update({2: {**asked[2], **com}, 3: {**asked[3], **bob}, 4: [eddsa]})
+    find_credentials(case.cbor(MAKE + encode(asked)).made(4), "localhost", is_first)
+    find_credentials(case.make(p2=com, p3=bob, p7=RK).made(5, "up no-uv no-blob-key"), "localhost", is_only(5))
+    case.get(p1="localhost", p3=[first]).expect("status 2e")
+    for number in (3, 4):
+        sign_in_silently(case, number, "localhost")
+    find_credentials(case.power_cycle().greet(), "localhost", is_only(5))
+    case.get(p1="localhost", p3=[descriptor(5)], p4={"largeBlobKey": True}, p5=SILENT)
+    case.asserted("no-up counter-rises no-blob-key", presence=False)
+    newer: Dict[str, Any] = {"p3": {**user_of(33), "displayName": "x" * (1700 if is_long else 1)}}
+    newer.update(p2=org, p4=[UNKNOWN, eddsa, ES256], p5=[descriptor(3)], p6={"credProtect": 1}, p7=RK)
+    words = "up extension credProtect 01" if has_protection else "up"
+    find_two(case_of_two(case, first, com).make(**newer).made(7, words), "localhost", user_of(64)["id"])
+    sign_in_silently(find_two(case, org["id"], user_of(33)["id"]), 7, org["id"])
+    return exclude_similar(case, com)
+
+
+def case_of_two(case: Case, first: Dict[str, Any], com: Dict[str, str]) -> Case:
+    """Registers a second user, with an exclude list of what is not excluded."""
+    similar = [case.alike(5, kind) for kind in ("changed", "longer", "shorter")]
+    others = [descriptor(9), descriptor(5, "other"), descriptor(5, "")]
+    user_id: bytes = user_of(64)["id"]
+    case.register(6, rk=True, p2=com, p3={"id": user_id, **LONG_NAMES}, p5=[first, *similar, *others])
+    find_two(case, "localhost", user_id)
+    for number in (5, 6):
+        sign_in_silently(case, number, "localhost")
+    case.get(p1="localhost", p3=[descriptor(number) for number in (3, 4, 6)], p5=SILENT)
+    case.asserted("no-up counter-rises no-number", presence=False)
+    return case
+
+
+def exclude_similar(case: Case, com: Dict[str, str]) -> Case:
+    """Excludes a discoverable credential twice, before eight unknown ones."""
+    excluded = [descriptor(6), descriptor(6), *(descriptor(number) for number in range(20, 28))]
+    return case.make(p2=com, p5=excluded, p7=RK).presence().expect("status 19").alive()
+
+
+def is_only(number: int) -> str:
+    """Returns the expectation that this credential is the only one."""
+    return f"no-number id {descriptor(number)['id'].hex()}"
+
+
+def find_two(case: Case, rp: str, newest: bytes) -> Case:
+    """Signs in without an allow list: the user with this ID, and Firefox's."""
+    find_credentials(case, rp, f"number 2 user {newest.hex()}").cbor(NEXT)
+    return case.asserted("no-up user 626f62", presence=False).cbor(NEXT).expect("status 30")
+
+
+def protected(case: Case, made: List[bytes]) -> Case:
+    """Credentials that are hidden without user verification, of RP IDs of one character and of 253."""
+    case.greet().make(p2={"id": "a", "name": "x"}, p6={"credProtect": 3}, p7=RK)
+    case.made(1, "up extension credProtect 03").get(p1="a", p3=[descriptor(1)]).expect("status 2e")
+    case.get(p1="a").expect("status 2e")
+    for _ in range(2):
+        case.get(p1="a", p3=[descriptor(number) for number in (8, 1, 9)]).expect("status 2e")
+    rp = "x" * 253
+    case.make(p2={"id": rp, "name": "x"}, p3=user_of(16), p6={"credProtect": 2}, p7=RK)
+    case.made(2, "up extension credProtect 02").get(p1=rp, p3=[descriptor(2)], p5=SILENT)
+    case.asserted(f"no-up counter-rises user {user_of(16)['id'].hex()}", presence=False)
+    return case.get(p1=rp).expect("status 2e")
+
+
+def register_with_extensions(case: Case, count: int = 2) -> Case:
+    """Registers two credentials with all extensions."""
+    words = "up extension credBlob f5 extension hmac-secret f5"
+    case.make(p6={"credBlob": BLOBS_OF[0], **BOTH_KEYS}, p7=RK).made(1, f"{words} blob-key of-1")
+    if count > 1:
+        case.make(p3=user(2), p6={"credBlob": BLOBS_OF[1], **BOTH_KEYS}, p7=RK).made(2, f"{words} blob-key of-2")
+    return case
+
+
+def extensions_of_one(case: Case, made: List[bytes]) -> Case:
+    """A credential with all extensions."""
+    sign_in_with_extensions(register_with_extensions(case.greet(), 1), 1)
+    case.get(p4={"credBlob": True}, p5=SILENT)
+    return case.asserted(f"no-up no-number extension credBlob {encode(BLOBS_OF[0]).hex()}", presence=False)
+
+
+def sign_in_with_extensions(case: Case, number: int) -> Case:
+    """Signs in with and without extensions; then no assertion is pending."""
+    case.get(p3=[descriptor(number)], p4={"credBlob": True, "largeBlobKey": True}, p5=SILENT)
+    words = f"no-up counter-rises extension credBlob {encode(BLOBS_OF[number - 1]).hex()} blob-key of-{number}"
+    case.asserted(words, presence=False).get(p3=[descriptor(number)], p5=SILENT)
+    return case.asserted("no-up counter-rises no-blob-key", presence=False).cbor(NEXT).expect("status 30")
+
+
+def extensions_of_two(case: Case, made: List[bytes]) -> Case:
+    """Two credentials with all extensions."""
+    register_with_extensions(case.greet())
+    for number in (2, 1):
+        sign_in_with_extensions(case, number)
+    case.get(p4={"credBlob": True}, p5=SILENT)
+    words = f"no-up user 02 number 2 extension credBlob {encode(BLOBS_OF[1]).hex()}"
+    return case.asserted(words, presence=False).cbor(NEXT).asserted("no-up user 01", presence=False)
+
+
+def secrets(case: Case, made: List[bytes], has_all: bool = True) -> Case:
+    """Secrets of two credentials by both PIN protocols."""
+    tour = TourCase()
+    if has_all:
+        register_with_extensions(tour)
+    else:
+        tour.register(1, p6={"hmac-secret": True}).register(2, p6={"hmac-secret": True})
+    for protocol in (1, 2):
+        asked: Dict[int, Any] = {1: b"=agreement", 2: b"=encrypt:" + b"1" * 32, 3: b"=auth:2", 4: protocol}
+        two, wrong = {**asked, 2: asked[2] + b"2" * 32}, {**asked, 3: bytes(16 * protocol)}
+        tour.by(protocol)
+        for number, salts, name in ((1, two, "one+two"), (2, asked, "of-2")):
+            tour.agree().get(p3=[descriptor(number)], p4={"hmac-secret": salts}).asserted(f"up secret {name}")
+        tour.agree().get(p3=[descriptor(1)], p4={"hmac-secret": wrong}).presence().expect("status 33")
+    return tour
+
+
+def lost_touch(case: Case, made: List[bytes]) -> Case:
+    """A touch after a power cycle, and before registrations."""
+    case.greet().make().expect("keepalive 02").power_cycle().greet().tick(250).expect("silence")
+    case.presence().expect("silence").alive().tick(100)
+    return refuse_earlier_touch(refuse_earlier_touch(case.make(p7=RK)).make())
+
+
+def changed_pin(case: Case, made: List[bytes]) -> Case:
+    """A PIN is changed by one protocol, and back by the other."""
+    tour = TourCase().with_pin()
+    for protocol, old, new in ((1, RIGHT, OTHER), (2, OTHER, RIGHT)):
+        tour.by(protocol).change(old, new).expect("status 00").ask_token(old).expect("status 31").token(pin=new)
+    return tour
+
+
+def managed(case: Case, made: List[bytes]) -> Case:
+    """Credentials are deleted and replaced until none is left, twice."""
+    tour = TourCase().stored_at_several().with_pin()
+    for protocol in (1, 2):
+        tour.by(protocol).managing().manage(DELETE, {2: descriptor(protocol)}).expect("status 00").managing()
+        tour.manage(CREDENTIALS, rp_parameters()).expect(f"managed credentials {3 - protocol}")
+        tour.get(p3=[descriptor(protocol)]).expect("status 2e")
+        sign_in_silently(tour, protocol + 1)
+    tour.by(1)
+    more = {"p3": user(3), "p6": {"credProtect": 2, "largeBlobKey": True}, "p7": RK}
+    tour.token().register_with_token(**more).made(7, "up uv extension credProtect 02 blob-key one")
+    for protocol in (1, 2):
+        tour.by(protocol).managing().manage(COUNT).expect("managed count 2").managing()
+        tour.manage(CREDENTIALS, rp_parameters()).expect("managed credentials 1 protect 2 blob-key one")
+    for number in (4, 7):
+        tour.by(1).managing().manage(DELETE, {2: descriptor(number)}).expect("status 00")
+    tour.managing().manage(COUNT).expect("managed count 0").get().expect("status 2e")
+    for protocol in (1, 2):
+        tour.by(protocol).managing().manage(RPS).expect("status 2e")
+    tour.token().register_with_token(p7=RK).made(8, "up uv").managing().manage(DELETE, {2: descriptor(8)})
+    return tour.expect("status 00").managing().manage(COUNT).expect("managed count 0").get().expect("status 2e")
+
+
+def by_each_protocol(names: str) -> str:
+    """Returns the names of cases that exist for each PIN protocol."""
+    return " ".join(f"{name}_{protocol}" for name in names.split() for protocol in (1, 2))
+
+
+OF_RESETS = (
+    "reset/forgets reset/forgets_hidden reset/asks_for_the_user reset/granted reset/serves_again reset/cancelled"
+    " next/after_reset next/after_reset_in_between power/reset_in_time_again power/reset_stays"
+    " power/other_credentials_stay_hidden get/other_credentials_stay_hidden get/names_by_list blobs/reset_after_pieces"
+)
+OF_PINS = "blobs/reset " + by_each_protocol(
+    "pin/set pin/of_63 pin/reset blocked/token blocked/change blocked/reset manage/count_after_reset"
+)
+OF_USERS = (
+    "get/same_user_again get/same_user_of_another_rp get/same_user_of_another_rp_first get/two_hidden_stay"
+    " get/hidden_replaces_nothing get/two_hidden_replace_nothing get/discoverable_replaces_no_hidden"
+    " get/other_user_replaces_nothing get/one_among_other_rps get/user_id_of_33 get/user_id_of_64 get/rp_2 get/rp_4"
+    " lists/exclude_discoverable lists/exclude_discoverable_of_another_rp lists/exclude_replaced lists/exclude_empty"
+    " lists/exclude_changed lists/exclude_longer lists/exclude_shorter lists/exclude_other_type lists/exclude_unknown"
+    " lists/exclude_other_types lists/exclude_of_another_rp lists/exclude_first_of_ten lists/exclude_twice"
+    " lists/allow_three make/three_ids make/answer make/options_as_they_are make/other_type_first make/es256_twice_listed"
+    " make/algorithms_last make/user_id_of_64 make/user_id_in_no_id make/discoverable_without_uv secret/not_asked"
+    " next/one_of_another_rp next/two_rps next/two_rps_newer power/replaced_stays_replaced blobkey/not_asked"
+    " blobkey/of_none fuzzed/excluded_after_long_names fuzzed/registration_of_four_packets"
+    " recorded/firefox_discoverable "
+) + " ".join(session.name for session in list_ignored())
+OF_EDDSA = " make/eddsa make/eddsa_twice make/first_is_es256 make/first_known_is_es256 make/first_is_eddsa"
+OF_EDDSA += " make/first_known_is_eddsa"
+LONG, OF_PROTECTION = " make/long_request make/long_user", " protect/level_1"
+
+OF_SECRETS = by_each_protocol("secret/same secret/of_two_salts secret/of_each_credential secret/not_authentic")
+
+
+def make_user_tours() -> Iterator[Tour]:
+    """Yields the tours of users, first for a device with long messages, EdDSA and credProtect."""
+    for is_long, has_eddsa, has_protection in itertools.product((True, False), repeat=3):
+        covers = OF_USERS + LONG * is_long + OF_EDDSA * has_eddsa + OF_PROTECTION * has_protection
+        part = functools.partial(same_users, is_long=is_long, has_eddsa=has_eddsa, has_protection=has_protection)
+        needed = "recorded/firefox_discoverable" + " make/long_request" * is_long + " make/eddsa" * has_eddsa
+        needed += OF_PROTECTION * has_protection
+        yield make_tour(("recorded/firefox_discoverable", part), covers, needed, True)
+
+
+RESET_TOURS: Tuple[Tour, ...] = (
+    make_tour(
+        (all_stored, "recorded/firefox_excluded", all_resets, "recorded/python_fido2", all_pins),
+        f"{OF_RESETS} {OF_PINS} recorded/firefox_excluded recorded/python_fido2",
+    ),
+    make_tour(forgetful_reset, OF_RESETS),
+    make_tour(resets_with_pin, OF_PINS),
+    *make_user_tours(),
+    make_tour(
+        protected,
+        "protect/level_2 protect/level_3 protect/level_3_hides_from_a_long_list get/user_id_of_16 get/rp_1 get/rp_3",
+        "protect/level_2 protect/level_3",
+        True,
+    ),
+    make_tour(
+        extensions_of_one,
+        "blob/kept blobkey/not_asked_at_sign_in secret/made secret/made_discoverable"
+        " fuzzed/nothing_pending_after_a_list",
+    ),
+    make_tour(extensions_of_two, "blob/of_32 blobkey/same"),
+    make_tour(secrets, OF_SECRETS, "blob/kept blob/of_32 blobkey/same"),
+    make_tour(functools.partial(secrets, has_all=False), OF_SECRETS),
+    make_tour(
+        ("recorded/libfido2_discoverable", touches_of_libfido2),
+        "recorded/libfido2_discoverable get/up_true get/up_true_uv_false get/touch_counts_once"
+        " get/counter_rises_with_and_without_touch",
+    ),
+    make_tour(registered_between, "next/after_registration make/counter_of_a_new_one"),
+    make_tour(lost_touch, "power/request_is_gone make/touch_before_make make/touch_before_make_discoverable"),
+    make_tour(changed_pin, by_each_protocol("pin/change")),
+    make_tour(
+        managed,
+        by_each_protocol(
+            "manage/delete manage/delete_the_last manage/count_after_replacing manage/protection manage/blob_key"
+            " manage/rps_of_none pin/registers"
+        ),
+    ),
+)

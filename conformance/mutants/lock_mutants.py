@@ -1,0 +1,189 @@
+"""Faults of CTAPHID_LOCK, and of the extension minPinLength."""
+
+from __future__ import annotations
+
+from typing import Any, Dict, List
+
+from hidlog_conformance.reference.config import Config
+from hidlog_conformance.reference.pin import SHORTEST_PIN
+from hidlog_conformance.reference.traits import DeviceTraits
+from hidlog_conformance.reference.transport import LOCK as LOCK_COMMAND
+from hidlog_conformance.reference.transport import Transport
+
+from mutant import Mutant, change_member, replace_method, wrap_method
+
+LOCK, CONFIG, LENGTH, RESET, INFO = "11.2.9.2.2", "6.11", "12.4", "6.6", "6.4"
+LOCKING = DeviceTraits(lock=True)
+TELLING = DeviceTraits(config=True, extensions=("hmac-secret", "minPinLength"))
+
+
+def lock_longer(key: Any, channel: int, data: bytes) -> None:
+    """Locks for a second more than asked, or what it is released for."""
+    Transport.lock(key.transport, channel, data)
+    owner, until = key.transport.locked
+    if len(data) == 1 and data[0] <= 10:
+        key.transport.locked = (owner, until + 1000)
+
+
+def lock_once(key: Any, channel: int, data: bytes) -> None:
+    """A further LOCK does not change the end of a lock."""
+    _, until = key.transport.locked
+    is_locked = key.transport.at < until
+    Transport.lock(key.transport, channel, data)
+    if is_locked and data[:1] != b"\0":
+        key.transport.locked = (channel, until)
+
+
+def lock_and_echo(key: Any, channel: int, data: bytes) -> None:
+    """Returns the data of the request."""
+    if len(data) != 1 or data[0] > 10:
+        Transport.lock(key.transport, channel, data)
+        return
+    key.transport.locked = (channel, key.transport.at + 1000 * data[0])
+    key.transport.send(channel, LOCK_COMMAND, data)
+
+
+def lock_by_any_length(key: Any, channel: int, data: bytes) -> None:
+    """Takes the first byte of any data, or one second."""
+    Transport.lock(key.transport, channel, (data or b"\1")[:1])
+
+
+def lock_milliseconds(key: Any, channel: int, data: bytes) -> None:
+    """Locks for milliseconds instead of seconds."""
+    Transport.lock(key.transport, channel, data)
+    if len(data) == 1:
+        key.transport.locked = (channel, key.transport.at + data[0])
+
+
+def excludes_requests_alone(key: Any, channel: int, command: int, length: int, data: bytes) -> None:
+    """Serves PINGs and LOCKs of other channels during a lock."""
+    before = key.transport.locked
+    if command in (1, LOCK_COMMAND):
+        key.transport.locked = (channel, 0)
+    Transport.begin(key.transport, channel, command, length, data)
+    if command == 1:
+        key.transport.locked = before
+
+
+def tell_default(key: Any, old: Any, asked: Any, new: Any) -> Dict[str, Any]:
+    """Tells always the standard's minimum."""
+    found = dict(old(asked, new))
+    return {name: SHORTEST_PIN if name == "minPinLength" else value for name, value in found.items()}
+
+
+def tell_unasked(key: Any, old: Any, asked: Any, new: Any) -> Dict[str, Any]:
+    """Tells a chosen RP also without the extension."""
+    found = dict(old(asked, new))
+    return {**found, "minPinLength": key.pin.shortest} if key.config.is_told(new.rp) else found
+
+
+def add_rps(key: Any, asked: Dict[int, Any]) -> None:
+    """Adds RPs to the earlier ones."""
+    key.config.rps += asked.get(2, [])
+
+
+def choose_with_length(key: Any, asked: Dict[int, Any]) -> None:
+    """Chooses RPs only together with a new minPINLength."""
+    if 1 in asked:
+        Config.choose_rps(key.config, asked)
+
+
+def keep_rps(key: Any, old: Any) -> None:
+    """Resets, but keeps the chosen RPs."""
+    rps = key.config.rps
+    old()
+    key.config.rps = rps
+
+
+def lose_rps(key: Any, old: Any) -> None:
+    """Forgets the chosen RPs at a power cycle."""
+    old()
+    key.config.rps = []
+
+
+def take_rps_unasked(key: Any, old: Any, asked: Dict[int, Any]) -> None:
+    """Ignores the chosen RPs without the extension."""
+    old({name: value for name, value in asked.items() if name != 2})
+
+
+LOCK_MUTANTS: List[Mutant] = [
+    Mutant(
+        "lock_ignored",
+        LOCK,
+        "A lock excludes nobody.",
+        replace_method("transport.is_locked_out", lambda key, channel: False),
+        LOCKING,
+    ),
+    Mutant(
+        "lock_too_long", LOCK, "A lock lasts a second more.", replace_method("transport.lock", lock_longer), LOCKING
+    ),
+    Mutant(
+        "lock_in_milliseconds",
+        LOCK,
+        "A lock lasts for milliseconds.",
+        replace_method("transport.lock", lock_milliseconds),
+        LOCKING,
+    ),
+    Mutant(
+        "lock_not_renewed", LOCK, "A further LOCK has no effect.", replace_method("transport.lock", lock_once), LOCKING
+    ),
+    Mutant(
+        "lock_echoes", LOCK, "The response to LOCK has data.", replace_method("transport.lock", lock_and_echo), LOCKING
+    ),
+    Mutant(
+        "lock_of_any_length",
+        LOCK,
+        "LOCK takes any length.",
+        replace_method("transport.lock", lock_by_any_length),
+        LOCKING,
+    ),
+    Mutant(
+        "lock_serves_others",
+        LOCK,
+        "During a lock PINGs and LOCKs of others are served.",
+        replace_method("transport.begin", excludes_requests_alone),
+        LOCKING,
+    ),
+    Mutant(
+        "told_to_all",
+        LENGTH,
+        "Each RP is told minPINLength.",
+        replace_method("config.is_told", lambda key, rp: True),
+        TELLING,
+    ),
+    Mutant(
+        "told_to_none",
+        LENGTH,
+        "No RP is told minPINLength.",
+        replace_method("config.is_told", lambda key, rp: False),
+        TELLING,
+    ),
+    Mutant(
+        "told_default", LENGTH, "RPs are told the default.", wrap_method("extensions.of_make", tell_default), TELLING
+    ),
+    Mutant("told_unasked", LENGTH, "RPs are told unasked.", wrap_method("extensions.of_make", tell_unasked), TELLING),
+    Mutant("told_rps_added", LENGTH, "RPs are added to others.", replace_method("config.choose_rps", add_rps), TELLING),
+    Mutant(
+        "told_with_length_alone",
+        LENGTH,
+        "RPs are chosen only with a minPINLength.",
+        replace_method("config.choose_rps", choose_with_length),
+        TELLING,
+    ),
+    Mutant(
+        "told_after_reset", RESET + "|" + LENGTH, "A reset keeps the RPs.", wrap_method("forget", keep_rps), TELLING
+    ),
+    Mutant(
+        "told_until_unplugged", LENGTH, "A power cycle forgets the RPs.", wrap_method("power_cycle", lose_rps), TELLING
+    ),
+    Mutant(
+        "told_without_extension",
+        CONFIG,
+        "RPs are chosen without the extension.",
+        wrap_method("config.set_min_pin_length", take_rps_unasked),
+        DeviceTraits(config=True),
+    ),
+    Mutant(
+        "told_number_unsaid", INFO, "maxRPIDsForSetMinPINLength is missing.", change_member("info", 16, None), TELLING
+    ),
+]
