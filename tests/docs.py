@@ -46,7 +46,7 @@ QUOTED_PATH = re.compile(
 PLACEHOLDER = re.compile(r"[A-Z]{4,}$|NAME|FOLDER|FILE|VERSION|<|\.\.|\{")
 # The beginning of a command.
 COMMAND = re.compile(
-    r"(?:\./|tests/|conformance/|packages/|examples/|release/|bench/|python/build)\S+"
+    r"(?:\./|tests/|conformance/|packages/|examples/|release/|bench/|bindings/python/build)\S+"
     r"|(?:sudo|apt-get|hidlog|hidlog-conformance|pip|python3|npm|npx|node|locust|git|gcc|ssh-keygen|rt|docker)(?= )"
 )
 NOT_RUN = re.compile(r"<!-- not run: .+ -->")

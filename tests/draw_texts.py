@@ -37,7 +37,7 @@ LANGUAGES = {
     ".sh": "shell",
 }
 SKIPPED_PATHS = re.compile(
-    r"^crates/\w+/proofs/|^web/dist/|^release/|^examples/failing/|/data/|^tests/(?:edits|mutants)/"
+    r"^crates/\w+/proofs/|^bindings/web/dist/|^release/|^examples/failing/|/data/|^tests/(?:edits|mutants)/"
 )
 # Of the definitions only specs/, which the theorem's statement uses.
 SPECS = re.compile(r"^crates/\w+/specs/")

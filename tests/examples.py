@@ -18,7 +18,7 @@ from pathlib import Path
 TOP = Path(__file__).resolve().parents[1]
 FILE_ROW = re.compile(r"^\| ([A-Z]) \| (crates/\S+) \|$", re.MULTILINE)
 TABLE_ROW = re.compile(r"^\| (?!---)(?!Row )(.+) \| (.+) \|$", re.MULTILINE)
-NAMED = re.compile(r"\b([A-Z]) ([a-z][\w-]*)")
+EXAMPLE_REFERENCE = re.compile(r"\b([A-Z]) ([a-z][\w-]*)")
 # An example is a name with a computed proof: one `refl`, several, or a record of them.
 COMPUTED = re.compile(r"^([a-z][\w-]*) = (?:unfold [\w.-][\w. -]* in )?(?:refl$|\(+refl|record \{$)", re.MULTILINE)
 
@@ -37,7 +37,7 @@ def main() -> int:
     files = dict(FILE_ROW.findall(page))
     there = {(letter, name) for letter, path in files.items() for name in read_examples(path)}
     rows = [(row, examples) for row, examples in TABLE_ROW.findall(page) if row not in files and row != "Letter"]
-    named = {name for _, examples in rows for name in NAMED.findall(examples)}
+    named = {name for _, examples in rows for name in EXAMPLE_REFERENCE.findall(examples)}
     wrong = [f"{letter} {name} is in no proof" for letter, name in sorted(named - there)]
     wrong += [f"{letter} {name} is in no row" for letter, name in sorted(there - named)]
     wrong += [
@@ -52,7 +52,7 @@ def main() -> int:
 
 def is_documented(examples: str) -> bool:
     """Returns whether a row names an example, or states that there is none."""
-    return bool(NAMED.search(examples)) or examples.startswith("none: ")
+    return bool(EXAMPLE_REFERENCE.search(examples)) or examples.startswith("none: ")
 
 
 if __name__ == "__main__":

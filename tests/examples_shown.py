@@ -6,7 +6,8 @@
 
 A page is the comment at the top of a `lib.rt`. It names its test: `An example, which the gate runs (FILE)`. What the
 page shows in its first code block are the lines of that file after its imports, in their order, without what makes a
-test of them: the `#[test]`, the function's head and its closing brace, and a last `Ok(())`.
+test of them: the `#[test]`, the function's head and its closing brace, and a last `Ok(())`. White space may differ, since
+`rt fmt` lays out the test, and not the page.
 """
 
 from __future__ import annotations
@@ -35,6 +36,11 @@ def to_comment(text: str) -> str:
     return "".join(f"//! {line}".rstrip() + "\n" for line in text.splitlines())
 
 
+def remove_layout(comment: str) -> str:
+    """Returns a page's comment without white space."""
+    return "".join(line.removeprefix("//!") for line in "".join(comment.split(" ")).split())
+
+
 def main(write: bool) -> int:
     pages = [
         page
@@ -49,7 +55,7 @@ def main(write: bool) -> int:
         if not named or not block:
             sys.exit(f"tests/examples_shown.py: {page.relative_to(TOP)} shows no example")
         shown = to_comment(read_example((TOP / named[1]).read_text(encoding="utf-8")))
-        if block[0] == shown:
+        if remove_layout(block[0]) == remove_layout(shown):
             continue
         differ += 1
         if write:

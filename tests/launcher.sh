@@ -8,8 +8,8 @@ log=$top/examples/registration.log
 # A path with a space.
 copy="$work/a copy"
 mkdir -p "$copy/crates" "$work/bin"
-cp -a "$top"/{hidlog,crates.txt,HANDLES,release,packages,python} "$copy/"
-(cd "$top" && release/sources.sh | grep ^crates/ | xargs cp -a --parents -t "$copy")
+cp -a "$top"/{hidlog,crates.txt,HANDLES,release,packages,bindings} "$copy/"
+(cd "$top" && packages/release_sources.sh | grep ^crates/ | xargs cp -a --parents -t "$copy")
 # All files get the same time, so that release/BUILD is not older than the sources, as in a new clone.
 find "$copy" -exec touch -h -d 2010-01-01 {} +
 touch -d 2010-01-01 "$copy/release/BUILD"
@@ -46,7 +46,8 @@ check_replay() {
 check_stale_message() {
     expect_status 0 "$copy/hidlog" replay
     [ "$(<"$work/out")" = "$(<"$log")" ] || fail "$1: it does not replay"
-    [[ $(<"$work/said") =~ ^hidlog:\ [^$'\n']*older[^$'\n']*"rt ci && release/build.sh"$ ]] || fail "$1: $(<"$work/said")"
+    [[ $(<"$work/said") =~ ^hidlog:\ [^$'\n']*older[^$'\n']*"rt ci && packages/build_release.sh"$ ]] ||
+        fail "$1: $(<"$work/said")"
 }
 
 check_replay "$copy/hidlog"

@@ -1,6 +1,6 @@
 #!/usr/bin/env bash
-# Checks names against docs/change/STYLE.md, and runs shellcheck, black and mypy --strict. Python without types yet is
-# listed in `untyped`, and folders with old names in `renaming`; both only get shorter.
+# Checks names against docs/change/STYLE.md, and runs shellcheck, black, mypy --strict and tsc --strict. Python without
+# types yet is listed in `untyped`, and folders with old names in `renaming`; both only get shorter.
 set -euo pipefail
 cd "$(dirname "${BASH_SOURCE[0]}")/.."
 # Other versions of black format differently, and other versions of mypy report other errors.
@@ -10,13 +10,13 @@ for tool in "black 23" "mypy 1.0"; do
 done
 # Variables called `it`, exception classes without Error (except those that are not errors), and constants called _MOST.
 renaming='^tests/mutants/'
-sources=('*.py' '*.js' '*.mjs' '*.go' '*.rs' '*.c' '*.h' ':!web/dist' ':!release')
+sources=('*.py' '*.js' '*.mjs' '*.go' '*.rs' '*.c' '*.h' ':!bindings/web/dist' ':!release')
 pronoun='\bfor \(?(const )?it (in|of)\b|\blambda it\b|^\s*(const |let )?it :?= |\(it[,)]( =>|\.)|, it\) =>|func \(it\b'
 not_errors='Mismatch|CaseSkipped|PresenceScriptExhausted'
 named=$(
     git grep -nPI "$pronoun|\bit\.[a-z_]+[(\[,)]|\bit: \*?[A-Za-z_]+[,)]" -- "${sources[@]}" || true
     git grep -nPI "^\s*class (?!\w*(Error|$not_errors)\b)\w+\((\w+\.)?\w*(Error|Exception)\b" -- '*.py' || true
-    git grep -nPI 'class (?!\w*Error\b)\w+ extends \w*Error\b' -- '*.js' '*.mjs' ':!web/dist' || true
+    git grep -nPI 'class (?!\w*Error\b)\w+ extends \w*Error\b' -- '*.js' '*.mjs' ':!bindings/web/dist' || true
     git grep -nPI '\b(_?[A-Z]+_)+MOST\b|\bMOST_[A-Z]' -- "${sources[@]}" || true
 )
 named=$(grep -Ev "$renaming" <<<"$named" || true)
@@ -29,7 +29,7 @@ early=$(grep -l pipefail "${shell[@]}" | xargs grep -nE '[^|][|] *(head|grep -[a
 [ -z "$early" ] || { echo "FAILED: read all of it, as sed -n 1p does:"; echo "$early"; exit 1; }
 mapfile -t python < <(git ls-files -co --exclude-standard '*.py')
 black --quiet --check --line-length 120 "${python[@]}"
-untyped='^(bench|examples|python/src|tests/(fuzz|python|web))/'
+untyped='^(bench|examples|bindings/python/src|tests/(failing|fuzz|python|web))/'
 mapfile -t typed < <(printf '%s\n' "${python[@]}" | grep -Ev "$untyped")
 # One call per folder, since files in different folders may have the same name.
 printf '%s\n' "${typed[@]}" |
@@ -39,5 +39,10 @@ printf '%s\n' "${typed[@]}" |
     --follow-imports=silent --allow-untyped-calls --allow-subclassing-any
 # Whole packages, since their modules import one another.
 strict=(mypy --strict --no-error-summary --ignore-missing-imports --allow-untyped-calls --allow-subclassing-any)
-"${strict[@]}" python/src/hidlog
-MYPYPATH=python/src:tests/python "${strict[@]}" tests/python/*.py
+"${strict[@]}" bindings/python/src/hidlog
+MYPYPATH=bindings/python/src:tests/python "${strict[@]}" tests/python/*.py
+if command -v tsc >/dev/null; then
+    tsc -p bindings/web/tsconfig.json
+else
+    echo "tests/lint.sh: tsc is missing, types of bindings/web/ are not checked (apt-get install node-typescript)" >&2
+fi

@@ -40,10 +40,20 @@ FOLDERS = (
         "crates/page_tests/src",
         "standard",
         "release",
-        "portable",
+        "bindings/c",
+        "bridges",
+        "dissector",
         "packages",
     ),
-    *("python/src/hidlog", "python", "web/key", "web/rules", "web", "go", "rust/hidlog", "rust/hidlog-sys"),
+    *(
+        "bindings/python/src/hidlog",
+        "bindings/python",
+        "bindings/web/key",
+        "bindings/web/rules",
+        "bindings/web",
+        "bindings/go",
+    ),
+    *("bindings/rust/hidlog", "bindings/rust/hidlog-sys"),
     *("conformance/hidlog_conformance", "conformance", "examples", "tests", "bench", "."),
 )
 SOURCE = re.compile(
@@ -51,7 +61,8 @@ SOURCE = re.compile(
 )
 # Generated files, test data, and proofs, which are named after what they prove.
 SKIPPED_PATHS = re.compile(
-    r"^crates/\w+/proofs/|^web/dist/|^release/(?:hidlog|.*\.h$|aarch64/)|^examples/failing/|^tests/mutants/.*\.rt"
+    r"^crates/\w+/proofs/|^bindings/web/dist/|^release/(?:hidlog|.*\.h$|aarch64/)|^examples/failing/"
+    r"|^tests/mutants/.*\.rt"
 )
 # Files that need no comment: lists of modules, and tests.
 UNLISTED_FILES = re.compile(r"(?:^|/)(?:Lib\.antt|hidlog_test\.go|cases_test\.go|cases/__init__\.py)$")

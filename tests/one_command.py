@@ -2,7 +2,7 @@
 """Checks that the command `hidlog` of every package has the same commands and help.
 
     tests/one_command.py [COMMAND ..]     the clone's ./hidlog and `python -m hidlog` if none is named
-    tests/one_command.py --write          writes python/src/hidlog/help.txt, the help of release/hidlog
+    tests/one_command.py --write          writes bindings/python/src/hidlog/help.txt, the help of release/hidlog
 
 The names are those that the program's help lists. Exit status: 1 if something differs.
 """
@@ -18,14 +18,14 @@ from pathlib import Path
 
 TOP = Path(__file__).resolve().parent.parent
 PROGRAM = TOP / "release/hidlog"
-HELP = TOP / "python/src/hidlog/help.txt"
+HELP = TOP / "bindings/python/src/hidlog/help.txt"
 # Files that list the commands of the Python package, each with a pattern for the list and the commands it may omit.
 COMMAND_LISTS = (
     ("packages/command.sh", r"^\s*(webdriver .*?)\) run_python \"\$@\"", set[str]()),
     ("packages/command.sh", r"^\s*(webdriver .*?)\) run_python \"\$2\"", set[str]()),
     ("packages/npm/cli.mjs", r"PYTHON_COMMANDS = \[(.*?)\]", {"browser"}),
     ("docs/use/hidlog.1", r"(?s)^The commands of the Python package are:$(.*?)^\.El$", set[str]()),
-    ("python/src/hidlog/__main__.py", r"(?s)^COMMANDS = \{\n(.*?)^\}", set[str]()),
+    ("bindings/python/src/hidlog/__main__.py", r"(?s)^COMMANDS = \{\n(.*?)^\}", set[str]()),
     ("packages/readme/python3-hidlog.md", r"(?s)^## The command$.*?and adds (.*?)\.", set[str]()),
     ("packages/readme/hidlog.md", r"(?s)and adds `hidlog (.*?) to this command", set[str]()),
 )
@@ -114,7 +114,7 @@ def main() -> int:
     of_clone = "import sys; sys.path[0] = sys.argv.pop(1); from hidlog.__main__ import main; sys.exit(main())"
     commands = [[str(Path(word).absolute())] for word in sys.argv[1:]] or [
         [str(TOP / "hidlog")],
-        [sys.executable, "-c", of_clone, str(TOP / "python/src")],
+        [sys.executable, "-c", of_clone, str(TOP / "bindings/python/src")],
     ]
     wrong = find_list_differences(names)
     if HELP.read_text(encoding="utf-8") != text:

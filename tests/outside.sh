@@ -1,7 +1,8 @@
 #!/usr/bin/env bash
 # Tests the Dockerfile without Docker: copies the image's files to a folder, and plays a log there with chroot. Tests the
 # action without GitHub: runs the commands of action.yml in a new environment, with a failing test whose recording must be
-# kept. Checks that no action of others is used. Exits with 3 if nothing could be run.
+# kept. Checks that action.yml and the workflows use no other GitHub action. Exits with 3 if nothing could
+# be run.
 set -euo pipefail
 top=$(cd "$(dirname "${BASH_SOURCE[0]}")/.." && pwd)
 work=$(mktemp -d)
@@ -76,7 +77,7 @@ install_by_action() {
         PIP_NO_DEPS=1 PIP_NO_INDEX=1 PIP_FIND_LINKS=$work/dist bash -e "$work/install.sh" >"$work/said" 2>&1
 }
 
-# The action installs only files of the commit, or those in a requirements file with hashes.
+# Checks that the action installs packages only from its own checkout, or from a requirements file with hashes.
 check_hashes() {
     /usr/bin/python3 -m venv --without-pip "$work/bare" || fail "cannot create a virtual environment"
     print_step 'step.get("id") == "install"' >"$work/install.sh"
@@ -100,7 +101,7 @@ check_hashes() {
 
 if /usr/bin/python3 -c 'import yaml, hatchling, venv, pytest, cryptography' 2>/dev/null; then
     /usr/bin/python3 -m venv --system-site-packages "$work/venv"
-    "$top/python/build.sh" "$work/dist" >/dev/null
+    "$top/bindings/python/build.sh" "$work/dist" >/dev/null
     check_hashes
     install_by_action venv || fail "the action does not install: $(cat "$work/said")"
     /usr/bin/python3 "$top/tests/wheels_same.py" "$work"/temp/hidlog/wheel/*.whl "$work"/dist/*x86_64.whl

@@ -4,7 +4,7 @@
 # findings to standard output; SIGINT; and invalid arguments.
 set -euo pipefail
 cd "$(dirname "${BASH_SOURCE[0]}")/.."
-export PYTHONPATH=python/src
+export PYTHONPATH=bindings/python/src
 work=$(mktemp -d)
 trap 'rm -rf "$work"' EXIT
 

@@ -1,5 +1,5 @@
 #!/usr/bin/env python3
-"""Compares the wheel of python/wheel.py with hatchling's: wheels_same.py OWN HATCHLING
+"""Compares the wheel of bindings/python/wheel.py with hatchling's: wheels_same.py OWN HATCHLING
 
 Both must have the same files and bytes, version, requirements, tags and entry points. Exit status: 1 if they differ.
 """

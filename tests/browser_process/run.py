@@ -19,7 +19,7 @@ from pathlib import Path
 from typing import Any
 
 TOP = Path(__file__).resolve().parents[2]
-sys.path.insert(0, str(TOP / "python" / "src"))
+sys.path.insert(0, str(TOP / "bindings" / "python" / "src"))
 
 from cryptography.hazmat.primitives import hashes
 from cryptography.hazmat.primitives.asymmetric import ec
@@ -51,15 +51,15 @@ EXAMPLES = {
 def install_npm_package(work_dir: Path) -> list[str]:
     """Copies the files of the npm package to a directory, and returns the command."""
     names = [
-        "web/core.js",
-        "web/dist/bytes.js",
+        "bindings/web/core.js",
+        "bindings/web/dist/bytes.js",
         "release/hidlog.wasm",
         "packages/npm/cli.mjs",
         "packages/npm/browser.mjs",
         "packages/npm/node.mjs",
         "packages/npm/node18.mjs",
     ]
-    names += [f"web/dist/security_key.{ending}" for ending in ("js", "mjs")] + ["packages/npm/package.json"]
+    names += [f"bindings/web/dist/security_key.{ending}" for ending in ("js", "mjs")] + ["packages/npm/package.json"]
     for name in names:
         shutil.copy(TOP / name, work_dir)
     return ["node", str(work_dir / "cli.mjs"), "browser"]
@@ -270,7 +270,7 @@ def main() -> int:
     if not shutil.which("node"):
         print("tests/browser_process: node is missing", file=sys.stderr)
         return 3
-    os.environ["PYTHONPATH"] = str(TOP / "python" / "src")
+    os.environ["PYTHONPATH"] = str(TOP / "bindings" / "python" / "src")
     with tempfile.TemporaryDirectory() as work_dir:
         commands = {
             "the npm package": install_npm_package(Path(work_dir)),

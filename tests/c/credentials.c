@@ -144,8 +144,12 @@ int main(int count, char **words) {
     static uint8_t snapshot[SNAPSHOT];
     struct hidlog_key key = {0};
     struct hidlog_need need;
-    if (count != 2 || (key.memory = aligned_alloc(16, (hidlog_key_size() + 15) / 16 * 16)) == NULL) {
-        fail("usage: credentials SNAPSHOT < LOG, or out of memory");
+    if (count != 2) {
+        fail("usage: credentials SNAPSHOT < LOG");
+    }
+    key.memory = aligned_alloc(16, (hidlog_key_size() + 15) / 16 * 16);
+    if (key.memory == NULL) {
+        fail("out of memory");
     }
     test_busy_key(&key, HIDLOG_KEY_ERR_NOT_INITIALIZED);
     expect(hidlog_key_save_snapshot(&key, snapshot, sizeof snapshot), HIDLOG_KEY_ERR_NOT_INITIALIZED,

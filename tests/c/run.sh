@@ -1,9 +1,9 @@
 #!/usr/bin/env bash
 # Tests the C library with C programs: commands on logs (commands.c), showing logs (show.c), an in-memory key (key.c),
-# why it rejects inputs (causes.c, cause_codes.c), its credentials (credentials.c) and its capacity (capacity.c). For each
-# worked log their output must equal the program's. Uses the static and the shared library of release/, gcc's
-# sanitizers, and if installed musl and aarch64 with qemu. Also checks that the libraries call nothing but memcpy, memmove
-# and memset, and that C++ accepts the header. Ends with 3 if gcc is missing.
+# why it rejects inputs (causes.c, cause_codes.c), its credentials (credentials.c), its capacity (capacity.c) and recording
+# it (recording.c). For each worked log their output must equal the program's. Uses the static and the shared library of
+# release/, gcc's sanitizers, and if installed musl and aarch64 with qemu. Also checks that the libraries call nothing but
+# memcpy, memmove and memset, and that C++ accepts the header. Ends with 3 if gcc is missing.
 #
 #     tests/c/run.sh                                      the libraries of release/
 #     tests/c/run.sh LIBRARY COMPILER LINKED [WORD ..]    another library: the compiler and the options for linking, each
@@ -124,6 +124,7 @@ run_programs() {
     "${@:2}" "$work/causes"
     "${@:2}" "$work/cause_codes"
     "${@:2}" "$work/capacity" 64
+    "${@:2}" "$work/recording" "$work/recording.log"
     played=0
     for log in "${logs[@]}"; do
         compare_replay "$log" "${@:2}"
@@ -137,7 +138,7 @@ run_programs() {
 build_programs() {
     local name
     # shellcheck disable=SC2086 # words of one argument
-    for name in commands show key causes cause_codes credentials capacity; do
+    for name in commands show key causes cause_codes credentials capacity recording; do
         $1 "${options[@]}" -o "$work/$name" "$top/tests/c/$name.c" "${@:2}"
     done
 }

@@ -61,7 +61,8 @@ int main(int count, char **words)
         if (result.error != HIDLOG_ERR_BUFFER_TOO_SMALL)
             break;
         if (known != out_cap || result.line != 0 || result.status != HIDLOG_LOG_ERROR) {
-            fprintf(stderr, "show: a buffer of %zu bytes is not full\n", out_cap);
+            fprintf(stderr, "show: with capacity %zu: %zu bytes, line %llu and status %u with BUFFER_TOO_SMALL\n",
+                    out_cap, known, (unsigned long long)result.line, result.status);
             return 2;
         }
         out_cap = out_cap * 3 / 2;

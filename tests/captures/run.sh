@@ -10,5 +10,5 @@ if ! "$python" -c 'import cryptography, fido2.server, pytest' 2>/dev/null || ! c
     echo "python-fido2, pytest or tshark is missing (tests/run --install); nothing was run" >&2
     exit 3
 fi
-export PYTHONPATH=$PWD/../../python/src:$PWD/../../conformance PYTHONDONTWRITEBYTECODE=1
+export PYTHONPATH=$PWD/../../bindings/python/src:$PWD/../../conformance PYTHONDONTWRITEBYTECODE=1
 exec "$python" -m pytest -q -p no:cacheprovider "$@"

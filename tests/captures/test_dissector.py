@@ -17,7 +17,7 @@ from hidlog_conformance.session_cache import sessions_folder
 
 TOP = Path(__file__).resolve().parents[2]
 PROGRAM = TOP / "release" / "hidlog"
-DISSECTOR = TOP / "python" / "src" / "hidlog" / "captures" / "ctaphid.lua"
+DISSECTOR = TOP / "dissector" / "ctaphid.lua"
 FIELDS = (
     "frame.section_number",
     "usb.endpoint_address",

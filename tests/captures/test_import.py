@@ -9,10 +9,12 @@ from pathlib import Path
 
 import pytest
 from compare import find_difference, read_packets
+from test_export import LOGS
 from variants import Event, encode_pcap, encode_usbpcap, read_transfers, to_pcapng
 
 import hidlog
-from hidlog.captures import CaptureError, Recorded, read
+from hidlog.captures import CaptureError, Recorded, inference, log_writer, packet_store, read
+from hidlog.captures import to_pcapng as to_pcapng_of_log
 
 DATA = Path(__file__).resolve().parent / "data"
 SAME_PACKETS = "the same packets"
@@ -284,6 +286,63 @@ def test_an_unsupported_file_is_reported(data: bytes, message: str) -> None:
         read(data)
 
 
+def list_captures() -> list[bytes]:
+    """Returns the captures of real recorders, and some sessions as captures of an unknown program."""
+    captures = [path.read_bytes() for path in sorted(DATA.iterdir()) if path.suffix != ".log"]
+    sessions = [to_pcapng_of_log(log.read_bytes()).replace(b"hidlog", b"others") for log in LOGS[::5]]
+    return captures + [session for session in sessions if has_key(session)]
+
+
+def has_key(capture: bytes) -> bool:
+    try:
+        return bool(read(capture))
+    except CaptureError:
+        return False
+
+
+def test_replies_do_not_depend_on_how_many_packets_are_held(monkeypatch: pytest.MonkeyPatch) -> None:
+    """Inferring from the packets of one transaction at a time gives the same log as from the whole session."""
+    infer = inference.infer_replies
+    logs: list[list[bytes]] = []
+    captures = list_captures()
+    assert len(captures) > 150
+    for window in (1 << 30, 1, 10):
+        monkeypatch.setattr(log_writer, "infer_replies", lambda placed, window=window: infer(placed, window))
+        monkeypatch.setattr(inference, "_MAX_WINDOW", 1 << 30)
+        logs.append([found.log for capture in captures for found in read(capture)])
+    assert logs[0] == logs[1] == logs[2]
+    assert sum(log.count(b"# derived: ") for log in logs[0]) > 100
+
+
+def test_a_transaction_that_stays_open(monkeypatch: pytest.MonkeyPatch) -> None:
+    """With at most eight packets held, a longer transaction has fewer replies, and all its packets."""
+    captures = list_captures()
+    before = [found.log for capture in captures for found in read(capture)]
+    infer, replies, held = inference.infer_replies, inference._Replies, []
+
+    def count_held(placed: list[inference.Placed]) -> inference._Replies:
+        held.append(len(placed))
+        return replies(placed)
+
+    monkeypatch.setattr(log_writer, "infer_replies", lambda placed: infer(placed, 1))
+    monkeypatch.setattr(inference, "_MAX_WINDOW", 8)
+    monkeypatch.setattr(inference, "_Replies", count_held)
+    logs = [found.log for capture in captures for found in read(capture)]
+    assert max(held) == 8
+    assert [read_packets(log) for log in logs] == [read_packets(log) for log in before]
+    assert 0 < sum(log.count(b"# derived: ") for log in logs) < sum(log.count(b"# derived: ") for log in before)
+    assert all(hidlog.quiet(log).status == 0 for log in logs)
+
+
+def test_packets_in_a_file(monkeypatch: pytest.MonkeyPatch) -> None:
+    """Packets give the same log whether they are in memory or in a file, which is read in pieces of any length."""
+    before = [read(capture) for capture in list_captures()]
+    monkeypatch.setattr(packet_store, "_MAX_IN_MEMORY", 100)
+    for length in (1, 333):
+        monkeypatch.setattr(packet_store, "_BLOCK_BYTES", length)
+        assert [read(capture) for capture in list_captures()] == before
+
+
 def run_hidlog(*words: str | Path, standard_input: bytes = b"") -> subprocess.CompletedProcess[bytes]:
     command: list[str | Path] = [sys.executable, "-m", "hidlog", *words]
     return subprocess.run(command, input=standard_input, capture_output=True, check=False)
@@ -314,3 +373,10 @@ def test_several_keys_at_the_command(tmp_path: Path) -> None:
     ran = run_hidlog("import", file)
     assert ran.returncode == 2 and b"has several keys; select one, with --key 1 to 2\n  1 bus 1 device 3" in ran.stderr
     assert read_packets(run_hidlog("import", "--key", "2", file).stdout) == read_log("keyboard_beside")
+
+
+def test_a_session_log_is_no_capture() -> None:
+    log = DATA.parents[2] / "examples" / "registration.log"
+    ran = subprocess.run([sys.executable, "-m", "hidlog", "import", log], capture_output=True, text=True)
+    expected = f"hidlog import: {log}: it is a session log already: `hidlog show` and `hidlog judge` read it\n"
+    assert (ran.returncode, ran.stderr) == (2, expected)

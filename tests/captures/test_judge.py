@@ -2,6 +2,7 @@
 
 from __future__ import annotations
 
+import itertools
 import json
 import random
 import subprocess
@@ -13,9 +14,11 @@ from typing import Any
 from xml.etree import ElementTree
 
 import pytest
+from test_export import LOGS
 
 import hidlog
 import hidlog.judge
+from hidlog import quiet_parts
 from hidlog.captures import read
 from hidlog.judge import judge
 from hidlog.webauthn_json import b64url_encode
@@ -298,14 +301,45 @@ def count_lines_executed(log: bytes) -> int:
     return count
 
 
-def test_work_grows_as_the_log_does() -> None:
+def test_work_grows_as_the_log_does(monkeypatch: pytest.MonkeyPatch) -> None:
+    monkeypatch.setattr(quiet_parts, "_PART_BYTES", 1 << 14)  # each of these logs has several parts
     once, twice, fourfold = (count_lines_executed(record_sign_ins(count)) for count in (15, 30, 60))
     assert fourfold - twice <= 1.1 * 2 * (twice - once)
 
 
 def test_what_was_judged_is_not_kept() -> None:
-    recording = hidlog.judge._check_recording(record_sign_ins(20))
+    recording = hidlog.judge._check_recording([record_sign_ins(20)])
     assert recording.walk.count >= 60 and not recording.walk.entries and not recording.walk.open
+
+
+def test_a_log_is_checked_in_parts(monkeypatch: pytest.MonkeyPatch) -> None:
+    """Checking a session's transactions a few at a time gives the same findings, or error, as checking all at once."""
+
+    def check_log(log: bytes, length: int) -> Any:
+        monkeypatch.setattr(quiet_parts, "_PART_BYTES", length)
+        try:
+            recording = hidlog.judge._check_recording(log[at : at + length] for at in range(0, len(log), length))
+        except hidlog.LogError as error:
+            return str(error), vars(error)
+        return recording.findings, recording.walk.packets, recording.walk.count
+
+    logs = [path.read_bytes() for path in LOGS[::4]]
+    logs += [log.replace(b"\n", b"\n# power cycle\n", 9) for log in logs[:10]]
+    logs += [record_sign_ins(3) + end for end in (b"nothing\n", b"nothing")]
+    # A response of two packets that nothing asked for.
+    packets = (packet.ljust(64, b"\0") for packet in (bytes.fromhex("0000000190005000"), bytes.fromhex("0000000100")))
+    logs.append(b"t 1\n" + b"".join(b"< %s\n" % packet.hex().encode() for packet in packets))
+    whole = [check_log(log, 1 << 30) for log in logs]
+    assert [check_log(log, 200) for log in logs] == whole == [check_log(log, 1500) for log in logs]
+    assert sum(len(result[0]) for result in whole) > 500
+
+
+def test_a_part_is_checked_before_the_rest_is_read() -> None:
+    """A log of any length is held in parts."""
+    log, read = record_sign_ins(20), itertools.count()
+    pieces = (log for _ in zip(range(1000), read))
+    assert len(next(quiet_parts.iter_quiet_parts(pieces))) < 2 * quiet_parts._PART_BYTES
+    assert next(read) < 100
 
 
 def test_what_is_no_log() -> None:
@@ -324,3 +358,10 @@ def test_what_is_no_log() -> None:
     damaged = (DATA / "killed.pcapng").read_bytes()[:40] + bytes(90)
     assert b"no security key found in the capture" in run_judge("-", standard_input=damaged).stderr
     assert run_judge("nothing.log").stderr == b"hidlog judge: nothing.log: No such file or directory\n"
+
+
+def test_a_truncated_capture_is_said_first() -> None:
+    command = [sys.executable, "-m", "hidlog", "judge", str(DATA / "partly.killed.pcap")]
+    ran = subprocess.run(command, capture_output=True, text=True)
+    expected = "note: the capture is truncated in its last record: what came after it was not checked"
+    assert expected in ran.stdout.splitlines()

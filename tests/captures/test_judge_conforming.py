@@ -18,6 +18,7 @@ sys.path.append(str(Path(__file__).resolve().parents[2] / "conformance"))
 
 from hidlog_conformance import ctap_cbor, judged_report, keys  # noqa: E402
 from hidlog_conformance.hid_packets import fragment_message  # noqa: E402
+from hidlog_conformance.reference.credential import Attestor  # noqa: E402
 
 BROADCAST = 0xFFFFFFFF
 PING, MSG, LOCK, INIT, CBOR, CANCEL, KEEPALIVE, ERROR = 0x01, 0x03, 0x04, 0x06, 0x10, 0x11, 0x3B, 0x3F
@@ -210,9 +211,12 @@ def test_a_deleted_credential_is_not_excluded() -> None:
         )
 
 
-def u2f_registration_response(handle: bytes) -> bytes:
-    """Returns a U2F registration response; its public key, certificate and signature are not checked."""
-    return b"\5\4" + bytes(64) + bytes([len(handle)]) + handle + b"\x30\0" + b"\x90\0"
+def u2f_registration_response(handle: bytes, request: bytes = bytes(64), point: bytes = b"\4" + bytes(64)) -> bytes:
+    """Returns a response to a U2F registration, signed by an attestation key (U2F raw messages, 4.3)."""
+    attestor = Attestor()
+    signed = b"\0" + request[32:] + request[:32] + handle + point
+    registration = handle + attestor.certificate + attestor.sign(signed)
+    return b"\5" + point + bytes([len(handle)]) + bytes(registration) + b"\x90\0"
 
 
 @pytest.mark.parametrize("version, registers, wanted", [
@@ -240,7 +244,7 @@ def test_enterprise_attestation_of_a_key_that_does_not_know_it(version: str, wan
 
 
 @pytest.mark.parametrize("seconds, at, is_locked", [(5, 1000, True), (5, 9000, False), (0, 20, False)])
-@pytest.mark.parametrize("command, section", [(PING, "11.2.5.1"), (0x3C, "11.2.9.1.6")])
+@pytest.mark.parametrize("command, section", [(PING, "11.2.9.2.2"), (0x3C, "11.2.9.1.6")])
 def test_another_channel_has_the_lock(command: int, section: str, seconds: int, at: int, is_locked: bool) -> None:
     """11.2.9.2.2: as long as the lock is active, any other channel that tries to send a message fails."""
     log = Log().add_init().add_init(1, 2).add_request(10, 1, LOCK, bytes([seconds])).add_response(1, LOCK)
@@ -282,12 +286,12 @@ def test_what_a_recorder_lost_is_said_first() -> None:
     lost = (
         Log("# note: the recorder lost 3 packets").add_init().add_request(10, 1, PING, b"a").add_response(1, PING, b"b")
     )
-    found = judged_report.format_recording(_check_recording(lost.text)).splitlines()
+    found = judged_report.format_recording(_check_recording([lost.text])).splitlines()
     assert found[0].startswith("note: the recorder lost packets")
     assert found[1].startswith("line 6: the key violates MUST")
     gap = Log("# imported from a capture of USB: bus 1").add_init().add_request(10, 1, PING, b"a" * 200)
     gap = gap.add_response(1, PING, b"a" * 200, lost=2).add_init(2000, 2)
-    found = judged_report.format_recording(_check_recording(gap.text)).splitlines()
+    found = judged_report.format_recording(_check_recording([gap.text])).splitlines()
     assert found[0].startswith("note: the capture may have lost packets, since line 11 ")
 
 

@@ -1,4 +1,4 @@
-"""Runs the bridge of examples/uhid with a replacement of the kernel: a pair of sockets that keep message boundaries,
+"""Runs the bridge of bridges/uhid with a replacement of the kernel: a pair of sockets that keep message boundaries,
 like /dev/uhid. The tests of this folder write and read packets here as programs do."""
 
 from __future__ import annotations

@@ -3,7 +3,7 @@
 
     tests/clients/bridge_cases.py UHID [CHECKED]
 
-UHID is the compiled bridge of examples/uhid; CHECKED is compiled with sanitizers, for tests without strace. Needs
+UHID is the compiled bridge of bridges/uhid; CHECKED is compiled with sanitizers, for tests without strace. Needs
 strace and prlimit, but no kernel device, which bridge.py replaces. Exit status: 1 if a test fails.
 """
 

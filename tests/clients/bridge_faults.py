@@ -1,6 +1,6 @@
 #!/usr/bin/env python3
-"""Lets each system call of a bridge fail: the bridge of examples/uhid, while it registers, and the OpenSSH provider of
-examples/ssh, while it signs. Afterwards the state file must be the complete old or new one; the new one if a response
+"""Lets each system call of a bridge fail: the bridge of bridges/uhid, while it registers, and the OpenSSH provider of
+bridges/ssh, while it signs. Afterwards the state file must be the complete old or new one; the new one if a response
 was sent; and the exit status and message must say which.
 
     tests/clients/bridge_faults.py UHID SK_CALL [--all] [--jobs N]
@@ -62,7 +62,7 @@ def find_message_error(status: int, said: str, is_old: bool, place: injection.Pl
 
 
 class Uhid:
-    """Registrations with the bridge of examples/uhid."""
+    """Registrations with the bridge of bridges/uhid."""
 
     def __init__(self, program: str, old: bytes) -> None:
         self.program, self.old = program, old
@@ -122,7 +122,7 @@ def kill(pid: int) -> None:
 
 
 class Provider:
-    """Sign-ins with the provider of examples/ssh, each of which increments the counter."""
+    """Sign-ins with the provider of bridges/ssh, each of which increments the counter."""
 
     def __init__(self, program: str, old: bytes, handle: str) -> None:
         self.program, self.old, self.handle = program, old, handle

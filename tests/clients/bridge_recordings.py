@@ -1,5 +1,5 @@
 #!/usr/bin/env python3
-"""Tests the recordings of the bridge of examples/uhid; called by tests/clients/bridges.sh.
+"""Tests the recordings of the bridge of bridges/uhid; called by tests/clients/bridges.sh.
 
     tests/clients/bridge_recordings.py UHID [CHECKED]       as bridge_cases.py
 """

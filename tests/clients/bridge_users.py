@@ -3,7 +3,7 @@
 
     tests/clients/bridge_users.py UHID
 
-UHID is the compiled bridge of examples/uhid. bridge.py replaces the kernel's device. The statuses are those of
+UHID is the compiled bridge of bridges/uhid. bridge.py replaces the kernel's device. The statuses are those of
 docs/use/PROFILE.md: a denied registration and one that times out have the same status, and the recording shows
 which it was. Exit status: 1 if a test fails.
 """

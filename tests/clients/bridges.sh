@@ -1,6 +1,6 @@
 #!/usr/bin/env bash
-# Tests the bridges of examples/uhid and examples/ssh with bad files, system call failures and floods, and a replacement of
-# the kernel's device. Exits with 3 if something is missing.
+# Tests the bridges of bridges/uhid and bridges/ssh with bad files, system call failures and floods, and a replacement
+# of the kernel's device. Exits with 3 if something is missing.
 #
 #     tests/clients/bridges.sh          bridge_cases.py, bridge_recordings.py, and failures of each call that accesses files
 #     tests/clients/bridges.sh --all    failures of each system call
@@ -15,12 +15,12 @@ require_in_memory_key
 work=$(mktemp -d)
 trap 'rm -rf "$work"' EXIT
 chmod 755 "$work" # another user runs the bridge, too
-parts=("$top/examples/ssh/state.c" "$top"/examples/c/{virtual_key,private_file,software_keys,snapshot}.c)
-bridge=("$top"/examples/uhid/{uhid,turns,user,options}.c "${parts[@]}" "$library/libhidlog.a" -lcrypto)
-compile -I "$top/examples/ssh" -o "$work/uhid" "${bridge[@]}"
-compile -g -fsanitize=address,undefined -fno-sanitize-recover=all -I "$top/examples/ssh" -o "$work/uhid_checked" \
+parts=("$top/bridges/ssh/state.c" "$top"/examples/c/{virtual_key,private_file,software_keys,snapshot}.c)
+bridge=("$top"/bridges/uhid/{uhid,turns,user,options}.c "${parts[@]}" "$library/libhidlog.a" -lcrypto)
+compile -I "$top/bridges/ssh" -o "$work/uhid" "${bridge[@]}"
+compile -g -fsanitize=address,undefined -fno-sanitize-recover=all -I "$top/bridges/ssh" -o "$work/uhid_checked" \
     "${bridge[@]}"
-compile -I "$top/examples/ssh" -o "$work/sk_call" "$top/tests/clients/sk_call.c" "$top/examples/ssh/hidlog_sk.c" \
+compile -I "$top/bridges/ssh" -o "$work/sk_call" "$top/tests/clients/sk_call.c" "$top/bridges/ssh/hidlog_sk.c" \
     "$top/examples/c/fido_device.c" "${parts[@]}" "$library/libhidlog.a" -lfido2 -lcrypto
 python3 "$top/tests/clients/bridge_cases.py" "$work/uhid" "$work/uhid_checked"
 python3 "$top/tests/clients/bridge_recordings.py" "$work/uhid" "$work/uhid_checked"

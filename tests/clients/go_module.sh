@@ -1,6 +1,6 @@
 #!/usr/bin/env bash
-# Tests the Go module as in go/README.md: installs its file from a folder as a proxy into a new module, with the README's
-# test; then runs the module's tests and vet. Downloads nothing.
+# Tests the Go module as in bindings/go/README.md: installs its file from a folder as a proxy into a new module, with
+# the README's test; then runs the module's tests and vet. Downloads nothing.
 #
 #     tests/clients/go_module.sh PACKAGES FOLDER [arm64]      with arm64, also built for arm64 and run in qemu
 set -euo pipefail
@@ -17,17 +17,17 @@ cd "$work"
 cp "$packages"/hidlog-go-*.zip .
 file=$(basename hidlog-go-*.zip .zip)
 # The README's lines below "Install", up to the version, which is that of the file.
-sed -n '/^## Install/,/^## A test/s/^    //p' "$top/go/README.md" | grep -v '^go get' |
+sed -n '/^## Install/,/^## A test/s/^    //p' "$top/bindings/go/README.md" | grep -v '^go get' |
     sed "s/0\.2\.0/${file#hidlog-go-}/g" >install.sh
 # shellcheck disable=SC1091 # it is made here
 source install.sh
 mkdir -p example && cd example
 go mod init example 2>/dev/null
-awk '/^```/ { n++; next } n == 1' "$top/go/README.md" >sign_in_test.go
+awk '/^```/ { n++; next } n == 1' "$top/bindings/go/README.md" >sign_in_test.go
 go get "cogtzil.example/hidlog@v${file#hidlog-go-}" 2>/dev/null
 go test -v ./... >"$work/said" 2>&1 || { cat "$work/said" && exit 1; }
 grep -q 'send it to your service: {' "$work/said"
-unformatted=$(gofmt -l "$top/go")
+unformatted=$(gofmt -l "$top/bindings/go")
 [ -z "$unformatted" ] || { echo "gofmt: $unformatted" && exit 1; }
 (cd "$(go list -m -f '{{.Dir}}' cogtzil.example/hidlog)" && go vet . && go test -count=1 ./... | sed 's/^/Go module: /')
 if [ "${3-}" = arm64 ]; then

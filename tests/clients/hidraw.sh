@@ -1,7 +1,7 @@
 #!/usr/bin/env bash
-# Runs the conformance tests against a Linux kernel device: the key behind the bridge of examples/uhid, in a virtual machine,
-# as /dev/hidrawN. The bridge touches; hidraw_vm.sh unplugs and plugs in. Exits with 3 if something is missing. The virtual
-# machine and its variables are in machine.sh.
+# Runs the conformance tests against a Linux kernel device: the key behind the bridge of bridges/uhid, in a virtual
+# machine, as /dev/hidrawN. The bridge touches; hidraw_vm.sh unplugs and plugs in. Exits with 3 if something is missing.
+# The virtual machine and its variables are in machine.sh.
 #
 #     tests/clients/hidraw.sh            four cases with power cycles, one minute
 #     tests/clients/hidraw.sh all        all cases, a quarter of an hour: HIDLOG_SECONDS=3600

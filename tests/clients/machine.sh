@@ -1,5 +1,5 @@
 # shellcheck shell=bash
-# A virtual machine (software emulation, a Debian kernel, an initramfs made here) in which the bridge of examples/uhid
+# A virtual machine (software emulation, a Debian kernel, an initramfs made here) in which the bridge of bridges/uhid
 # provides the key as a kernel device. Source it after common.sh.
 #
 #     HIDLOG_KERNEL=FOLDER    an unpacked linux-image (default: the installed one, or the one that tests/run --install
@@ -65,16 +65,16 @@ copy_python() {
     copy_programs "${files[@]}" "$(find /usr/lib -name legacy.so -path '*ossl-modules*' | head -1)"
 }
 
-# Builds the machine: a kernel with its modules, busybox, and the bridge; the init program is a script of this folder: build
-# INIT
+# Builds the initramfs of the test's virtual machine: kernel modules, busybox and hidlog-uhid. INIT is the script of this
+# folder that runs as init: build_initramfs INIT
 build_initramfs() {
     local parts module file
     find_kernel
-    parts=("$top"/examples/uhid/{uhid,turns,user,options}.c "$top/examples/ssh/state.c"
+    parts=("$top"/bridges/uhid/{uhid,turns,user,options}.c "$top/bridges/ssh/state.c"
         "$top"/examples/c/{virtual_key,private_file,software_keys,snapshot}.c)
     mkdir -p "$root"/{bin,dev,etc/pam.d,modules,proc,root,sys,tmp}
-    # With address and undefined-behaviour sanitizers, which exit with a status of their own.
-    compile -g -fsanitize=address,undefined -fno-sanitize-recover=all -I "$top/examples/ssh" -o "$root/bin/uhid" \
+    # The sanitizers of addresses and undefined behaviour end the bridge at the first error, with a status other than 0.
+    compile -g -fsanitize=address,undefined -fno-sanitize-recover=all -I "$top/bridges/ssh" -o "$root/bin/uhid" \
         "${parts[@]}" "$library/libhidlog.a" -lcrypto
     cp "$(command -v busybox)" "$root/bin/busybox"
     ln -s busybox "$root/bin/sh"

@@ -1,7 +1,7 @@
 #!/usr/bin/env bash
 # Records clients with a kernel device, in a virtual machine, for the conformance tests: libfido2's tools, python-fido2,
-# OpenSSH and pam-u2f. Each recording is a log of the bridge of examples/uhid, with a key without credentials. Exits with 3
-# if something is missing. The virtual machine and its variables are in machine.sh.
+# OpenSSH and pam-u2f. Each recording is a log of the bridge of bridges/uhid, with a key without credentials. Exits with
+# 3 if something is missing. The virtual machine and its variables are in machine.sh.
 #
 #     tests/clients/record.sh FOLDER    write FOLDER/NAME.log, trimmed; conformance/recorded has those of the tests
 # shellcheck disable=SC1091,SC2154 # top, name, root, work and image are set by common.sh and machine.sh

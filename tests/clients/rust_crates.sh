@@ -1,6 +1,6 @@
 #!/usr/bin/env bash
-# Tests the Rust crates as in rust/hidlog/README.md: unpacks their files beside a new crate, with the README's test; then runs
-# the crate's tests, with and without OpenSSL, and clippy and rustfmt if installed. Downloads nothing.
+# Tests the Rust crates as in bindings/rust/hidlog/README.md: unpacks their files beside a new crate, with the README's
+# test; then runs the crate's tests, with and without OpenSSL, and clippy and rustfmt if installed. Downloads nothing.
 #
 #     tests/clients/rust_crates.sh PACKAGES FOLDER
 set -euo pipefail
@@ -12,11 +12,11 @@ export CARGO_TARGET_DIR=$work/target CARGO_NET_OFFLINE=true CARGO_BUILD_JOBS=2 H
 cd "$work"
 cp "$packages"/*.crate .
 version=$(basename hidlog-sys-*.crate .crate)
-sed -n '/^## Install/,/^## A test/s/^    //p' "$top/rust/hidlog/README.md" |
+sed -n '/^## Install/,/^## A test/s/^    //p' "$top/bindings/rust/hidlog/README.md" |
     sed "s/0\.2\.0/${version#hidlog-sys-}/g; s/cargo new/& --quiet --vcs none/" >install.sh
 # shellcheck disable=SC1091 # it is made here
 source install.sh
-awk '/^```/ { n++; next } n == 1' "$top/rust/hidlog/README.md" >src/lib.rs
+awk '/^```/ { n++; next } n == 1' "$top/bindings/rust/hidlog/README.md" >src/lib.rs
 cargo test --quiet --offline -- --nocapture >"$work/said" 2>&1 || { cat "$work/said" && exit 1; }
 grep -q 'send it to your service: {' "$work/said"
 cd "$work/hidlog-${version#hidlog-sys-}"
@@ -30,6 +30,6 @@ if cargo clippy --version >/dev/null 2>&1; then
     cargo clippy --quiet --offline --all-targets -- -D warnings -A unknown-lints -A clippy::format-collect
 fi
 if cargo fmt --version >/dev/null 2>&1; then
-    (cd "$top/rust/hidlog-sys" && cargo fmt --check) && (cd "$top/rust/hidlog" && cargo fmt --check)
-    rm -f "$top"/rust/*/Cargo.lock
+    (cd "$top/bindings/rust/hidlog-sys" && cargo fmt --check) && (cd "$top/bindings/rust/hidlog" && cargo fmt --check)
+    rm -f "$top"/bindings/rust/*/Cargo.lock
 fi

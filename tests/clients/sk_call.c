@@ -1,4 +1,4 @@
-// Calls OpenSSH's provider of examples/ssh as ssh-sk-helper does, for tests/clients/bridge_faults.py:
+// Calls OpenSSH's provider of bridges/ssh as ssh-sk-helper does, for tests/clients/bridge_faults.py:
 //
 //     sk_call enroll         prints the key handle in hex
 //     sk_call sign HANDLE    prints the signature's counter

@@ -1,6 +1,6 @@
 #!/usr/bin/env bash
-# Tests OpenSSH with a software key: builds libhidlog_sk.so of examples/ssh, makes keys with ssh-keygen, signs in to an sshd
-# on the loopback address, lists resident keys. Exits with 3 if something is missing.
+# Tests OpenSSH with a software key: builds libhidlog_sk.so of bridges/ssh, makes keys with ssh-keygen, signs in to an
+# sshd on the loopback address, lists resident keys. Exits with 3 if something is missing.
 # shellcheck disable=SC1091,SC2154 # top, name and library are set by common.sh
 set -euo pipefail
 source "$(dirname "${BASH_SOURCE[0]}")/common.sh"
@@ -34,7 +34,7 @@ stop_server() {
 trap stop_server EXIT
 cd "$work"
 echo "$name: OpenSSH client $(print_version openssh-client), server $(print_version openssh-server), libfido2 $(print_version libfido2-dev)"
-parts=("$top"/examples/ssh/{hidlog_sk,state}.c
+parts=("$top"/bridges/ssh/{hidlog_sk,state}.c
     "$top"/examples/c/{fido_device,virtual_key,private_file,software_keys,snapshot}.c)
 compile -shared -fPIC -fvisibility=hidden -o libhidlog_sk.so "${parts[@]}" "$library/libhidlog.a" \
     -Wl,--exclude-libs,ALL -lfido2 -lcrypto

@@ -1,5 +1,5 @@
 #!/usr/bin/env bash
-# Tests the key as a Linux kernel device: builds the bridge of examples/uhid and runs it in a virtual machine (software
+# Tests the key as a Linux kernel device: builds the bridge of bridges/uhid and runs it in a virtual machine (software
 # emulation, a Debian kernel, an initramfs made here), where libfido2's tools, ssh-keygen and pam-u2f register and sign in;
 # the cases are in uhid_vm.sh. The host's /dev/uhid is not used. Takes 90 s on an idle machine. Exits with 3 if something is
 # missing. The virtual machine is in machine.sh.

@@ -118,7 +118,8 @@ create_ssh_key() {
     ssh-keygen -q -t ecdsa-sk -N '' -C hidlog -f id && echo "hidlog $(cat id.pub)" >signers && echo a text >text
 }
 
-# Writes pam-u2f's file of a user with a credential, and the public key of a second one: write_pam_file NAME NAME
+# Writes pam-u2f's authfile, with root's credential ID of one credential and the public key of another, and a PAM service
+# that uses it: write_pam_file ID_OF KEY_OF
 write_pam_file() {
     printf 'root:%s,%s,es256,+presence\n' "$(head -1 "$1.public")" \
         "$(grep -v -- ---- "$2.pem" | base64 -d | tail -c 64 | base64 -w 0)" >authfile

@@ -87,7 +87,7 @@ run_fuzzer() {
     key) run_libfuzzer key 4096 ;;
     log) run_libfuzzer log 16384 ;;
     state)
-        run_libfuzzer state 29000 -I "$examples/c" -I "$examples/ssh" "$examples/ssh/state.c" \
+        run_libfuzzer state 29000 -I "$examples/c" -I "$top/bridges/ssh" "$top/bridges/ssh/state.c" \
             "$examples"/c/{virtual_key,private_file,software_keys,snapshot}.c -lcrypto
         ;;
     readers) "$top/tests/fuzz/readers.py" --seconds "$seconds" --keep "$found/readers" ;;

@@ -15,7 +15,7 @@ MAX_TIME = 2**64 - 1
 RP_IDS = ("a.example", "b.example", "c.example")
 
 
-def head(major, value):
+def head(major: int, value: int) -> bytes:
     """Returns the shortest head of a data item."""
     for extra, most in ((24, 2**8), (25, 2**16), (26, 2**32), (27, 2**64)):
         if value < 24:

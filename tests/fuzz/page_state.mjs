@@ -1,16 +1,16 @@
-// Fuzzes the stored state of a key in a page: JSON (web/key/state.js), in node. Mutated states are refused with the key's own
-// errors, or give a key with a valid state. Guided by V8's block coverage.
+// Fuzzes the stored state of a key in a page: JSON (bindings/web/key/state.js), in node. Mutated states are refused
+// with the key's own errors, or give a key with a valid state. Guided by V8's block coverage.
 //
 //     node tests/fuzz/page_state.mjs [SECONDS [SEED]]    default: 10 seconds
 //
 // Exit status: 1 on a finding that is not in the table of known ones.
 import { Session } from "node:inspector/promises";
-import { SecurityKey } from "../../web/dist/security_key.mjs";
+import { SecurityKey } from "../../bindings/web/dist/security_key.mjs";
 
 /** Known findings, as patterns. One that does not occur within a minute is reported. */
 const KNOWN_FINDINGS = new Map([]);
 const SECONDS_PER_MINUTE = 60;
-const KEY_SCRIPT_PATH = "/web/dist/security_key";
+const KEY_SCRIPT_PATH = "/bindings/web/dist/security_key";
 /** V8's errors about unexpected values. */
 const UNEXPECTED_ERROR = /^Cannot |is not (a function|iterable|a constructor|defined|an object)|^Invalid array|call stack|^Reduce of/u;
 const REPLACEMENT_VALUES = [

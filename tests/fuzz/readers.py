@@ -20,8 +20,8 @@ from pathlib import Path
 from typing import Any, Callable, Iterable, NamedTuple
 
 TOP = Path(__file__).resolve().parents[2]
-PACKAGE, CONFORMANCE = TOP / "python" / "src" / "hidlog", TOP / "conformance" / "hidlog_conformance"
-sys.path[:0] = [str(TOP / "python" / "src"), str(TOP / "conformance")]
+PACKAGE, CONFORMANCE = TOP / "bindings" / "python" / "src" / "hidlog", TOP / "conformance" / "hidlog_conformance"
+sys.path[:0] = [str(TOP / "bindings" / "python" / "src"), str(TOP / "conformance")]
 
 import hidlog  # noqa: E402
 from guided import Edges, Fuzzer, Target  # noqa: E402

@@ -1,4 +1,4 @@
-// A libFuzzer target for the state files of the bridges (examples/ssh/state.c): a rejected file has an error message,
+// A libFuzzer target for the state files of the bridges (bridges/ssh/state.c): a rejected file has an error message,
 // and a valid one is written again as the same key. tests/fuzz/guided.sh builds it.
 #include "state.h"
 

@@ -104,7 +104,8 @@ int main(int count, char **words) {
         fork_children();
     }
     if (failures != 0) {
-        fprintf(stderr, "concurrency: %d rounds differ\n", (int)failures);
+        fprintf(stderr, "concurrency: %d runs failed, or their output differs from that of a single thread\n",
+                (int)failures);
     }
     return failures != 0;
 }

@@ -7,17 +7,19 @@
 
 Every record of all_commands.c must be that of the proved library, byte for byte, and those of the commands that of the
 proved program. Then come the programs of tests/c, tests of threads, fork, memory and two libraries in one process, and
-the program. Without --quick it takes about 15 minutes on one core; with it less than 2. Targets with a missing compiler
+the program. Without --quick it takes about 20 minutes on one core; with it less than 2. Targets with a missing compiler
 or emulator are named and skipped; without wabt or gcc it ends with 3.
 """
 
 from __future__ import annotations
 
 import argparse
+import io
 import os
 import shutil
 import subprocess
 import sys
+import tarfile
 import tempfile
 from collections.abc import Iterator
 from contextlib import ExitStack
@@ -35,6 +37,7 @@ from malformed_requests import hostile_log
 SNAPSHOT = TOP / "examples/example_com.snapshot"
 SIGN_IN = TOP / "examples/sign_in.log"
 QUICK_COUNT = 150
+MAX_DISTRIBUTION = 1_000_000
 WARNINGS = ["-std=c11", "-Wall", "-Wextra", "-Wpedantic", "-Werror"]
 
 
@@ -77,12 +80,17 @@ class ComparisonError(Exception):
 
 
 def run(words: list[str | Path], data: bytes = b"", expected: int = 0) -> bytes:
-    """Runs a command, and returns its output."""
-    ran = subprocess.run(list(map(str, words)), input=data, capture_output=True)
-    if ran.returncode != expected:
-        text = (ran.stdout[-2000:] + ran.stderr[-2000:]).decode(errors="replace")
-        raise ComparisonError(f"{' '.join(map(str, words))} ended with {ran.returncode}, expected {expected}:\n{text}")
-    return ran.stdout
+    """Runs a command, and returns its output. This is written to files, since wine's services keep pipes open."""
+    with tempfile.TemporaryFile() as output, tempfile.TemporaryFile() as errors:
+        ran = subprocess.run(list(map(str, words)), input=data, stdout=output, stderr=errors)
+        output.seek(0)
+        errors.seek(0)
+        written = output.read()
+        if ran.returncode != expected:
+            text = (written[-2000:] + errors.read()[-2000:]).decode(errors="replace")
+            command = " ".join(map(str, words))
+            raise ComparisonError(f"{command} ended with {ran.returncode}, expected {expected}:\n{text}")
+    return written
 
 
 def list_logs(count: int) -> dict[str, bytes]:
@@ -266,6 +274,15 @@ def test_byte_order(sources: Path) -> None:
         raise ComparisonError(f"a big-endian machine is not refused: {ran.stderr}")
 
 
+def test_size(sources: Path) -> None:
+    """The source distribution has less than a megabyte."""
+    packed = io.BytesIO()
+    with tarfile.open(fileobj=packed, mode="w:gz") as archive:
+        archive.add(sources, "hidlog")
+    if (size := len(packed.getvalue())) >= MAX_DISTRIBUTION:
+        raise ComparisonError(f"the source distribution has {size} bytes, at most {MAX_DISTRIBUTION} expected")
+
+
 def test_syntax(sources: Path) -> None:
     """The library has no warning of clang for systems that nothing here runs, except about padding and C89."""
     words = ["clang", "-std=c11", "-ffreestanding", "-fsyntax-only", "-Weverything", "-Werror"]
@@ -301,8 +318,9 @@ def main() -> int:
         sources, native = Path(folder, "sources"), Path(folder, "native")
         native.mkdir()
         try:
-            run([TOP / "portable/sources.sh", sources])
+            run([TOP / "bindings/c/sources.sh", sources])
             test_byte_order(sources)
+            test_size(sources)
             if not options.quick and shutil.which("clang"):
                 test_syntax(sources)
             logs = list_logs(QUICK_COUNT if options.quick else options.count)

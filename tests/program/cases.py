@@ -28,6 +28,7 @@ from modified_logs import (
 )
 from snapshots import (
     test_each_byte_of_snapshot_changed,
+    test_long_snapshots,
     test_snapshots_are_loaded_or_refused,
     test_snapshots_are_saved_as_version_2,
 )
@@ -192,6 +193,7 @@ TESTS = [
     test_large_heads_long_keys_and_deep_values,
     test_three_hosts_in_every_order,
     test_each_byte_of_requests_changed,
+    test_long_snapshots,
     test_snapshots_are_loaded_or_refused,
     test_snapshots_are_saved_as_version_2,
     test_each_byte_of_snapshot_changed,

@@ -26,7 +26,7 @@ EXAMPLES = TOP / "examples"
 CAPTURE = TOP / "tests/captures/data/python_cancel.pcapng"
 ENVIRONMENT = {
     "PATH": os.environ["PATH"],
-    "PYTHONPATH": f"{TOP / 'python/src'}:{TOP / 'conformance'}",
+    "PYTHONPATH": f"{TOP / 'bindings/python/src'}:{TOP / 'conformance'}",
     "PYTHONDONTWRITEBYTECODE": "1",
     "PYTHONHASHSEED": "0",
     "HIDLOG_PROGRAM": str(TOP / "release/hidlog"),

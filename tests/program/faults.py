@@ -64,7 +64,11 @@ class Run:
             return subprocess.run(command, stdin=log, capture_output=True, timeout=600, env=ENVIRONMENT)
 
 
-ENVIRONMENT = {"PATH": os.environ["PATH"], "PYTHONPATH": str(TOP / "python/src"), "PYTHONDONTWRITEBYTECODE": "1"}
+ENVIRONMENT = {
+    "PATH": os.environ["PATH"],
+    "PYTHONPATH": str(TOP / "bindings/python/src"),
+    "PYTHONDONTWRITEBYTECODE": "1",
+}
 
 
 def find_file_error(run: Run, program: str, folder: Path, new: bytes, status: int, said: str) -> Optional[str]:

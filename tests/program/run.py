@@ -732,7 +732,7 @@ def run_at_terminal(words: Sequence[str], typed: bytes) -> bytes:
 
 
 def test_terminal_prompt(_: Path) -> None:
-    """If standard input is a terminal, the explained form prints once that the program waits for input."""
+    """With --explain and a terminal as standard input, one note says that the program waits for input."""
     awaited = b"hidlog: reading a log from the terminal; end it with Ctrl-D\n"
     for words in (["replay"], ["live"], ["check"], ["quiet"], ["show"], ["show", "-"]):
         assert run_at_terminal([*words, "--explain"], b"t 5\nt 6\n") == awaited, words

@@ -7,10 +7,17 @@ outside of this repository. The bytes are changed one by one for the C library, 
 from __future__ import annotations
 
 import ctypes
+import sys
 from pathlib import Path
 from typing import Optional, Tuple, Union
 
 from running import COUNTS, TOP, run, run_explained
+
+sys.path.insert(0, str(Path(__file__).resolve().parents[1] / "fuzz"))
+from malformed_requests import head
+
+# The major type of arrays (RFC 8949, section 3.1).
+ARRAY = 4
 
 NOT_SNAPSHOT, TOO_MANY, ROW_BROKEN = 1, 2, 3
 # The number of the error, and the beginning of its reason or reasons.
@@ -177,6 +184,45 @@ def test_snapshots_are_loaded_or_refused(work_dir: Path) -> None:
     """Bytes that are not snapshots, too many rows, and invalid rows."""
     for text, wanted in LOADED:
         check_load(work_dir, text, wanted, text.count(COORDINATES))
+
+
+def long_row(number: int, name_length: int = 64) -> bytes:
+    """Returns a discoverable row with a credential ID of its own, a user handle of 64 bytes and this user name."""
+    row = b"\xa8" + RP_AND_ID[:-31] + number.to_bytes(32, "big") + COORDINATES[:-1]
+    row += b"\x58\x40" + number.to_bytes(64, "big") + EXHAUSTED_COUNTER
+    return row + b"\x08\x78" + bytes([name_length]) + b"n" * name_length
+
+
+def test_long_snapshots(work_dir: Path) -> None:
+    """The longest snapshot is loaded and saved unchanged; longer ones have too many rows, however long they are. A
+    file that can't be a snapshot of any key isn't read whole."""
+    old, new = work_dir / "old", work_dir / "new"
+    full = b"\xa2\x01\x02\x02" + head(ARRAY, 64) + b"".join(long_row(number) for number in range(64))
+    check_load(work_dir, full, None, 64)
+    said = run(["replay", "--load", str(old), "--save", str(new)])
+    assert said.returncode == 0 and new.read_bytes() == full
+    for count in (65, 3000, 4000):
+        rows = b"".join(long_row(number) for number in range(count))
+        check_load(work_dir, b"\xa2\x01\x02\x02" + head(ARRAY, count) + rows, (TOO_MANY, "more than 64"), count)
+    # One byte more than 1 MiB, by the length of some names.
+    rest = (1 << 20) + 1 - 7
+    lengths = [64] * (rest // len(long_row(0)) + 1)
+    excess = len(lengths) * len(long_row(0)) - rest
+    for number in range(8):
+        cut = min(excess, 40)
+        lengths[number] -= cut
+        excess -= cut
+    text = b"\xa2\x01\x02\x02" + head(ARRAY, len(lengths))
+    text += b"".join(long_row(number, length) for number, length in enumerate(lengths))
+    assert len(text) == (1 << 20) + 1, len(text)
+    check_load(work_dir, text, (TOO_MANY, "more than 64"), len(lengths))
+    with open(old, "wb") as file:
+        file.truncate((1 << 26) + 1)
+    said = run_explained(["replay", "--load", str(old)])
+    assert said.returncode == 2 and said.stdout == b""
+    assert (
+        said.stderr == f"hidlog: cannot read snapshot\n  {old}: it is longer than any snapshot\n".encode()
+    ), said.stderr
 
 
 def test_snapshots_are_saved_as_version_2(work_dir: Path) -> None:

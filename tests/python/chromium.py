@@ -1,4 +1,4 @@
-"""Chromium, driven by chromedriver, with a page on http://localhost that loads the key of web/dist."""
+"""Chromium, driven by chromedriver, with a page on http://localhost that loads the key of bindings/web/dist."""
 
 from __future__ import annotations
 
@@ -16,7 +16,7 @@ from http.server import BaseHTTPRequestHandler, ThreadingHTTPServer
 from pathlib import Path
 from typing import Any
 
-KEY_SCRIPT = Path(os.environ["HIDLOG_EXAMPLES"]).parent / "web" / "dist" / "security_key.js"
+KEY_SCRIPT = Path(os.environ["HIDLOG_EXAMPLES"]).parent / "bindings" / "web" / "dist" / "security_key.js"
 
 
 class Page(BaseHTTPRequestHandler):

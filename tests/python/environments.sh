@@ -231,7 +231,7 @@ test_aarch64() {
 
 "$system" -c 'import cryptography, hatchling, pytest, venv' 2>/dev/null ||
     { echo "hatchling, cryptography, pytest or venv is missing (tests/run --install); nothing was run" >&2; exit 3; }
-"$top/python/build.sh" "$work/dist" >/dev/null || exit 1
+"$top/bindings/python/build.sh" "$work/dist" >/dev/null || exit 1
 mkdir -p "$work/tests"
 cp "$here"/*.py "$here"/*.json "$work/tests"
 export HIDLOG_DIST=$work/dist

@@ -11,6 +11,7 @@ from typing import Any
 from chromium import Driver
 
 import hidlog
+from hidlog import cbor
 from hidlog.webauthn_json import b64url_decode, b64url_encode
 
 Case = dict[str, Any]
@@ -19,6 +20,8 @@ Json = dict[str, Any]
 Call = Callable[[str, Any, Json], Json]
 TABLE = json.loads(Path(__file__).with_name("browser_cases.json").read_text(encoding="utf-8"))
 CASES: dict[str, Case] = {item["name"]: item for item in TABLE["cases"]}
+# Cases of a key that has what Chromium's authenticator has outside the core.
+ALIKE: dict[str, Case] = {item["name"]: item for item in TABLE["alike"]}
 # Milliseconds after which Chromium is considered to wait forever.
 WAIT_MS = 1500
 UV = 0x04
@@ -64,7 +67,7 @@ def _fill_options(value: Any, ids: list[str]) -> Any:
     if isinstance(value, dict) and "$repeat" in value:
         return [{"type": "public-key", "id": b64url_encode(bytes([index, 255]))} for index in range(value["$repeat"])]
     if isinstance(value, dict):
-        return {name: _fill_options(member, ids) for name, member in value.items()}
+        return {_fill_options(name, ids): _fill_options(member, ids) for name, member in value.items()}
     if isinstance(value, list):
         return [_fill_options(item, ids) for item in value]
     return ids[int(value[1:])] if isinstance(value, str) and value.startswith("$") else value
@@ -97,7 +100,8 @@ def run_calls(call: Call, case: Case, fail: Callable[[], Any] = lambda: None) ->
         answer = call(case["call"], _make_options(case, ids), more)
     except (hidlog.WebAuthnError, ServiceError) as error:
         return {"error": error.name}
-    return {"seen": select_members(answer, ids)}
+    seen = select_members(answer, ids)
+    return {"seen": {**seen, **select_outside(answer)} if case["name"] in ALIKE else seen}
 
 
 def select_members(answer: Json, ids: list[str]) -> Json:
@@ -116,6 +120,35 @@ def select_members(answer: Json, ids: list[str]) -> Json:
     shown["rawId"] = shown["id"] if answer["rawId"] == answer["id"] else "another"
     is_own = auth_data[:32] == sha256(b"localhost").digest()
     return {**shown, "clientData": client_data, "flags": auth_data[32], "isForLocalhost": is_own}
+
+
+def select_outside(answer: Json) -> Json:
+    """Returns what a response has outside the core: attestation, AAGUID and extensions, without random values."""
+    auth_data = b64url_decode(answer["response"]["authenticatorData"])
+    rest = auth_data[37:]
+    seen: Json = {}
+    if auth_data[32] & 0x40:
+        attestation = cbor.decode(b64url_decode(answer["response"]["attestationObject"]))
+        end = 18 + int.from_bytes(rest[16:18], "big")
+        cose, after = cbor.decode_first(rest[end:])
+        statement = {name: len(member) if name == "x5c" else "any" for name, member in attestation["attStmt"].items()}
+        seen = {
+            "fmt": attestation["fmt"],
+            "attStmt": statement,
+            "aaguid": rest[:16].hex(),
+            "kty": cose[1],
+            "alg": cose[3],
+        }
+        rest = after
+    outputs: Json = cbor.decode(rest) if rest else {}
+    shown = {name: value.hex() if isinstance(value, bytes) else value for name, value in outputs.items()}
+    results = dict(answer["clientExtensionResults"])
+    if "results" in results.get("prf", {}):
+        values = results["prf"]["results"]
+        is_same = len(set(values.values())) < len(values)
+        lengths = {name: len(b64url_decode(value)) for name, value in values.items()}
+        results["prf"] = {**results["prf"], "results": lengths, "isSame": is_same}
+    return {**seen, "outputs": shown, "clientExtensionResults": results}
 
 
 def run_with_package(case: Case) -> Json:
@@ -148,7 +181,12 @@ def _make_page_call(driver: Driver) -> Call:
 def to_devtools_options(key: Json) -> Json:
     """Returns the options of a virtual authenticator that corresponds to a key."""
     verification = key.get("verification", "none")
+    names = {"prf": "hasPrf", "largeBlob": "hasLargeBlob", "credBlob": "hasCredBlob", "minPinLength": "hasMinPinLength"}
+    extensions: Json = {names[name]: True for name in key.get("extensions", [])}
+    if extensions:
+        extensions["ctap2Version"] = "ctap2_1"
     return {
+        **extensions,
         "protocol": "ctap2",
         "transport": "internal" if key.get("attachment") == "platform" else "usb",
         "hasResidentKey": key.get("has_resident_key", True),
@@ -188,9 +226,10 @@ def _to_result(case: Case, driver: Driver, made: Json) -> Json:
 
 def run_with_page_key(case: Case, driver: Driver) -> Json | str:
     """Runs a case with the key in a page. Returns the reason if the page's key can't run it."""
-    refused = driver.run(
-        INSTALL_SCRIPT, to_devtools_options(case.get("key", {})), case.get("presence", "granted"), waits=True
-    )
+    key = case.get("key", {})
+    outside = {name: key[name] for name in ("attestation", "aaguid", "algorithms", "autofill") if name in key}
+    options = {**to_devtools_options(key), **outside}
+    refused = driver.run(INSTALL_SCRIPT, options, case.get("presence", "granted"), waits=True)
     if refused:
         return str(refused)
     if case.get("before") and "presence" in case:

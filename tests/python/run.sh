@@ -18,7 +18,7 @@ if ! "$python" -c 'import cryptography, fido2.server, hatchling, pytest, venv' 2
 fi
 work=$(mktemp -d)
 trap 'rm -rf "$work"' EXIT
-"$top/python/build.sh" "$work/dist"
+"$top/bindings/python/build.sh" "$work/dist"
 "$python" -m venv --system-site-packages "$work/venv"
 "$work/venv/bin/pip" install --quiet --no-index --no-deps "$work"/dist/*x86_64.whl
 # The tests run outside the clone, so that only the installed package is found.

@@ -62,7 +62,7 @@ def test_origins_are_written_as_browsers_do(given: str, origin: str) -> None:
     [
         ("https://example.com/login", "its origin is https://example.com"),
         ("https://ann@example.com", "its origin is https://example.com"),
-        ("example.com", "is not an origin; it is like https://example.com"),
+        ("example.com", "is not an origin; expected one like https://example.com"),
         ("ftp://example.com", "is not an origin"),
         ("https://example.com:port", "is not an origin"),
         ("https://exa mple.com", "is not an origin"),
@@ -320,7 +320,7 @@ def test_asyncio(make: Make) -> None:
     key = make()
     browser = key.browser("https://example.com")
 
-    async def both() -> None:
+    async def create_and_get() -> None:
         made = await asyncio.gather(*(browser.acreate(make_creation_options(f"user {index}")) for index in range(8)))
         assert len({element["id"] for element in made}) == 8
         assert (await browser.aget(REQUEST_OPTIONS, "user 3"))["id"] in {item["id"] for item in made}
@@ -333,7 +333,7 @@ def test_asyncio(make: Make) -> None:
         key.presence = "granted"
         assert (await browser.aget(REQUEST_OPTIONS))["type"] == "public-key"
 
-    asyncio.run(both())
+    asyncio.run(create_and_get())
     assert len(key.credentials) == 8
 
 

@@ -10,6 +10,8 @@ with an installed Chromium, and HIDLOG_RECORD_CASES=1 records them again. The me
     then                     "failed": after the earlier registrations, user verification fails
     mediation, wrapped       the call's mediation; options in a member publicKey
     differs                  why Chromium's authenticator returns a different result
+
+The cases of `alike` are of keys with what Chromium's authenticator has outside the core, and compare that, too.
 """
 
 from __future__ import annotations
@@ -22,7 +24,7 @@ from typing import Any
 
 import pytest
 from chromium import Driver, is_installed, page
-from implementations import CASES, TABLE, run_with_chromium, run_with_package, run_with_page_key
+from implementations import ALIKE, CASES, TABLE, run_with_chromium, run_with_package, run_with_page_key
 
 IS_RECORDING = os.environ.get("HIDLOG_RECORD_CASES")
 HERE = Path(__file__).parent
@@ -32,35 +34,39 @@ CHROMIUM_RESULTS: dict[str, Any] = {} if IS_RECORDING else json.loads(CHROMIUM_R
 
 @pytest.fixture(scope="module")
 def driver() -> Iterator[Driver]:
-    """Provides a page that loads the key of web/dist."""
+    """Provides a page that loads the key of bindings/web/dist."""
     if not is_installed():
         pytest.skip("chromedriver is missing (apt-get install chromium-driver)")
     with page() as made:
         yield made
 
 
+ALL_CASES = {**CASES, **ALIKE}
+
+
 def is_compared(name: str) -> bool:
     """Returns whether a case is compared with Chromium, whose user can't deny."""
-    return "presence" not in CASES[name]
+    return "presence" not in ALL_CASES[name]
 
 
 def test_the_table_is_large() -> None:
     assert len(CASES) == len(TABLE["cases"]) >= 190
+    assert len(ALIKE) == len(TABLE["alike"]) >= 70
 
 
-@pytest.mark.parametrize("name", CASES)
+@pytest.mark.parametrize("name", ALL_CASES)
 def test_the_browser(name: str) -> None:
-    ended = run_with_package(CASES[name])
+    ended = run_with_package(ALL_CASES[name])
     if not is_compared(name):
         assert ended == {"error": "NotAllowedError"}
-    elif "differs" in CASES[name]:
+    elif "differs" in ALL_CASES[name]:
         assert ended != CHROMIUM_RESULTS[name]
     else:
         assert ended == CHROMIUM_RESULTS[name]
 
 
 def test_chromium_returns_what_is_recorded(driver: Driver) -> None:
-    found = {name: run_with_chromium(case, driver) for name, case in CASES.items() if is_compared(name)}
+    found = {name: run_with_chromium(case, driver) for name, case in ALL_CASES.items() if is_compared(name)}
     if IS_RECORDING:
         lines = [f" {json.dumps(name)}: {json.dumps(result)}" for name, result in found.items()]
         Path(IS_RECORDING).write_text("{\n" + ",\n".join(lines) + "\n}\n", encoding="utf-8")
@@ -69,11 +75,11 @@ def test_chromium_returns_what_is_recorded(driver: Driver) -> None:
 
 def test_the_key_in_a_page_returns_the_same(driver: Driver) -> None:
     different, missing = {}, {}
-    for name, case in CASES.items():
+    for name, case in ALL_CASES.items():
         theirs = run_with_page_key(case, driver)
         if isinstance(theirs, str):
             missing[name] = theirs
         elif theirs != run_with_package(case):
             different[name] = (theirs, run_with_package(case))
     assert different == {}
-    assert len(missing) < len(CASES) / 8, missing
+    assert len(missing) < len(ALL_CASES) / 8, missing

@@ -2,15 +2,18 @@
 
 from __future__ import annotations
 
+import asyncio
+import importlib
 import json
 import os
 import pickle
 import signal
 import subprocess
 import sys
+import threading
 import xml.etree.ElementTree as xml
 from collections.abc import Iterator
-from concurrent.futures import BrokenExecutor, ProcessPoolExecutor, ThreadPoolExecutor
+from concurrent.futures import BrokenExecutor, Executor, Future, ProcessPoolExecutor, ThreadPoolExecutor
 from pathlib import Path
 from typing import Any
 
@@ -112,12 +115,113 @@ def test_dask(recordings: list[Path]) -> None:
         assert summarize(iter(found)) == check_each(recordings)
 
 
+class LostResult:
+    """A future of Dask whose worker died after its result was read."""
+
+    status = "lost"
+
+    async def _result(self, raiseit: bool) -> list[str]:
+        return ["a", "b", "c", "d", "e"]
+
+
+class LosingExecutor(Executor):
+    """Loses the first result as Dask's executor does."""
+
+    def __init__(self) -> None:
+        self.threads, self.is_first = ThreadPoolExecutor(1), True
+
+    def submit(self, *words: Any, **named: Any) -> Future[Any]:
+        if not self.is_first:
+            return self.threads.submit(*words, **named)
+        self.is_first = False
+        future: Future[Any] = Future()
+        cfexecutor = importlib.import_module("distributed.cfexecutor")
+
+        async def pass_on() -> None:
+            await cfexecutor._cascade_future(LostResult(), future)
+
+        asyncio.run(pass_on())
+        return future
+
+
+def test_lost_result_of_dask(recordings: list[Path]) -> None:
+    """A batch whose result Dask loses is checked again."""
+    pytest.importorskip("distributed")
+    assert summarize(hidlog.check_many(recordings, LosingExecutor(), block=5)) == check_each(recordings)
+
+
+BUSY_TOGETHER = 64
+# Each of 64 tasks waits for the others, so that all of them pass only if they run at the same time.
+BARRIER = threading.Barrier(BUSY_TOGETHER)
+
+
+def meet_and_check(block: list[Any], **words: Any) -> list[hidlog.CheckResult]:
+    """Checks a batch as soon as 64 workers have one."""
+    BARRIER.wait(timeout=300)
+    return check_batch(block, **words)
+
+
+def test_64_workers_are_busy(monkeypatch: pytest.MonkeyPatch, tmp_path: Path) -> None:
+    """By default there is work for each worker of a pool and of a cluster."""
+    paths = [tmp_path / f"{number}.log" for number in range(BUSY_TOGETHER)]
+    for path in paths:
+        path.write_bytes(MATCHING_LOG.read_bytes())
+    monkeypatch.setattr("hidlog.batch_check.check_batch", meet_and_check)
+    with ThreadPoolExecutor(BUSY_TOGETHER) as threads:
+        assert len(list(hidlog.check_many(paths, threads, block=1))) == BUSY_TOGETHER
+    distributed = pytest.importorskip("distributed")
+    words = {"n_workers": 4, "threads_per_worker": BUSY_TOGETHER // 4, "processes": False, "dashboard_address": None}
+    with distributed.LocalCluster(**words) as cluster, distributed.Client(cluster) as client:
+        found = hidlog.check_many(paths, client.get_executor(pure=False), block=1, send=True)
+        assert {item.outcome for item in found} == {"match"}
+
+
+def test_only_differences(recordings: list[Path], monkeypatch: pytest.MonkeyPatch) -> None:
+    """Workers return nothing about recordings that match."""
+    returned: list[hidlog.CheckResult] = []
+
+    def check_and_keep(block: list[Any], **words: Any) -> list[hidlog.CheckResult]:
+        found = check_batch(block, **words)
+        returned.extend(found)
+        return found
+
+    monkeypatch.setattr("hidlog.batch_check.check_batch", check_and_keep)
+    with ThreadPoolExecutor(3) as threads:
+        found = summarize(hidlog.check_many(recordings, threads, matches=False))
+    assert found == [item for item in check_each(recordings) if item[1] != "match"]
+    assert sorted(item.path for item in returned) == [path for path, _ in found]
+
+
+@pytest.mark.parametrize("is_other_file_there", [False, True])
+def test_workers_elsewhere_are_sent_the_data(
+    recordings: list[Path],
+    tmp_path_factory: pytest.TempPathFactory,
+    monkeypatch: pytest.MonkeyPatch,
+    is_other_file_there: bool,
+) -> None:
+    """The workers have none of the files, or others of the same names."""
+    elsewhere = tmp_path_factory.mktemp("elsewhere")
+    if is_other_file_there:
+        for path in filter(Path.is_file, recordings):
+            (elsewhere / path.name).write_bytes(b"# another recording\n")
+    monkeypatch.chdir(recordings[0].parent)
+    names = [Path(path.name) for path in recordings]
+
+    def pool() -> ProcessPoolExecutor:
+        return ProcessPoolExecutor(2, initializer=os.chdir, initargs=(elsewhere,))
+
+    wanted = check_each(names)
+    assert summarize(hidlog.check_many(names, pool, send=True)) == wanted
+    assert summarize(hidlog.check_many(names, pool)) != wanted
+
+
 def test_wrong_words(recordings: list[Path]) -> None:
     for paths, executor, more in (
         (recordings, 3, {}),
         (str(recordings[0]), ProcessPoolExecutor, {}),
         (recordings, ProcessPoolExecutor, {"block": 0}),
         (recordings, ProcessPoolExecutor, {"tries": "3"}),
+        (recordings, ProcessPoolExecutor, {"at_once": 0}),
     ):
         with pytest.raises(hidlog.ArgumentError):
             hidlog.check_many(paths, executor, **more)  # type: ignore[arg-type]
@@ -139,6 +243,8 @@ def test_the_command(recordings: list[Path]) -> None:
     assert sorted((each["path"], each["outcome"]) for each in map(json.loads, ran.stdout.splitlines())) == wanted
     suite = xml.fromstring(command(folder, "--report", "junit").stdout)
     assert (suite.get("tests"), suite.get("failures")) == (str(len(wanted)), str(len(bad)))
+    cases = [(case.get("name"), "match" if case.find("failure") is None else case[0].get("type")) for case in suite]
+    assert sorted(cases) == wanted
     ran = command(recordings[1])
     assert (ran.returncode, ran.stdout, ran.stderr) == (0, "", "1 match\n")
     wrong: list[list[Any]] = [[folder, "--jobs", 0], [folder, "--executor", "host:1"], [folder / "nothing"], []]

@@ -76,7 +76,7 @@ def test_a_wheel_holds_what_its_record_says() -> None:
 
 def test_the_licences_are_those_of_the_repository() -> None:
     for name in ("LICENSE-MIT", "LICENSE-APACHE"):
-        assert (TOP / "python" / name).read_bytes() == (TOP / name).read_bytes()
+        assert (TOP / "bindings" / "python" / name).read_bytes() == (TOP / name).read_bytes()
 
 
 def test_the_metadata_says_what_a_registry_shows() -> None:
@@ -98,11 +98,19 @@ def test_logs_need_no_other_package() -> None:
 def test_an_editable_install(tmp_path: Path) -> None:
     """The clone is not changed, and its files are imported."""
     subprocess.run(["/usr/bin/python3", "-m", "venv", "--system-site-packages", tmp_path / "venv"], check=True)
-    words = ["install", "--quiet", "--no-index", "--no-build-isolation", "--no-deps", "-e", str(TOP / "python")]
+    words = [
+        "install",
+        "--quiet",
+        "--no-index",
+        "--no-build-isolation",
+        "--no-deps",
+        "-e",
+        str(TOP / "bindings" / "python"),
+    ]
     subprocess.run([str(tmp_path / "venv/bin/pip"), *words], check=True)
     code = "import hidlog; hidlog.SecurityKey().close(); print(hidlog.__file__)"
     ran = subprocess.run([str(tmp_path / "venv/bin/python"), "-c", code], check=True, capture_output=True, text=True)
-    assert Path(ran.stdout.strip()) == TOP / "python" / "src" / "hidlog" / "__init__.py"
+    assert Path(ran.stdout.strip()) == TOP / "bindings" / "python" / "src" / "hidlog" / "__init__.py"
 
 
 def test_nothing_is_imported_before_it_is_asked_for() -> None:

@@ -56,6 +56,46 @@ def test_without_the_option_nothing_is_kept(pytester: pytest.Pytester) -> None:
     result.stdout.fnmatch_lines(["*authenticatorSelection *", "the failed call reached line * of the log"])
 
 
+CALLS_SUITE = """
+from hidlog import NotAllowedError
+
+CHALLENGE = {"challenge": "AAECAwQFBgcICQoLDA0ODw"}
+USER = {"id": "AQ", "name": "alice", "displayName": "Alice"}
+
+def test_calls(security_key):
+    browser = security_key.browser("http://localhost:5000")
+    browser.create({
+        **CHALLENGE, "rp": {"name": "A"}, "user": USER, "pubKeyCredParams": [{"type": "public-key", "alg": -7}],
+        "authenticatorSelection": {"residentKey": "required"},
+    })
+    security_key.faults.stale_sign_count = True
+    browser.get(CHALLENGE)
+    security_key.verification = "failed"
+    try:
+        browser.get({**CHALLENGE, "userVerification": "required"})
+    except NotAllowedError:
+        assert security_key.credentials[0].sign_count == 5
+"""
+
+
+def test_the_report_says_who_registered_and_what_was_refused(pytester: pytest.Pytester) -> None:
+    pytester.makepyfile(test_suite=CALLS_SUITE)
+    result = pytester.runpytest_subprocess()
+    result.assert_outcomes(failed=1)
+    result.stdout.fnmatch_lines(
+        [
+            "*- security key -*",
+            "registered alice at http://localhost:5000: credential *",
+            "signed in as alice at http://localhost:5000: credential *",
+            "refused a sign-in at http://localhost:5000: NotAllowedError: user verification failed",
+            "the fault stale_sign_count is on: True",
+            "fault: the authenticator data is altered",
+            "registrations: 1",
+        ]
+    )
+    assert ": 0\n" not in result.stdout.str(), "a total that is 0"
+
+
 PHASES_SUITE = """
 import hidlog
 import pytest

@@ -52,6 +52,27 @@ func verifyAssertion(test testCase) error {
 	return nil
 }
 
+// judge returns a verdict: "yes", "no: reason", or "none: reason" if the library panics.
+func judge(test testCase) (verdict string) {
+	defer func() {
+		if reason := recover(); reason != nil {
+			verdict = fmt.Sprintf("none: panic: %v", reason)
+		}
+	}()
+	verify := verifyAssertion
+	if test.Kind == "registration" {
+		verify = verifyRegistration
+	}
+	err := verify(test)
+	if err == nil {
+		return "yes"
+	}
+	if detailed, ok := err.(*protocol.Error); ok {
+		err = fmt.Errorf("%s %s", detailed.Details, detailed.DevInfo)
+	}
+	return fmt.Sprintf("no: %q", err.Error())
+}
+
 func main() {
 	var cases []testCase
 	if err := json.NewDecoder(os.Stdin).Decode(&cases); err != nil {
@@ -59,17 +80,6 @@ func main() {
 		os.Exit(2)
 	}
 	for _, test := range cases {
-		verify := verifyAssertion
-		if test.Kind == "registration" {
-			verify = verifyRegistration
-		}
-		if err := verify(test); err != nil {
-			if detailed, ok := err.(*protocol.Error); ok {
-				err = fmt.Errorf("%s %s", detailed.Details, detailed.DevInfo)
-			}
-			fmt.Printf("no: %q\n", err.Error())
-		} else {
-			fmt.Println("yes")
-		}
+		fmt.Println(judge(test))
 	}
 }

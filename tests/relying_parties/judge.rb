@@ -3,11 +3,21 @@
 
 # Checks cases with Ruby's webauthn: reads a JSON array and writes one line per case: "yes", "no: reason", or
 # "none: reason" if the library itself fails before a verdict.
+require 'base64'
 require 'json'
 require 'webauthn'
 
+# Finds the root certificate of a case, whatever the authenticator.
+RootFinder = Struct.new(:certificate) do
+  def find(**)
+    [certificate]
+  end
+end
+
 def configure(test_case)
+  root = test_case['root'] && OpenSSL::X509::Certificate.new(Base64.urlsafe_decode64(test_case['root']))
   WebAuthn.configure do |relying_party|
+    relying_party.attestation_root_certificates_finders = root ? [RootFinder.new(root)] : []
     relying_party.origin = test_case['origin']
     relying_party.rp_id = test_case['rp_id']
     relying_party.rp_name = 'Example'

@@ -18,7 +18,7 @@ from types import ModuleType
 from typing import Any, Callable, Optional
 
 TOP = Path(__file__).resolve().parents[2]
-sys.path.insert(0, str(TOP / "python" / "src"))
+sys.path.insert(0, str(TOP / "bindings" / "python" / "src"))
 
 from hidlog import SecurityKey
 from hidlog.webauthn_json import b64url_decode, b64url_encode

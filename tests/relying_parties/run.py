@@ -24,11 +24,12 @@ from typing import Any, Callable, NamedTuple
 
 HERE = Path(__file__).resolve().parent
 TOP = HERE.parent.parent
-sys.path.insert(0, str(TOP / "python" / "src"))
+sys.path.insert(0, str(TOP / "bindings" / "python" / "src"))
 
 from fido2 import cbor
 from fido2.client import Fido2Client
 from hidlog import SecurityKey, check
+from hidlog.attestation_certificates import ROOT_CERTIFICATE
 from hidlog.webauthn_json import authentication_json, b64url_decode as data, b64url_encode as text, registration_json
 
 ORIGIN, RP_ID = "https://example.com", "example.com"
@@ -65,8 +66,17 @@ LIBRARIES = {
         ["go", "run", f"{HERE}/judge.go"],
     ),
 }
-# Libraries that fail with every ES256 key, and their error.
-KNOWN_WITHOUT_VERDICT = {"ruby": "pkeys are immutable on OpenSSL 3.0"}
+# What libraries can't do, by the texts of their errors: with OpenSSL 3, with an algorithm, or without failing.
+KNOWN_WITHOUT_VERDICT = {
+    "ruby": [
+        "pkeys are immutable on OpenSSL 3.0",
+        "rsa#set_key= is incompatible with OpenSSL 3.0",
+        "The public key algorithm -8 is not among the available COSE algorithms",
+        "undefined method `name' for nil",
+    ],
+    "perl": ["Unsupported algorithm -8", "Unsupported key type"],
+    "go": ["panic: interface conversion: error is *errors.errorString"],
+}
 
 
 def make_client(key: SecurityKey, origin: str = ORIGIN) -> Fido2Client:
@@ -134,7 +144,7 @@ def replace_attestation_signature(case: Case) -> Case:
 def read_cose_key(key: SecurityKey, credential: Json) -> str:
     """Returns the COSE key of a credential."""
     held = key.credentials.get(data(credential["id"]))
-    return str(text(cbor.encode({1: 2, 3: -7, -1: 1, -2: held.x, -3: held.y})))
+    return str(text(cbor.encode({1: 2, 3: -7, -1: 1, -2: held.public_key_x, -3: held.public_key_y})))
 
 
 def make_verified_cases() -> list[tuple[str, bool, Case]]:
@@ -175,6 +185,72 @@ def make_verified_cases() -> list[tuple[str, bool, Case]]:
         ("a sign-in without user verification", False, {**sign_in, "credential": unseen}),
         ("a sign-in whose flag UV was set later", False, {**sign_in, "credential": set_flag_uv(unseen)}),
     ]
+
+
+# Attestations, as a service requests them: what the page gets, by the key's option `attestation`.
+ATTESTATIONS = [("none", "basic", "none"), ("packed self", "self", "direct"), ("packed x5c", "basic", "direct")]
+AAGUID = "01020304-0506-0708-0102-030405060708"
+
+
+def make_format_cases() -> list[tuple[str, bool, Case]]:
+    """Returns cases of each attestation format with each algorithm, by the package's browser: valid and changed ones."""
+    cases = []
+    for algorithm, name in ((-7, "ES256"), (-8, "EdDSA"), (-257, "RS256")):
+        for title, attestation, requested in ATTESTATIONS:
+            cases += make_cases_of_format(f"{name}, {title}", algorithm, attestation, requested)
+    return cases
+
+
+def make_cases_of_format(title: str, algorithm: int, attestation: str, requested: str) -> list[tuple[str, bool, Case]]:
+    """Returns a registration and a sign-in, and both with a changed signature."""
+    challenges = [os.urandom(32) for _ in range(2)]
+    base = {"verification": "discouraged", "origin": LOCAL_ORIGIN, "rp_id": "localhost", "counter": 0}
+    with SecurityKey(algorithms=(-7, -8, -257), attestation=attestation, aaguid=AAGUID) as key:
+        browser = key.browser(LOCAL_ORIGIN)
+        asked: Json = {
+            "rp": {"name": "Example"},
+            "user": {"id": text(b"alice"), "name": "alice", "displayName": "Alice"},
+            "challenge": text(challenges[0]),
+            "pubKeyCredParams": [{"type": "public-key", "alg": algorithm}],
+            "attestation": requested,
+        }
+        made = browser.create(asked)
+        listed = [{"type": "public-key", "id": made["id"]}]
+        found = browser.get({"challenge": text(challenges[1]), "allowCredentials": listed})
+    for snapshot, log in key.recordings:
+        check(log, snapshot).raise_for_fault()
+    check_format(title, made, attestation, requested)
+    shared = {**base, "public_key": read_attested_key(made), "root": text(ROOT_CERTIFICATE)}
+    registration = {**shared, "kind": "registration", "challenge": text(challenges[0]), "credential": made}
+    sign_in = {**shared, "kind": "assertion", "challenge": text(challenges[1]), "credential": found}
+    cases = [
+        (f"a registration of {title}", True, registration),
+        (f"a sign-in of {title}", True, sign_in),
+        (f"a sign-in of {title} with a wrong signature", False, flip_last_bit(sign_in, "signature")),
+    ]
+    if title.endswith("none"):
+        return cases
+    wrong = replace_attestation_signature(registration)
+    return [*cases, (f"a registration of {title} with a wrong signature", False, wrong)]
+
+
+def check_format(title: str, made: Json, attestation: str, requested: str) -> None:
+    """Compares the format, certificates and AAGUID of a registration with what was requested."""
+    found = cbor.decode(data(made["response"]["attestationObject"]))
+    is_certified = attestation == "basic" and requested == "direct"
+    expected = ("none" if requested == "none" else "packed", is_certified)
+    if (found["fmt"], "x5c" in found["attStmt"]) != expected:
+        raise SystemExit(f"run.py: {title}: expected {expected}, got {found['fmt']} {sorted(found['attStmt'])}")
+    aaguid = bytes(16) if requested == "none" else bytes.fromhex(AAGUID.replace("-", ""))
+    if found["authData"][37:53] != aaguid:
+        raise SystemExit(f"run.py: {title}: the AAGUID is {found['authData'][37:53].hex()}")
+
+
+def read_attested_key(made: Json) -> str:
+    """Returns the COSE key in the authenticator data of a registration."""
+    auth_data = data(made["response"]["authenticatorData"])
+    end = 55 + int.from_bytes(auth_data[53:55], "big")
+    return str(text(auth_data[end:]))
 
 
 def check_flags(answers: list[tuple[Json, int]]) -> None:
@@ -250,7 +326,7 @@ def main() -> int:
             print(f"run.py: no library {name}; available: {', '.join(LIBRARIES)}", file=sys.stderr)
             return 2
     with SecurityKey() as key:
-        cases = make_cases(key) + make_verified_cases()
+        cases = make_cases(key) + make_verified_cases() + make_format_cases()
     passed = failed = skipped = 0
     for name in names:
         if not LIBRARIES[name].is_there():
@@ -258,10 +334,11 @@ def main() -> int:
             skipped += len(cases)
             continue
         for (title, is_right, _), verdict in zip(cases, get_verdicts(name, cases)):
-            if verdict.startswith("none: ") and KNOWN_WITHOUT_VERDICT.get(name, "\n") in verdict:
-                print(f"skipped  {name}: {title}: no verdict: {verdict[6:]}")
+            is_expected = verdict.startswith("yes" if is_right else "no: ")
+            if not is_expected and any(known in verdict for known in KNOWN_WITHOUT_VERDICT.get(name, [])):
+                print(f"skipped  {name}: {title}: no verdict: {verdict}")
                 skipped += 1
-            elif verdict.startswith("yes" if is_right else "no: "):
+            elif is_expected:
                 print(f"ok       {name}: {title}: {verdict[:100]}")
                 passed += 1
             else:

@@ -1,6 +1,6 @@
 // Authenticator options of the page's key, which are outside the verified core: user verification, transports, IDs of
 // other lengths, backup flags. compare.js compares them with Chromium's authenticator.
-import { install, SecurityKey, sendDevToolsCommand } from "../../web/dist/security_key.mjs";
+import { install, SecurityKey, sendDevToolsCommand } from "../../bindings/web/dist/security_key.mjs";
 import { expect, results } from "./harness.js";
 import { createCredential, getAssertion, getAssertionBy, makeOptionsForUser, expectError, toBase64url, makeKeyTest } from "./options.js";
 
@@ -100,7 +100,7 @@ const testInvalidOptions = async () => {
 
 const testAddVirtualAuthenticator = async () => {
     const add = (options) => sendDevToolsCommand("WebAuthn.addVirtualAuthenticator", { options });
-    for (const wrong of [{ hasPrf: true }, { hasLargeBlob: true }, { protocol: "ctap3" }, { transport: "pigeon" }]) {
+    for (const wrong of [{ hasHmacSecret: true }, { hasHmacSecretMc: true }, { protocol: "ctap3" }, { transport: "pigeon" }]) {
         await expectError(add(wrong), "TypeError", Object.keys(wrong)[0]);
         expect(hidlogKey.installedKey() === null, "no key is installed");
     }

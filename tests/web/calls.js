@@ -1,5 +1,6 @@
 // Calls for both Chromium's virtual authenticator and the key: each registers or signs in with one option or one
 // invalid argument, and returns what a page sees.
+import { moreCalls } from "./member_calls.js";
 
 const TIMEOUT_MS = 400;
 const toBytes = (...list) => Uint8Array.of(...list);
@@ -409,14 +410,21 @@ const statics = {
 
 /** All calls by name. @param environment functions of the authenticator */
 export const listCalls = (environment) => ({
-    ...registrations, ...optionsOfRegistration, ...extensionCalls, ...signIns, ...statics,
+    ...registrations, ...optionsOfRegistration, ...extensionCalls, ...signIns, ...statics, ...moreCalls,
     ...callWhileUserIsAsked(environment), ...conditional,
+});
+
+// A call that takes this long never ends: no other waits for more than half a second.
+const NEVER_MS = 30_000;
+
+const waitForNever = () => new Promise((done, fail) => {
+    setTimeout(() => fail(new Error("the call never ended")), NEVER_MS);
 });
 
 /** The result of a call: a value, or an error's name and message. */
 export const getResult = async (call) => {
     try {
-        return { value: (await call()) ?? null };
+        return { value: (await Promise.race([call(), waitForNever()])) ?? null };
     } catch (error) {
         return { error: error?.name ?? String(error), text: error?.message ?? "" };
     }

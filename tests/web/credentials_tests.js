@@ -1,7 +1,8 @@
 // The methods of a virtual authenticator: credentials, events, faults.
-import { installedKey, sendDevToolsCommand } from "../../web/dist/security_key.mjs";
+import { installedKey, sendDevToolsCommand } from "../../bindings/web/dist/security_key.mjs";
 import { expect, results } from "./harness.js";
 import { readSignCount, createCredential, getAssertion, getAssertionBy, makeOptionsForUser, P256, expectError, toBase64url, makeKeyTest } from "./options.js";
+import { importPublicKey, isSignedBy } from "./signatures.js";
 
 // A delay in milliseconds that never ends, however slow the machine is.
 const NEVER_MS = 1_000_000;
@@ -10,21 +11,6 @@ const NEVER_MS = 1_000_000;
 const makeForeignKey = async () => {
     const { privateKey, publicKey } = await crypto.subtle.generateKey(P256, true, ["sign", "verify"]);
     return { pkcs8: new Uint8Array(await crypto.subtle.exportKey("pkcs8", privateKey)), publicKey };
-};
-
-/** Whether a sign-in's signature is valid. */
-const isSignedBy = async (publicKey, { response }) => {
-    const hash = await crypto.subtle.digest("SHA-256", response.clientDataJSON);
-    const signed = new Uint8Array([...new Uint8Array(response.authenticatorData), ...new Uint8Array(hash)]);
-    const der = new Uint8Array(response.signature);
-    const raw = new Uint8Array(64);
-    let at = 2;
-    for (const end of [32, 64]) {
-        const part = der.subarray(at + 2, at + 2 + der[at + 1]).slice(-32);
-        raw.set(part, end - part.length);
-        at += 2 + der[at + 1];
-    }
-    return crypto.subtle.verify({ name: "ECDSA", hash: "SHA-256" }, publicKey, raw, signed);
 };
 
 const testAddCredential = async (key) => {
@@ -36,13 +22,46 @@ const testAddCredential = async (key) => {
     });
     const used = await getAssertion();
     expect(used.id === credentialId && readSignCount(used) === 42, "it signs in with its counter");
-    expect(await isSignedBy(publicKey, used), "by its private key");
+    expect(await isSignedBy(publicKey, used.response), "by its private key");
     expect(toBase64url(new Uint8Array(used.response.userHandle)) === toBase64url([1, 2]), "its user handle");
     const [listed] = await key.getCredentials();
     expect(listed.signCount === 42 && listed.rpId === "localhost" && listed.userName === "ann", "it is listed");
     expect(listed.privateKey === toBase64url(pkcs8), "with its private key");
     const made = await key.addCredential({ rpId: "localhost", isResidentCredential: true, userHandle: toBase64url([3]) });
     expect((await getAssertion()).id === made.credentialId, "one that is made whole");
+};
+
+// Algorithms of WebCrypto besides ECDSA on P-256.
+const OTHER_ALGORITHMS = [
+    { name: "Ed25519" },
+    { name: "RSASSA-PKCS1-v1_5", modulusLength: 2048, publicExponent: Uint8Array.of(1, 0, 1), hash: "SHA-256" },
+];
+
+/** Adds a credential with a private key of another algorithm, and signs in with it. */
+const signInWithOther = async (key, algorithm) => {
+    const { privateKey, publicKey } = await crypto.subtle.generateKey(algorithm, true, ["sign", "verify"]);
+    const added = { rpId: "localhost", isResidentCredential: true,
+        privateKey: new Uint8Array(await crypto.subtle.exportKey("pkcs8", privateKey)) };
+    key.algorithms = [-7];
+    await expectError(key.addCredential(added), "TypeError", "algorithms");
+    key.algorithms = [-7, -8, -257];
+    await key.clearCredentials();
+    await key.addCredential(added);
+    const { response: { authenticatorData, clientDataJSON, signature } } = await getAssertion();
+    const hash = await crypto.subtle.digest("SHA-256", clientDataJSON);
+    const signed = new Uint8Array([...new Uint8Array(authenticatorData), ...new Uint8Array(hash)]);
+    expect(await crypto.subtle.verify(algorithm.name, publicKey, signature, signed), `a signature of ${algorithm.name}`);
+    expect(key.log().includes("# outside of the core: a key of "), "a comment in the log");
+};
+
+const testOtherAlgorithms = async (key) => {
+    for (const algorithm of OTHER_ALGORITHMS) {
+        // Older browsers have no Ed25519.
+        const isThere = await crypto.subtle.generateKey(algorithm, false, ["sign", "verify"]).then(() => true, () => false);
+        if (isThere) {
+            await signInWithOther(key, algorithm);
+        }
+    }
 };
 
 const testInvalidCredentials = async (key) => {
@@ -123,8 +142,10 @@ const testDevToolsCommands = async () => {
     await sendDevToolsCommand("WebAuthn.setCredentialProperties", { authenticatorId, credentialId, signCount: 9 });
     expect((await sendDevToolsCommand("WebAuthn.getCredential", { credentialId })).credential.signCount === 9, "changed");
     await sendDevToolsCommand("WebAuthn.removeCredential", { authenticatorId, credentialId });
-    const large = sendDevToolsCommand("WebAuthn.addVirtualAuthenticator", { options: { hasLargeBlob: true } });
-    await expectError(large, "TypeError", "false");
+    const secret = sendDevToolsCommand("WebAuthn.addVirtualAuthenticator", { options: { hasHmacSecret: true } });
+    await expectError(secret, "TypeError", "false");
+    await sendDevToolsCommand("WebAuthn.addVirtualAuthenticator", { options: { hasLargeBlob: true, hasPrf: true } });
+    expect(installedKey().extensions.join() === "prf,largeBlob", "its extensions");
     await expectError(sendDevToolsCommand("WebAuthn.getCredental"), "TypeError", "getCredential");
     await sendDevToolsCommand("WebAuthn.removeVirtualAuthenticator", { authenticatorId });
     expect(installedKey() === null, "uninstalled");
@@ -132,23 +153,23 @@ const testDevToolsCommands = async () => {
 
 const testFaults = async (key) => {
     const made = await createCredential(makeOptionsForUser("ann"));
-    const publicKey = await crypto.subtle.importKey("spki", made.response.getPublicKey(), P256, true, ["verify"]);
+    const publicKey = await importPublicKey(made.response.getPublicKey());
     const first = await getAssertion();
-    expect(await isSignedBy(publicKey, first), "good before");
+    expect(await isSignedBy(publicKey, first.response), "good before");
     key.faults.badSignature = true;
-    expect(!await isSignedBy(publicKey, await getAssertion()), "a wrong signature");
+    expect(!await isSignedBy(publicKey, (await getAssertion()).response), "a wrong signature");
     key.faults.clear();
     key.faults.staleSignCount = true;
     const [one, other] = [await getAssertion(), await getAssertion()];
     expect(readSignCount(one) === 2 && readSignCount(other) === 2, "a stale counter");
-    expect(await isSignedBy(publicKey, other), "with a valid signature");
+    expect(await isSignedBy(publicKey, other.response), "with a valid signature");
     key.faults.clear();
     key.faults.wrongRpId = "example.com";
     const foreign = new Uint8Array((await getAssertion()).response.authenticatorData).subarray(0, 32);
     const hash = new Uint8Array(await crypto.subtle.digest("SHA-256", new TextEncoder().encode("example.com")));
     expect(foreign.join() === hash.join(), "another RP ID hash");
     key.faults.clear();
-    expect(await isSignedBy(publicKey, await getAssertion()), "good afterwards");
+    expect(await isSignedBy(publicKey, (await getAssertion()).response), "good afterwards");
     expect((key.log().match(/^# fault( injected)?: /gm) ?? []).length === 4, "each is a comment");
     results.logs["faults.log"] = key.log();
 };
@@ -189,6 +210,7 @@ export const credentialsTests = {
     "presence is turned off and on": makeKeyTest(testPresenceSimulation),
     "events of registrations and sign-ins": makeKeyTest(testEvents),
     "the 65th registration": makeKeyTest(testFullKey),
+    "private keys of other algorithms": makeKeyTest(testOtherAlgorithms),
     "DevTools commands": testDevToolsCommands,
     "faults in signatures, counters and authenticator data": makeKeyTest(testFaults),
     "faults in responses": makeKeyTest(testStatusFault),

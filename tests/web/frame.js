@@ -21,9 +21,17 @@ globalThis.signIn = async () => {
     return new DataView(used.response.authenticatorData).getUint32(33);
 };
 
+const describe = ({ response }) => {
+    const { clientDataJSON, attestationObject } = response;
+    return {
+        clientDataJSON, attestationObject, publicKey: response.getPublicKey(),
+        authenticatorData: response.getAuthenticatorData(),
+    };
+};
+
 if (parent !== window && words.has("tell")) {
     register().then(
-        (made) => ({ clientData: JSON.parse(new TextDecoder().decode(made.response.clientDataJSON)) }),
+        describe,
         (error) => ({ error: error.name, text: error.message }),
     ).then((outcome) => parent.postMessage(outcome, "*"));
 }

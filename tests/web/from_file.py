@@ -1,12 +1,13 @@
 #!/usr/bin/env python3
-"""Opens web/index.html as a file, without a server: it shows the example, and then a long log that a worker reads."""
+"""Opens bindings/web/index.html as a file, without a server: it shows the example, and then a long log that a worker
+reads."""
 
 import sys
 from pathlib import Path
 
 from driver import Driver, is_installed
 
-PAGE = Path(__file__).resolve().parents[2] / "web" / "index.html"
+PAGE = Path(__file__).resolve().parents[2] / "bindings" / "web" / "index.html"
 
 # Drops 5 MB of sessions, and notes whether a worker answered.
 CAPTURE_MESSAGES = """
@@ -25,17 +26,20 @@ CAPTURE_MESSAGES = """
 
 # What a screen reader must find, by role and name.
 ROLES = [
-    ("listbox", "The lines of the log"),
-    ("status", "Press Check"),
+    ("tree", "The lines of the log"),
+    ("region", "Diagnosis"),
     ("region", "What happened"),
     ("button", "Open"),
-    ("button", "Check"),
-    ("button", "Save as page"),
+    ("button", "Menu"),
+    ("tree", "Fields"),
+    ("treeitem", "2 rp: "),
+    ("region", "Bytes"),
+    ("toolbar", "Copy"),
     ("searchbox", "Search"),
     ("combobox", "Channel"),
     ("checkbox", "Fold transactions"),
     ("tab", "Drawing"),
-    ("option", "Registration: done at example.com"),
+    ("treeitem", "Registration: done at example.com"),
     ("complementary", "The selected line"),
 ]
 
@@ -53,10 +57,31 @@ def find_missing_roles(driver):
         return any(kind == role and (name in label or (role == "status" and name in texts)) for kind, label, _ in found)
 
     wrong = [role for role in ROLES if not is_there(*role)]
-    listed = next(properties for kind, _, properties in found if kind == "listbox")
+    listed = next(properties for kind, _, properties in found if kind == "tree")
     if not any(property_["name"] == "activedescendant" for property_ in listed):
         wrong.append("the selected row")
     return wrong
+
+
+def find_folder_fault(driver):
+    """Drops a folder, as a file manager does. Returns what is wrong, or an empty string."""
+    folder = str(PAGE.parent)
+    data = {"items": [], "files": [folder], "dragOperationsMask": 1}
+    for kind in ("dragEnter", "dragOver", "drop"):
+        driver.devtools("Input.dispatchDragEvent", type=kind, x=300, y=400, data=data)
+    driver.wait_for("document.getElementById('notice').textContent")
+    notice = driver.run("arguments[0](document.getElementById('notice').textContent)")
+    return "" if notice == "web is a folder. Drop the log in it." else f"FAILED  a dropped folder: {notice}"
+
+
+def find_no_script_fault(driver):
+    """Opens the page without JavaScript. Returns what is wrong, or an empty string."""
+    driver.devtools("Emulation.setScriptExecutionDisabled", value=True)
+    driver.open(PAGE.as_uri())
+    nodes = driver.devtools("Accessibility.getFullAXTree")["nodes"]
+    driver.devtools("Emulation.setScriptExecutionDisabled", value=False)
+    texts = [node.get("name", {}).get("value", "") for node in nodes if not node.get("ignored")]
+    return "" if "This page needs JavaScript" in texts else f"FAILED  the page without JavaScript: {texts}"
 
 
 def main():
@@ -64,7 +89,12 @@ def main():
         print("tests/web: chromedriver is missing (apt-get install chromium-driver)", file=sys.stderr)
         return 3
     with Driver() as driver:
+        driver.open(PAGE.as_uri())
+        driver.wait_for("document.documentElement.dataset.ready")
+        faults = [find_folder_fault(driver), find_no_script_fault(driver)]
+        driver.open("about:blank")
         driver.open(f"{PAGE.as_uri()}#registration")
+        driver.wait_for("document.getElementById('diagnosis').dataset.side === 'none'")
         driver.wait_for("document.body.textContent.includes('authenticatorMakeCredential → CTAP2_OK')")
         wrong = find_missing_roles(driver)
         driver.run(CAPTURE_MESSAGES)
@@ -72,7 +102,8 @@ def main():
         driver.wait_for("document.documentElement.dataset.answered === 'yes'")
     print("ok  the page from a file, and its worker")
     print(f"FAILED  a screen reader's view lacks {wrong}" if wrong else "ok  a screen reader's view of it")
-    return 1 if wrong else 0
+    print("\n".join(filter(None, faults)) or "ok  a dropped folder, and the page without JavaScript")
+    return 1 if wrong or any(faults) else 0
 
 
 if __name__ == "__main__":

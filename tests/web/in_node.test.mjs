@@ -10,9 +10,9 @@ import { test } from "node:test";
 import { fileURLToPath } from "node:url";
 import vm from "node:vm";
 import { webcrypto } from "node:crypto";
-import { install, SecurityKey } from "../../web/dist/security_key.mjs";
+import { install, SecurityKey } from "../../bindings/web/dist/security_key.mjs";
 
-const SCRIPT = fileURLToPath(new URL("../../web/dist/security_key.js", import.meta.url));
+const SCRIPT = fileURLToPath(new URL("../../bindings/web/dist/security_key.js", import.meta.url));
 const JSDOM = "/usr/share/nodejs/jsdom";
 const REGISTER_SCRIPT = `navigator.credentials.create({ publicKey: {
     challenge: new Uint8Array(32), rp: { name: "A" }, user: { id: Uint8Array.of(1), name: "ann", displayName: "Ann" },

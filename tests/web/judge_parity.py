@@ -4,8 +4,6 @@
     tests/web/judge_parity.py             the examples, captures and clients' logs, and recordings of wrong and
                                           conforming authenticators
     tests/web/judge_parity.py FOLDER      also the logs of a folder
-
-It also drops a capture on the page and presses Judge.
 """
 
 from __future__ import annotations
@@ -18,7 +16,8 @@ from pathlib import Path
 from typing import Any, Dict, Iterator, List, Tuple
 
 TOP = Path(__file__).resolve().parents[2]
-sys.path[:0] = [str(TOP / "conformance"), str(TOP / "python" / "src"), str(TOP / "tests" / "web")]
+sys.path[:0] = [str(TOP / "conformance"), str(TOP / "conformance" / "checks"), str(TOP / "bindings" / "python" / "src")]
+sys.path.insert(0, str(TOP / "tests" / "web"))
 
 import judged  # noqa: E402
 from driver import Driver, is_installed  # noqa: E402
@@ -26,23 +25,16 @@ from hidlog.errors import LogError  # noqa: E402
 from hidlog_conformance import judged_report  # noqa: E402
 from proved_walk import judge  # noqa: E402
 
-PAGE = TOP / "web" / "index.html"
+PAGE = TOP / "bindings" / "web" / "index.html"
+LONG_BYTES = 1_400_000
 FOLDERS = ("examples", "tests/captures/data", "conformance/clients/logs", "conformance/recorded", "conformance/fuzzed")
 # Every EACH-th wrong authenticator is recorded, and these conforming ones in every SESSIONS-th session.
 EACH, CONFORMING, SESSIONS = 7, ("plain", "fingerprint_and_pin", "attestation_x5c_eddsa"), 45
-CAPTURE = TOP / "tests" / "captures" / "data" / "killed.pcapng"
 
 JUDGE_SCRIPT = """
 const [text, done] = arguments;
-hidlogJudge.judge(hidlogBytes.fromBase64(text))
-    .then(done, (error) => done({ refused: error.args ? hidlogPython.format(error, "") : error.message }));
-"""
-DROP_SCRIPT = """
-const [name, text, done] = arguments;
-const files = new DataTransfer();
-files.items.add(new File([hidlogBytes.fromBase64(text)], name));
-document.dispatchEvent(new DragEvent("drop", { dataTransfer: files, cancelable: true }));
-done();
+hidlogCard.judge(hidlogBytes.fromBase64(text))
+    .then(({ findings, notes, total }) => done({ findings, notes, total }), (error) => done({ refused: error.message }));
 """
 
 
@@ -81,28 +73,12 @@ def iter_logs(folders: List[str]) -> Iterator[Tuple[str, bytes]]:
         for path in sorted((TOP / folder).rglob("*.log")):
             yield str(path), path.read_bytes()
     yield "no log", b"> 1 zz\n"
+    # More than the page judges at once.
+    session = (TOP / "examples" / "failing" / "excluded_credential.log").read_bytes()
+    long = session * (1 + LONG_BYTES // len(session))
+    yield "a long log", long
+    yield "a long log with an invalid line", long + b"> 1 zz\n"
     yield from iter_recordings()
-
-
-def check_drop(driver: Any) -> List[str]:
-    """Drops a capture on the page and presses Judge. Returns what is wrong."""
-    driver.run(DROP_SCRIPT, CAPTURE.name, base64.b64encode(CAPTURE.read_bytes()).decode())
-    driver.wait_for("document.getElementById('notice').textContent.startsWith('killed.pcapng: ')")
-    driver.run("document.getElementById('judge').click(); arguments[0]()")
-    driver.wait_for("document.getElementById('judged') !== null")
-    shown = driver.run("arguments[0](document.getElementById('judged').textContent)")
-    log = bytes(driver.run("arguments[0](Array.from(hidlogViewer.state.bytes))"))
-    wrong = [] if judge_in_python(log)["total"] in shown else [f"the page shows for {CAPTURE.name}: {shown}"]
-    findings = judge_in_python(log)["findings"]
-    wrong += [
-        f"the page doesn't show line {finding['line']}"
-        for finding in findings
-        if f"Line {finding['line']} " not in shown
-    ]
-    driver.run("document.querySelector('#judged li button').click(); arguments[0]()")
-    line = findings[0]["line"]
-    driver.wait_for(f"document.querySelector('[aria-selected=true].row')?.firstChild.textContent === '{line}'")
-    return wrong
 
 
 def main(folders: List[str]) -> int:
@@ -123,7 +99,6 @@ def main(folders: List[str]) -> int:
                 wrong.append(
                     f"{name}:\n    Python: {json.dumps(expected)[:700]}\n    page:   {json.dumps(actual)[:700]}"
                 )
-        wrong += check_drop(driver)
     print("\n".join(wrong[:10]))
     print(f"{count} logs with {findings} findings compared between the page and Python; differences: {len(wrong)}")
     return 1 if wrong else 0

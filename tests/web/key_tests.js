@@ -1,7 +1,8 @@
 // The key with python-fido2's server, with navigator.credentials replaced by the key.
-import { install, SecurityKey } from "../../web/dist/security_key.mjs";
+import { install, SecurityKey } from "../../bindings/web/dist/security_key.mjs";
 import { expect, post, getRejection, results, waitUntil } from "./harness.js";
 import { makeCreationOptions, P256 } from "./options.js";
+import { importPublicKey } from "./signatures.js";
 
 // A delay in milliseconds that never ends, however slow the machine is.
 const NEVER_MS = 1_000_000;
@@ -69,8 +70,7 @@ const testRegisterAndSignIn = async () => {
     expect(known.id === made.id && known.format === "packed", "the server took another credential");
     expect(made instanceof PublicKeyCredential, "no PublicKeyCredential");
     expect(made.response.getTransports()[0] === "usb", "its transport");
-    const spki = made.response.getPublicKey();
-    const key = await crypto.subtle.importKey("spki", spki, P256, true, ["verify"]);
+    const key = await importPublicKey(made.response.getPublicKey());
     expect(key.type === "public", "its public key");
     const first = await signIn({ user: "ann" });
     const second = await signIn({ user: "ann" });

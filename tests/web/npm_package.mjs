@@ -6,6 +6,7 @@ import { readdirSync, readFileSync, writeFileSync } from "node:fs";
 import { join } from "node:path";
 import { createInterface } from "node:readline";
 import { fileURLToPath } from "node:url";
+import { ORIGIN, runCases } from "./cases.mjs";
 
 const TOP = fileURLToPath(new URL("../..", import.meta.url));
 const folder = process.argv[2];
@@ -58,6 +59,30 @@ for (const text of ["t 1\nwrong\nt 2\n", `t 1\n# ${"x".repeat(300)}`, "t 5\nt 6"
     assert.deepEqual(runCommand("node", [command, "live"], text), runCommand(program, ["live"], text), text);
 }
 console.log("ok  npx hidlog live replies line by line");
+
+// Its browser, with the registrations and sign-ins recorded from Chromium.
+const browser = spawn("node", [command, "browser", "--origin", ORIGIN], { cwd: folder });
+const responses = createInterface({ input: browser.stdout })[Symbol.asyncIterator]();
+const send = async (name, argument, more = {}) => {
+    browser.stdin.write(`${JSON.stringify({ [name]: argument, ...more })}\n`);
+    const { value, error, message } = JSON.parse((await responses.next()).value);
+    if (error !== undefined) {
+        throw Object.assign(new Error(message), { name: error });
+    }
+    return value;
+};
+const count = await runCases({
+    start: async (options) => {
+        await send("clearCredentials", null);
+        await send("setAuthenticatorOptions", options);
+        await send("setPresence", "granted");
+    },
+    setPresence: (word) => send("setPresence", word),
+    setUserVerified: (isVerified) => send("setUserVerified", isVerified),
+    call: send,
+});
+browser.stdin.end();
+console.log(`ok  npx hidlog browser: ${count} cases recorded from Chromium`);
 
 // Invalid arguments: a status, and an error message of one line that says what is valid.
 for (const [words, status, expected] of [

@@ -1,5 +1,5 @@
 // Options and assertions shared by the tests of the key.
-import { install } from "../../web/dist/security_key.mjs";
+import { install } from "../../bindings/web/dist/security_key.mjs";
 import { expect, getRejection } from "./harness.js";
 
 export const makeCreationOptions = (more = {}) => ({

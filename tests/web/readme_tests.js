@@ -1,5 +1,5 @@
-// Runs the snippets of web/README.md unchanged.
-import "../../web/dist/security_key.mjs";
+// Runs the snippets of bindings/web/README.md unchanged.
+import "../../bindings/web/dist/security_key.mjs";
 import { expect, results } from "./harness.js";
 import { createCredential, getAssertion, makeOptionsForUser } from "./options.js";
 
@@ -9,7 +9,8 @@ const AsyncFunction = (async () => {}).constructor;
 const fetchText = async (path) => (await fetch(`../../${path}`)).text();
 
 const readBlocks = async () =>
-    Array.from((await fetchText("web/README.md")).matchAll(CODE_BLOCK), ([, kind, tool, text]) => ({ kind, tool, text }));
+    Array.from((await fetchText("bindings/web/README.md")).matchAll(CODE_BLOCK),
+        ([, kind, tool, text]) => ({ kind, tool, text }));
 
 /** The functions of "your page". */
 const page = {
@@ -25,14 +26,14 @@ const testSnippets = async () => {
     expect(texts.length === 6, `${texts.length} snippets`);
     await new AsyncFunction(...Object.keys(page), texts.join("\n"))(...Object.values(page));
     expect(hidlogKey.installedKey() === null, "the last one uninstalls");
-    results.figures.push(`${texts.length} snippets of web/README.md run in turn`);
+    results.figures.push(`${texts.length} snippets of bindings/web/README.md run in turn`);
 };
 
 /** A document in a frame, whose scripts are those of the README, and what it has then. */
 const loadDocument = async (html) => {
     const frame = document.createElement("iframe");
     const loaded = new Promise((done) => frame.addEventListener("load", done, { once: true }));
-    frame.srcdoc = `<!doctype html><base href="${new URL("../../web/", location.href)}">${html}`;
+    frame.srcdoc = `<!doctype html><base href="${new URL("../../bindings/web/", location.href)}">${html}`;
     document.body.append(frame);
     await loaded;
     const isThere = frame.contentWindow.hidlogKey.installedKey() !== null;
@@ -59,7 +60,7 @@ const makePageStub = () => ({
 });
 
 const testInjections = async () => {
-    const script = await fetchText("web/dist/security_key.js");
+    const script = await fetchText("bindings/web/dist/security_key.js");
     const fs = { readFileSync: () => script };
     for (const { tool, text } of (await readBlocks()).filter((block) => block.tool)) {
         await new AsyncFunction("page", "fs", text)(makePageStub(), fs);
@@ -74,7 +75,7 @@ const testExampleLink = async () => {
 };
 
 export const readmeTests = {
-    "the snippets of web/README.md": testSnippets,
+    "the snippets of bindings/web/README.md": testSnippets,
     "its script tags": testScriptTags,
     "its injections, by a stand-in of the tools": testInjections,
     "its lines of the example": testExampleLink,

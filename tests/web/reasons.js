@@ -14,21 +14,77 @@ export const AUTHENTICATOR_KINDS = {
     "backed up": { ...usb, defaultBackupEligibility: true, defaultBackupState: true },
 };
 
-/** Reasons by kind, call name, and path of the difference. */
+const DISCOVERABLE = "Chromium's makes discoverable credentials only with user verification; this key always";
+const WAITS = "the sign-in waits until the test selects an account; Chromium's signs in immediately";
+const CAPABILITIES = "they describe this key";
+const ABSENT = "no such authenticator: rejected immediately; Chromium waits";
+const ES256_ONLY = "the key supports only ES256";
+const WITHOUT_VERIFICATION = ["not verifying", "backed up"];
+const EVERY_CALL = null;
+
+/**
+ * Reasons: the calls, the path of the difference, and the exact values of Chromium and of the key, as JSON; without a
+ * value it is `done`. Kinds are given where only some differ.
+ * @type {[string[] | null, string, string, string, string, string[]?][]}
+ */
 const REASONS = [
-    [/./, /./, /counter$/, "a new credential's counter is 0 (docs/use/PROFILE.md)"],
-    [/./, /./, /fmt$/, "a self attestation without AAGUID is passed on, as in WebAuthn; Chromium's has a certificate"],
-    [/not verifying|backed up/, /residentKey (required|preferred)|requireResidentKey|discoverable/, /./,
-        "Chromium's makes discoverable credentials only with user verification; this key always, as in CTAP2"],
-    [/./, /RS256/, /./, "the key supports only ES256"],
-    [/./, /create, mediation conditional/, /./, "the key does not support conditional registration"],
-    [/./, /conditional/, /./, "the sign-in waits until the test selects an account; Chromium's signs in immediately"],
-    [/./, /attachment platform|attachment cross-platform|of another kind/, /./,
-        "no such authenticator: rejected immediately; Chromium waits"],
-    [/./, /in the same turn/, /./, "an aborted request ends immediately; Chromium's response may come first"],
-    [/./, /isConditionalMediationAvailable|getClientCapabilities/, /./, "they describe this key"],
+    [EVERY_CALL, "value.counter", "1", "0", "a new credential's counter is 0 (docs/use/PROFILE.md)"],
+    [EVERY_CALL, "value.fmt", '"none"', '"packed"', "a self attestation without AAGUID is passed on, as in WebAuthn"],
+    [["create, attestation direct", "create, attestation indirect", "create, attestation enterprise"], "value.fmt",
+        "done", '"packed"', "Chromium's U2F key has an attestation certificate", ["a U2F key"]],
+    [["create, residentKey required", "create, residentKey preferred", "create, requireResidentKey",
+        "create, requireResidentKey a text", "create, credProps, discoverable", "get, discoverable",
+        "get, discoverable by its id", "signal an unknown credential", "signal another unknown credential",
+        "signal no accepted credentials", "signal all accepted credentials",
+        "signal accepted credentials of another user", "signal user details"],
+    "error", '"NotAllowedError"', "done", DISCOVERABLE, WITHOUT_VERIFICATION],
+    [["create, RS256 alone"], "error", "done", '"NotAllowedError"', ES256_ONLY],
+    [["create, RS256 and ES256"], "value.algorithm", "-257", "-7", ES256_ONLY],
+    [["create, RS256 and ES256"], "value.spkiBytes", "294", "91", ES256_ONLY],
+    [["create, mediation conditional"], "error", '"TimeoutError"', '"NotAllowedError"',
+        "the key does not support conditional registration"],
+    [["create, attachment platform", "create, attachment cross-platform", "get, transports of another kind"], "error",
+        '"TimeoutError"', '"NotAllowedError"', ABSENT],
+    [["conditional, with an allow list"], "error", '"NotAllowedError"', '"TimeoutError"', WAITS],
+    [["conditional, then aborted"], "value", '["NotAllowedError","done"]', '["TimeoutError","done"]', WAITS],
+    [["conditional, then create", "conditional, then get"], "value", '["NotAllowedError","OperationError"]',
+        '["AbortError","done"]', WAITS],
+    [["conditional, then create", "conditional, then get"], "value", '["NotAllowedError","done"]',
+        '["AbortError","done"]', WAITS],
+    [["conditional, then create"], "value", '["NotAllowedError","OperationError"]', '["AbortError","NotAllowedError"]',
+        WAITS],
+    [["conditional, then create"], "value", '["NotAllowedError","NotAllowedError"]', '["AbortError","NotAllowedError"]',
+        WAITS],
+    ...["OperationError", "NotAllowedError"].map((second) => [["conditional twice"], "value",
+        `["NotAllowedError","${second}"]`, '["TimeoutError","OperationError"]', WAITS]),
+    [["aborted, and another in the same turn"], "value", '["done","done"]', '["AbortError","done"]',
+        "an aborted request ends immediately; Chromium's response may come first"],
+    [["a clone"], "error", '"DataCloneError"', "done", "a script's objects can be cloned: the clone is empty"],
+    [["isConditionalMediationAvailable"], "value", "false", "true", CAPABILITIES],
+    [["getClientCapabilities"], "value.conditionalGet", "false", "true", CAPABILITIES],
+    ...["conditionalCreate", "relatedOrigins", "extension:appid", "extension:appidExclude", "extension:credBlob",
+        "extension:credentialProtectionPolicy", "extension:hmacCreateSecret", "extension:largeBlob",
+        "extension:minPinLength", "extension:prf"].map((name) =>
+        [["getClientCapabilities"], `value.${name}`, "true", "false", CAPABILITIES]),
+    ...["extension:enforceCredentialProtectionPolicy", "extension:getCredBlob", "immediateGet"].map((name) =>
+        [["getClientCapabilities"], `value.${name}`, "true", "done", CAPABILITIES]),
+    ...["extension:cmtgKey", "extension:crossDeviceFallbackUrl", "extension:payment"].map((name) =>
+        [["getClientCapabilities"], `value.${name}`, "false", "done", CAPABILITIES]),
 ];
 
-/** The reason why this part of a result may differ, or undefined. */
-export const findReason = (kind, name, path) =>
-    REASONS.find(([of, call, part]) => of.test(kind) && call.test(name) && part.test(path))?.[3];
+/** Finds a reason for a difference between exact values, or undefined. */
+export const findReason = (kind, name, path, native, own) =>
+    REASONS.find(([calls, part, one, other, , kinds]) => (calls === EVERY_CALL || calls.includes(name)) && part === path
+        && one === native && other === own && (!kinds || kinds.includes(kind)))?.[4];
+
+/** How a call with this JSON value or error ended: as summarizeResult of calls.js has it. */
+const summarize = (json) => {
+    const value = json === "done" ? "done" : JSON.parse(json);
+    const list = Array.isArray(value) ? value : [value];
+    return list.every((one) => typeof one === "string") ? list.join(" and ") : "done";
+};
+
+/** Whether a call may end in another way than Chromium's. */
+export const mayDiffer = (kind, name, expected, end) => REASONS.some(([calls, path, native, own, , kinds]) =>
+    calls?.includes(name) && ["error", "value"].includes(path) && (!kinds || kinds.includes(kind))
+    && summarize(native) === expected && summarize(own) === end);

@@ -1,5 +1,5 @@
 // Recordings in storage: one log from page to page and from tab to tab, complete and bounded; and invalid states.
-import { SecurityKey } from "../../web/dist/security_key.mjs";
+import { SecurityKey } from "../../bindings/web/dist/security_key.mjs";
 import { loadFrame, reload } from "./frames.js";
 import { expect, results, waitUntil } from "./harness.js";
 import { readSignCount, makeCreationOptions, makeOptionsForUser, expectError } from "./options.js";
@@ -107,7 +107,7 @@ const testBounds = async () => {
         }
         key = new SecurityKey({ storage: sessionStorage });
     }
-    const length = sessionStorage.getItem("hidlogKey").length;
+    const length = Object.values({ ...sessionStorage }).join("").length;
     const parts = key.recordings();
     expect(length < 1_300_000 && length > 400_000, `${length} characters are stored`);
     const indexes = parts.map(({ index }) => index);
@@ -121,11 +121,12 @@ const testForeignState = async () => {
     sessionStorage.clear();
     const key = new SecurityKey({ storage: sessionStorage });
     await key.create({ publicKey: makeCreationOptions(makeOptionsForUser("ann")) });
-    const text = sessionStorage.getItem("hidlogKey");
-    for (const [of, to] of [["< 00000001", "< 00000002"], ["\\\\np ", "\\\\nx "], [INIT_HEX, " ffffffff810008"]]) {
-        const changed = text.replace(new RegExp(of), to);
-        expect(changed !== text, `${of} is there`);
-        sessionStorage.setItem("hidlogKey", changed);
+    const stored = Object.entries({ ...sessionStorage });
+    for (const [of, to] of [["< 00000001", "< 00000002"], ["\np ", "\nx "], [INIT_HEX, " ffffffff810008"]]) {
+        sessionStorage.clear();
+        const changed = stored.map(([name, text]) => [name, text.replace(of, to)]);
+        expect(changed.join() !== stored.join(), `${of} is there`);
+        changed.forEach(([name, text]) => sessionStorage.setItem(name, text));
         const next = new SecurityKey({ storage: sessionStorage });
         expect(readSignCount(await next.get(getOptions)) === 1, `${of}: the credential signs in`);
         const parts = next.recordings();

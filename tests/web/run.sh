@@ -1,5 +1,5 @@
 #!/usr/bin/env bash
-# Runs the tests of web/ in each installed browser: the page that shows sessions, and the key in a page, whose
+# Runs the tests of bindings/web/ in each installed browser: the page that shows sessions, and the key in a page, whose
 # recordings must pass `hidlog check`. HIDLOG_PROGRAM names the program `hidlog` (default ./hidlog). Reports what is
 # missing. The argument `chromium` or `firefox` runs only that browser.
 set -euo pipefail
@@ -19,11 +19,15 @@ run_pages() {
     echo "== $("$1" --version 2>/dev/null)"
     ran=1
     mkdir -p "$work/$browser"
-    "$with_fido2" "$here/serve.py" "$work/$browser" viewer.html,transactions.html,key.html,long.html "$@" || failed=1
+    "$with_fido2" "$here/serve.py" "$work/$browser" viewer.html,views.html,input.html,mistakes.html,transactions.html,key.html,long.html "$@" || failed=1
     if [ "$browser" = chromium ]; then
         "$with_fido2" "$here/from_file.py" || [ $? = 3 ] || failed=1
+        "$with_fido2" "$here/diagnoses.py" || [ $? = 3 ] || failed=1
+        "$with_fido2" "$here/layout.py" || [ $? = 3 ] || failed=1
+        "$with_fido2" "$here/states.py" || [ $? = 3 ] || failed=1
         "$with_fido2" "$here/virtual_authenticator.py" || [ $? = 3 ] || failed=1
         "$with_fido2" "$here/two_tabs.py" || [ $? = 3 ] || failed=1
+        "$with_fido2" "$here/history.py" || [ $? = 3 ] || failed=1
         "$here/walks_fuzzed.py" --program "$program" || [ $? = 3 ] || failed=1
         run_examples
     fi
@@ -68,9 +72,9 @@ check_logs() {
     done
 }
 
-"$top/web/build.sh" --check || failed=1
+"$top/bindings/web/build.sh" --check || [ $? = 3 ] || failed=1
 if command -v tsc >/dev/null; then
-    for project in "$top/web/tsconfig.json" "$here/tsconfig.json" "$here/tsconfig.node.json"; do
+    for project in "$top"/bindings/web/tsconfig{,.viewer}.json "$here"/tsconfig{,.node}.json; do
         tsc -p "$project" && echo "ok  types of ${project#"$top"/}" || failed=1
     done
 else

@@ -3,13 +3,12 @@
 
     tests/web/screenshots.py
 
-They show the check of a recorded session whose second sign-in doesn't raise the counter. The exit status is 3 if
+They show the diagnosis of a recorded session whose second sign-in doesn't raise the counter. The exit status is 3 if
 chromium or chromedriver is missing.
 """
 
 import base64
 import sys
-import tempfile
 from pathlib import Path
 
 from driver import Driver, is_installed
@@ -17,16 +16,7 @@ from driver import Driver, is_installed
 TOP = Path(__file__).resolve().parents[2]
 WIDTH, HEIGHT = 1200, 720
 PHONE_METRICS = {"width": 390, "height": 780, "deviceScaleFactor": 1, "mobile": True}
-COUNTER_LINE, RAISED, SAME = 35, "470100000002", "470100000001"
-
-
-def make_broken_log():
-    """Returns a recorded session with the counter of its second sign-in set back."""
-    lines = (TOP / "examples" / "sign_in.log").read_text(encoding="ascii").splitlines(keepends=True)
-    if RAISED not in lines[COUNTER_LINE - 1]:
-        raise SystemExit(f"screenshots.py: line {COUNTER_LINE} of examples/sign_in.log has no counter 2")
-    lines[COUNTER_LINE - 1] = lines[COUNTER_LINE - 1].replace(RAISED, SAME)
-    return "".join(lines)
+LOG = TOP / "examples" / "failing" / "stale_sign_count.log"
 
 
 def open_log(driver, path):
@@ -34,7 +24,7 @@ def open_log(driver, path):
     document = driver.devtools("DOM.getDocument")["root"]["nodeId"]
     node = driver.devtools("DOM.querySelector", nodeId=document, selector="#file")["nodeId"]
     driver.devtools("DOM.setFileInputFiles", nodeId=node, files=[str(path)])
-    driver.wait_for("!document.getElementById('check').disabled")
+    driver.wait_for("document.getElementById('diagnosis').dataset.level")
 
 
 def write_screenshot(driver, scheme, path):
@@ -51,21 +41,15 @@ def main():
     if not is_installed():
         print("screenshots.py: chromedriver is missing (apt-get install chromium-driver)", file=sys.stderr)
         return 3
-    with tempfile.TemporaryDirectory() as folder, Driver() as driver:
-        log = Path(folder, "counter_that_stays.log")
-        log.write_text(make_broken_log(), encoding="ascii")
+    with Driver() as driver:
         size = {"width": WIDTH, "height": HEIGHT, "deviceScaleFactor": 1, "mobile": False}
         driver.devtools("Emulation.setDeviceMetricsOverride", **size)
-        driver.open(f"file://{TOP}/web/index.html")
-        open_log(driver, log)
-        driver.run("document.getElementById('check').click(); arguments[arguments.length - 1]()")
-        driver.wait_for("/differs/.test(document.getElementById('notice').textContent)")
+        driver.open(f"file://{TOP}/bindings/web/index.html")
+        open_log(driver, LOG)
         write_screenshot(driver, "light", TOP / "docs" / "use" / "web_light.png")
         driver.devtools("Emulation.setDeviceMetricsOverride", **PHONE_METRICS)
-        driver.open(f"file://{TOP}/web/index.html")
-        open_log(driver, log)
-        driver.run("document.getElementById('check').click(); arguments[arguments.length - 1]()")
-        driver.wait_for("/differs/.test(document.getElementById('notice').textContent)")
+        driver.open(f"file://{TOP}/bindings/web/index.html")
+        open_log(driver, LOG)
         write_screenshot(driver, "dark", TOP / "docs" / "use" / "web_phone.png")
     return 0
 

@@ -1,5 +1,5 @@
 // What outlives a page: the state as a value, in storage, and in storage shared by two tabs.
-import { SecurityKey } from "../../web/dist/security_key.mjs";
+import { SecurityKey } from "../../bindings/web/dist/security_key.mjs";
 import { loadFrame, reload } from "./frames.js";
 import { expect, results } from "./harness.js";
 import { readSignCount, createCredential, makeCreationOptions, getAssertion, makeOptionsForUser, expectError, makeKeyTest } from "./options.js";
@@ -115,11 +115,12 @@ const testRejectedState = async () => {
 /** If storage fails, the request fails, and the next one is served. */
 const testFullStorage = async () => {
     const full = new DOMException("full", "QuotaExceededError");
-    const storage = { text: null, isFull: false, getItem: () => storage.text, setItem: (_, text) => {
+    const items = new Map();
+    const storage = { isFull: false, getItem: (name) => items.get(name) ?? null, setItem: (name, text) => {
         if (storage.isFull) {
             throw full;
         }
-        storage.text = text;
+        items.set(name, text);
     } };
     const key = new SecurityKey({ storage });
     await key.create({ publicKey: makeCreationOptions(makeOptionsForUser("ann")) });
@@ -127,13 +128,92 @@ const testFullStorage = async () => {
     await expectError(key.get(getOptions), "QuotaExceededError");
     storage.isFull = false;
     expect(readSignCount(await key.get(getOptions)) === 2, "the next one is served");
-    storage.text = "{";
+    items.set("hidlogKey", "{");
     await expectError(key.get(getOptions), "TypeError", "another value");
-    storage.text = null;
+    items.clear();
     expect(readSignCount(await key.get(getOptions)) === 3, "and the next");
 };
 
+/** A storage of a test: an object. */
+const makeObjectStorage = () => {
+    const items = new Map();
+    return {
+        items, getItem: (name) => items.get(name) ?? null, removeItem: (name) => items.delete(name),
+        setItem: (name, text) => items.set(name, text),
+    };
+};
+
+/** Counts the characters that are written to a storage, until `stop` is called. */
+const countWritten = (storage) => {
+    const owner = storage instanceof Storage ? Storage.prototype : storage;
+    const { setItem } = owner;
+    const counted = { written: 0, stop: () => Object.assign(owner, { setItem }) };
+    owner.setItem = function setCounted(name, text) {
+        counted.written += this === storage ? name.length + text.length : 0;
+        setItem.call(this, name, text);
+    };
+    return counted;
+};
+
+const SIGN_INS = 1000;
+const BLOCK = 50;
+const MAX_STORED = 1_300_000;
+
+/** Signs in, and returns the characters written for each sign-in. */
+const signInOften = async (key, storage, options) => {
+    const counted = countWritten(storage);
+    const written = [];
+    try {
+        for (let count = 0; count < SIGN_INS; count += 1) {
+            const before = counted.written;
+            await key.get(options);
+            written.push(counted.written - before);
+        }
+    } finally {
+        counted.stop();
+    }
+    return written;
+};
+
+/** The thousandth sign-in writes as much to a storage as the first, and the whole log is stored. */
+const testConstantCost = (name, makeStorage) => async () => {
+    const storage = makeStorage();
+    // Each input comes at a time of the same number of digits.
+    let timeMs = 1_000_000;
+    const clock = (passed = 1) => (timeMs += passed);
+    const key = new SecurityKey({ storage, clock });
+    const made = await key.create({ publicKey: makeCreationOptions(makeOptionsForUser("ann")) });
+    const allowCredentials = [{ type: "public-key", id: made.rawId }];
+    const options = { publicKey: { ...getOptions.publicKey, allowCredentials } };
+    const written = await signInOften(key, storage, options);
+    const sum = (list) => list.reduce((total, count) => total + count, 0);
+    const [first, last] = [sum(written.slice(0, BLOCK)), sum(written.slice(-BLOCK))];
+    results.figures.push(`a sign-in writes ${(first / BLOCK).toFixed(0)} characters to ${name} among the first`
+        + ` ${BLOCK}, and ${(last / BLOCK).toFixed(0)} among the last of ${SIGN_INS}`);
+    expect(first > 0 && last < 1.05 * first, `${first} characters for the first ${BLOCK}, ${last} for the last`);
+    key.close();
+    const next = new SecurityKey({ storage, clock });
+    const signIns = next.recordings().map(({ log }) => log.split("\ns ").length - 1);
+    expect(readSignCount(await next.get(options)) === SIGN_INS + 1 && signIns.length > 1, "the next key continues");
+    keepRecording(`a_thousand_${name.replace(" ", "_")}`, next.recordings().at(-1));
+    const stored = storage.items ? [...storage.items.values()] : Object.values(storage);
+    const whole = stored.join("").length;
+    expect(whole < MAX_STORED, `${whole} characters are stored`);
+    next.close();
+    storage.clear?.();
+};
+
+/** A storage of the browser, empty. */
+const emptyStorage = (name) => () => {
+    const storage = globalThis[name];
+    storage.clear();
+    return storage;
+};
+
 export const stateTests = {
+    "a thousand sign-ins with an object as storage": testConstantCost("an object", makeObjectStorage),
+    "a thousand sign-ins with sessionStorage": testConstantCost("sessionStorage", emptyStorage("sessionStorage")),
+    "a thousand sign-ins with localStorage": testConstantCost("localStorage", emptyStorage("localStorage")),
     "the state is a value that can be stored": makeKeyTest(testStateAsValue),
     "the state in storage survives reloads": testReloads,
     "two tabs sharing storage lose no counter increment": testSharedStorage,

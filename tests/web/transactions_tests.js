@@ -1,6 +1,9 @@
-// Transactions in web/index.html: those of long logs, found by a worker, and those that are no longer tracked.
+// Transactions in bindings/web/index.html: those of long logs, found by a worker, and those that are no longer tracked.
 import { expect, run, waitUntil } from "./harness.js";
-import { getElement, chooseValue, dropFile, encodeText, fetchExample, readNotice, openLog, getPage, listRows, search, listTexts } from "./viewing.js";
+import {
+    getElement, chooseValue, dropFile, encodeText, fetchExample, readNotice, openLog, getPage, listRows, readCard, search,
+    listTexts, waitForCard,
+} from "./viewing.js";
 
 /** A session repeated to 5 MB. */
 const makeLongLog = async () => {
@@ -58,12 +61,44 @@ const testLateExplanations = async () => {
     await search("search", "signcount 7");
     await waitUntil(() => / of \d+ lines$/.test(getElement("count").textContent), "what is found");
     await waitUntil(() => listRows().length === 1 && listTexts()[0].includes("Sign-in: done at example.com"), "the row's words");
-    getElement("check").click();
-    const difference = "The log has signCount 7; the key sends signCount 2.";
-    await waitUntil(() => getElement("story").textContent.startsWith(difference), "the difference in words");
+    const { side, text } = await waitForCard();
+    expect(side === "key" && text.includes("The log has signCount 7; the key sends signCount 2."), text);
     const readDetail = () => getElement("detail-text").textContent;
-    await waitUntil(() => readDetail().includes("In the log: signCount 7"), "the detail");
-    expect(readDetail().includes("The key:    signCount 2"), readDetail());
+    await waitUntil(() => readDetail().includes("The log: signCount 7"), "the detail");
+    expect(readDetail().includes("The key: signCount 2"), readDetail());
+};
+
+/** Of a long log, the difference is told before its rules are checked. This can be cancelled, and begun again. */
+const testLongExamination = async () => {
+    await openLog("", null);
+    const log = (await makeLongLog()).replace("470100000002", "470100000007");
+    dropFile("changed.log", encodeText(log));
+    const { side, line, text } = await waitForCard();
+    const changed = log.split("\n").findIndex((each) => each.includes("470100000007")) + 1;
+    expect(side === "key" && line === String(changed) && text.includes("The log has signCount 7"), `${side} ${line}: ${text}`);
+    expect(text.includes("The rules of CTAP 2.1 are still being checked."), text);
+    await waitUntil(() => getElement("progress-text").textContent.startsWith("Checking the rules of CTAP 2.1: "), "the rules");
+    await waitUntil(() => getElement("bar").value > 0, "the share that is done");
+    getElement("cancel").click();
+    expect(getElement("progress").hidden && getElement("diagnosis").textContent.includes("was cancelled"), "cancelled");
+    expect(getElement("diagnosis").textContent.includes("The log has signCount 7"), "what is known is kept");
+    getElement("examine").click();
+    await waitUntil(() => !getElement("progress").hidden, "it begins again");
+    getElement("cancel").click();
+};
+
+/** A log of half a megabyte is examined completely. Its second session has the channel of the first one. */
+const testWholeExamination = async () => {
+    await openLog("", null);
+    const session = new TextDecoder().decode(await fetchExample("sign_in.log")).replace(/^[=#].*\n/gm, "");
+    dropFile("half.log", encodeText(session.repeat(Math.ceil((512 * 1024) / session.length))));
+    await waitUntil(() => getElement("diagnosis").dataset.done === "yes", "the end");
+    const { side, line, text } = readCard();
+    // The response to the INIT with which the second session begins.
+    const expected = session.split("\n").length + 1;
+    expect(side === "key" && line === String(expected) && text.includes(`Line ${expected} violates a rule.`), text.slice(0, 300));
+    expect(!text.includes("still being checked") && / MUST violations, /.test(text), text.slice(0, 300));
+    expect(getElement("progress").hidden, "the progress is over");
 };
 
 /** Reading a long log is cancelled, and another one is opened. */
@@ -72,7 +107,8 @@ const testCancel = async () => {
     dropFile("long.log", encodeText(`t 1\n`.repeat(5 * 1024 * 1024)));
     await waitUntil(() => !getElement("progress").hidden, "the progress");
     getElement("cancel").click();
-    expect(readNotice() === "long.log: cancelled.", readNotice());
+    const shown = /^long\.log: cancelled\. The first (\d+) lines are shown; open it again to read all\.$/.exec(readNotice())?.[1];
+    expect(shown === getElement("count").textContent.split(" ")[0], readNotice());
     dropFile("two_hosts.log", await fetchExample("two_hosts.log"));
     await waitUntil(() => /^two_hosts\.log/.test(readNotice()), "the other log");
 };
@@ -89,6 +125,8 @@ const testForgottenChannels = async () => {
 run({
     "long logs without a worker": testWithoutWorker,
     "words of a long log": testLateExplanations,
+    "a long examination": testLongExamination,
+    "a whole examination": testWholeExamination,
     "reading is cancelled": testCancel,
     "more channels than are followed": testForgottenChannels,
 });

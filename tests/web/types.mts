@@ -1,5 +1,7 @@
 // Type checks of the key's declarations: valid calls, and expected errors.
-import { install, installedKey, SecurityKey, sendDevToolsCommand, type Credential, type State } from "../../web/dist/security_key.mjs";
+import {
+    install, installedKey, SecurityKey, sendDevToolsCommand, type Credential, type State,
+} from "../../bindings/web/dist/security_key.mjs";
 
 export const suite = async (publicKey: PublicKeyCredentialCreationOptions): Promise<Credential[]> => {
     const key = install({

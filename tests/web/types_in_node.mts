@@ -1,5 +1,5 @@
 // Type checks of the key's declarations in a node project without lib "dom".
-import { install, SecurityKey } from "../../web/dist/security_key.mjs";
+import { install, SecurityKey } from "../../bindings/web/dist/security_key.mjs";
 
 export const suite = async (): Promise<string> => {
     const key = install({ origin: "https://example.com", hasUserVerification: true, isUserVerified: true });

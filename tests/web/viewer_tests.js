@@ -1,7 +1,9 @@
-// web/index.html, driven like a user: by dropping files, keys and clicks.
+// bindings/web/index.html, driven like a user: by dropping files, keys and clicks.
 import { expect, results, run, waitUntil } from "./harness.js";
+import "./page_facts.js";
 import {
-    getElement, chooseValue, dropFile, encodeText, fetchExample, fetchBytes, frame, readNotice, openLog, getPage, pressKey, listRows, search, listTexts,
+    getElement, chooseValue, dropFile, encodeText, fetchExample, fetchBytes, frame, readCard, readNotice, openLog, getPage,
+    listRows, search, listTexts, waitForCard,
 } from "./viewing.js";
 
 const LOG_NAMES = ["first", "get_info", "registration", "selection", "sign_in", "sign_in_again", "time_out", "two_hosts"];
@@ -12,7 +14,7 @@ const makeShowTest = (name) => async () => {
     await openLog(`${name}.log`, bytes);
     const lines = new TextDecoder().decode(bytes).split("\n").length - 1;
     const hasOnlyInputs = readNotice().includes("only inputs");
-    const expected = `${name}.log: ${lines} lines. Press Check to compare them with the key.`;
+    const expected = `${name}.log: ${lines} lines.`;
     expect(hasOnlyInputs || readNotice() === expected, readNotice());
     expect(listTexts().some((text) => /INIT (8|17) {2}nonce/.test(text)), "the INIT is named");
     expect(hasOnlyInputs || listRows().length === Math.min(lines, listRows().length), "a row a line");
@@ -46,7 +48,9 @@ const testFolding = async () => {
 const testRejectedRequests = async () => {
     await openLog("two_clients.log", await fetchExample("failing/two_clients.log"), true);
     const refused = listRows().filter((row) => row.classList.contains("refused")).map((row) => row.lastChild);
-    expect(refused.length === 1 && refused[0].textContent.startsWith("Registration: the key was busy"), listTexts().join());
+    const busy = "host is the reason, line 14 Registration: the key was busy";
+    const isBusy = (cell) => cell.textContent.startsWith(busy);
+    expect(refused.length === 1 && isBusy(refused[0]), listTexts().join());
     const probe = getPage().document.createElement("span");
     probe.style.color = "var(--fault)";
     getPage().document.body.append(probe);
@@ -74,60 +78,65 @@ const testChannelFilter = async () => {
     expect(listRows().length > 0 && listTexts().every((text) => text.includes("00000002")), "one channel alone");
 };
 
+/** The rows that differ from what the key sends, by their line numbers. */
+const listDiffering = () =>
+    listRows().filter((row) => row.classList.contains("differs")).map((row) => row.firstChild.textContent);
+
 const testMarkedDifference = async () => {
     const text = new TextDecoder().decode(await fetchExample("registration.log"));
     const changed = text.replace("< 00000001bb000102", "< 00000001bb000101");
     await openLog("changed.log", encodeText(changed));
-    getElement("check").click();
-    expect(readNotice() === "changed.log: line 6 differs: packet 1 for line 5.", readNotice());
-    const marked = listRows().filter((row) => row.classList.contains("differs"));
-    expect(marked.length === 1 && marked[0].firstChild.textContent === "6", "the line that is named is marked");
+    const { side, line, text: told } = await waitForCard();
+    expect(side === "key" && line === "6", `${side} ${line}: ${told}`);
+    expect(listDiffering().join() === "6", "the line that is named is marked");
     const detail = getElement("detail-text").textContent;
+    expect(detail.startsWith("line 6 differs: packet 1 for line 5"), detail);
     expect(detail.includes("The key sends:\n< 00000001bb000102"), "what is sent is shown");
 };
 
 const SIGN_IN_COUNTER = "470100000002";
 
-/** Changes a log of two sign-ins, and checks it. Returns the notice, the marked line and the marks in the detail. */
+/** Changes and opens a log of two sign-ins. Returns the detail's first line, the marked line and the detail's marks. */
 const checkChangedLog = async (change) => {
     const lines = new TextDecoder().decode(await fetchExample("sign_in.log")).split("\n");
     change(lines, lines.findIndex((line) => line.includes(SIGN_IN_COUNTER)));
     await openLog("changed.log", encodeText(lines.join("\n")));
-    pressKey("c");
-    const marked = listRows().filter((row) => row.classList.contains("differs")).map((row) => row.firstChild.textContent);
+    await waitForCard();
     const marks = [...getElement("detail-text").querySelectorAll("mark")].map((mark) => mark.textContent.trim());
-    return { told: readNotice(), marked: marked.join(), marks };
+    return { told: getElement("detail-text").textContent.split("\n")[0], marked: listDiffering().join(), marks };
 };
 
 const testDifferingMember = async () => {
     const { told, marked, marks } = await checkChangedLog((lines, at) => {
         lines[at] = lines[at].replace(SIGN_IN_COUNTER, "470100000007");
     });
-    expect(told === "changed.log: line 35 differs: packet 2 for line 33." && marked === "35", told + marked);
+    expect(told === "line 35 differs: packet 2 for line 33" && marked === "35", told + marked);
     const expected = ["signCount 7", "signCount 2", "7", "2", "signCount 7", "signCount 2"];
     const isOtherLine = (text) => !text.startsWith("2 authData: h'");
     expect(marks.filter(isOtherLine).join() === expected.join() && marks.length === 8, marks.join("\n"));
 };
 
-/** For each failing session, the notice after Check, and a text to find in it. */
+/** For each failing session, who is at fault, the line, a part of the card's text, and a text to find in the rows. */
 const FAILING_SESSIONS = {
-    denied_user: ["The log matches the key: same 7 inputs 5 packets.", "CTAP2_ERR_OPERATION_DENIED"],
-    excluded_credential: ["The log matches the key: same 16 inputs 14 packets.", "CTAP2_ERR_CREDENTIAL_EXCLUDED"],
-    wrong_rp_id: ["The log matches the key: same 11 inputs 11 packets.", 'rpId: "www.example.com"'],
-    lost_packet: ["The log matches the key: same 3 inputs 2 packets.", "ERR_INVALID_SEQ"],
-    busy_channel: ["The log matches the key: same 10 inputs 11 packets.", "ERR_CHANNEL_BUSY"],
-    stale_sign_count: ["stale_sign_count.log: line 66 differs: packet 2 for line 64.", "signCount 1"],
-    truncated: ["The log is shown up to its first invalid line: line 49: not a log line.", "line 49: not a log line"],
-    two_clients: ["The log matches the key: same 13 inputs 12 packets.", "ERR_CHANNEL_BUSY"],
-    changed_request: ["The log matches the key: same 14 inputs 18 packets.", "clientDataHash: h'"],
-    noncanonical_cbor: ["The log matches the key: same 4 inputs 2 packets.", "request 01 fault 6 at 125"],
+    denied_user: ["user", 17, "same 7 inputs 5 packets", "CTAP2_ERR_OPERATION_DENIED"],
+    excluded_credential: ["host", 32, "same 16 inputs 14 packets", "CTAP2_ERR_CREDENTIAL_EXCLUDED"],
+    wrong_rp_id: ["host", 32, "same 11 inputs 11 packets", 'rpId: "www.example.com"'],
+    lost_packet: ["host", 6, "same 3 inputs 2 packets", "ERR_INVALID_SEQ"],
+    busy_channel: ["host", 11, "same 10 inputs 11 packets", "ERR_CHANNEL_BUSY"],
+    stale_sign_count: ["key", 66, "The log has signCount 1; the key sends signCount 2.", "signCount 1"],
+    truncated: ["capture", 49, "its last line ends after 49 characters", "line 49: not a log line"],
+    two_clients: ["host", 14, "same 13 inputs 12 packets", "ERR_CHANNEL_BUSY"],
+    changed_request: ["caller", 41, "same 14 inputs 18 packets", "clientDataHash: h'"],
+    noncanonical_cbor: ["host", 4, "same 4 inputs 2 packets", "request 01 fault 6 at 125"],
 };
 
 const testFailingSessions = async () => {
-    for (const [name, [told, sought]] of Object.entries(FAILING_SESSIONS)) {
+    for (const [name, [side, line, told, sought]] of Object.entries(FAILING_SESSIONS)) {
         await openLog(`${name}.log`, await fetchExample(`failing/${name}.log`));
-        pressKey("c");
-        expect(readNotice() === told, `${name}: ${readNotice()}`);
+        const card = await waitForCard();
+        expect(card.side === side && card.line === String(line) && card.text.includes(told), `${name}: ${card.text}`);
+        const [chosen] = listRows().filter((row) => row.getAttribute("aria-selected") === "true");
+        expect(chosen?.querySelector(".finding").textContent.startsWith(side), `${name}: ${chosen?.textContent}`);
         await search("search", sought.toLowerCase());
         expect(listRows().length > 0, `${name}: no row says ${sought}`);
         listRows()[0].click();
@@ -137,38 +146,37 @@ const testFailingSessions = async () => {
 
 const testLogWithoutPackets = async () => {
     await openLog("first.log", await fetchExample("first.log"));
-    pressKey("c");
-    expect(readNotice() === "first.log has only inputs: there are no packets of the key to compare.", readNotice());
+    expect((await waitForCard()).side === "none" && readNotice().startsWith("first.log has only inputs."), readNotice());
     expect(listRows().every((row) => !row.classList.contains("differs")), "no row is marked");
 };
 
 const testMissingSnapshot = async () => {
     const bytes = await fetchExample("failing/wrong_snapshot.log");
     await openLog("wrong_snapshot.log", bytes);
-    pressKey("c");
-    expect(readNotice() === "wrong_snapshot.log: line 7 differs: packet 1 for line 6.", readNotice());
+    expect((await waitForCard()).side === "capture" && readCard().line === "7", readCard().text);
     const detail = getElement("detail-text").textContent;
+    expect(detail.startsWith("line 7 differs: packet 1 for line 6\n"), detail);
     expect(detail.includes("drop its snapshot first") && detail.includes("answer 2e  CTAP2_ERR_NO_CREDENTIALS"), detail);
     dropFile("alice.snapshot", await fetchExample("failing/alice.snapshot"));
-    await waitUntil(() => readNotice().includes("with the credentials of alice.snapshot. Press Check"), "the snapshot");
-    pressKey("c");
-    expect(readNotice() === "The log matches the key: same 7 inputs 9 packets.", readNotice());
+    await waitUntil(() => readNotice().includes("with the credentials of alice.snapshot."), "the snapshot");
+    const { side, text } = await waitForCard();
+    expect(side === "none" && text.includes("The log matches the key: same 7 inputs 9 packets."), text);
 };
 
 const testMissingPacket = async () => {
     const { told, marked } = await checkChangedLog((lines, at) => lines.splice(at, 1));
-    expect(told === "changed.log: line 35 differs: packet 2 for line 33." && marked === "35", told + marked);
+    expect(told === "line 35 differs: packet 2 for line 33" && marked === "35", told + marked);
     const cut = await checkChangedLog((lines, at) => lines.splice(at, 9));
-    const sentence = "changed.log: line 33 differs: packet 2 of the key's response is missing.";
+    const sentence = "line 33 differs: packet 2 of the key's response is missing";
     expect(cut.told === sentence && cut.marked === "33", cut.told + cut.marked);
 };
 
 const testExtraPacket = async () => {
     const { told, marked } = await checkChangedLog((lines) => lines.splice(3, 0, lines[2]));
-    const sentence = "changed.log: line 4 is unexpected: the key sends 1 packets for line 2.";
+    const sentence = "line 4 is unexpected: the key sends 1 packets for line 2";
     expect(told === sentence && marked === "4", told + marked);
     const first = await checkChangedLog((lines) => lines.splice(1, 0, lines[2]));
-    const before = "changed.log: line 2 is unexpected: the key sends 0 packets before any input.";
+    const before = "line 2 is unexpected: the key sends 0 packets before any input";
     expect(first.told === before && first.marked === "2", first.told + first.marked);
 };
 
@@ -214,8 +222,8 @@ const testMatchingLog = async () => {
     await openLog("sign_in_again.log", await fetchExample("sign_in_again.log"));
     dropFile("example_com.snapshot", await fetchExample("example_com.snapshot"));
     await waitUntil(() => readNotice().includes("with the credentials of example_com.snapshot"), "the log on the snapshot");
-    pressKey("c");
-    expect(/^The log matches the key: same \d+ inputs \d+ packets\./.test(readNotice()), readNotice());
+    const { text } = await waitForCard();
+    expect(/The log matches the key: same \d+ inputs \d+ packets\./.test(text), text);
 };
 
 const testQuietView = async () => {
@@ -227,34 +235,42 @@ const testQuietView = async () => {
     expect(listRows().filter((row) => row.classList.contains("noise")).length === 1, "the replaced input is shown");
 };
 
+/** Files that are no logs, with what the page says of them. */
+const UNREADABLE_FILES = [
+    ["picture.png", Uint8Array.of(0x89, 0x50, 0x4e, 0x47, 13, 10, 26, 10, 0, 0), "it is a picture"],
+    ["empty.log", new Uint8Array(0), "it is empty; a log must have at least one line"],
+    ["zeros.log", new Uint8Array(16 * 1024 * 1024), "it is not a text file: it starts with the bytes 00 00 00 00"],
+    ["words.log", encodeText("what is this\n"), "it is not a session log: line 1: not a log line: “what is this”"],
+    ["state.json", encodeText('{"format": 2}\n'), "it is JSON; a page's key returns its log by key.log() and key.recordings()"],
+];
+
 const testInvalidLines = async () => {
     const text = new TextDecoder().decode(await fetchExample("first.log"));
     await openLog("faulty.log", encodeText(`${text}what is this\n# and more\n`));
     expect(readNotice() === "The log is shown up to its first invalid line: line 3: not a log line.", readNotice());
     expect(listRows().length === 3 && listTexts()[2].includes("line 3: not a log line"), "the lines before it are shown");
-    await openLog("picture.png", Uint8Array.of(0x89, 0x50, 0x4e, 0x47, 13, 10, 26, 10, 0, 0));
-    expect(readNotice() === "This is not a session log: line 1: not a log line.", readNotice());
-    await openLog("empty.log", new Uint8Array(0));
-    expect(readNotice() === "empty.log is empty; a log must have at least one line.", readNotice());
-    await openLog("huge.log", new Uint8Array(16 * 1024 * 1024));
-    await waitUntil(() => readNotice() === "This is not a session log: line 1: longer than 255 bytes.", "no text");
-    expect(getElement("story").textContent.startsWith("This is not a text file: it starts with the bytes 00 00 00 00."), "why");
-    await openLog("windows.log", encodeText(text.replaceAll("\n", "\r\n")));
-    expect(getElement("story").textContent.startsWith("Lines end with CR LF"), getElement("story").textContent);
-    await openLog("cut.log", encodeText(text.slice(0, 100)));
-    expect(getElement("story").textContent.startsWith("The file is truncated: its last line ends after"), getElement("story").textContent);
+    await openLog("cut.log", encodeText(text.slice(0, 200)));
+    expect(readCard().side === "capture" && readCard().text.includes("its last line ends after"), readCard().text);
+    for (const [name, bytes, told] of UNREADABLE_FILES) {
+        await openLog(name, bytes);
+        expect(readNotice() === `Cannot open ${name}: ${told}.`, readNotice());
+        expect(readCard().side === "capture" && readCard().text.includes(told), readCard().text);
+    }
     dropFile("first.log", encodeText(text));
-    await waitUntil(() => /only inputs|Press Check/.test(readNotice()), "the page still works");
+    await waitUntil(() => readNotice().includes("only inputs"), "the page still works");
 };
 
-const ROW_HEIGHT = 26;
 const JUMP_COUNT = 40;
 
-/** All texts that the page draws from now on. */
+/** The texts of the page's last drawing from now on, each of which begins by setting the scale. */
 const recordDrawnTexts = () => {
     const { prototype } = getPage().CanvasRenderingContext2D;
-    const { fillText } = prototype;
+    const { fillText, scale } = prototype;
     const drawn = new Set();
+    prototype.scale = function begin(...factors) {
+        drawn.clear();
+        return scale.apply(this, factors);
+    };
     prototype.fillText = function draw(text, ...rest) {
         drawn.add(text);
         return fillText.call(this, text, ...rest);
@@ -262,24 +278,26 @@ const recordDrawnTexts = () => {
     return drawn;
 };
 
-/** Jumps, and expects exactly the visible rows; in the drawing at most one text for each. */
-const checkJump = async (top, drawn) => {
+/** Jumps, and expects exactly the visible rows; in the drawing at most one text for each. The rows are equally far apart. */
+const checkJump = async (top, drawn, pitch) => {
     const scroller = getElement("scroller");
     drawn.clear();
     scroller.scrollTop = top;
-    const first = Math.floor(scroller.scrollTop / ROW_HEIGHT) + 1;
-    const inSight = Math.ceil(scroller.clientHeight / ROW_HEIGHT) + 1;
+    const first = Math.floor(scroller.scrollTop / pitch) + 1;
+    const inSight = Math.ceil(scroller.clientHeight / pitch) + 1;
     await waitUntil(() => listRows()[0]?.firstChild.textContent === String(first), `line ${first} after a jump`);
     const last = Number(listRows().at(-1).firstChild.textContent);
     expect(listRows().length <= inSight && listRows().length === last - first + 1, `${listRows().length} rows of ${inSight}`);
     const isLast = last === Number(getElement("count").textContent.split(" ")[0]);
-    expect(isLast || last * ROW_HEIGHT >= scroller.scrollTop + scroller.clientHeight, "rows to the end of the sight");
+    expect(isLast || last * pitch >= scroller.scrollTop + scroller.clientHeight, "rows to the end of the sight");
     expect(drawn.size <= inSight + HEAD_COUNT, `${drawn.size} texts are drawn`);
     return drawn.size;
 };
 
-// The names of the lifelines.
-const HEAD_COUNT = 3;
+// The names of the lifelines, and the text of the scale.
+const HEAD_COUNT = 4;
+// Pixels between lines: a row, and in the drawing a millisecond.
+const PITCH = { table: 26, drawing: 46 };
 
 /** 10,000 lines: only visible rows are created, wherever a jump leads. The times are only reported. */
 const testScrolling = async () => {
@@ -291,10 +309,14 @@ const testScrolling = async () => {
     const drawn = recordDrawnTexts();
     for (const mode of ["table", "drawing"]) {
         getElement(`${mode}-tab`).click();
+        const isToScale = () => mode === "table" || getPage().hidlogViewer.state.layout.scale > 0;
+        await waitUntil(isToScale, "the rows' places");
+        // What was to be drawn before the jumps is drawn.
+        await new Promise((done) => getPage().requestAnimationFrame(() => getPage().requestAnimationFrame(done)));
         const from = performance.now();
         let texts = 0;
         for (let jump = 1; jump <= JUMP_COUNT; jump += 1) {
-            texts += await checkJump((jump * getElement("scroller").scrollHeight) / JUMP_COUNT, drawn);
+            texts += await checkJump((jump * getElement("scroller").scrollHeight) / JUMP_COUNT, drawn, PITCH[mode]);
         }
         expect((texts > 0) === (mode === "drawing"), "drawn in the drawing alone");
         const each = (performance.now() - from) / JUMP_COUNT;
@@ -343,27 +365,26 @@ const testCaptures = async () => {
 const testCaptureWithoutKey = async () => {
     const capture = await fetchBytes("tests/captures/data/python_cancel.pcapng");
     await openLog("cut.pcapng", capture.slice(0, 300));
-    expect(readNotice() === "cannot open cut.pcapng: no security key with complete packets found; try hidlog import, which"
-        + " reads more formats", readNotice());
+    expect(readNotice() === "Cannot open cut.pcapng: no security key with complete packets found; try hidlog import, which"
+        + " reads more formats.", readNotice());
 };
 
-/** After Check the differing row is selected and centered, its transaction is unfolded, and the summary begins with it. */
+/** The differing row is selected and centered, its transaction is unfolded, and the card describes the difference. */
 const testShownDifference = async () => {
     const lines = new TextDecoder().decode(await fetchExample("sign_in.log")).split("\n");
     const place = lines.findIndex((line) => line.includes(SIGN_IN_COUNTER));
     lines[place] = lines[place].replace(SIGN_IN_COUNTER, "470100000007");
     await openLog("changed.log", encodeText(lines.join("\n")), true);
-    const before = listRows().length;
-    pressKey("c");
+    await waitForCard();
+    expect(getElement("fold").checked, "the others are folded");
     const [chosen] = listRows().filter((row) => row.getAttribute("aria-selected") === "true");
     expect(chosen?.classList.contains("differs") && chosen.firstChild.textContent === "35", "the row is chosen");
-    expect(listRows().length > before, "its transaction is open");
     expect(getElement("scroller").getAttribute("aria-activedescendant") === chosen.id, "and told to a screen reader");
     const box = chosen.getBoundingClientRect();
     const around = getElement("scroller").getBoundingClientRect();
     expect(box.top >= around.top && box.bottom <= around.bottom, "it is in sight");
     const difference = "The log has signCount 7; the key sends signCount 2.";
-    expect(getElement("story").textContent.startsWith(difference), getElement("story").textContent);
+    expect(readCard().text.includes(difference), readCard().text);
 };
 
 /** The saved page contains the log and its own Content-Security-Policy, and loads nothing else. */
@@ -381,49 +402,22 @@ const testSavedPage = async () => {
     await loadedPage;
     await waitUntil(() => getPage().document.documentElement.dataset.ready === "yes", "the saved page");
     expect(getElement("story").textContent === before && listRows().length > 1, "the same story");
-    pressKey("c");
-    expect(/^The log matches the key/.test(readNotice()), readNotice());
+    const { text } = await waitForCard();
+    expect(text.includes("The log matches the key") && text.includes("0 MUST violations"), text);
     const again = await getPage().hidlogSave.makePage(getPage().hidlogViewer.state);
     expect(again.length > 100_000, "it saves itself again");
     URL.revokeObjectURL(address);
-};
-
-/** The brightness of a colour, as WCAG 2.1 computes it. */
-const computeLuminance = (colour) => {
-    const parts = colour.match(/[\d.]+/g).slice(0, 3).map((part) => part / 255);
-    const [red, green, blue] = parts.map((part) => (part <= 0.04045 ? part / 12.92 : ((part + 0.055) / 1.055) ** 2.4));
-    return 0.2126 * red + 0.7152 * green + 0.0722 * blue;
-};
-
-const findBackground = (element) => {
-    const { backgroundColor } = getPage().getComputedStyle(element);
-    return /, 0\)$|transparent/.test(backgroundColor) ? findBackground(element.parentElement) : backgroundColor;
 };
 
 /** Every text has a contrast of 4.5:1 to what is behind it, in both themes (WCAG 2.1, 1.4.3). */
 const testContrast = async () => {
     const text = new TextDecoder().decode(await fetchExample("registration.log"));
     await openLog("changed.log", encodeText(text.replace("< 00000001bb000102", "< 00000001bb000101")));
-    pressKey("c");
+    await waitForCard();
     for (const theme of ["light", "dark"]) {
         getPage().document.documentElement.dataset.theme = theme;
-        const faint = [];
-        for (const element of getPage().document.querySelectorAll("button, label, span, p, h1, h2, pre, mark, select, #notice")) {
-            if (element.disabled || !element.textContent.trim() || !element.getClientRects().length) {
-                continue;
-            }
-            const [one, other] = [getPage().getComputedStyle(element).color, findBackground(element)].map(computeLuminance);
-            const ratio = (Math.max(one, other) + 0.05) / (Math.min(one, other) + 0.05);
-            if (ratio < 4.5) {
-                faint.push(`${element.tagName}.${element.className} ${ratio.toFixed(2)}`);
-            }
-        }
-        const hint = getPage().getComputedStyle(getElement("search"), "::placeholder").color;
-        const [one, other] = [hint, findBackground(getElement("search"))].map(computeLuminance);
-        if ((Math.max(one, other) + 0.05) / (Math.min(one, other) + 0.05) < 4.5) {
-            faint.push("the hint of the search");
-        }
-        expect(!faint.length, `${theme}: ${[...new Set(faint)].join("; ")}`);
+        const faint = globalThis.pageFacts.findFaintTexts(getPage());
+        expect(!faint.length, `${theme}: ${faint.join("; ")}`);
     }
 };
 
@@ -436,23 +430,23 @@ run({
     "rejected requests are marked": testRejectedRequests,
     "one request is rejected while another is pending": testPendingRequest,
     "one channel alone": testChannelFilter,
-    "check marks the first difference": testMarkedDifference,
+    "the first difference is marked": testMarkedDifference,
     "a member that differs is marked": testDifferingMember,
     "failing sessions": testFailingSessions,
-    "inputs alone are not compared": testLogWithoutPackets,
+    "inputs alone are shown with the key's packets": testLogWithoutPackets,
     "a log without its snapshot": testMissingSnapshot,
     "a packet that is missing": testMissingPacket,
     "a packet too many": testExtraPacket,
     "the core's explanations, line by line": testExplanations,
     "characters that reorder text are escaped": testInvisibleCharacters,
-    "check on a snapshot": testMatchingLog,
+    "a log on its snapshot": testMatchingLog,
     "quiet shows ignored inputs": testQuietView,
     "invalid, empty and huge files": testInvalidLines,
     "captures are opened": testCaptures,
     "other captures are rejected": testCaptureWithoutKey,
     "10,000 lines": testScrolling,
     "30 MB": testLongLog,
-    "after Check the difference is visible": testShownDifference,
+    "the difference is visible": testShownDifference,
     "the page saves itself with the log inside": testSavedPage,
     "contrast in both themes": testContrast,
 });

@@ -1,4 +1,4 @@
-// Drives web/index.html in a frame: drops files, presses keys, clicks, and reads what is shown.
+// Drives bindings/web/index.html in a frame: drops files, presses keys, clicks, and reads what is shown.
 import { waitUntil } from "./harness.js";
 
 export const frame = document.querySelector("iframe");
@@ -36,15 +36,26 @@ export const fetchExample = (name) => fetchBytes(`examples/${name}`);
 
 export const encodeText = (text) => new TextEncoder().encode(text);
 
+/** What the card says: its side, level and line, and its text. */
+export const readCard = () => ({ ...getElement("diagnosis").dataset, text: getElement("diagnosis").textContent });
+
+/** Waits until the card has a verdict on what was opened, and returns it. */
+export const waitForCard = async () => {
+    await waitUntil(() => readCard().level, "the diagnosis");
+    return readCard();
+};
+
 /** Reloads the page, and drops a file on it. Unfolds its lines unless `isFolded`. */
 export const openLog = async (name, bytes, isFolded = false) => {
     const loaded = new Promise((done) => frame.addEventListener("load", done, { once: true }));
-    frame.src = "../../web/index.html";
+    frame.src = "../../bindings/web/index.html";
     await loaded;
     await waitUntil(() => getPage().document.documentElement.dataset.ready === "yes", "the page");
     if (bytes) {
         dropFile(name, bytes);
         await waitUntil(() => readNotice() !== "", "a word on the file");
+        const isWaiting = () => !getElement("progress").hidden || getElement("examine");
+        await waitUntil(() => readCard().level || isWaiting(), "the diagnosis");
         if (!isFolded && !getElement("fold").disabled) {
             getElement("fold").click();
         }

@@ -2,12 +2,14 @@
 """Compares the key with Chromium's own virtual authenticator: the results and the times of the same calls in a page.
 
     virtual_authenticator.py            prints what compare.html found, for each kind of authenticator in reasons.js
+    virtual_authenticator.py --kind K   for one kind
     virtual_authenticator.py --write    also writes chromium_outcomes.json: how each call ended, for other browsers
 """
 
 import os
 import sys
 import threading
+import urllib.parse
 from http.server import ThreadingHTTPServer
 
 from driver import Driver, is_installed
@@ -28,11 +30,12 @@ class ComparingHandler(Handler):
         return super().handle_request(path, request)
 
 
-def run_page(driver, server):
-    """Opens the page and returns the results that it posts."""
+def run_page(driver, server, kind):
+    """Opens the page for a kind of authenticator, or for all, and returns the results that it posts."""
+    query = f"?kind={urllib.parse.quote(kind)}" if kind else ""
     server.driver = driver
     driver.devtools("WebAuthn.enable")
-    driver.open(f"http://localhost:{server.server_address[1]}/tests/web/compare.html")
+    driver.open(f"http://localhost:{server.server_address[1]}/tests/web/compare.html{query}")
     return server.results[0] if server.is_done.wait(TIMEOUT_SECONDS) else None
 
 
@@ -40,11 +43,12 @@ def main():
     if not is_installed():
         print("tests/web: chromedriver is missing (apt-get install chromium-driver)", file=sys.stderr)
         return 3
+    kind = sys.argv[2] if sys.argv[1:2] == ["--kind"] else ""
     server = ThreadingHTTPServer(("127.0.0.1", 0), ComparingHandler)
     server.results, server.pages, server.is_done = [], [], threading.Event()
     threading.Thread(target=server.serve_forever, daemon=True).start()
     with Driver() as driver:
-        results = run_page(driver, server)
+        results = run_page(driver, server, kind)
     if results is None:
         print(f"FAILED  the comparison posted no results within {TIMEOUT_SECONDS} seconds")
         return 1
@@ -53,7 +57,7 @@ def main():
         with open(EXPECTED_RESULTS, "w", encoding="utf-8") as file:
             file.write(outcomes)
     with open(EXPECTED_RESULTS, encoding="utf-8") as file:
-        if file.read() != outcomes:
+        if not kind and file.read() != outcomes:
             name = os.path.basename(EXPECTED_RESULTS)
             print(f"    {name} is from another version of Chromium: run virtual_authenticator.py --write")
     for line in results["figures"]:

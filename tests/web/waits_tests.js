@@ -1,5 +1,5 @@
 // Waiting for the user: what ends it, which request is served next, and the cost of a wait and a sign-in.
-import { install, SecurityKey } from "../../web/dist/security_key.mjs";
+import { install, SecurityKey } from "../../bindings/web/dist/security_key.mjs";
 import { expect, results, waitUntil, sleep } from "./harness.js";
 import { readSignCount, createCredential, makeCreationOptions, getAssertion, getAssertionBy, makeOptionsForUser, expectError, makeKeyTest } from "./options.js";
 

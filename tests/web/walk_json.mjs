@@ -1,6 +1,6 @@
-// Reads paths of logs from standard input, and writes for each the page's transactions (web/transactions.js) as a line of
-// JSON: the objects `packet`, `presence`, `key`, `signature` and `transaction` of `hidlog show --json`, without their
-// other members. Members that were renamed have both names, as there.
+// Reads paths of logs from standard input, and writes for each the page's transactions (bindings/web/transactions.js)
+// as a line of JSON: the objects `packet`, `presence`, `key`, `signature` and `transaction` of `hidlog show --json`,
+// without their other members. Members that were renamed have both names, as there.
 import { readFileSync } from "node:fs";
 import { readSession } from "./session_in_node.mjs";
 

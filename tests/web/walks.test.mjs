@@ -1,6 +1,6 @@
-// Compares the core's transactions of a log, as read by the page (web/transactions.js), with those of an independent
-// implementation in Python: walks/expected.txt has its results for the logs beside it and the examples, line by line and
-// message by message.
+// Compares the core's transactions of a log, as read by the page (bindings/web/transactions.js), with those of an
+// independent implementation in Python: walks/expected.txt has its results for the logs beside it and the examples,
+// line by line and message by message.
 import assert from "node:assert/strict";
 import { readFileSync } from "node:fs";
 import { test } from "node:test";

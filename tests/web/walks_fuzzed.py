@@ -1,5 +1,5 @@
 #!/usr/bin/env python3
-"""Checks the page's reader (web/transactions.js) with fuzzed logs of up to four misbehaving hosts.
+"""Checks the page's reader (bindings/web/transactions.js) with fuzzed logs of up to four misbehaving hosts.
 
     tests/web/walks_fuzzed.py [--seed N] [--count N] [--program FILE]
 

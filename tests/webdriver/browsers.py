@@ -22,7 +22,7 @@ from tempfile import TemporaryDirectory
 from typing import Any
 
 HERE = Path(__file__).resolve().parent
-sys.path.insert(0, str(HERE.parents[1] / "python" / "src"))
+sys.path.insert(0, str(HERE.parents[1] / "bindings" / "python" / "src"))
 sys.path.insert(0, str(HERE))
 
 from hidlog.webdriver import server as server_module

@@ -186,7 +186,7 @@ def test_frames(suite: Suite) -> None:
 def test_frame_is_current(suite: Suite) -> None:
     """An authenticator added while a frame of another origin is current is not installed in that frame."""
     held = make_credential("localhost", "the bank's")
-    assert run.call("DELETE", suite.url + suite.key) == (200, None)
+    assert run.call("DELETE", suite.url + suite.key) == (200, {})
     suite.open(suite.page)
     assert suite.post("/execute/async", {"script": ADD_FRAME, "args": [suite.other]})[0] == 200
     assert suite.post("/frame", {"id": 0})[0] == 200
@@ -221,7 +221,7 @@ def test_windows(suite: Suite) -> None:
 def test_removal(suite: Suite) -> None:
     """Once the authenticator is removed, nothing of it is left in pages."""
     suite.call_page("register")
-    assert run.call("DELETE", suite.url + suite.key) == (200, None)
+    assert run.call("DELETE", suite.url + suite.key) == (200, {})
     names = "return Object.getOwnPropertyNames(globalThis).filter((name) => /hidlog/i.test(name))"
     assert suite.run(names) == [], suite.run(names)
     assert suite.run("return /native code/.test(navigator.credentials.create)")

@@ -119,7 +119,11 @@ class Run:
     """A running proxy, with a session."""
 
     def __init__(self, driver: str, *words: str, env: dict[str, str] | None = None):
-        environment = {**os.environ, "PYTHONPATH": str(TOP / "python" / "src"), "PYTHONDONTWRITEBYTECODE": "1"}
+        environment = {
+            **os.environ,
+            "PYTHONPATH": str(TOP / "bindings" / "python" / "src"),
+            "PYTHONDONTWRITEBYTECODE": "1",
+        }
         command = [sys.executable, "-m", "hidlog", "webdriver", "--port", "0", "--driver", driver, *words]
         self.process = subprocess.Popen(
             command,

@@ -35,7 +35,7 @@ KNOWN_DIFFERENCES = {
     "test_broken_private_key": "chromedriver returns unknown error; the standard says invalid argument",
     "test_two_windows": "Chromium's authenticator is of one window, and the standard's of all in a session",
 }
-ENVIRONMENT = {**os.environ, "PYTHONPATH": str(TOP / "python" / "src"), "PYTHONDONTWRITEBYTECODE": "1"}
+ENVIRONMENT = {**os.environ, "PYTHONPATH": str(TOP / "bindings" / "python" / "src"), "PYTHONDONTWRITEBYTECODE": "1"}
 PRIVATE_KEY = (
     "MIGHAgEAMBMGByqGSM49AgEGCCqGSM49AwEHBG0wawIBAQQg8_zMDQDYAxlU-Qhk1Dwkf0v18GZca1DMF3SaJ9HPdmShRANCAASNYX5lyVCOZLzF"
 )
@@ -53,7 +53,7 @@ SEPARATE_TESTS = [
     "processes.py",
     "faults.py",
 ]
-SEPARATE_TESTS += ["browsers.py", "origins.py"]
+SEPARATE_TESTS += ["browsers.py", "origins.py", "seen.py"]
 
 
 class Files(SimpleHTTPRequestHandler):
@@ -217,14 +217,17 @@ class Commands:
         self.expect_error(
             "invalid argument", "ctap1/u2f", at, {**good, "protocol": "ctap1/u2f", "hasResidentKey": True}
         )
-        self.expect_error("unsupported operation", "prf", at, {**good, "extensions": ["prf", "largeBlob"]})
+        self.expect_error("unsupported operation", "largeBlob", at, {**good, "extensions": ["prf", "uvm"]})
+        self.expect_error("invalid argument", "ctap2_1", at, {**good, "extensions": ["prf", "largeBlob"]})
+        self.expect_error("invalid argument", "-257", at, {**good, "algorithms": [-8]})
+        self.expect_error("invalid argument", "basic", at, {**good, "attestation": "packed"})
         self.expect_error("invalid argument", "no authenticator", f"{at}/nobody/uv", {"isUserVerified": True})
         key = self.add_authenticator()
         self.expect_error("unsupported operation", "already has an authenticator", at, good)
         self.expect_error("invalid argument", "rpId", f"{key}/credential", {"isResidentCredential": False})
         self.expect_error("invalid argument", "isUserVerified", f"{key}/uv", {})
         self.expect_error("unknown method", "POST", f"{key}/credentials", {})
-        assert call("DELETE", self.url + key) == (200, None)
+        assert call("DELETE", self.url + key) == (200, {})
 
     def test_presence_and_faults(self) -> None:
         """Additions to virtual authenticators: a presence script, faults, the recording."""
@@ -246,16 +249,16 @@ class Commands:
         assert self.page.startswith(origin) and "# fault: the answer is status 0x28" in parts[-1]["log"]
         assert sum(part["log"].count(" denied\n") for part in parts) == 1, parts
         assert [recording["index"] for recording in parts] == list(range(1, len(parts) + 1)), parts
-        assert call("DELETE", self.url + key) == (200, None)
+        assert call("DELETE", self.url + key) == (200, {})
 
     def test_pending_requests(self) -> None:
         """A change by a command reaches a page's pending request."""
-        key = self.add_authenticator(isUserConsenting=False)
+        key = self.add_authenticator(isUserConsenting=False, autofill="selected")
         self.post("/execute/sync", {"script": "window.made = register({ residentKey: 'required' })", "args": []})
         assert self.post(f"{key}/presence", {"presence": "granted"}) == (200, None)
         status, made = self.post("/execute/async", {"script": "made.then(arguments[0])", "args": []})
         assert status == 200 and made["id"], made
-        assert call("DELETE", f"{self.url}{key}/credentials") == (200, None)
+        assert call("DELETE", f"{self.url}{key}/credentials") == (200, {})
         options = "{ mediation: 'conditional', publicKey: { challenge: new Uint8Array(9) } }"
         begin = f"window.used = navigator.credentials.get({options}).then((credential) => credential.id, String)"
         self.post("/execute/sync", {"script": begin, "args": []})
@@ -266,10 +269,24 @@ class Commands:
             "signCount": 0,
         }
         added = {**credential, "credentialId": "AQID", "userHandle": "AQ"}
-        assert self.post(f"{key}/credential", added) == (200, None)
+        assert self.post(f"{key}/credential", added) == (200, {})
         choose = "hidlogKey.installedKey().selectAccount().then(() => used).then(arguments[0], (error) => arguments[0](`${error}`))"
         assert self.post("/execute/async", {"script": choose, "args": []}) == (200, "AQID")
-        assert call("DELETE", self.url + key) == (200, None)
+        self.post("/execute/sync", {"script": begin, "args": []})
+        assert self.post(f"{key}/account", {"account": "AQID"}) == (200, None)
+        assert self.post("/execute/async", {"script": "used.then(arguments[0])", "args": []}) == (200, "AQID")
+        assert call("DELETE", self.url + key) == (200, {})
+
+    def test_accounts(self) -> None:
+        """Of several accounts, a command selects the one that signs in."""
+        key = self.add_authenticator()
+        for name in ("ann", "bob", "eve"):
+            self.call_page("register", residentKey="required", name=name)
+        for account, user in ((0, "eve"), ("ann", "ann"), (1, "bob")):
+            assert self.post(f"{key}/account", {"account": account}) == (200, None)
+            assert self.call_page("signIn")["user"] == user
+        self.expect_error("invalid argument", "a user name", f"{key}/account", {"account": True})
+        assert call("DELETE", self.url + key) == (200, {})
 
     def test_other_origins(self) -> None:
         """The credentials are those of the session on each origin."""
@@ -287,7 +304,7 @@ class Commands:
         self.post("/execute/sync", {"script": "localStorage.clear()", "args": []})
         self.post("/refresh", {})
         assert self.call_page("signIn")["user"] == "ann", "a page that clears its storage"
-        assert call("DELETE", self.url + key) == (200, None)
+        assert call("DELETE", self.url + key) == (200, {})
 
     def test_other_commands(self) -> None:
         """All other commands go to the driver unchanged, with and without an authenticator."""
@@ -299,7 +316,7 @@ class Commands:
             time.sleep(0.1)
         assert alert == (200, "stop"), alert
         assert self.post("/alert/accept", {}) == (200, None)
-        assert call("DELETE", self.url + key) == (200, None)
+        assert call("DELETE", self.url + key) == (200, {})
         text = {
             "script": "return document.getElementById('at-first').textContent + (hidlogKey.installedKey() ?? '')",
             "args": [],
@@ -311,7 +328,7 @@ class Commands:
         first = {"script": "return document.getElementById('at-first').textContent", "args": []}
         is_native = str(not self.has_devtools).lower()
         assert self.post("/execute/sync", first) == (200, is_native), "with DevTools the key is there before the page"
-        assert call("DELETE", self.url + key) == (200, None)
+        assert call("DELETE", self.url + key) == (200, {})
 
     def end(self) -> None:
         call("DELETE", self.url)
@@ -324,6 +341,7 @@ def run_commands(url: str, page: str, has_devtools: bool = True) -> bool:
         commands.test_options,
         commands.test_presence_and_faults,
         commands.test_pending_requests,
+        commands.test_accounts,
         commands.test_other_origins,
         commands.test_other_commands,
     ):

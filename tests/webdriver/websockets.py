@@ -15,7 +15,7 @@ from contextlib import contextmanager, suppress
 from hashlib import sha1
 from pathlib import Path
 
-sys.path.insert(0, str(Path(__file__).resolve().parents[2] / "python" / "src"))
+sys.path.insert(0, str(Path(__file__).resolve().parents[2] / "bindings" / "python" / "src"))
 
 from hidlog.webdriver.websocket import WebSocket, WebSocketError, make_frame
 

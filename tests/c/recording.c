@@ -1,0 +1,186 @@
+// hidlog_recording.h: each line, written by hand from docs/use/LOG_FORMAT.md, is in the file when its call returns, a
+// rejected call writes nothing, and a failed write is reported. Prints nothing and returns 0 on success.
+//
+//     recording FILE    writes the recording to FILE
+#include "hidlog_recording.h"
+
+#include <errno.h>
+#include <stdio.h>
+#include <stdlib.h>
+#include <string.h>
+
+enum { TEXT = 4096, LINE = 300 };
+
+static const char *path;
+// What the file must contain.
+static char expected[TEXT];
+
+static void expect(int holds, const char *what) {
+    if (!holds) {
+        fprintf(stderr, "recording: %s\n", what);
+        exit(1);
+    }
+}
+
+// Checks that the file has the expected lines, through a stream of its own.
+static void check_file(const char *what) {
+    static char found[TEXT];
+    FILE *file = fopen(path, "rb");
+    expect(file != NULL, "cannot open the recording");
+    size_t len = fread(found, 1, sizeof found - 1, file);
+    found[len] = 0;
+    expect(fclose(file) == 0 && strcmp(found, expected) == 0, what);
+}
+
+// A call returned `result`, expected to be `wanted`, and wrote this line.
+static void recorded(int32_t result, int32_t wanted, const char *line) {
+    expect(result == wanted, line);
+    expect(strlen(expected) + strlen(line) + 2 < sizeof expected, "too many lines");
+    strcat(expected, line);
+    strcat(expected, "\n");
+    check_file(line);
+}
+
+// A call returned `result`, expected to be `wanted`, and wrote nothing.
+static void rejected(int32_t result, int32_t wanted, const char *what) {
+    expect(result == wanted, what);
+    check_file(what);
+}
+
+// Returns a text followed by `count` copies of two digits.
+static const char *repeated(const char *text, const char *digits, size_t count) {
+    static char line[LINE];
+    strcpy(line, text);
+    while (count-- > 0) {
+        strcat(line, digits);
+    }
+    return line;
+}
+
+static void read_response(struct hidlog_key *key, FILE *log, const char *start) {
+    uint8_t packet[64];
+    char line[LINE];
+    int32_t result = hidlog_record_read_packet(key, log, packet);
+    strcpy(line, "< ");
+    for (size_t i = 0; i < 64; i++) {
+        snprintf(line + 2 + 2 * i, 3, "%02x", packet[i]);
+    }
+    expect(strncmp(line + 2, start, strlen(start)) == 0, start);
+    recorded(result, 0, line);
+}
+
+// authenticatorSelection (CTAP 2.1, section 6.9) on channel 1 at `now_ms`, and the KEEPALIVE UPNEEDED for it.
+static void select_key(struct hidlog_key *key, FILE *log, uint64_t now_ms, const char *line) {
+    static const uint8_t selection[64] = {0, 0, 0, 1, 0x90, 0, 1, 0x0b};
+    recorded(hidlog_record_write_packet(key, log, now_ms, selection), 1, repeated(line, "00", 56));
+    read_response(key, log, "00000001bb000102");
+}
+
+static void test_packets(struct hidlog_key *key, FILE *log) {
+    static const uint8_t init[64] = {0xff, 0xff, 0xff, 0xff, 0x86, 0, 8, 1, 2, 3, 4, 5, 6, 7, 0xfe};
+    uint8_t packet[64];
+    // 2^40, which doesn't fit in 32 bits.
+    recorded(hidlog_record_write_packet(key, log, UINT64_C(1099511627776), init), 1,
+             repeated("> 1099511627776 ffffffff86000801020304050607fe", "00", 49));
+    rejected(hidlog_record_write_packet(key, log, UINT64_C(1099511627777), init), HIDLOG_KEY_ERR_PACKETS_QUEUED,
+             "a packet");
+    rejected(hidlog_record_tick(key, log, UINT64_C(1099511627777)), HIDLOG_KEY_ERR_PACKETS_QUEUED, "a tick");
+    read_response(key, log, "ffffffff86001101020304050607fe00000001");
+    rejected(hidlog_record_read_packet(key, log, packet), HIDLOG_KEY_ERR_NO_PACKET, "no packet is queued");
+    recorded(hidlog_record_tick(key, log, UINT64_C(1099511627781)), 0, "t 1099511627781");
+}
+
+static void test_presence(struct hidlog_key *key, FILE *log) {
+    select_key(key, log, UINT64_C(1099511627790), "> 1099511627790 000000019000010b");
+    rejected(hidlog_record_provide_presence(key, log, UINT64_C(1099511627791), 3), HIDLOG_KEY_ERR_INVALID_ARGUMENT,
+             "an invalid presence");
+    recorded(hidlog_record_provide_presence(key, log, UINT64_C(1099511627792), HIDLOG_PRESENCE_GRANTED), 1,
+             "p 1099511627792 granted");
+    rejected(hidlog_record_provide_presence(key, log, UINT64_C(1099511627793), HIDLOG_PRESENCE_GRANTED),
+             HIDLOG_KEY_ERR_PACKETS_QUEUED, "a presence");
+    read_response(key, log, "0000000190000100");
+    select_key(key, log, UINT64_C(1099511627800), "> 1099511627800 000000019000010b");
+    recorded(hidlog_record_provide_presence(key, log, UINT64_C(1099511627801), HIDLOG_PRESENCE_DENIED), 1,
+             "p 1099511627801 denied");
+    read_response(key, log, "0000000190000127");
+    select_key(key, log, UINT64_C(1099511627810), "> 1099511627810 000000019000010b");
+    recorded(hidlog_record_provide_presence(key, log, UINT64_C(1099511627811), HIDLOG_PRESENCE_TIMED_OUT), 1,
+             "p 1099511627811 timeout");
+    read_response(key, log, "000000019000012f");
+}
+
+// Replies that aren't needed are ignored by the key, and recorded.
+static void test_replies(struct hidlog_key *key, FILE *log) {
+    uint8_t id[32], x[32], y[32], signature[73];
+    char line[LINE];
+    memset(id, 0xa1, sizeof id);
+    memset(x, 0xb2, sizeof x);
+    memset(y, 0xc3, sizeof y);
+    memset(signature, 0xd4, sizeof signature);
+    strcpy(line, repeated("k 1099511627820 ", "a1", 32));
+    strcat(line, " ");
+    strcpy(line, repeated(line, "b2", 32));
+    strcat(line, " ");
+    strcpy(line, repeated(line, "c3", 32));
+    recorded(hidlog_record_provide_key_pair(key, log, UINT64_C(1099511627820), id, x, y), 0, line);
+    recorded(hidlog_record_refuse_key_pair(key, log, UINT64_C(1099511627821)), 0, "k 1099511627821 no");
+    rejected(hidlog_record_provide_signature(key, log, UINT64_C(1099511627822), signature, 0),
+             HIDLOG_KEY_ERR_INVALID_ARGUMENT, "an empty signature");
+    rejected(hidlog_record_provide_signature(key, log, UINT64_C(1099511627822), signature, 73),
+             HIDLOG_KEY_ERR_INVALID_ARGUMENT, "a long signature");
+    recorded(hidlog_record_provide_signature(key, log, UINT64_C(1099511627823), signature, 1), 0, "s 1099511627823 d4");
+    recorded(hidlog_record_provide_signature(key, log, UINT64_C(1099511627824), signature, 72), 0,
+             repeated("s 1099511627824 ", "d4", 72));
+    recorded(hidlog_record_refuse_signature(key, log, UINT64_C(1099511627825)), 0, "s 1099511627825 no");
+}
+
+// Each call of a key that isn't initialized.
+static void test_destroyed_key(struct hidlog_key *key, FILE *log) {
+    uint8_t bytes[64] = {0};
+    int32_t wanted = HIDLOG_KEY_ERR_NOT_INITIALIZED;
+    rejected(hidlog_record_write_packet(key, log, 1, bytes), wanted, "a packet to a destroyed key");
+    rejected(hidlog_record_tick(key, log, 1), wanted, "a tick of a destroyed key");
+    rejected(hidlog_record_provide_presence(key, log, 1, 0), wanted, "a presence for a destroyed key");
+    rejected(hidlog_record_provide_key_pair(key, log, 1, bytes, bytes, bytes), wanted,
+             "a key pair for a destroyed key");
+    rejected(hidlog_record_refuse_key_pair(key, log, 1), wanted, "no key pair for a destroyed key");
+    rejected(hidlog_record_provide_signature(key, log, 1, bytes, 64), wanted, "a signature for a destroyed key");
+    rejected(hidlog_record_refuse_signature(key, log, 1), wanted, "no signature for a destroyed key");
+    rejected(hidlog_record_read_packet(key, log, bytes), wanted, "a packet of a destroyed key");
+}
+
+#ifndef _WIN32
+// A line that can't be written is reported, with errno.
+static void test_full_disk(struct hidlog_key *key) {
+    FILE *full = fopen("/dev/full", "wb");
+    if (full == NULL) {
+        return; // only Linux has it
+    }
+    errno = 0;
+    expect(hidlog_record_tick(key, full, UINT64_C(1099511627830)) == HIDLOG_ERR_NOT_RECORDED, "a full disk");
+    expect(errno == ENOSPC, "errno of a full disk");
+    (void)fclose(full);
+}
+#endif
+
+int main(int count, char **words) {
+    static const uint8_t aaguid[16];
+    struct hidlog_key key = {0};
+    expect(count == 2, "usage: recording FILE");
+    path = words[1];
+    FILE *log = fopen(path, "wb");
+    key.memory = aligned_alloc(16, (hidlog_key_size() + 15) / 16 * 16);
+    expect(log != NULL && key.memory != NULL, "cannot create the recording");
+    expect(hidlog_key_init(&key, aaguid, 0, aaguid, 0) == 0, "a key");
+    test_packets(&key, log);
+    test_presence(&key, log);
+    test_replies(&key, log);
+#ifndef _WIN32
+    test_full_disk(&key);
+#endif
+    expect(hidlog_key_destroy(&key) == 0, "destroy");
+    test_destroyed_key(&key, log);
+    expect(fclose(log) == 0, "cannot close the recording");
+    free(key.memory);
+    return 0;
+}

@@ -1,0 +1,278 @@
+#!/usr/bin/env python3
+"""Records the failing sessions of docs/use/TROUBLESHOOTING.md with `hidlog live`.
+
+    tests/failing/make.py            write the files
+    tests/failing/make.py --check    exit with 1 if a file differs from what would be written
+
+The script plays the client and the user; the key is the program in HIDLOG_PROGRAM, or ./hidlog. Private keys,
+credential IDs and hashes are derived from fixed texts, so each run records the same.
+"""
+
+from __future__ import annotations
+
+import sys
+from collections.abc import Callable
+from hashlib import sha256
+from pathlib import Path
+from typing import Any
+
+TOP = Path(__file__).resolve().parents[2]
+FOLDER = TOP / "examples" / "failing"
+sys.path.insert(0, str(TOP / "bindings" / "python" / "src"))
+
+from hidlog.cbor import encode  # noqa: E402
+from hidlog.packets import BROADCAST, CBOR, INIT, Message, fragment_message  # noqa: E402
+from hidlog.subprocess_key import SubprocessKey  # noqa: E402
+
+import p256  # noqa: E402
+
+MAKE_CREDENTIAL, GET_ASSERTION, GET_INFO = 1, 2, 4
+ES256 = [{"alg": -7, "type": "public-key"}]
+Files = dict[str, bytes]
+
+
+class Session:
+    """A client and a user of a key. The log is the output of `hidlog live`."""
+
+    def __init__(self, snapshot: bytes = b"", name: str = "alice") -> None:
+        self.key = SubprocessKey(snapshot)
+        self.name = name
+        self.lines: list[str] = []
+        self.time_ms = 0
+        self.needs: list[str] = []
+        self.presence = "granted"
+        self.secrets: dict[str, int] = {}
+
+    def play(self, kind: str, rest: str = "", passed: int = 1) -> None:
+        """Plays a log line."""
+        self.time_ms += passed
+        line = f"{kind} {self.time_ms} {rest}".rstrip().encode()
+        written = self.key.exchange(line).text.decode().splitlines()
+        self.lines += written
+        self.needs = [line for line in written if line.startswith(("# need ", "# signed "))]
+
+    def send(self, channel: int, command: int, data: bytes, lost: int = -1) -> None:
+        """Sends a message, without the packet at index `lost`."""
+        for index, packet in enumerate(fragment_message(Message(channel, command, data))):
+            if index != lost:
+                self.play(">", packet.hex())
+
+    def open_channel(self, name: str) -> None:
+        """Requests a channel, with a nonce derived from the client's name."""
+        self.send(BROADCAST, INIT, sha256(name.encode()).digest()[:8])
+
+    def provide_needs(self) -> None:
+        """Supplies what the key needs until it needs nothing. The user takes 250 ms."""
+        while (need := self.needs[-1].removeprefix("# need ")) != "nothing":
+            if need == "presence":
+                self.play("t", passed=100)
+                self.play("t", passed=100)
+                self.play("p", self.presence, passed=50)
+            elif need == "key":
+                self.play("k", self.make_key_pair())
+            else:
+                signed = bytes.fromhex("".join(line.removeprefix("# signed ") for line in self.needs[:-1]))
+                self.play("s", p256.sign(self.secrets[need.split()[1]], signed).hex())
+
+    def make_key_pair(self) -> str:
+        """Creates a key pair, and returns the credential ID and the public key."""
+        label = f"{self.name} {len(self.secrets)}"
+        secret = p256.to_scalar(f"secret {label}".encode())
+        credential_id = sha256(f"id {label}".encode()).hexdigest()
+        self.secrets[credential_id] = secret
+        return " ".join([credential_id, *(f"{coordinate:064x}" for coordinate in p256.multiply(secret))])
+
+    def transact(self, command: int, members: dict[int, Any] | None = None, channel: int = 1) -> None:
+        """Sends a request, and supplies what the key needs."""
+        self.send(channel, CBOR, encode_request(command, members))
+        self.provide_needs()
+
+    def close(self) -> bytes:
+        """Ends the session, and returns its log."""
+        return self.log() + self.key.finish()
+
+    def log(self) -> bytes:
+        """Returns the log so far."""
+        return "".join(f"{line}\n" for line in self.lines).encode()
+
+
+def encode_request(command: int, members: dict[int, Any] | None = None) -> bytes:
+    """Returns a request as bytes."""
+    return bytes([command]) + (encode(members) if members else b"")
+
+
+def registration_parameters(name: str, rp: str = "example.com", excluded: list[bytes] | None = None) -> dict[int, Any]:
+    """Returns the parameters of authenticatorMakeCredential."""
+    members: dict[int, Any] = {
+        1: sha256(f"register {name}".encode()).digest(),
+        2: {"id": rp, "name": "Example"},
+        3: {"id": name.encode(), "name": name, "displayName": name.capitalize()},
+        4: ES256,
+        7: {"rk": True},
+    }
+    if excluded:
+        members[5] = [{"id": credential_id, "type": "public-key"} for credential_id in excluded]
+    return members
+
+
+def sign_in_parameters(rp: str = "example.com", allowed: list[bytes] | None = None, turn: int = 1) -> dict[int, Any]:
+    """Returns the parameters of authenticatorGetAssertion."""
+    members: dict[int, Any] = {1: rp, 2: sha256(f"sign in {turn}".encode()).digest()}
+    if allowed:
+        members[3] = [{"id": credential_id, "type": "public-key"} for credential_id in allowed]
+    return members
+
+
+def start_session(snapshot: bytes = b"", name: str = "alice") -> Session:
+    """Starts a session, with a channel."""
+    session = Session(snapshot, name)
+    session.open_channel("client")
+    return session
+
+
+def register_user(name: str = "alice") -> Session:
+    """Starts a session, and registers a user."""
+    session = start_session(name=name)
+    session.transact(MAKE_CREDENTIAL, registration_parameters(name))
+    return session
+
+
+def list_credential_ids(session: Session) -> list[bytes]:
+    """Returns the IDs of the credentials created in a session."""
+    return [bytes.fromhex(credential_id) for credential_id in session.secrets]
+
+
+def denied_user() -> Files:
+    session = start_session()
+    session.presence = "denied"
+    session.transact(MAKE_CREDENTIAL, registration_parameters("alice"))
+    return {"denied_user.log": session.close()}
+
+
+def excluded_credential() -> Files:
+    session = register_user()
+    session.transact(MAKE_CREDENTIAL, registration_parameters("alice", excluded=list_credential_ids(session)))
+    return {"excluded_credential.log": session.close()}
+
+
+def wrong_rp_id() -> Files:
+    session = register_user()
+    session.transact(GET_ASSERTION, sign_in_parameters("www.example.com", list_credential_ids(session)))
+    return {"wrong_rp_id.log": session.close()}
+
+
+def lost_packet() -> Files:
+    session = start_session()
+    session.send(1, CBOR, encode_request(MAKE_CREDENTIAL, registration_parameters("alice")), lost=1)
+    return {"lost_packet.log": session.close()}
+
+
+def busy_channel() -> Files:
+    """A client that sends its next request before the response."""
+    session = start_session()
+    session.send(1, CBOR, encode_request(MAKE_CREDENTIAL, registration_parameters("alice")))
+    session.send(1, CBOR, encode_request(GET_INFO))
+    session.provide_needs()
+    return {"busy_channel.log": session.close()}
+
+
+def stale_sign_count() -> Files:
+    """A key that repeats the signature counter of its last sign-in, as a clone does."""
+    session = register_user()
+    for turn in (1, 2):
+        session.transact(GET_ASSERTION, sign_in_parameters(turn=turn))
+    front = sha256(b"example.com").hexdigest()[-8:] + "01"
+    raised, same = f"{front}00000002", f"{front}00000001"
+    text = session.close().decode()
+    assert text.count(raised) == 2, "expected in the response and in the signed bytes"
+    return {"stale_sign_count.log": text.replace(raised, same).encode()}
+
+
+def truncated() -> Files:
+    """A file that was truncated while it was copied."""
+    session = register_user()
+    session.transact(GET_ASSERTION, sign_in_parameters())
+    whole = session.close()
+    return {"truncated.log": whole[: whole.rindex(b"\n< 00000001") + 50]}
+
+
+def wrong_snapshot() -> Files:
+    """A session with the credentials of one key, checked with those of another."""
+    alice, bob = register_user("alice"), register_user("bob")
+    snapshots = [session.key.snapshot(session.log()) for session in (alice, bob)]
+    session = start_session(snapshots[0])
+    session.secrets = alice.secrets
+    session.transact(GET_ASSERTION, sign_in_parameters(allowed=list_credential_ids(alice)))
+    for other in (alice, bob):
+        other.close()
+    return {
+        "wrong_snapshot.log": session.close(),
+        "alice.snapshot": snapshots[0],
+        "bob.snapshot": snapshots[1],
+    }
+
+
+def two_clients() -> Files:
+    """A second client sends a request while the first one's waits for the user."""
+    session = start_session()
+    session.open_channel("the other client")
+    session.send(1, CBOR, encode_request(MAKE_CREDENTIAL, registration_parameters("alice")))
+    session.send(2, CBOR, encode_request(MAKE_CREDENTIAL, registration_parameters("bob", rp="example.org")))
+    session.provide_needs()
+    return {"two_clients.log": session.close()}
+
+
+def noncanonical_cbor() -> Files:
+    """A client that writes the keys of a map in a non-canonical order."""
+    session = start_session()
+    message = encode_request(MAKE_CREDENTIAL, registration_parameters("alice"))
+    type_, alg = encode("type") + encode("public-key"), encode("alg") + encode(-7)
+    assert message.count(alg + type_) == 1
+    session.send(1, CBOR, message.replace(alg + type_, type_ + alg))
+    session.provide_needs()
+    return {"noncanonical_cbor.log": session.close()}
+
+
+def changed_request() -> Files:
+    """A sign-in with one bit of clientDataHash changed, as by a faulty proxy."""
+    session = register_user()
+    session.transact(GET_ASSERTION, sign_in_parameters())
+    # A recorder outside the key does not see the bytes to sign.
+    lines = [line for line in session.close().decode().splitlines(True) if not line.startswith("# signed ")]
+    begin = sha256(b"sign in 1").hexdigest()[:8]
+    index = next(index for index, line in enumerate(lines) if line.startswith(">") and begin in line)
+    changed = f"{int(begin, 16) ^ 1:08x}"
+    lines[index] = lines[index].replace(begin, changed)
+    return {"changed_request.log": "".join(lines).encode()}
+
+
+SESSIONS: list[Callable[[], Files]] = [
+    denied_user,
+    excluded_credential,
+    wrong_rp_id,
+    lost_packet,
+    busy_channel,
+    stale_sign_count,
+    truncated,
+    wrong_snapshot,
+    two_clients,
+    noncanonical_cbor,
+    changed_request,
+]
+
+
+def main() -> int:
+    files = {name: data for record in SESSIONS for name, data in record().items()}
+    if sys.argv[1:] != ["--check"]:
+        for name, data in files.items():
+            (FOLDER / name).write_bytes(data)
+        return 0
+    differs = [name for name, data in files.items() if (FOLDER / name).read_bytes() != data]
+    for name in differs:
+        print(f"{name} differs from what would be written")
+    print(f"{len(files) - len(differs)} of {len(files)} files are up to date")
+    return 1 if differs else 0
+
+
+if __name__ == "__main__":
+    sys.exit(main())

@@ -1,0 +1,94 @@
+// Whom the page's diagnosis blames: never the key in recordings of a conforming one, also if these are cut, begin late or
+// lack packets of the host, as recordings do.
+import assert from "node:assert/strict";
+import { readdirSync, readFileSync } from "node:fs";
+import { test } from "node:test";
+import { diagnose } from "./diagnose_in_node.mjs";
+import { resolvePath } from "./session_in_node.mjs";
+
+// Sessions with this project's key, whose logs `hidlog check` accepts, and captures and clients' sessions.
+const FOLDERS = ["examples/", "crates/hidlog/data/capacity_64/", "conformance/recorded/", "tests/captures/data/"];
+// Sessions that began with credentials.
+const SNAPSHOTS = { "examples/service_after_restart.log": "examples/service.snapshot" };
+const SIGN_IN_AGAIN = "examples/sign_in_again.log";
+
+const readBytes = (name) => new Uint8Array(readFileSync(resolvePath(name)));
+const names = FOLDERS.flatMap((folder) => readdirSync(resolvePath(folder)).filter((name) => name.endsWith(".log"))
+    .map((name) => folder + name)).filter((name) => name !== SIGN_IN_AGAIN);
+
+const readLines = (name) => readFileSync(resolvePath(name), "utf8").trimEnd().split("\n");
+const encode = (lines) => new TextEncoder().encode(`${lines.join("\n")}\n`);
+const describe = ({ side, line, title, why }) => `${side}, line ${line}: ${title} ${why.join(" ")}`;
+
+test("no conforming recording is blamed on the key", async () => {
+    assert.ok(names.length >= 70, `${names.length} logs`);
+    for (const name of names) {
+        const snapshot = SNAPSHOTS[name] ? readBytes(SNAPSHOTS[name]) : undefined;
+        const verdict = await diagnose(readBytes(name), snapshot);
+        assert.notEqual(verdict.side, "key", `${name}: ${describe(verdict)}`);
+    }
+});
+
+test("credentials of before the recording are missing, or are those of its snapshot", async () => {
+    const verdict = await diagnose(readBytes(SIGN_IN_AGAIN));
+    assert.deepEqual([verdict.side, verdict.title], ["capture", "lacks the credentials with which the session began"]);
+});
+
+/** Sessions whose parts are diagnosed: registrations and sign-ins with real keys, errors, refusals, two hosts. */
+const PARTS = ["examples/service_registration.log", "examples/failing/denied_user.log", "examples/two_hosts.log",
+    "examples/time_out.log", "examples/service_two_accounts.log"];
+
+test("a log that is cut after any line is not blamed on the key", async () => {
+    for (const name of PARTS) {
+        const lines = readLines(name);
+        for (let count = 1; count < lines.length; count += 1) {
+            const verdict = await diagnose(encode(lines.slice(0, count)));
+            assert.notEqual(verdict.side, "key", `${name}, ${count} lines: ${describe(verdict)}`);
+        }
+    }
+});
+
+test("a log that begins at any message is not blamed on the key", async () => {
+    for (const name of PARTS) {
+        const lines = readLines(name);
+        for (let from = 1; from < lines.length; from += 1) {
+            if (/^> \d+ [0-9a-f]{8}[89a-f]/.test(lines[from])) {
+                const verdict = await diagnose(encode(lines.slice(from)));
+                assert.notEqual(verdict.side, "key", `${name} from line ${from + 1}: ${describe(verdict)}`);
+            }
+        }
+    }
+});
+
+test("a log without one packet of a longer request lacks it, and neither host nor key is blamed", async () => {
+    for (const name of ["examples/service_registration.log", "tests/captures/data/libfido2_register.log"]) {
+        const lines = readLines(name);
+        const places = [...lines.keys()].filter((at) => /^> \d+ (?!f{8})[0-9a-f]{8}[0-7]/.test(lines[at]));
+        assert.ok(places.length >= 3, `${places.length} continuation packets`);
+        for (const place of places) {
+            const verdict = await diagnose(encode([...lines.slice(0, place), ...lines.slice(place + 1)]));
+            assert.deepEqual([verdict.side, verdict.title], ["capture", "lacks packets of the host"],
+                `${name} without line ${place + 1}: ${describe(verdict)}`);
+        }
+    }
+});
+
+/** A log of another key, which responds to a request of which the host sent one packet of three. */
+const EARLY = [
+    "> 0 ffffffff8600081122334455667788", "< ffffffff860011112233445566778800000005020102030c",
+    "> 1 0000000590009001", "< 0000000590000112",
+].map((line) => line.replace(/[0-9a-f]+$/, (digits) => digits.padEnd(128, "0")));
+
+test("another key that responds too early is blamed itself", async () => {
+    const verdict = await diagnose(encode(EARLY));
+    assert.deepEqual([verdict.side, verdict.line], ["key", 4], describe(verdict));
+});
+
+test("a log says which response it ends before", async () => {
+    const lines = readLines("tests/captures/data/libfido2_register.log");
+    const make = lines.findIndex((text) => /^> \d+ [0-9a-f]{8}90[0-9a-f]{4}01/.test(text));
+    const end = lines.findIndex((text, at) => at > make && /^< [0-9a-f]{8}90/.test(text));
+    const verdict = await diagnose(encode(lines.slice(0, end)));
+    assert.ok(describe(verdict).includes(`before the response to the Registration of line ${make + 1}.`)
+        || describe(verdict).includes("ends before the key has responded"), describe(verdict));
+});

@@ -1,0 +1,89 @@
+"""Reads and verifies what a page gets of registrations and sign-ins, as seen.js returns it."""
+
+from __future__ import annotations
+
+import sys
+from base64 import urlsafe_b64decode, urlsafe_b64encode
+from hashlib import sha256
+from pathlib import Path
+from typing import Any
+
+from cryptography import x509
+from cryptography.exceptions import InvalidSignature
+from cryptography.hazmat.primitives import hashes
+from cryptography.hazmat.primitives import serialization as encodings
+from cryptography.hazmat.primitives.asymmetric import ec, ed25519, padding, rsa
+
+sys.path.insert(0, str(Path(__file__).resolve().parents[2] / "bindings" / "python" / "src"))
+
+from hidlog import cbor
+
+Json = dict[str, Any]
+
+
+def decode(text: str) -> bytes:
+    return urlsafe_b64decode(text + "=" * (-len(text) % 4))
+
+
+def encode(data: bytes) -> str:
+    return urlsafe_b64encode(data).decode().rstrip("=")
+
+
+def make_pkcs8(private: Any) -> str:
+    form = encodings.PrivateFormat.PKCS8
+    return encode(private.private_bytes(encodings.Encoding.DER, form, encodings.NoEncryption()))
+
+
+def is_signed(spki: str, used: Json) -> bool:
+    """Returns whether a public key verifies the signature of a sign-in."""
+    return is_signed_by(encodings.load_der_public_key(decode(spki)), used, decode(used["signature"]))
+
+
+def is_signed_by(public: Any, response: Json, signature: bytes) -> bool:
+    signed = decode(response["authData"]) + sha256(decode(response["clientData"])).digest()
+    try:
+        if isinstance(public, ed25519.Ed25519PublicKey):
+            public.verify(signature, signed)
+        elif isinstance(public, rsa.RSAPublicKey):
+            public.verify(signature, signed, padding.PKCS1v15(), hashes.SHA256())
+        else:
+            public.verify(signature, signed, ec.ECDSA(hashes.SHA256()))
+    except InvalidSignature:
+        return False
+    return True
+
+
+def read_data(response: Json) -> Json:
+    """Returns the members of authenticator data (WebAuthn Level 3, section 6.1)."""
+    data = decode(response["authData"])
+    rest = data[37:]
+    seen: Json = {"flags": data[32]}
+    if data[32] & 0x40:
+        end = 18 + int.from_bytes(rest[16:18], "big")
+        cose, outputs = cbor.decode_first(rest[end:])
+        seen.update(aaguid=rest[:16].hex(), kty=cose[1], alg=cose[3], idBytes=end - 18)
+        rest = outputs
+    return {**seen, "extensions": show(cbor.decode(rest)) if rest else None}
+
+
+def show(value: Any) -> Any:
+    """Returns a value of CBOR as JSON."""
+    if isinstance(value, dict):
+        return {str(name): show(member) for name, member in value.items()}
+    return value.hex() if isinstance(value, bytes) else value
+
+
+def show_attestation(made: Json) -> Any:
+    """Returns the attestation that a page gets, and whether its signature is the certificate's or the credential's."""
+    if "error" in made:
+        return made["error"]
+    attestation = cbor.decode(decode(made["attestation"]))
+    statement = attestation["attStmt"]
+    seen = {"fmt": attestation["fmt"], "members": sorted(statement), "aaguid": read_data(made)["aaguid"]}
+    if "sig" not in statement:
+        return seen
+    chain = [x509.load_der_x509_certificate(one) for one in statement.get("x5c", [])]
+    public = chain[0].public_key() if chain else encodings.load_der_public_key(decode(made["spki"]))
+    units = [one.subject.get_attributes_for_oid(x509.NameOID.ORGANIZATIONAL_UNIT_NAME)[0].value for one in chain]
+    is_good = is_signed_by(public, made, statement["sig"])
+    return {**seen, "alg": statement["alg"], "units": units, "signed": is_good}
