@@ -57,7 +57,7 @@ install_documents() {
     for name in "$top"/examples/*.log "$top"/examples/*.snapshot; do
         install_file 644 "examples/${name##*/}" "$1/examples/${name##*/}"
     done
-    install_file 644 python/src/hidlog/shrink.py "$1/examples/shrink.py"
+    install_file 644 bindings/python/src/hidlog/shrink.py "$1/examples/shrink.py"
 }
 
 # Installs the sources of the C examples: install_c_examples DIR
@@ -76,7 +76,7 @@ compile_uhid() {
         return 1
     fi
     (cd "$top" && gcc "${flags[@]}" -Wl,--build-id=none "-DHIDLOG_VERSION=\"$version\"" -I release -I examples/c \
-        -I examples/ssh -o "$work/hidlog-uhid.program" examples/uhid/*.c examples/ssh/state.c \
+        -I bridges/ssh -o "$work/hidlog-uhid.program" bridges/uhid/*.c bridges/ssh/state.c \
         examples/c/{virtual_key,private_file,software_keys,snapshot}.c release/libhidlog.a -lcrypto)
 }
 
@@ -143,19 +143,19 @@ source "$top/packages/debian.sh"
 build_npm_package() {
     local folder=$work/npm/package name
     for name in security_key.js security_key.mjs security_key.d.ts security_key.d.mts; do
-        install_file 644 "web/dist/$name" "$folder/$name"
+        install_file 644 "bindings/web/dist/$name" "$folder/$name"
     done
     for name in security_key.cjs security_key.d.cts browser.mjs node.mjs node.cjs node18.mjs README.md; do
         install_file 644 "packages/npm/$name" "$folder/$name"
     done
     install_file 755 packages/npm/cli.mjs "$folder/cli.mjs"
     install_file 644 packages/npm/wasm.mjs "$folder/wasm.mjs"
-    install_file 644 python/src/hidlog/help.txt "$folder/help.txt"
+    install_file 644 bindings/python/src/hidlog/help.txt "$folder/help.txt"
     install_file 755 release/hidlog "$folder/linux-x64/hidlog"
     install_file 644 packages/npm/NOTICE "$folder/NOTICE"
     install_file 644 release/hidlog.wasm "$folder/hidlog.wasm"
-    install_file 644 web/core.js "$folder/core.js"
-    install_file 644 web/dist/bytes.js "$folder/bytes.js"
+    install_file 644 bindings/web/core.js "$folder/core.js"
+    install_file 644 bindings/web/dist/bytes.js "$folder/bytes.js"
     for name in LICENSE-APACHE LICENSE-MIT CHANGELOG.md; do
         install_file 644 "$name" "$folder/$name"
     done
@@ -176,8 +176,9 @@ install_portable_sources() {
 build_go_module() {
     local folder=$work/go/cogtzil.example/hidlog@v$version
     mkdir -p "$folder/lib"
-    (cd "$top/go" && git ls-files -co --exclude-standard 2>/dev/null || find . -type f) | sed 's|^\./||' | sort |
-        while read -r name; do install_file 644 "go/$name" "$folder/$name"; done
+    (cd "$top/bindings/go" && git ls-files -co --exclude-standard 2>/dev/null || find . -type f) |
+        sed 's|^\./||' | sort |
+        while read -r name; do install_file 644 "bindings/go/$name" "$folder/$name"; done
     install_file 644 release/hidlog.h "$folder/lib/hidlog.h"
     install_file 644 release/libhidlog.a "$folder/lib/amd64/libhidlog.a"
     install_file 644 release/aarch64/libhidlog.a "$folder/lib/arm64/libhidlog.a"
@@ -191,8 +192,9 @@ build_go_module() {
 build_crate() {
     local folder=$work/crates/$1-$version
     mkdir -p "$folder"
-    (cd "$top/rust/$1" && find . -type f -not -path './target/*' -not -name Cargo.lock) | sed 's|^\./||' | sort |
-        while read -r name; do install_file 644 "rust/$1/$name" "$folder/$name"; done
+    (cd "$top/bindings/rust/$1" && find . -type f -not -path './target/*' -not -name Cargo.lock) |
+        sed 's|^\./||' | sort |
+        while read -r name; do install_file 644 "bindings/rust/$1/$name" "$folder/$name"; done
     install_file 644 LICENSE-MIT "$folder/LICENSE-MIT"
     install_file 644 LICENSE-APACHE "$folder/LICENSE-APACHE"
     if [ "$1" = hidlog-sys ]; then
@@ -219,7 +221,7 @@ if link_aarch64; then
     fi
 fi
 if command -v wasm2c >/dev/null; then
-    "$top/portable/build.sh" "$to" "$work/portable"
+    "$top/bindings/c/build.sh" "$to" "$work/portable"
     export HIDLOG_PORTABLE=$work/portable
 else
     echo "packages: wabt is missing, skipping the portable library, also in Go and Rust (apt-get install wabt)" >&2
@@ -228,7 +230,7 @@ build_npm_package
 build_go_module
 build_crate hidlog-sys
 build_crate hidlog
-"$top/python/build.sh" "$to" >/dev/null
+"$top/bindings/python/build.sh" "$to" >/dev/null
 build_python_package
 python3 "$top/packages/statements.py" "$to"
 (cd "$to" && sha256sum ./*"$version"* >SHA256SUMS && cat SHA256SUMS)

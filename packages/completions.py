@@ -13,7 +13,7 @@ from dataclasses import dataclass
 from pathlib import Path
 
 TOP = Path(__file__).resolve().parent.parent
-sys.path.insert(0, str(TOP / "python/src"))
+sys.path.insert(0, str(TOP / "bindings/python/src"))
 sys.dont_write_bytecode = True
 
 from hidlog.__main__ import CHECK_SIGNATURES, COMMANDS as PYTHON_COMMANDS

@@ -22,8 +22,8 @@ print_copyright() {
         echo " 1991-2022 Free Software Foundation, Inc."
         echo "License: Apache-2.0 or Expat, and LGPL-2.1+"
         echo "Comment: The program holds parts of the GNU C Library of Debian's libc6-dev, linked statically."
-        echo " Their source is Debian's source package glibc. How the program is linked is in release/build.sh of"
-        echo " hidlog's sources, so that it can be linked with another C library."
+        echo " Their source is Debian's source package glibc. How the program is linked is in"
+        echo " packages/build_release.sh of hidlog's sources, so that it can be linked with another C library."
         echo
     fi
     echo "License: Apache-2.0"

@@ -40,14 +40,14 @@ LIBC = {"8e5252c4b87e3d58": "2.36-9+deb12u14", "e8e575befa51c934": "2.36-8cross1
 LIBRARIES = {"linker": ("glibc", "libc6-dev"), "linker for aarch64": ("glibc-arm64", "libc6-dev-arm64-cross")}
 # Sources of packages other than release/: directories and files of each set.
 OTHER_SOURCES = {
-    "python": ("python", "conformance/hidlog_conformance", "web/dist/security_key.js"),
-    "npm": ("web/dist", "web/core.js", "packages/npm"),
-    "uhid": ("examples/uhid", "examples/ssh/state.c", "examples/ssh/state.h", "examples/c", "packages/uhid"),
-    "go": ("go",),
-    "rust": ("rust",),
+    "python": ("bindings/python", "dissector", "conformance/hidlog_conformance", "bindings/web/dist/security_key.js"),
+    "npm": ("bindings/web/dist", "bindings/web/core.js", "packages/npm"),
+    "uhid": ("bridges/uhid", "bridges/ssh/state.c", "bridges/ssh/state.h", "examples/c", "packages/uhid"),
+    "go": ("bindings/go",),
+    "rust": ("bindings/rust",),
     "docs": ("docs", "packages/readme", "examples"),
     "arm64": ("packages/arm64",),
-    "portable": ("portable",),
+    "portable": ("bindings/c",),
 }
 # The sets of sources of each package, by the prefix of its name; the first match counts.
 PACKAGE_PARTS = (
@@ -80,7 +80,7 @@ PACKAGES_WITH_PROGRAM = (
 SDIST_PATTERN = "hidlog-VERSION.tar.gz"
 # Identifiers, not URLs.
 BUILD_TYPE, BUILDER = "urn:x-hidlog:packages:1", "urn:x-hidlog:release-build:1"
-COMMANDS = ("rt ci", "release/build.sh", "packages/build.sh DIR")
+COMMANDS = ("rt ci", "packages/build_release.sh", "packages/build.sh DIR")
 Json = dict[str, Any]
 
 

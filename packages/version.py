@@ -1,9 +1,9 @@
 #!/usr/bin/env python3
-"""Checks the version in all files against VERSION in crates/hidlog/src/cli.rt, from which release/build.sh writes
-release/BUILD.
+"""Checks the version in all files against VERSION in crates/hidlog/src/cli.rt, from which packages/build_release.sh
+writes release/BUILD.
 
     packages/version.py           list the files with another version, and exit with 1 if there are any
-    packages/version.py --write   write the version to them, except in release/, which release/build.sh creates
+    packages/version.py --write   write the version to them, except in release/, which packages/build_release.sh creates
 
 Wheels, Debian packages, npm's, Go's zip and the crates read it from release/BUILD.
 """
@@ -21,11 +21,11 @@ NUMBER = r"\d+\.\d+\.\d+"
 VERSION_PATTERNS = (
     ("CITATION.cff", rf"^version: ({NUMBER})$"),
     ("CHANGELOG.md", rf"\A.*?^## ({NUMBER}) "),
-    ("rust/hidlog/Cargo.toml", rf'^(?:version = |hidlog-sys = {{ version = )"({NUMBER})"'),
-    ("rust/hidlog-sys/Cargo.toml", rf'^version = "({NUMBER})"'),
-    ("rust/hidlog/README.md", rf"hidlog-(?:sys-)?({NUMBER})"),
-    ("go/README.md", rf"(?:version=v|hidlog-go-)({NUMBER})"),
-    ("portable/program.c", rf'^#define VERSION "({NUMBER})"$'),
+    ("bindings/rust/hidlog/Cargo.toml", rf'^(?:version = |hidlog-sys = {{ version = )"({NUMBER})"'),
+    ("bindings/rust/hidlog-sys/Cargo.toml", rf'^version = "({NUMBER})"'),
+    ("bindings/rust/hidlog/README.md", rf"hidlog-(?:sys-)?({NUMBER})"),
+    ("bindings/go/README.md", rf"(?:version=v|hidlog-go-)({NUMBER})"),
+    ("bindings/c/program.c", rf'^#define VERSION "({NUMBER})"$'),
     ("tests/program/cases.txt", rf"^\+hidlog ({NUMBER})$"),
 )
 RELEASE_HEADING = (

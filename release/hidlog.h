@@ -210,7 +210,7 @@ enum hidlog_cause_code {
     HIDLOG_CAUSE_UP_OPTION = 32,         /* the option up is false in a registration */
     HIDLOG_CAUSE_RK_OPTION = 33,         /* the option rk is present in an assertion */
     HIDLOG_CAUSE_ENTERPRISE = 34,        /* enterpriseAttestation is present */
-    /* statuses: the command's result */
+    /* statuses of the response to a command */
     HIDLOG_CAUSE_CANCELLED = 50,         /* the host sent CANCEL */
     HIDLOG_CAUSE_DENIED = 51,            /* the user refused */
     HIDLOG_CAUSE_NO_CONSENT = 52,        /* the user did not respond in time: registration or assertion */

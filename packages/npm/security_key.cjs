@@ -3,5 +3,5 @@
 
 require("./security_key.js");
 
-const { SecurityKey, current, install, installedKey, send, sendDevToolsCommand } = globalThis.hidlogKey;
-module.exports = { SecurityKey, current, install, installedKey, send, sendDevToolsCommand };
+const { SecurityKey, current, install, installedKey, send, sendDevToolsCommand, version } = globalThis.hidlogKey;
+module.exports = { SecurityKey, current, install, installedKey, send, sendDevToolsCommand, version };

@@ -2,14 +2,16 @@
 # Makes the files of release/ from what the gate has proved and built in crates/*/out: the program, the C library for
 # two processors and as a WebAssembly module, their header, their sums, and BUILD, which says what they were made from.
 #
-#     release/build.sh                writes release/ anew; run it after `rt ci`, and commit what it changed
-#     release/build.sh --check        compares release/ with what is made now, byte for byte; status 1 where it differs
-#     release/build.sh --check all    also makes anew what has to be proved once more for it: the program for aarch64, and
-#                                     the C library with capacity for 256 credentials. Without `all` their sums are read
+#     packages/build_release.sh                writes release/ anew; run it after `rt ci`, and commit what it changed
+#     packages/build_release.sh --check        compares release/ with what is made now, byte for byte; status 1 if it
+#                                              differs
+#     packages/build_release.sh --check all    also makes anew what has to be proved once more for it: the program for
+#                                              aarch64, and the C library with capacity for 256 credentials. Without
+#                                              `all` their sums are read
 #
 # The same sources and tools give the same bytes, in any folder. It needs the toolchain (rt), gcc, libc6-dev,
-# gcc-aarch64-linux-gnu with libc6-dev-arm64-cross, and wasm-opt (binaryen); without the last, --check compares the module
-# as it is before wasm-opt lowers it.
+# gcc-aarch64-linux-gnu with libc6-dev-arm64-cross, and wasm-opt (binaryen); without the last, --check compares the
+# module as it is before wasm-opt lowers it.
 set -euo pipefail
 cd "$(dirname "${BASH_SOURCE[0]}")/.."
 top=$PWD
@@ -42,7 +44,7 @@ build() {
             words+=(--extern "$name=$kit/rlibs/$name.rlib")
         fi
     done
-    for name in $(release/sources.sh | sed -n 's|^crates/\([^/]*\)/src$|\1|p'); do
+    for name in $(packages/release_sources.sh | sed -n 's|^crates/\([^/]*\)/src$|\1|p'); do
         if [ -d "crates/$name/out/rlib" ]; then
             words+=(-L "dependency=$top/crates/$name/out/rlib")
         fi
@@ -59,8 +61,9 @@ build_library() {
     build hidlog_c "$1" src/lib.rt "$2" "$3" --crate-type staticlib
 }
 
-# The program that the gate linked, linked again with no shared library. Of a program that an earlier run on this machine
-# proved, rt keeps what it linked, and not the object file: then --check compares the sum of that with release/LINKED.
+# The program that the gate linked, linked again with no shared library. Of a program that an earlier run on this
+# machine proved, rt keeps what it linked, and not the object file: then --check compares the sum of that with
+# release/LINKED.
 build_program() {
     [ -e crates/hidlog/out/hidlog ] || stop "crates/hidlog/out has no program: run rt ci first"
     sum_of crates/hidlog/out/hidlog >"$made/LINKED"
@@ -125,8 +128,8 @@ build_module() {
     fi
 }
 
-# Returns what lowers the module: with no wasm-opt here, what lowered that of release/.
-lowering() {
+# Prints the version of wasm-opt; if it is not installed, the one in release/BUILD.
+wasm_opt_version() {
     if command -v wasm-opt >/dev/null; then
         wasm-opt --version
     else
@@ -135,7 +138,7 @@ lowering() {
 }
 
 # Returns the version of a compiler, and which C library it links.
-linker_of() {
+describe_linker() {
     echo "gcc $("$1" -dumpfullversion), $(sha256sum <"$("$1" -print-file-name=libc.a)" | cut -c1-16) libc.a"
 }
 
@@ -144,18 +147,18 @@ linker_for_aarch64() {
     sed -n 's/^linker for aarch64: //p' release/BUILD
 }
 
-# Writes what the files are made from and with, a word and its value a line.
+# Writes the version, the sums of the sources and the tools that made the files, each as a line `NAME: VALUE`.
 write_build() {
     {
         echo "version: $(sed -n 's/^const VERSION: &str = "\(.*\)";/\1/p' crates/hidlog/src/cli.rt)"
         echo "kit: $(rt version)"
-        echo "sources: $(release/sources.sh --hash)"
+        echo "sources: $(packages/release_sources.sh --hash)"
         echo "processor: x86-64-v2"
         echo "object: $(object_sum)"
         echo "module: $(sha256sum <"$work/module.wasm" | cut -c1-64)"
-        echo "lowered by: $(lowering)"
-        echo "linker: $(linker_of gcc)"
-        echo "linker for aarch64: $(if [ "$mode" = "" ]; then linker_of aarch64-linux-gnu-gcc; else linker_for_aarch64; fi)"
+        echo "lowered by: $(wasm_opt_version)"
+        echo "linker: $(describe_linker gcc)"
+        echo "linker for aarch64: $(if [ "$mode" = "" ]; then describe_linker aarch64-linux-gnu-gcc; else linker_for_aarch64; fi)"
     } >"$made/BUILD"
 }
 
@@ -180,7 +183,7 @@ compare() {
         fi
     done
     (cd release && sha256sum --quiet --check SHA256SUMS) || differ=1
-    [ "$differ" = 0 ] || stop "release/ is not what was made now: release/build.sh writes it anew"
+    [ "$differ" = 0 ] || stop "release/ is not what was made now: packages/build_release.sh writes it anew"
 }
 
 # Prints what a BUILD file says except for the linker, wasm-opt and the toolchain's name: its logic's sum stays.
@@ -221,7 +224,7 @@ names=(BUILD hidlog hidlog.h hidlog_recording.h hidlog_standard.h hidlog.pc hidl
 slow=(aarch64/hidlog libhidlog-256.a libhidlog-256.so.1)
 case "$*" in
 "" | --check | "--check all") ;;
-*) stop "usage: release/build.sh [--check [all]]" ;;
+*) stop "usage: packages/build_release.sh [--check [all]]" ;;
 esac
 mode=${1-}
 build_program

@@ -2,8 +2,8 @@
 # Prints what release/ is made from, a path a line: crates.txt, HANDLES, and of the program, the C library and each
 # crate below them the folders of its sources, definitions and proofs.
 #
-#     release/sources.sh            prints the paths
-#     release/sources.sh --hash     prints the hash of all these files
+#     packages/release_sources.sh            prints the paths
+#     packages/release_sources.sh --hash     prints the hash of all these files
 set -eu
 cd "$(dirname "$0")/.."
 
