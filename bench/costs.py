@@ -4,47 +4,83 @@
     bench/costs.py [NAME ..]      checks all costs, or those whose names begin so
 
     flow      instructions of a flow of bench/flows.py on release/hidlog, by callgrind
-    slope     exponent of the growth of Python function calls with the number of sign-ins: 1 is linear, 2 quadratic
+    portable  instructions of a sign-in with the portable library, as a multiple of the proved library's
+    slope     exponent of the growth of a cost: 1 is linear, 2 quadratic. The cost is the number of Python function
+              calls for some sign-ins (import, export, judge, mermaid, sign-ins) or recordings (check-many), and the
+              program's instructions for some credentials
+    stored    characters that the thousandth sign-in of the key for pages writes to a storage, by those of the first
+    growth    bytes of memory for each byte that the input is longer, by tracemalloc
     memory    bytes of a key in C; and of a key in Python, its library's memory included, by tracemalloc
+    calls     Python function calls of a report of Locust's worker, for each user whose key did not change
 
-The limits are in LIMITS; a flow's is 3 % over its last measurement. Exit status: 1 if a cost is over its limit, 2 if a
-program is missing. Needs valgrind for the flows.
+The limits are in LIMITS; a flow's is 3 % over its last measurement, but a registration's at most 1.6 of bench/peer's,
+and a sign-in's 1.4. Exit status: 1 if a cost is over its limit, 3 if something is missing: valgrind for flows, nodejs for
+stored, wabt and a C compiler for the portable library, python3-locust for calls.
 """
 
 from __future__ import annotations
 
 import math
 import os
+import shutil
 import subprocess
 import sys
 import tempfile
 from pathlib import Path
 from typing import Callable, Iterator
 
+from flows import count_instructions, write_registrations
+
 TOP = Path(__file__).resolve().parents[1]
+# Debian's Python, which has the modules that tests/run --install installs.
+PYTHON = next(path for path in ("/usr/bin/python3", sys.executable) if Path(path).exists())
 LIMITS = {
-    "flow ping": 1973,
-    "flow long_ping": 2500,
-    "flow get_info": 2772,
-    "flow registration": 25399,
-    "flow sign_in": 14139,
+    "flow ping": 1880,
+    "flow long_ping": 2148,
+    "flow get_info": 2717,
+    "flow registration": 23019,
+    "flow sign_in": 12815,
+    "portable sign_in": 4,
     "slope judge": 1.1,
     "slope export": 1.1,
     "slope import": 1.1,
     "slope mermaid": 1.1,
     "slope sign-ins": 1.1,
+    "slope credentials": 1.1,
+    "slope recordings": 1.2,
+    "stored sign-in": 1.1,
+    "growth export": 0.1,
+    "growth import": 0.5,
+    "growth mermaid": 0.1,
+    "growth judge": 0.5,
     "memory C key": 42000,
     "memory Python key": 100000,
+    "calls idle user": 4,
 }
-# Each number of sign-ins is twice the one before, so that constant costs cancel.
+# Each number of sign-ins, recordings or credentials is twice the one before, so that constant costs cancel.
 SIGN_IN_COUNTS = (100, 200, 400)
-# Counts the calls of Python and C functions while a program runs, and prints their number as the last line of stderr.
+CREDENTIAL_COUNTS = (16, 32, 64)
+KEY_SIGN_IN_COUNTS = (1000, 2000)
+# For memory: the shorter session has more packets than an import holds at a time. What an import held before may be
+# there until Python collects it, so the longer one is much longer.
+LONG_SIGN_IN_COUNTS = (800, 6400)
+# What each kind of cost needs besides Python: a command, or a module of Debian's Python.
+NEEDS = {
+    "flow": ("valgrind",),
+    "portable": ("valgrind", "wasm2c", "cc", "make"),
+    "slope": ("valgrind",),
+    "stored": ("node",),
+    "calls": ("locust",),
+}
+MODULES = ("locust",)
+# Runs a program, and prints the number of calls of Python and C functions as the last line of stderr.
 COUNTED = """
-import runpy, sys
-calls = 0
+import itertools, runpy, sys, threading
+calls = itertools.count()
 def count(frame, event, argument):
-    global calls
-    calls += event in ("call", "c_call")
+    if event in ("call", "c_call"):
+        next(calls)
+threading.setprofile(count)
 sys.setprofile(count)
 try:
     runpy.run_module(sys.argv.pop(1), run_name="__main__", alter_sys=True)
@@ -53,10 +89,23 @@ except SystemExit as ended:
 else:
     status = 0
 sys.setprofile(None)
-print(calls, file=sys.stderr)
+print(next(calls), file=sys.stderr)
 sys.exit(status)
 """
 COUNTED_SCRIPT = COUNTED.replace("run_module", "run_path").replace(", alter_sys=True", "")
+# Runs a module, and prints its peak memory as the last line of stderr.
+TRACED = """
+import runpy, sys, tracemalloc
+tracemalloc.start()
+try:
+    runpy.run_module(sys.argv.pop(1), run_name="__main__", alter_sys=True)
+except SystemExit as ended:
+    status = ended.code
+else:
+    status = 0
+print(tracemalloc.get_traced_memory()[1], file=sys.stderr)
+sys.exit(status)
+"""
 SIGN_INS = """
 import sys, hidlog
 from hidlog import SecurityKey
@@ -68,6 +117,24 @@ with SecurityKey() as key:
     for _ in range(int(sys.argv[1])):
         browser.get({"challenge": "AAAA", "rpId": "example.com"})
     key.save_log(sys.argv[2])
+"""
+REPORT = """
+import sys
+from hidlog import SecurityKey
+from hidlog.locust import Users
+users, count = Users(), 100
+text = SecurityKey().dumps()
+for name in range(count):
+    users.take(str(name), SecurityKey.loads(text), text)
+calls = 0
+def profile(frame, event, argument):
+    global calls
+    calls += event in ("call", "c_call")
+sys.setprofile(profile)
+report = users.report()
+sys.setprofile(None)
+assert report == {}
+print(calls / count)
 """
 MEMORY = """
 import gc, tracemalloc
@@ -88,7 +155,7 @@ print(load_library().hidlog_key_size())
 
 def run(*command: str, allowed: int = 0) -> subprocess.CompletedProcess[str]:
     """Runs a command with the package of this clone. Exits with its error if its status is greater than `allowed`."""
-    paths = os.pathsep.join(str(TOP / folder) for folder in ("python/src", "conformance"))
+    paths = os.pathsep.join(str(TOP / folder) for folder in ("bindings/python/src", "conformance"))
     environment = {**os.environ, "PYTHONPATH": paths, "HIDLOG_PROGRAM": str(TOP / "release/hidlog")}
     done = subprocess.run(command, capture_output=True, text=True, env=environment, check=False)
     if done.returncode > allowed:
@@ -98,56 +165,159 @@ def run(*command: str, allowed: int = 0) -> subprocess.CompletedProcess[str]:
 
 def calls(*words: str) -> int:
     """Returns the number of function calls of a command of the Python package."""
-    return int(run(sys.executable, "-c", COUNTED, "hidlog", *words, allowed=1).stderr.splitlines()[-1])
+    return int(run(PYTHON, "-c", COUNTED, "hidlog", *words, allowed=1).stderr.splitlines()[-1])
 
 
 def flows() -> Iterator[tuple[str, float]]:
     """Yields the instructions of each flow."""
-    for line in run(str(TOP / "bench/flows.py")).stdout.splitlines():
+    for line in run(PYTHON, str(TOP / "bench/flows.py")).stdout.splitlines():
         name, count = line.split()
         yield f"flow {name}", int(count)
 
 
+def count_key_sign_in(folder: str, library: str) -> float:
+    """Returns the instructions of a sign-in of bench/key.c with a library, whose headers are in the folder."""
+    program = f"{folder}/key"
+    run("cc", "-std=c11", "-O2", "-I", folder, "-o", program, str(TOP / "bench/key.c"), library)
+    counts = []
+    for sign_ins in KEY_SIGN_IN_COUNTS:
+        counted = ["valgrind", "--tool=callgrind", "--callgrind-out-file=/dev/null", program, str(sign_ins)]
+        counts.append(int(run(*counted).stderr.partition("Collected : ")[2].split()[0]))
+    return (counts[1] - counts[0]) / (KEY_SIGN_IN_COUNTS[1] - KEY_SIGN_IN_COUNTS[0])
+
+
+def portable() -> Iterator[tuple[str, float]]:
+    """Yields the instructions of a sign-in with the portable library, by those with the proved library."""
+    with tempfile.TemporaryDirectory() as folder:
+        run(str(TOP / "bindings/c/sources.sh"), folder)
+        run("make", "-C", folder, "libhidlog.a")
+        libraries = (f"{folder}/libhidlog.a", str(TOP / "release/libhidlog.a"))
+        ours, native = (count_key_sign_in(folder, library) for library in libraries)
+    yield "portable sign_in", ours / native
+
+
+def make_session(folder: str, sign_ins: int, interpreter: tuple[str, ...] = ()) -> subprocess.CompletedProcess[str]:
+    """Writes FOLDER/SIGN_INS.log."""
+    script = f"{folder}/sign_ins.py"
+    Path(script).write_text(SIGN_INS, encoding="utf-8")
+    return run(PYTHON, *interpreter, script, str(sign_ins), f"{folder}/{sign_ins}.log")
+
+
+def list_commands(folder: str, name: str) -> dict[str, list[str]]:
+    """Returns the commands on FOLDER/NAME.log, and on the capture that the first one writes."""
+    log, capture = f"{folder}/{name}.log", f"{folder}/{name}.pcapng"
+    return {
+        "export": ["export", log, "-o", capture],
+        "import": ["import", capture, "-o", f"{folder}/imported"],
+        "judge": ["judge", log],
+        "mermaid": ["mermaid", log],
+    }
+
+
+def forget_writer(capture: str) -> None:
+    """Changes the name of the program in a capture, so that import does not restore the log from its comments."""
+    data = Path(capture).read_bytes()
+    Path(capture).write_bytes(data.replace(b"hidlog", b"others"))
+
+
+def to_slope(counts: list[int]) -> float:
+    """Returns the exponent of the growth."""
+    first, second, third = counts
+    return math.log2((third - second) / (second - first))
+
+
 def slopes() -> Iterator[tuple[str, float]]:
-    """Yields the slope of each command, by logs of SIGN_IN_COUNTS sign-ins."""
+    """Yields the slope of each command, by logs of SIGN_IN_COUNTS sign-ins, and those of other costs."""
     with tempfile.TemporaryDirectory() as folder:
         counts: dict[str, list[int]] = {}
         for sign_ins in SIGN_IN_COUNTS:
-            log, capture = f"{folder}/{sign_ins}.log", f"{folder}/{sign_ins}.pcapng"
-            script = f"{folder}/sign_ins.py"
-            Path(script).write_text(SIGN_INS, encoding="utf-8")
-            made = run(sys.executable, "-c", COUNTED_SCRIPT, script, str(sign_ins), log)
+            made = make_session(folder, sign_ins, ("-c", COUNTED_SCRIPT))
             counts.setdefault("sign-ins", []).append(int(made.stderr.splitlines()[-1]))
-            for name, words in (
-                ("judge", ["judge", log]),
-                ("mermaid", ["mermaid", log]),
-                ("export", ["export", log, "-o", capture]),
-                ("import", ["import", capture, "-o", f"{folder}/imported"]),
-            ):
+            for name, words in list_commands(folder, str(sign_ins)).items():
                 counts.setdefault(name, []).append(calls(*words))
-    for name, (first, second, third) in counts.items():
-        yield f"slope {name}", math.log2((third - second) / (second - first))
+                if name == "export":
+                    forget_writer(words[-1])
+            recordings = Path(folder, f"recordings{sign_ins}")
+            recordings.mkdir()
+            for number in range(sign_ins):
+                shutil.copy(TOP / "examples/sign_in.log", recordings / f"{number}.log")
+            counts.setdefault("recordings", []).append(calls("check-many", "--jobs", "1", str(recordings)))
+    for count in CREDENTIAL_COUNTS:
+        instructions = count_instructions(str(TOP / "release/hidlog"), write_registrations(count))
+        counts.setdefault("credentials", []).append(instructions)
+    for name, found in counts.items():
+        yield f"slope {name}", to_slope(found)
+
+
+def stored() -> Iterator[tuple[str, float]]:
+    """Yields what the thousandth sign-in writes to a page's storage, by what the first one does."""
+    first, last = map(int, run("node", str(TOP / "bench/stored_sign_ins.mjs")).stdout.split())
+    yield "stored sign-in", last / first
+
+
+def growth() -> Iterator[tuple[str, float]]:
+    """Yields the bytes of memory of each command for each byte that its input is longer."""
+    with tempfile.TemporaryDirectory() as folder:
+        peaks: dict[str, list[tuple[int, int]]] = {}
+        for sign_ins in LONG_SIGN_IN_COUNTS:
+            make_session(folder, sign_ins)
+            for name, words in list_commands(folder, str(sign_ins)).items():
+                peak = int(run(PYTHON, "-c", TRACED, "hidlog", *words, allowed=1).stderr.splitlines()[-1])
+                peaks.setdefault(name, []).append((peak, Path(words[1]).stat().st_size))
+                if name == "export":
+                    forget_writer(words[-1])
+    for name, ((peak, size), (larger_peak, larger_size)) in peaks.items():
+        yield f"growth {name}", (larger_peak - peak) / (larger_size - size)
 
 
 def memory() -> Iterator[tuple[str, float]]:
     """Yields the bytes of a key."""
-    yield "memory C key", int(run(sys.executable, "-c", KEY_SIZE).stdout)
-    yield "memory Python key", int(run(sys.executable, "-c", MEMORY).stdout)
+    yield "memory C key", int(run(PYTHON, "-c", KEY_SIZE).stdout)
+    yield "memory Python key", int(run(PYTHON, "-c", MEMORY).stdout)
+
+
+def report_calls() -> Iterator[tuple[str, float]]:
+    """Yields the function calls of a report of Locust's worker, by user whose key did not change."""
+    yield "calls idle user", float(run(PYTHON, "-W", "ignore", "-c", REPORT).stdout)
+
+
+def find_missing(kinds: list[str]) -> str | None:
+    """Returns something that the costs need and that is missing."""
+    for name in (need for kind in kinds for need in NEEDS.get(kind, ())):
+        if name in MODULES:
+            is_there = (
+                subprocess.run([PYTHON, "-c", f"import {name}"], capture_output=True, check=False).returncode == 0
+            )
+        else:
+            is_there = shutil.which(name) is not None
+        if not is_there:
+            return name
+    return None
 
 
 def main() -> int:
     """Prints each cost beside its limit."""
     chosen = tuple(sys.argv[1:]) or ("",)
-    kinds: dict[str, Callable[[], Iterator[tuple[str, float]]]] = {"flow": flows, "slope": slopes, "memory": memory}
+    kinds: dict[str, Callable[[], Iterator[tuple[str, float]]]] = {
+        "flow": flows,
+        "portable": portable,
+        "slope": slopes,
+        "stored": stored,
+        "growth": growth,
+        "memory": memory,
+        "calls": report_calls,
+    }
+    measured = [kind for kind in kinds if any(name.startswith(kind) or kind.startswith(name) for name in chosen)]
+    if missing := find_missing(measured):
+        print(f"bench/costs.py: {missing} is missing (tests/run --install); nothing was measured", file=sys.stderr)
+        return 3
     over = 0
-    for kind, measure in kinds.items():
-        if not any(name.startswith(kind) or kind.startswith(name) for name in chosen):
-            continue
-        for name, cost in measure():
+    for kind in measured:
+        for name, cost in kinds[kind]():
             if name.startswith(chosen):
                 is_over = cost > LIMITS[name]
                 over += is_over
-                print(f"{name:20} {cost:10.6g} of {LIMITS[name]:10.6g}{'  OVER' if is_over else ''}", flush=True)
+                print(f"{name:22} {cost:10.6g} of {LIMITS[name]:10.6g}{'  OVER' if is_over else ''}", flush=True)
     return 1 if over else 0
 
 

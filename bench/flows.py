@@ -27,6 +27,8 @@ MAKE_CREDENTIAL = [
     "> 5 0000000190005b01a5015820" + "11" * 32 + "02a16269646b6578616d706c652e636f6d03a162",
     "> 5 0000000100696441010481a263616c672664747970656a7075626c69632d6b657907a162726bf5",
 ]
+# The member "id" of the user in the second packet.
+USER_ID = "69644101"
 GET_ASSERTION = ["> 5 0000000190003202a2016b6578616d706c652e636f6d025820" + "22" * 32]
 # A response with a status other than CTAP2_OK.
 DENIED_REGISTRATION = re.compile(r"^< 00000001900001(?!00)", re.MULTILINE)
@@ -50,6 +52,15 @@ FLOWS: dict[str, Callable[[int], list[str]]] = {
 def write_log(flow: Callable[[int], list[str]], count: int) -> str:
     """Returns a log with a registration, and then `count` times a flow."""
     lines = [INIT, *make_registration(0), *(line for number in range(1, count + 1) for line in flow(number))]
+    return "".join(f"{line.ljust(132, '0') if line.startswith('>') else line}\n" for line in lines)
+
+
+def write_registrations(count: int) -> str:
+    """Returns a log with registrations of up to 255 users."""
+    lines = [INIT]
+    for number in range(count):
+        first, second = MAKE_CREDENTIAL
+        lines += [first, second.replace(USER_ID, f"696441{number:02x}"), *make_registration(number)[2:]]
     return "".join(f"{line.ljust(132, '0') if line.startswith('>') else line}\n" for line in lines)
 
 

@@ -9,7 +9,7 @@
 // MODULE is release/hidlog.wasm by default, COUNT 10000.
 import { readFileSync } from "node:fs";
 import { fileURLToPath } from "node:url";
-import { INITIALIZATION_DATA, PACKET_SIZE } from "../web/key/standard.js";
+import { INITIALIZATION_DATA, PACKET_SIZE } from "../bindings/web/key/standard.js";
 
 const MODULE = fileURLToPath(new URL("../release/hidlog.wasm", import.meta.url));
 const [path = MODULE, count = "10000"] = process.argv.slice(2);

@@ -1,7 +1,7 @@
 // Signs in COUNT times with the key in node, and prints the time of a sign-in and the memory the key uses.
 //
 //     node --expose-gc bench/page_key.mjs COUNT [no]      with `no`, nothing is recorded
-import { SecurityKey } from "../web/dist/security_key.mjs";
+import { SecurityKey } from "../bindings/web/dist/security_key.mjs";
 
 const [count = "10000", record] = process.argv.slice(2);
 const key = new SecurityKey({ origin: "https://example.com", ...(record === "no" ? { record: false } : {}) });

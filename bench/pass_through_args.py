@@ -17,6 +17,8 @@ from pathlib import Path
 
 CRATES = Path(__file__).resolve().parent.parent / "crates"
 OPENING, CLOSING = "([{<", ")]}>"
+# Comments, characters and strings, whose brackets count for nothing.
+UNPARSED = re.compile(r"""//[^\n]*|'(?:\\.|[^\\'\n])'|r#".*?"#|"(?:\\.|[^"\\])*\"""", re.DOTALL)
 
 
 @dataclass(frozen=True)
@@ -66,7 +68,7 @@ def split_arguments(text: str) -> list[str]:
 def parse_functions(crate: str, text: str) -> list[Function]:
     """Returns the functions with a body in a file."""
     found = []
-    text = re.sub(r"//[^\n]*", "", text)
+    text = UNPARSED.sub("", text)
     for head in re.finditer(r"\bfn (\w+)", text):
         begin = text.index("(", head.end())
         end = find_closing(text, begin)

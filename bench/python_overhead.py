@@ -103,14 +103,17 @@ MEASUREMENTS = {
 
 def format_milliseconds(clone: Path, text: str) -> float:
     """Runs a measurement with a clone's package."""
-    paths = {"PYTHONPATH": str(clone / "python" / "src"), "HIDLOG_LIBRARY": str(clone / "release" / "libhidlog.so.1")}
+    paths = {
+        "PYTHONPATH": str(clone / "bindings" / "python" / "src"),
+        "HIDLOG_LIBRARY": str(clone / "release" / "libhidlog.so.1"),
+    }
     words = ["/usr/bin/python3", "-W", "ignore", "-c", text]
     ran = subprocess.run(words, env={**os.environ, **paths}, capture_output=True, text=True, check=True)
     return float(ran.stdout) * 1000
 
 
 def main() -> int:
-    if len(sys.argv) not in (2, 3) or not (Path(sys.argv[1]) / "python" / "src" / "hidlog").is_dir():
+    if len(sys.argv) not in (2, 3) or not (Path(sys.argv[1]) / "bindings" / "python" / "src" / "hidlog").is_dir():
         print(__doc__, file=sys.stderr)
         return 2
     other, rounds = Path(sys.argv[1]).resolve(), int(sys.argv[2]) if len(sys.argv) > 2 else 15

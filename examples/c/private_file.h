@@ -26,7 +26,7 @@ int private_file_to_write(const char *path);
 // Writes a new file to disk, and renames it to `path`.
 bool private_file_replace(const char *path, const uint8_t *bytes, size_t len);
 
-// Writes all bytes, even to a pipe or terminal that blocks.
+// Writes all bytes. If the descriptor is non-blocking, waits until it is writable.
 bool write_whole(int file, const uint8_t *bytes, size_t len);
 
 #endif

@@ -21,7 +21,7 @@ static uint8_t *write_string(uint8_t *to, uint32_t key, unsigned major, const ui
     return to + len;
 }
 
-static uint8_t *write_row(uint8_t *to, const struct hidlog_credential *credential) {
+static uint8_t *write_credential(uint8_t *to, const struct hidlog_credential *credential) {
     to = write_head(to, MAP, 8);
     to = write_string(to, 1, BYTES, credential->rp_id_hash, 32);
     to = write_string(to, 2, BYTES, credential->id, 32);
@@ -44,7 +44,7 @@ size_t snapshot_write(struct hidlog_key *key, uint8_t snapshot[MAX_SNAPSHOT]) {
     to = write_head(write_head(to, NUMBER, 2), ARRAY, (uint32_t)count);
     for (int32_t i = 0; i < count; i++) {
         hidlog_key_get_credential(key, (size_t)i, &credential);
-        to = write_row(to, &credential);
+        to = write_credential(to, &credential);
     }
     return (size_t)(to - snapshot);
 }

@@ -12,6 +12,11 @@ class Visitor(SecurityKeyUser):
 
     wait_time = constant(0)
 
+    def on_start(self):
+        """Starts with a sign-in: the first task may replace a returning user by a new one."""
+        super().on_start()
+        self.sign_in()
+
     @task(9)
     def signs_in(self):
         """Signs in."""

@@ -36,7 +36,7 @@ stop_processes() {
     rm -rf "$work"
 }
 trap stop_processes EXIT
-export PYTHONPATH=$here/../../python/src PYTHONDONTWRITEBYTECODE=1
+export PYTHONPATH=$here/../../bindings/python/src PYTHONDONTWRITEBYTECODE=1
 # Prints a free port, below the range of ephemeral ports.
 find_free_port() {
     "$python" -c '

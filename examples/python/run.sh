@@ -17,7 +17,7 @@ if ! "$python" -c 'import cryptography, pytest, venv, fido2; assert fido2.__vers
 fi
 work=$(mktemp -d)
 trap 'rm -rf "$work"' EXIT
-"$here/../../python/build.sh" "$work/dist" >/dev/null
+"$here/../../bindings/python/build.sh" "$work/dist" >/dev/null
 "$python" -m venv --system-site-packages "$work/venv"
 "$work/venv/bin/pip" install --quiet --no-index --no-deps "$work"/dist/*x86_64.whl
 (cd "$work" && env -u HIDLOG_PROGRAM "$work/venv/bin/python" "$here/first.py" && "$HIDLOG_PROGRAM" check <session.log)

@@ -15,7 +15,7 @@ from selenium.webdriver.chrome.service import Service
 from selenium.webdriver.common.by import By
 from selenium.webdriver.support.ui import WebDriverWait
 
-SCRIPT = Path(__file__).resolve().parents[2] / "web" / "dist" / "security_key.js"
+SCRIPT = Path(__file__).resolve().parents[2] / "bindings" / "web" / "dist" / "security_key.js"
 
 # Timeout: only a hanging page takes this long.
 TIMEOUT_SECONDS = 300
@@ -63,7 +63,7 @@ def start_browser():
     options.add_argument("--disable-dev-shm-usage")
     driver = webdriver.Chrome(options=options, service=Service("/usr/bin/chromedriver"))
     driver.set_script_timeout(TIMEOUT_SECONDS)
-    # The lines of web/README.md.
+    # The lines of bindings/web/README.md.
     source = SCRIPT.read_text() + "\nhidlogKey.install({ storage: sessionStorage });"
     driver.execute_cdp_cmd("Page.addScriptToEvaluateOnNewDocument", {"source": source})
     return driver

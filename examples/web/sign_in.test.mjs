@@ -4,7 +4,7 @@
 // install the option crypto: (await import("node:crypto")).webcrypto.
 import assert from "node:assert/strict";
 import { after, before, test } from "node:test";
-import { install } from "../../web/dist/security_key.mjs";
+import { install } from "../../bindings/web/dist/security_key.mjs";
 
 /** The function under test: signs in with the options of a server. */
 const signIn = async (json) => {
