@@ -1,6 +1,9 @@
-// Registers a credential on an in-memory key, and signs in COUNT times. Only the calls are timed.
+// Benchmark: registers a credential on an in-memory key, and signs in COUNT times. Only the calls of the library are
+// timed.
 //
-//     key [COUNT]     prints the seconds for the first and the last thousand sign-ins; COUNT is at least 1000, or 10000
+//     key [COUNT]     prints the seconds for the first and the last 1,000 sign-ins
+//
+// COUNT is at least 1000 [default: 10000].
 #define _POSIX_C_SOURCE 199309L
 #include "hidlog.h"
 
@@ -80,7 +83,7 @@ int main(int count, char **words) {
     char *end = "";
     unsigned long sign_ins = count == 1 ? 10000 : strtoul(words[1], &end, 10);
     if (count > 2 || *end != 0 || sign_ins < 1000) {
-        fputs("usage: key [COUNT], at least 1000\n", stderr);
+        fputs("usage: key [COUNT] (COUNT is at least 1000)\n", stderr);
         return 2;
     }
     double first = 0, last = 0, begun = 0;

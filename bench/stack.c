@@ -1,5 +1,5 @@
-/* Measures the stack use of each call of the C library: the call runs on a thread whose stack is filled with a pattern,
- * and the deepest overwritten byte is its stack use.
+/* Measures the stack use of each function of the C library: the function runs on a thread whose stack is filled with a
+ * pattern, and the deepest overwritten byte shows how much stack was used.
  *
  *     stack LOG SNAPSHOT */
 #include <pthread.h>
@@ -108,7 +108,7 @@ static void *run_call(void *call) {
     return NULL;
 }
 
-/* Returns the stack use in bytes of a thread that makes this call. */
+/* Returns the stack use of `call` in bytes, measured on a thread of its own. */
 static size_t measure_stack_use(void (*call)(void)) {
     pthread_attr_t attributes;
     pthread_t thread;
@@ -116,7 +116,7 @@ static size_t measure_stack_use(void (*call)(void)) {
     memset(stack, PATTERN, STACK);
     if (pthread_attr_init(&attributes) || pthread_attr_setstack(&attributes, stack, STACK) ||
         pthread_create(&thread, &attributes, run_call, &call) || pthread_join(thread, NULL)) {
-        fputs("cannot start a thread\n", stderr);
+        fputs("stack: cannot start a thread\n", stderr);
         exit(2);
     }
     pthread_attr_destroy(&attributes);

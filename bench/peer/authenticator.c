@@ -89,7 +89,7 @@ void authenticator_cancel(void) {
     finish(KEEPALIVE_CANCEL);
 }
 
-void authenticator_drop(void) {
+void authenticator_abort(void) {
     pending.need = NO_NEED;
 }
 
@@ -103,7 +103,7 @@ struct stats authenticator_stats(void) {
     return stats;
 }
 
-/* Readers of a request's members. Each returns OK if the member has the right types, or an error status. */
+/* The following functions decode a member of a request. Each returns OK, or a CTAP2 error status if a type is wrong. */
 
 static struct text read_key(struct reader *reader) {
     struct text key;
@@ -374,7 +374,7 @@ static struct credential *find_credential(const uint8_t *rp_id_hash, struct text
     return NULL;
 }
 
-static struct credential *find_listed(const uint8_t *rp_id_hash, const struct request *request) {
+static struct credential *find_listed_credential(const uint8_t *rp_id_hash, const struct request *request) {
     struct credential *found = NULL;
     for (size_t i = 0; i < request->list_len && found == NULL; i++) {
         found = find_credential(rp_id_hash, request->list[i]);
@@ -382,7 +382,7 @@ static struct credential *find_listed(const uint8_t *rp_id_hash, const struct re
     return found;
 }
 
-static struct credential *find_newest(const uint8_t *rp_id_hash) {
+static struct credential *find_newest_credential(const uint8_t *rp_id_hash) {
     for (int i = credential_count - 1; i >= 0; i--) {
         if (credentials[i].is_discoverable && memcmp(credentials[i].rp_id_hash, rp_id_hash, HASH_BYTES) == 0) {
             return &credentials[i];
@@ -391,7 +391,7 @@ static struct credential *find_newest(const uint8_t *rp_id_hash) {
     return NULL;
 }
 
-static struct credential *find_same_user(const struct credential *made) {
+static struct credential *find_credential_of_user(const struct credential *made) {
     for (int i = 0; made->is_discoverable && i < credential_count; i++) {
         if (credentials[i].is_discoverable && credentials[i].user_id_len == made->user_id_len &&
             memcmp(credentials[i].rp_id_hash, made->rp_id_hash, HASH_BYTES) == 0 &&
@@ -402,8 +402,8 @@ static struct credential *find_same_user(const struct credential *made) {
     return NULL;
 }
 
-/* Hashes an RP ID with SHA-256; one that fits in one block with the block function alone, which is faster. */
-static void hash_rp(struct text rp_id, uint8_t hash[HASH_BYTES]) {
+/* Hashes an RP ID with SHA-256. An RP ID that fits in one block is hashed by SHA256_Transform, which is faster. */
+static void hash_rp_id(struct text rp_id, uint8_t hash[HASH_BYTES]) {
     if (rp_id.len > 55) {
         SHA256(rp_id.data, rp_id.len, hash);
         return;
@@ -429,19 +429,19 @@ static void wait_for_need(uint64_t now_ms, enum need need) {
 
 static void begin_make_credential(uint64_t now_ms, const struct request *request) {
     struct credential *made = &pending.made;
-    hash_rp(request->rp_id, made->rp_id_hash);
+    hash_rp_id(request->rp_id, made->rp_id_hash);
     memcpy(made->user_id, request->user_id.data, request->user_id.len);
     made->user_id_len = (uint8_t)request->user_id.len;
     made->is_discoverable = request->rk;
     pending.is_make_credential = true;
-    pending.is_excluded = find_listed(made->rp_id_hash, request) != NULL;
+    pending.is_excluded = find_listed_credential(made->rp_id_hash, request) != NULL;
     wait_for_need(now_ms, PRESENCE);
 }
 
 static void begin_get_assertion(uint64_t now_ms, const struct request *request) {
     uint8_t rp_id_hash[HASH_BYTES];
-    hash_rp(request->rp_id, rp_id_hash);
-    pending.used = request->has_list ? find_listed(rp_id_hash, request) : find_newest(rp_id_hash);
+    hash_rp_id(request->rp_id, rp_id_hash);
+    pending.used = request->has_list ? find_listed_credential(rp_id_hash, request) : find_newest_credential(rp_id_hash);
     if (pending.used == NULL) {
         finish(NO_CREDENTIALS);
         return;
@@ -522,7 +522,7 @@ void authenticator_presence(uint64_t now_ms, bool is_granted) {
     } else if (!is_granted) {
         finish(OPERATION_DENIED);
     } else if (pending.is_make_credential && credential_count == MAX_CREDENTIALS &&
-               find_same_user(&pending.made) == NULL) {
+               find_credential_of_user(&pending.made) == NULL) {
         finish(KEY_STORE_FULL);
     } else {
         if (!pending.is_make_credential) {
@@ -553,7 +553,7 @@ void authenticator_key_pair(uint64_t now_ms, const uint8_t *key_pair) {
     pending.need = SIGNATURE;
 }
 
-/* A response, written by appending. */
+/* A response to which bytes are appended. */
 struct response {
     uint8_t bytes[MAX_RESPONSE_BYTES];
     size_t len;
@@ -577,7 +577,7 @@ static void append_string(struct response *response, const uint8_t *bytes, size_
 }
 
 static void store_credential(void) {
-    struct credential *same = find_same_user(&pending.made);
+    struct credential *same = find_credential_of_user(&pending.made);
     if (same != NULL) {
         memmove(same, same + 1, (size_t)(credentials + credential_count - same - 1) * sizeof *same);
         credential_count--;

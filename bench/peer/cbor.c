@@ -1,4 +1,4 @@
-/* The CTAP2 canonical CBOR form: a strict check of an encoding, and readers for an encoding that passed it. */
+/* The CTAP2 canonical CBOR encoding form: a strict check of an encoding, and functions that decode checked encodings. */
 #include "peer.h"
 
 #include <string.h>
@@ -63,7 +63,8 @@ static bool check_head(struct check *check, enum major *major, uint64_t *number)
 
 static bool check_item(struct check *check, int level, bool is_key);
 
-/* Keys must be in canonical order, shorter ones first. Heads are the shortest, so comparing the bytes is enough. */
+/* Checks a map, whose keys must be in canonical order: shorter keys first, then byte order. Since heads must have their
+ * shortest form, comparing the encoded bytes is enough. */
 static bool check_map(struct check *check, uint64_t pairs, int level) {
     const uint8_t *last = NULL;
     size_t last_len = 0;

@@ -1,5 +1,5 @@
-/* The log: reads lines of at most 255 bytes from standard input, and writes each with the packets sent in response, in
- * one write. */
+/* Reads a log from standard input, in lines of at most 255 bytes, and writes each line followed by the packets sent in
+ * response, with one write call. */
 #include "peer.h"
 
 #include <stdio.h>
@@ -176,7 +176,7 @@ static bool play(const uint8_t *line, size_t len) {
     return is_valid && flush();
 }
 
-/* Reads more of the log into the window. Returns the number of bytes, 0 at the end, or -1 on an error. */
+/* Reads more of the log into the read buffer. Returns the number of bytes, 0 at the end, or -1 on an error. */
 static ssize_t refill_window(void) {
     memmove(window, window + window_start, window_len - window_start);
     window_len -= window_start;

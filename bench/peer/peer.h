@@ -1,12 +1,15 @@
-/* A security key in C with the same output as `hidlog replay` for the flows of bench/flows.py, to compare their speed.
- * Written for speed: scalar code with tables for hexadecimal digits, and OpenSSL's SHA-256, which bench/peer.sh runs
- * without and with vector instructions. For a log of INIT, PING, getInfo, makeCredential, getAssertion, replies, ticks
- * and comments it writes what hidlog replay writes, byte for byte: strict canonical CBOR with its steps counted, the
- * order of a request's checks, KEEPALIVEs, timeouts, busy channels, unknown channels, wrong sequence numbers, 64
- * credentials, allow and exclude lists, signature counters, CANCEL, and INIT on an allocated channel.
+/* A second implementation of the security key, in C, as a baseline for the speed of `hidlog replay`. Both have the same
+ * output for the flows of bench/flows.py.
  *
- * Not implemented: getNextAssertion (a sign-in with several credentials uses the newest one, and its response has no
- * numberOfCredentials), reset, selection, users' names, snapshots, and which error a request with two errors gets. */
+ * The code is scalar, with lookup tables for hexadecimal digits and OpenSSL's SHA-256, which bench/peer.sh runs without
+ * and with vector instructions. For a log of INIT, PING, getInfo, makeCredential, getAssertion, replies, ticks and
+ * comments, the output equals that of `hidlog replay` byte for byte. Implemented are strict canonical CBOR with a count
+ * of its steps, the order of a request's checks, KEEPALIVEs, timeouts, busy channels, unknown channels, wrong sequence
+ * numbers, 64 credentials, allow and exclude lists, signature counters, CANCEL, and INIT on an allocated channel.
+ *
+ * Not implemented are getNextAssertion (a sign-in with several credentials uses the newest credential, and the response
+ * has no numberOfCredentials), reset, selection, user names, snapshots, and the precedence of errors in a request with
+ * two errors. */
 #ifndef PEER_H
 #define PEER_H
 
@@ -27,7 +30,7 @@ enum {
 
 enum command { PING = 0x01, INIT = 0x06, CBOR = 0x10, CANCEL = 0x11, KEEPALIVE = 0x3b, ERROR = 0x3f };
 
-/* The log: each packet sent is written as a line after the line that was read. */
+/* Writes a packet that the key sends as a line of the log, after the input line that caused the packet. */
 void log_send(const uint8_t packet[PACKET_BYTES]);
 
 /* The transport. */
@@ -46,7 +49,7 @@ void authenticator_request(uint64_t now_ms, uint32_t channel, const uint8_t *mes
 bool authenticator_is_pending(void);
 bool authenticator_is_pending_on(uint32_t channel);
 void authenticator_cancel(void); /* with a response */
-void authenticator_drop(void);   /* without a response */
+void authenticator_abort(void);  /* without a response */
 void authenticator_advance_time(uint64_t now_ms);
 void authenticator_presence(uint64_t now_ms, bool granted);
 void authenticator_key_pair(uint64_t now_ms, const uint8_t *key_pair); /* id, x and y, or NULL */

@@ -26,7 +26,7 @@ static struct {
     bool is_open;
 } message;
 
-static void put_channel(uint8_t *bytes, uint32_t channel) {
+static void write_channel_id(uint8_t *bytes, uint32_t channel) {
     bytes[0] = (uint8_t)(channel >> 24);
     bytes[1] = (uint8_t)(channel >> 16);
     bytes[2] = (uint8_t)(channel >> 8);
@@ -35,7 +35,7 @@ static void put_channel(uint8_t *bytes, uint32_t channel) {
 
 void transport_send(uint32_t channel, enum command command, const uint8_t *bytes, size_t len) {
     uint8_t packet[PACKET_BYTES] = {0};
-    put_channel(packet, channel);
+    write_channel_id(packet, channel);
     packet[4] = (uint8_t)(0x80 | command);
     packet[5] = (uint8_t)(len >> 8);
     packet[6] = (uint8_t)len;
@@ -97,11 +97,11 @@ static void send_init_response(uint32_t channel, const uint8_t *nonce, size_t le
         return;
     }
     if (authenticator_is_pending_on(channel)) {
-        authenticator_drop();
+        authenticator_abort();
     }
     uint8_t response[17];
     memcpy(response, nonce, 8);
-    put_channel(response + 8, channel == BROADCAST ? ++last_channel : channel);
+    write_channel_id(response + 8, channel == BROADCAST ? ++last_channel : channel);
     memcpy(response + 12, "\x02\x01\0\0\x0c", 5);
     transport_send(channel, INIT, response, sizeof response);
 }

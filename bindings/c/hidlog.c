@@ -1,7 +1,8 @@
-// hidlog.h over the WebAssembly module as C, for every little-endian machine with a C11 compiler. A call borrows an
-// instance of the module from a pool and lends it the caller's buffers, so a key is wholly in its caller's memory, and
-// calls from several threads need no lock. The first instance is static; a further one is allocated only while calls
-// run at the same time. If that fails, the call returns the error for a buffer that is too small.
+// Implements hidlog.h with the WebAssembly module translated to C, for any little-endian machine with a C11 compiler.
+// Each call takes an instance of the module from a pool and maps the caller's buffers into its address space. So all of
+// a key's state is in its caller's memory, and calls from several threads need no lock. The first instance is static;
+// further instances are allocated only if calls run at the same time. If that fails, the call returns the error for a
+// buffer that is too small.
 #include "hidlog.h"
 #include "hidlog_module.h"
 
@@ -34,8 +35,8 @@ enum { POOL_SLOTS = 16 };
 static struct instance first_instance;
 static pool_slot pool[POOL_SLOTS] = {&first_instance};
 
-// Returns an instance that no other call uses, or NULL if none can be allocated.
-static struct instance *borrow_instance(void) {
+// Takes an instance that no other call uses. Returns NULL if none can be allocated.
+static struct instance *acquire_instance(void) {
     struct instance *instance = NULL;
     for (u32 i = 0; i < POOL_SLOTS && instance == NULL; i++) {
         instance = EXCHANGE(&pool[i], NULL);
@@ -52,8 +53,8 @@ static struct instance *borrow_instance(void) {
     return instance;
 }
 
-// Returns an instance to the pool, and frees it if the pool is full.
-static void return_instance(struct instance *instance) {
+// Puts an instance back into the pool, or frees the instance if the pool is full.
+static void release_instance(struct instance *instance) {
     for (u32 i = 0; i < POOL_SLOTS; i++) {
         if (STORE_IF_EMPTY(&pool[i], instance)) {
             return;
@@ -64,30 +65,31 @@ static void return_instance(struct instance *instance) {
     }
 }
 
-// The windows of a key's memory, of its struct and of the first buffer; the last window stays closed.
+// Window numbers: the key's memory, the key's struct, and the first and last window for other buffers. Window 15 stays
+// closed.
 enum { MEMORY_WINDOW = 1, KEY_WINDOW = 2, FIRST_BUFFER = 3, LAST_BUFFER = 14 };
 #define ADDRESS_OF(window) ((u64)(window) << WINDOW_BITS)
 #define KEY ADDRESS_OF(KEY_WINDOW)
 
-// struct hidlog_key as the module has it.
+// The layout of struct hidlog_key in the module.
 struct module_key {
     u64 memory;
     u32 state;
     u32 padding;
 };
 
-// A call: the borrowed instance, and the next free window for a buffer.
+// State of one call: the instance, and the next free window.
 struct call {
     struct instance *instance;
     Z_hidlog_instance_t *module;
     struct module_key key;
     u32 next_window;
-    u32 is_too_long; // a buffer did not fit
+    u32 is_too_long; // whether a buffer did not fit into the free windows
 };
 
 // Starts a call. Returns 0 if there is no memory for an instance.
 static int begin_call(struct call *call) {
-    call->instance = borrow_instance();
+    call->instance = acquire_instance();
     if (call->instance == NULL) {
         return 0;
     }
@@ -101,7 +103,7 @@ static void end_call(struct call *call) {
     for (u32 i = MEMORY_WINDOW; i < call->next_window; i++) {
         call->module->w2c_memory.windows[i].size = 0;
     }
-    return_instance(call->instance);
+    release_instance(call->instance);
 }
 
 static void open_window(struct call *call, u32 number, const void *bytes, u64 len) {
@@ -110,13 +112,13 @@ static void open_window(struct call *call, u32 number, const void *bytes, u64 le
     window->size = (u32)len;
 }
 
-// How many bytes the remaining windows can show.
+// Returns the number of bytes that fit into the free windows.
 static u64 windows_capacity(const struct call *call) {
     return ADDRESS_OF(LAST_BUFFER + 1 - call->next_window);
 }
 
-// Opens windows onto a buffer. Returns its address in the module.
-static u64 lend(struct call *call, const void *buffer, u64 len) {
+// Maps a buffer into the module's address space. Returns the buffer's address there.
+static u64 map_buffer(struct call *call, const void *buffer, u64 len) {
     u64 address = ADDRESS_OF(call->next_window), offset = 0;
     if (len > windows_capacity(call) || call->next_window > LAST_BUFFER) {
         call->is_too_long = 1;
@@ -129,13 +131,13 @@ static u64 lend(struct call *call, const void *buffer, u64 len) {
     return address;
 }
 
-// Like lend, for an output buffer, which must be a call's last. Only as much of it is used as the free windows can hold,
-// at least 256 MiB.
-static u64 lend_output(struct call *call, void *out, size_t *out_cap) {
+// Like map_buffer, for the output buffer, which must be mapped last. A buffer larger than the free windows (at least
+// 256 MiB) is used in part, and *out_cap is reduced.
+static u64 map_output(struct call *call, void *out, size_t *out_cap) {
     if (*out_cap > windows_capacity(call)) {
         *out_cap = (size_t)windows_capacity(call);
     }
-    return lend(call, out, *out_cap);
+    return map_buffer(call, out, *out_cap);
 }
 
 // ---- Commands on logs
@@ -155,10 +157,10 @@ static void run_command(command_function *function, const uint8_t *log, size_t l
         set_error(result, HIDLOG_ERR_BUFFER_TOO_SMALL);
         return;
     }
-    u64 result_at = lend(&call, result, sizeof *result);
-    u64 snapshot_at = lend(&call, snapshot, snapshot_len);
-    u64 log_at = lend(&call, log, log_len);
-    u64 out_at = lend_output(&call, out, &out_cap);
+    u64 result_at = map_buffer(&call, result, sizeof *result);
+    u64 snapshot_at = map_buffer(&call, snapshot, snapshot_len);
+    u64 log_at = map_buffer(&call, log, log_len);
+    u64 out_at = map_output(&call, out, &out_cap);
     if (call.is_too_long) {
         set_error(result, HIDLOG_ERR_TOO_MANY_LINES);
     } else {
@@ -187,7 +189,7 @@ void hidlog_quiet(const uint8_t *log, size_t log_len, const uint8_t *snapshot, s
     run_command(w2c_hidlog_quiet, log, log_len, snapshot, snapshot_len, out, out_cap, result);
 }
 
-// Shows a log, or its transactions, for which the module's function takes no `explain`.
+// Implements hidlog_show and hidlog_transactions; the latter has no `explain`.
 static void show_log(int is_transactions, const uint8_t *log, size_t log_len, uint32_t explain, uint8_t *out,
                      size_t out_cap, struct hidlog_result *result) {
     struct call call;
@@ -195,9 +197,9 @@ static void show_log(int is_transactions, const uint8_t *log, size_t log_len, ui
         set_error(result, HIDLOG_ERR_BUFFER_TOO_SMALL);
         return;
     }
-    u64 result_at = lend(&call, result, sizeof *result);
-    u64 log_at = lend(&call, log, log_len);
-    u64 out_at = lend_output(&call, out, &out_cap);
+    u64 result_at = map_buffer(&call, result, sizeof *result);
+    u64 log_at = map_buffer(&call, log, log_len);
+    u64 out_at = map_output(&call, out, &out_cap);
     if (call.is_too_long) {
         set_error(result, HIDLOG_ERR_TOO_MANY_LINES);
     } else if (is_transactions) {
@@ -223,8 +225,8 @@ size_t hidlog_result_message(const struct hidlog_result *result, uint8_t *out, s
     if (!begin_call(&call)) {
         return 0;
     }
-    u64 result_at = lend(&call, result, sizeof *result);
-    u64 out_at = lend_output(&call, out, &out_cap);
+    u64 result_at = map_buffer(&call, result, sizeof *result);
+    u64 out_at = map_output(&call, out, &out_cap);
     u64 written = w2c_hidlog_result_message(call.module, result_at, out_at, out_cap);
     end_call(&call);
     return (size_t)written;
@@ -240,7 +242,7 @@ size_t hidlog_key_capacity(void) {
     return MODULE_CAPACITY;
 }
 
-// Starts a call on a key. Returns 0 if there is no memory for an instance.
+// Starts a call on a key, and maps the key's memory. Returns 0 if there is no memory for an instance.
 static int begin_key_call(struct call *call, const struct hidlog_key *key) {
     if (!begin_call(call)) {
         return 0;
@@ -268,7 +270,7 @@ static int32_t end_key_call(struct call *call, struct hidlog_key *key, u32 retur
 int32_t hidlog_key_init(struct hidlog_key *key, const uint8_t aaguid[16], uint64_t now_ms, const uint8_t *snapshot,
                         size_t snapshot_len) {
     BEGIN_KEY_CALL
-    u64 aaguid_at = lend(&call, aaguid, 16), snapshot_at = lend(&call, snapshot, snapshot_len);
+    u64 aaguid_at = map_buffer(&call, aaguid, 16), snapshot_at = map_buffer(&call, snapshot, snapshot_len);
     if (call.is_too_long) {
         return end_key_call(&call, key, (u32)HIDLOG_KEY_ERR_NOT_A_SNAPSHOT);
     }
@@ -283,7 +285,7 @@ int32_t hidlog_key_destroy(struct hidlog_key *key) {
 
 int32_t hidlog_key_write_packet(struct hidlog_key *key, uint64_t now_ms, const uint8_t packet[64]) {
     BEGIN_KEY_CALL
-    u64 packet_at = lend(&call, packet, 64);
+    u64 packet_at = map_buffer(&call, packet, 64);
     return end_key_call(&call, key, w2c_hidlog_key_write_packet(call.module, KEY, now_ms, packet_at));
 }
 
@@ -300,7 +302,7 @@ int32_t hidlog_key_provide_presence(struct hidlog_key *key, uint64_t now_ms, uin
 int32_t hidlog_key_provide_key_pair(struct hidlog_key *key, uint64_t now_ms, const uint8_t id[32], const uint8_t x[32],
                                     const uint8_t y[32]) {
     BEGIN_KEY_CALL
-    u64 id_at = lend(&call, id, 32), x_at = lend(&call, x, 32), y_at = lend(&call, y, 32);
+    u64 id_at = map_buffer(&call, id, 32), x_at = map_buffer(&call, x, 32), y_at = map_buffer(&call, y, 32);
     return end_key_call(&call, key, w2c_hidlog_key_provide_key_pair(call.module, KEY, now_ms, id_at, x_at, y_at));
 }
 
@@ -312,7 +314,7 @@ int32_t hidlog_key_refuse_key_pair(struct hidlog_key *key, uint64_t now_ms) {
 int32_t hidlog_key_provide_signature(struct hidlog_key *key, uint64_t now_ms, const uint8_t *signature,
                                      size_t signature_len) {
     BEGIN_KEY_CALL
-    u64 signature_at = lend(&call, signature, signature_len);
+    u64 signature_at = map_buffer(&call, signature, signature_len);
     if (call.is_too_long) {
         return end_key_call(&call, key, (u32)HIDLOG_KEY_ERR_INVALID_ARGUMENT);
     }
@@ -332,20 +334,20 @@ int32_t hidlog_key_queued_packets(struct hidlog_key *key) {
 
 int32_t hidlog_key_read_packet(struct hidlog_key *key, uint8_t packet[64]) {
     BEGIN_KEY_CALL
-    u64 packet_at = lend(&call, packet, 64);
+    u64 packet_at = map_buffer(&call, packet, 64);
     return end_key_call(&call, key, w2c_hidlog_key_read_packet(call.module, KEY, packet_at));
 }
 
 int32_t hidlog_key_get_need(struct hidlog_key *key, struct hidlog_need *need) {
     BEGIN_KEY_CALL
-    u64 need_at = lend(&call, need, sizeof *need);
+    u64 need_at = map_buffer(&call, need, sizeof *need);
     return end_key_call(&call, key, w2c_hidlog_key_get_need(call.module, KEY, need_at));
 }
 
 int32_t hidlog_key_cause(struct hidlog_key *key, uint32_t which, struct hidlog_cause *cause, uint8_t *out,
                          size_t out_cap) {
     BEGIN_KEY_CALL
-    u64 cause_at = lend(&call, cause, sizeof *cause), out_at = lend_output(&call, out, &out_cap);
+    u64 cause_at = map_buffer(&call, cause, sizeof *cause), out_at = map_output(&call, out, &out_cap);
     return end_key_call(&call, key, w2c_hidlog_key_cause(call.module, KEY, which, cause_at, out_at, out_cap));
 }
 
@@ -356,19 +358,19 @@ int32_t hidlog_key_credential_count(struct hidlog_key *key) {
 
 int32_t hidlog_key_get_credential(struct hidlog_key *key, size_t index, struct hidlog_credential *credential) {
     BEGIN_KEY_CALL
-    u64 credential_at = lend(&call, credential, sizeof *credential);
+    u64 credential_at = map_buffer(&call, credential, sizeof *credential);
     return end_key_call(&call, key, w2c_hidlog_key_get_credential(call.module, KEY, index, credential_at));
 }
 
 int32_t hidlog_key_add_credential(struct hidlog_key *key, uint64_t now_ms, const struct hidlog_credential *credential) {
     BEGIN_KEY_CALL
-    u64 credential_at = lend(&call, credential, sizeof *credential);
+    u64 credential_at = map_buffer(&call, credential, sizeof *credential);
     return end_key_call(&call, key, w2c_hidlog_key_add_credential(call.module, KEY, now_ms, credential_at));
 }
 
 int32_t hidlog_key_remove_credential(struct hidlog_key *key, uint64_t now_ms, const uint8_t id[32]) {
     BEGIN_KEY_CALL
-    u64 id_at = lend(&call, id, 32);
+    u64 id_at = map_buffer(&call, id, 32);
     return end_key_call(&call, key, w2c_hidlog_key_remove_credential(call.module, KEY, now_ms, id_at));
 }
 
@@ -379,7 +381,7 @@ int32_t hidlog_key_clear_credentials(struct hidlog_key *key, uint64_t now_ms) {
 
 int32_t hidlog_key_save_snapshot(struct hidlog_key *key, uint8_t *out, size_t out_cap) {
     BEGIN_KEY_CALL
-    u64 out_at = lend_output(&call, out, &out_cap);
+    u64 out_at = map_output(&call, out, &out_cap);
     return end_key_call(&call, key, w2c_hidlog_key_save_snapshot(call.module, KEY, out_at, out_cap));
 }
 
@@ -390,15 +392,15 @@ int32_t hidlog_key_pending_assertions(struct hidlog_key *key) {
 
 int32_t hidlog_key_get_stats(struct hidlog_key *key, struct hidlog_stats *stats) {
     BEGIN_KEY_CALL
-    u64 stats_at = lend(&call, stats, sizeof *stats);
+    u64 stats_at = map_buffer(&call, stats, sizeof *stats);
     return end_key_call(&call, key, w2c_hidlog_key_get_stats(call.module, KEY, stats_at));
 }
 
 int32_t hidlog_key_replay_lines(struct hidlog_key *key, const uint8_t *log, size_t log_len, uint8_t *out,
                                 size_t out_cap, struct hidlog_result *result) {
     BEGIN_KEY_CALL
-    u64 result_at = lend(&call, result, sizeof *result), log_at = lend(&call, log, log_len);
-    u64 out_at = lend_output(&call, out, &out_cap);
+    u64 result_at = map_buffer(&call, result, sizeof *result), log_at = map_buffer(&call, log, log_len);
+    u64 out_at = map_output(&call, out, &out_cap);
     if (call.is_too_long) {
         set_error(result, HIDLOG_ERR_TOO_MANY_LINES);
         return end_key_call(&call, key, HIDLOG_LOG_ERROR);
@@ -409,7 +411,7 @@ int32_t hidlog_key_replay_lines(struct hidlog_key *key, const uint8_t *log, size
 
 // ---- The WebAuthn client
 
-// The parameters that both calls take, as the module takes them.
+// Addresses, in the module, of the parameters that hidlog_client_request and hidlog_client_response have in common.
 struct client_parameters {
     u64 options, mediation, origin, suffix, report;
 };
@@ -428,10 +430,10 @@ int64_t hidlog_client_request(uint32_t ceremony, const uint8_t *options, size_t 
     if (!begin_call(&call)) {
         return HIDLOG_CLIENT_TOO_SMALL;
     }
-    struct client_parameters at = {lend(&call, options, options_len), lend(&call, mediation, mediation_len),
-                                   lend(&call, origin, origin_len), lend(&call, suffix, suffix_len),
-                                   lend(&call, report, sizeof *report)};
-    u64 out_at = lend_output(&call, out, &out_cap);
+    struct client_parameters at = {map_buffer(&call, options, options_len), map_buffer(&call, mediation, mediation_len),
+                                   map_buffer(&call, origin, origin_len), map_buffer(&call, suffix, suffix_len),
+                                   map_buffer(&call, report, sizeof *report)};
+    u64 out_at = map_output(&call, out, &out_cap);
     if (call.is_too_long) {
         return end_client_call(&call, (u64)HIDLOG_CLIENT_TOO_SMALL);
     }
@@ -450,10 +452,10 @@ int64_t hidlog_client_response(uint32_t ceremony, const uint8_t *options, size_t
     if (!begin_call(&call)) {
         return HIDLOG_CLIENT_TOO_SMALL;
     }
-    struct client_parameters at = {lend(&call, options, options_len), lend(&call, mediation, mediation_len),
-                                   lend(&call, origin, origin_len), lend(&call, suffix, suffix_len),
-                                   lend(&call, report, sizeof *report)};
-    u64 response_at = lend(&call, response, response_len), out_at = lend_output(&call, out, &out_cap);
+    struct client_parameters at = {map_buffer(&call, options, options_len), map_buffer(&call, mediation, mediation_len),
+                                   map_buffer(&call, origin, origin_len), map_buffer(&call, suffix, suffix_len),
+                                   map_buffer(&call, report, sizeof *report)};
+    u64 response_at = map_buffer(&call, response, response_len), out_at = map_output(&call, out, &out_cap);
     if (call.is_too_long) {
         return end_client_call(&call, (u64)HIDLOG_CLIENT_TOO_SMALL);
     }

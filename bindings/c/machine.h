@@ -1,7 +1,7 @@
-// The WebAssembly memory and operations that hidlog_module.h uses. Addresses have 32 bits and select one of 16 windows
-// of 256 MiB. The first is the module's own memory; the others are opened onto buffers of the caller, so that the
-// module works on these in place. An access outside its window ends the process, as does a division by zero; the proof
-// excludes both.
+// The WebAssembly memory and operations that hidlog_module.h uses. An address has 32 bits, of which the highest four
+// select one of 16 windows of 256 MiB. The first window is the module's own memory. The others are mapped to buffers of
+// the caller, which the module reads and writes in place. An access outside its window ends the process, as does a
+// division by zero; the proof excludes both.
 #ifndef HIDLOG_MACHINE_H
 #define HIDLOG_MACHINE_H
 
@@ -16,7 +16,7 @@
 #error "hidlog needs a little-endian processor: WebAssembly's memory and hidlog.h's structs are shared"
 #endif
 
-// Loads are inlined always: a compiler's own choice costs a fifth more instructions.
+// Loads are always inlined: the compiler's own choices lead to a fifth more instructions.
 #if defined(__GNUC__)
 #define ALWAYS_INLINE inline __attribute__((always_inline))
 #elif defined(_MSC_VER)
@@ -25,7 +25,7 @@
 #define ALWAYS_INLINE inline
 #endif
 
-// The names that wasm2c uses.
+// Integer types, with the names that wasm2c uses.
 typedef uint8_t u8;
 typedef int8_t s8;
 typedef uint16_t u16;
@@ -34,17 +34,16 @@ typedef int32_t s32;
 typedef uint64_t u64;
 typedef int64_t s64;
 
-// An address with its constant offset is less than 2^33, so it selects one of 32 windows, of which the upper half stays
-// closed.
+// The sum of an address and a constant offset is less than 2^33, so there are 32 windows. The upper 16 stay closed.
 enum { WINDOW_BITS = 28, WINDOWS = 32, PAGE_BYTES = 65536 };
 
-// The caller's memory from the start of a window on. If a buffer has several windows, each reaches to the buffer's end.
+// A window onto the caller's memory. If a buffer has several windows, each of them extends to the buffer's end.
 struct window {
     u8 *bytes;
     u32 size;
 };
 
-// MODULE_PAGES is of hidlog_module.h.
+// MODULE_PAGES is defined in hidlog_module.h.
 typedef struct {
     struct window windows[WINDOWS];
     u8 own[MODULE_PAGES * PAGE_BYTES];
@@ -55,7 +54,7 @@ static _Noreturn void trap(void) {
     abort();
 }
 
-// Returns `len` bytes of a window. Out of line, since most accesses are to the module's own memory.
+// Returns a pointer to `len` bytes of a window. Not inlined, since most accesses are to the module's own memory.
 static u8 *window_bytes(const wasm_rt_memory_t *memory, u64 address, u64 len) {
     const struct window *window = &memory->windows[address >> WINDOW_BITS];
     u64 offset = address & ((1u << WINDOW_BITS) - 1);
@@ -65,7 +64,7 @@ static u8 *window_bytes(const wasm_rt_memory_t *memory, u64 address, u64 len) {
     return window->bytes + offset;
 }
 
-// Returns `len` bytes of the memory.
+// Returns a pointer to `len` bytes at an address.
 static ALWAYS_INLINE u8 *bytes_at(wasm_rt_memory_t *memory, u64 address, u64 len) {
     if (len <= sizeof memory->own && address <= sizeof memory->own - len) {
         return memory->own + address;
@@ -139,7 +138,7 @@ static inline u64 checked_divisor(u64 value) {
     return value;
 }
 
-// Macros, since they serve operands of 32 and of 64 bits.
+// These are macros because they apply to operands of 32 and of 64 bits.
 #define ROTATE_LEFT(value, count, mask) ((value) << ((count) & (mask)) | (value) >> ((0 - (count)) & (mask)))
 #define ROTATE_RIGHT(value, count, mask) ((value) >> ((count) & (mask)) | (value) << ((0 - (count)) & (mask)))
 #define I32_ROTL(value, count) ROTATE_LEFT(value, count, 31)

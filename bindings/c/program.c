@@ -1,6 +1,6 @@
-// The program hidlog over the portable library, for systems without the proved program: replay, live, check, quiet and
-// show. Output, errors and exit statuses are those of the proved program with --plain; it has no --save, --json,
-// --summary, --all and --wide, and --explain for show only.
+// The program hidlog, built with the portable library for systems without the proved program: replay, live, check,
+// quiet and show. Output, errors and exit statuses equal those of the proved program with --plain. The options --save,
+// --json, --summary, --all and --wide are missing, and --explain works with show only.
 #include "hidlog.h"
 
 #include <stdio.h>
@@ -36,7 +36,7 @@ static const char help_text[] =
     "  -V, --version   Print version\n";
 
 enum { EXIT_FINDING = 1, EXIT_FAILED = 2 };
-// The longest line of a log, and the most that hidlog_live writes for a line (hidlog.h).
+// Maximum length of a log line, and of the output of hidlog_live for one line (hidlog.h).
 enum { LINE_CAP = 255, LINE_OUT_CAP = 18000 };
 enum { MESSAGE_CAP = 64 };
 
@@ -59,7 +59,7 @@ static int print_error(const char *text, int status) {
     return status;
 }
 
-// Makes room for `cap` bytes, or ends the program.
+// Reallocates `data` to `cap` bytes. Exits if there is no memory.
 static uint8_t *resize(uint8_t *data, size_t cap) {
     uint8_t *resized = realloc(data, cap);
     if (resized == NULL) {
@@ -68,7 +68,7 @@ static uint8_t *resize(uint8_t *data, size_t cap) {
     return resized;
 }
 
-// Reads a file to its end. Returns whether that succeeded; after a read error, `bytes` has what came before.
+// Reads a file to its end. Returns whether that succeeded; after a read error, `bytes` has the data before the error.
 static int read_all(FILE *file, struct bytes *bytes) {
     size_t cap = 1 << 16, count = 1;
     bytes->data = resize(NULL, cap);
@@ -102,8 +102,8 @@ static void close_log(FILE *file) {
     }
 }
 
-// Reads the snapshot, if one is named. Returns whether that succeeded. Checksums beside it are refused, not ignored. A
-// failed read gets the error text of the proved program without --explain.
+// Reads the snapshot, if --load was used. Returns whether that succeeded. Fails if a checksum file PATH.hidlog-sum
+// exists, since this program cannot verify checksums. The error text is that of the proved program without --explain.
 static int read_snapshot(const char *path, struct bytes *snapshot) {
     FILE *file, *sums;
     int is_read = 0;
@@ -134,7 +134,7 @@ static int read_snapshot(const char *path, struct bytes *snapshot) {
     return is_read;
 }
 
-// Prints the error of a result, if any, after "hidlog: " or the file's name. Returns the exit status.
+// Prints the error of a result, if any, with the prefix "hidlog: " or the file's name. Returns the exit status.
 static int print_result(const struct hidlog_result *result, const char *file_name) {
     static const char front[] = "hidlog: ";
     uint8_t message[MESSAGE_CAP];
@@ -163,7 +163,8 @@ static void call_command(const struct options *options, struct bytes log, struct
     }
 }
 
-// The output of a command before a read error: without its last line, which is about the whole log.
+// Returns the length of the output that is valid after a read error: without the final line, which summarizes the whole
+// log.
 static size_t output_before_error(const char *command, struct bytes out, size_t written) {
     if (strcmp(command, "check") == 0) {
         return 0;
@@ -210,7 +211,7 @@ static int run_command(const struct options *options, FILE *file, struct bytes s
     return print_result(&result, file_name);
 }
 
-// Plays a line, which has its newline, and prints the reply. Returns the exit status.
+// Replays a line that ends with a newline, and prints the output. Returns the exit status.
 static int play_line(struct hidlog_key *key, const uint8_t *line, size_t len, uint64_t number) {
     static uint8_t out[LINE_OUT_CAP];
     struct hidlog_result result = {HIDLOG_LOG_ERROR, HIDLOG_ERR_LINE_TOO_LONG, number, 0, 0};
@@ -233,7 +234,7 @@ static int print_totals(struct hidlog_key *key) {
     return 0;
 }
 
-// Plays the lines of a log as they arrive.
+// Replays the lines of a log as they arrive.
 static int play_lines(struct hidlog_key *key, FILE *file) {
     uint8_t line[LINE_CAP + 2];
     size_t len = 0;
@@ -310,19 +311,20 @@ static int is_command(const char *word) {
     return 0;
 }
 
-static int refuse(const char *what, const char *word) {
+static int report_usage_error(const char *what, const char *word) {
     fprintf(stderr, "error: %s '%s'\n\nFor more information, try '--help'.\n", what, word);
     return EXIT_FAILED;
 }
 
-// Parses the arguments after the command; files are moved to their start. Returns 0, or the exit status.
+// Parses the arguments after the command, and moves the file names to the start of `words`. Returns 0, or the exit
+// status for an error.
 static int parse_arguments(int count, char **words, struct options *options) {
     int is_show = strcmp(options->command, "show") == 0, takes_many = strcmp(options->command, "check") == 0;
     options->files = words;
     for (int i = 0; i < count; i++) {
         if (strcmp(words[i], "--load") == 0 && !is_show) {
             if (++i == count) {
-                return refuse("a value is required for", "--load <F>");
+                return report_usage_error("a value is required for", "--load <F>");
             }
             options->snapshot_path = words[i];
         } else if (strncmp(words[i], "--load=", 7) == 0 && !is_show) {
@@ -331,10 +333,10 @@ static int parse_arguments(int count, char **words, struct options *options) {
             options->is_explained = 1;
         } else if (words[i][0] == '-' && words[i][1] != 0) {
             if (strcmp(words[i], "--plain") != 0) {
-                return refuse("unsupported argument", words[i]);
+                return report_usage_error("unsupported argument", words[i]);
             }
         } else if (options->file_count == 1 && !takes_many) {
-            return refuse("unexpected argument", words[i]);
+            return report_usage_error("unexpected argument", words[i]);
         } else {
             options->files[options->file_count++] = words[i];
         }
@@ -354,7 +356,7 @@ static int run(int count, char **words) {
         return printf("hidlog %s\n", VERSION) < 0;
     }
     if (!is_command(first)) {
-        return refuse("expected replay, live, check, quiet or show, not", first);
+        return report_usage_error("expected replay, live, check, quiet or show, not", first);
     }
     options.command = first;
     status = parse_arguments(count - 2, words + 2, &options);

@@ -1,4 +1,4 @@
-// A security key for OpenSSH without a device: a library for SSH_SK_PROVIDER.
+// An OpenSSH security key provider (SSH_SK_PROVIDER) with an in-memory key instead of a device.
 //
 //     gcc -shared -fPIC -fvisibility=hidden -I release -I examples/c -o libhidlog_sk.so
 //     bridges/ssh/{hidlog_sk,state}.c
@@ -8,7 +8,7 @@
 //     export SSH_SK_PROVIDER=$PWD/libhidlog_sk.so HIDLOG_SK_STATE=$PWD/key.state
 //     ssh-keygen -t ecdsa-sk
 //
-// For tests: every touch is granted. With HIDLOG_SK_PRESENCE=denied the user refuses.
+// For tests only: the simulated user grants every touch, or denies it if HIDLOG_SK_PRESENCE=denied.
 #define _POSIX_C_SOURCE 200809L
 #include "sk_api.h"
 
@@ -21,7 +21,7 @@
 #include <stdlib.h>
 #include <string.h>
 
-// Not thread-safe: OpenSSH calls from one thread of a helper program.
+// Not thread-safe: OpenSSH calls the provider from one thread of a helper program.
 static struct state state;
 
 static fido_dev_t *open_device(void) {
@@ -104,7 +104,8 @@ static struct sk_enroll_response *to_enroll_response(const fido_cred_t *cred, ui
     return response;
 }
 
-// The user ID of OpenSSH: 32 zeros, or the option "user". False if another option is required.
+// Reads OpenSSH's user handle: the option "user", zero-padded to 32 bytes, or 32 zeros. Returns false if another option
+// is required.
 static bool read_user(struct sk_option **options, uint8_t user[32]) {
     memset(user, 0, 32);
     for (size_t i = 0; options != NULL && options[i] != NULL; i++) {
@@ -118,7 +119,8 @@ static bool read_user(struct sk_option **options, uint8_t user[32]) {
     return true;
 }
 
-// Whether the key has a discoverable credential for this application and user, which a new one would replace.
+// Returns whether the key has a discoverable credential for this application and user, which a new credential would
+// replace.
 static bool has_credential(const char *application, const uint8_t user[32]) {
     struct hidlog_credential found;
     for (size_t i = 0; hidlog_key_get_credential(&state.vkey.key, i, &found) == 0; i++) {
@@ -179,7 +181,7 @@ int sk_enroll(uint32_t alg, const uint8_t *challenge, size_t challenge_len, cons
     return result;
 }
 
-// Copies a number of a signature into a response, without leading zeros.
+// Copies an integer of a signature (r or s) into a response, without leading zeros.
 static bool copy_number(uint8_t **to, size_t *to_len, const BIGNUM *number) {
     uint8_t bytes[32];
     int len = BN_num_bytes(number) <= 32 ? BN_bn2bin(number, bytes) : 0;
@@ -205,7 +207,7 @@ static struct sk_sign_response *to_sign_response(const fido_assert_t *assertion)
     return response;
 }
 
-// Signs, and always saves: even a rejected sign-in may have incremented the counter.
+// Signs in, and saves the key in any case: even a rejected sign-in may have incremented the signature counter.
 static int sign(fido_dev_t *device, fido_assert_t *assertion, struct sk_sign_response **response) {
     int error = fido_dev_get_assert(device, assertion, NULL);
     bool is_saved = state_save(&state);
@@ -271,7 +273,7 @@ int sk_load_resident_keys(const char *pin, struct sk_option **options, struct sk
     *keys = calloc(SOFTWARE_KEYS, sizeof **keys);
     for (size_t i = 0; hidlog_key_get_credential(&state.vkey.key, i, &credential) == 0; i++) {
         const char *application = state_application(&state, credential.id);
-        // Like OpenSSH with a device, skip credentials of other relying parties.
+        // Skip credentials of other relying parties, as OpenSSH does with a device.
         if (*keys != NULL && credential.discoverable && application != NULL && strncmp(application, "ssh:", 4) == 0) {
             struct sk_resident_key *key = to_resident_key(&credential, application);
             if (key != NULL) {

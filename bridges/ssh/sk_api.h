@@ -1,5 +1,5 @@
-// The interface of OpenSSH 8.9 to 9.x for SSH_SK_PROVIDER libraries, from its PROTOCOL.u2f and sk-api.h, major
-// version 10. Responses are allocated with malloc and freed by OpenSSH.
+// The interface of SSH_SK_PROVIDER libraries for OpenSSH 8.9 to 9.x, API major version 10, declared after OpenSSH's
+// PROTOCOL.u2f and sk-api.h. The provider allocates responses with malloc, and OpenSSH frees them.
 #ifndef SK_API_H
 #define SK_API_H
 

@@ -20,8 +20,8 @@ static const struct record *find_record(const struct state *state, const uint8_t
     return NULL;
 }
 
-// Adds the private keys: the public key is in the snapshot, the private key in the record. Credentials and records
-// correspond one to one.
+// Adds the key pair of each credential: the public key is in the snapshot, the private key in the credential's record.
+// Returns false unless each credential has exactly one record.
 static bool add_keys(struct state *state) {
     struct hidlog_credential credential;
     bool is_done = hidlog_key_credential_count(&state->vkey.key) == (int32_t)state->count;
@@ -68,7 +68,7 @@ static bool compute_checksum(const uint8_t *bytes, size_t len, uint8_t sum[STATE
     return EVP_Digest(bytes, len, sum, NULL, EVP_sha256(), NULL) == 1;
 }
 
-// Removes the checksum from the length of a file. False if it is wrong.
+// Subtracts the checksum from the length of a file. Returns false if the checksum is wrong.
 static bool remove_checksum(const uint8_t *bytes, size_t *len) {
     uint8_t sum[STATE_SUM];
     if (*len < sizeof magic + sizeof sum || !compute_checksum(bytes, *len - sizeof sum, sum)) {
@@ -81,26 +81,26 @@ static bool remove_checksum(const uint8_t *bytes, size_t *len) {
 const char *state_read(struct state *state, const uint8_t *bytes, size_t len) {
     if (begins_with(bytes, len, magic)) {
         if (!remove_checksum(bytes, &len)) {
-            return "it is damaged: its bytes don't match its checksum";
+            return "the file is damaged: its checksum does not match its contents";
         }
     } else if (!begins_with(bytes, len, magic_without_sum)) {
-        return "it is no state file, or is damaged";
+        return "the file is not a state file, or is damaged";
     }
     size_t snapshot = read_records(state, bytes, len);
     if (snapshot == 0) {
-        return "it is no state file, or is damaged";
+        return "the file is not a state file, or is damaged";
     }
     if (!virtual_key_open(&state->vkey, bytes + snapshot, len - snapshot)) {
-        return "its credentials are damaged, or there is no memory for them";
+        return "the credentials are damaged, or out of memory";
     }
     if (!add_keys(state)) {
         virtual_key_close(&state->vkey);
-        return "its private keys aren't those of its credentials";
+        return "the private keys do not match the credentials";
     }
     return NULL;
 }
 
-// Opens the key in the locked file.
+// Reads the key from the file, which is already locked.
 static bool open_locked(struct state *state) {
     long len = private_file_read(state->path, state->saved, sizeof state->saved);
     if (len == PRIVATE_FILE_REFUSED) {
@@ -155,7 +155,7 @@ const char *state_application(const struct state *state, const uint8_t id[32]) {
 }
 
 // Removes the records of credentials that were replaced.
-static void drop_records(struct state *state) {
+static void remove_unused_records(struct state *state) {
     struct hidlog_credential credential;
     struct record kept[SOFTWARE_KEYS] = {0};
     size_t count = 0;
@@ -171,7 +171,7 @@ static void drop_records(struct state *state) {
 }
 
 size_t state_write(struct state *state, uint8_t bytes[STATE_MAX_BYTES]) {
-    drop_records(state);
+    remove_unused_records(state);
     size_t records = state->count * sizeof *state->records;
     memcpy(bytes, magic, sizeof magic);
     bytes[STATE_COUNT_AT] = (uint8_t)state->count;
@@ -184,12 +184,13 @@ size_t state_write(struct state *state, uint8_t bytes[STATE_MAX_BYTES]) {
 bool state_save(struct state *state) {
     static uint8_t bytes[STATE_MAX_BYTES];
     if (hidlog_key_credential_count(&state->vkey.key) < 0) {
-        fprintf(stderr, "hidlog: %s: there is no key to save, and the old file is kept\n", state->path);
+        fprintf(stderr, "hidlog: %s: the key is not initialized: nothing was saved, and the old file is kept\n",
+                state->path);
         return false;
     }
     size_t len = state_write(state, bytes);
     if (len == 0) {
-        fprintf(stderr, "hidlog: %s: no memory for its checksum: nothing was saved, and the old file is kept\n",
+        fprintf(stderr, "hidlog: %s: out of memory for the checksum: nothing was saved, and the old file is kept\n",
                 state->path);
         OPENSSL_cleanse(bytes, sizeof bytes);
         return false;

@@ -30,7 +30,7 @@ static const struct option longer[] = {
     {"version", no_argument, NULL, 'V'},        {0},
 };
 
-// Parses the number of an option. False if it is invalid.
+// Parses the number of an option. Returns false if the number is invalid.
 static bool parse_number(const char *word, uint64_t *read) {
     char *end;
     errno = 0;
@@ -40,7 +40,7 @@ static bool parse_number(const char *word, uint64_t *read) {
 
 static bool print_help(const char *text) {
     if (fputs(text, stdout) < 0 || fflush(stdout) != 0) {
-        fprintf(stderr, "hidlog-uhid: standard output: %s\n", strerror(errno));
+        fprintf(stderr, "hidlog-uhid: cannot write to standard output: %s\n", strerror(errno));
         return false;
     }
     return true;
@@ -52,17 +52,17 @@ static bool print_usage(void) {
 }
 
 static bool report_invalid_number(const char *option, const char *word) {
-    fprintf(stderr, "hidlog-uhid: %s %s: must be a number from 0 to %d\n", option, word, INT_MAX);
+    fprintf(stderr, "hidlog-uhid: invalid value '%s' of %s: expected a number from 0 to %d\n", word, option, INT_MAX);
     return print_usage();
 }
 
-// Values that options_parse parses further once all options are known.
+// Option values that options_parse converts after all options have been parsed.
 struct option_values {
     const char *presence;
     uint64_t touch, descriptor;
 };
 
-// Parses one option. False if it is invalid.
+// Parses one option. Returns false if its value is invalid.
 static bool parse_option(struct options *options, struct option_values *read, int option) {
     switch (option) {
     case 'p':

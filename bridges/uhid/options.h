@@ -1,4 +1,4 @@
-// The command-line options.
+// The command-line options of hidlog-uhid.
 #ifndef OPTIONS_H
 #define OPTIONS_H
 
@@ -12,7 +12,7 @@ struct options {
     bool is_help;         // help or the version was requested and printed
 };
 
-// Parses the options. Prints errors and usage to standard error.
+// Parses the options. If one is invalid, prints the error and the usage to standard error, and returns false.
 bool options_parse(struct options *options, int count, char **words);
 
 #endif

@@ -1,17 +1,17 @@
-// A virtual USB security key for Linux: creates /dev/hidrawN by /dev/uhid, so that browsers, libfido2 and OpenSSH find
-// it like a plugged-in key.
+// A virtual USB security key for Linux: creates /dev/hidrawN through /dev/uhid, so that browsers, libfido2 and OpenSSH
+// find the key as if it were plugged in.
 //
 //     gcc -I release -I examples/c -I bridges/ssh -o hidlog-uhid bridges/uhid/*.c bridges/ssh/state.c
 //         examples/c/{virtual_key,private_file,software_keys,snapshot}.c release/libhidlog.a -lcrypto
 //     sudo ./hidlog-uhid --record session.log key.state
 //
-// For tests: the private keys are in the file in clear text.
+// For tests only: the private keys are stored in the file in clear text.
 #define _POSIX_C_SOURCE 200809L
 #include "options.h"
 #include "private_file.h"
 #include "snapshot.h"
 #include "state.h"
-#include "turns.h"
+#include "packet_queue.h"
 
 #include <errno.h>
 #include <fcntl.h>
@@ -28,8 +28,8 @@
 #include <time.h>
 #include <unistd.h>
 
-// KEEPALIVE is due every 100 ms; a message must continue within 500 ms. A log line has at most 255 bytes, and the
-// output for it at most 18,000. The kernel queues 32 events.
+// A KEEPALIVE is due every 100 ms, and an incomplete message times out after 500 ms. A log line has at most 255 bytes,
+// and its output at most 18,000. The kernel queues 32 events.
 enum {
     KEEPALIVE_MS = 100,
     MESSAGE_MS = 500,
@@ -47,7 +47,7 @@ static const uint8_t descriptor[] = {0x06, 0xd0, 0xf1, 0x09, 0x01, 0xa1, 0x01, 0
                                      0x26, 0xff, 0x00, 0x75, 0x08, 0x95, 0x40, 0x91, 0x02, 0xc0};
 
 static struct state state;
-static struct turns turns;
+static struct packet_queue queue;
 static int device = -1;
 static int recording = -1;
 static struct options options;
@@ -83,32 +83,37 @@ static bool send_packet(const uint8_t digits[2 * PACKET]) {
     for (size_t i = 0; i < PACKET; i++) {
         event.u.input2.data[i] = (uint8_t)(parse_hex_digit(digits[2 * i]) << 4 | parse_hex_digit(digits[2 * i + 1]));
     }
-    turns_record_channel(&turns, event.u.input2.data);
-    return write_whole(device, (const uint8_t *)&event, sizeof event) || print_system_error("cannot send a packet");
+    packet_queue_record_channel(&queue, event.u.input2.data);
+    return write_all(device, (const uint8_t *)&event, sizeof event) || print_system_error("cannot send a packet");
 }
 
-// Saves the key. The application (RP ID) of a new credential is left empty, since the key gives only the RP ID's hash.
+static bool report_missing_private_key(void) {
+    fprintf(stderr, "hidlog-uhid: cannot save the key: a new credential has no private key\n");
+    return false;
+}
+
+// Saves the key. The application (RP ID) of a new credential is left empty, since the key knows only the RP ID's hash.
 static bool save_state(void) {
     struct hidlog_credential credential;
     for (size_t i = 0; hidlog_key_get_credential(&state.vkey.key, i, &credential) == 0; i++) {
         if (state_application(&state, credential.id) == NULL && !state_add(&state, credential.id, "")) {
-            return print_system_error("a credential has no private key");
+            return report_missing_private_key();
         }
     }
     return state_save(&state);
 }
 
-// Plays a log line and sends the response packets. If the line is a reply, saves the key first, since it may have
-// changed.
+// Passes a log line to the key and sends the response packets. If the line is a reply, saves the key before sending,
+// since the credentials may have changed.
 static bool play(const char *line) {
     static uint8_t text[MAX_TEXT];
     struct hidlog_result result;
     if (hidlog_key_replay_lines(&state.vkey.key, (const uint8_t *)line, strlen(line), text, sizeof text, &result) !=
         0) {
-        fprintf(stderr, "hidlog-uhid: the key rejects %s", line);
+        fprintf(stderr, "hidlog-uhid: the key rejected this log line: %s", line);
         return false;
     }
-    if (recording >= 0 && !write_whole(recording, text, result.written)) {
+    if (recording >= 0 && !write_all(recording, text, result.written)) {
         return print_system_error("cannot write the recording");
     }
     if (strchr("pks", line[0]) != NULL && !save_state()) {
@@ -122,7 +127,7 @@ static bool play(const char *line) {
     return true;
 }
 
-// Plays a line of a letter, the current timestamp and, if not empty, a word.
+// Passes a log line to the key: a letter, the current timestamp and, unless it is empty, a word.
 static bool play_word(char letter, const char *word) {
     char line[MAX_LINE + 2];
     snprintf(line, sizeof line, "%c %llu%s%s\n", letter, (unsigned long long)now_ms(), *word == 0 ? "" : " ", word);
@@ -135,7 +140,7 @@ static bool play_bytes(char letter, const uint8_t *bytes, size_t len) {
     return play_word(letter, word);
 }
 
-// Frees the key pairs that belong to no credential.
+// Frees each key pair that belongs to no credential.
 static void free_unused_pairs(void) {
     for (size_t i = 0; i < SOFTWARE_KEYS; i++) {
         struct software_key *pair = &state.vkey.keys.slots[i];
@@ -167,7 +172,8 @@ static bool provide_signature(const struct hidlog_need *need) {
     return len == 0 ? play_word('s', "no") : play_bytes('s', signature, len);
 }
 
-// Provides what the key needs. While it waits for the user, advances the time.
+// Provides what the key needs: a key pair, a signature, or the user's reply. While the user has not replied, advances
+// the time.
 static bool provide_need(const struct hidlog_need *need) {
     const char *word;
     switch (need->kind) {
@@ -190,17 +196,17 @@ static bool provide_need(const struct hidlog_need *need) {
     }
 }
 
-// Plays the next packet, if any.
+// Passes the next packet to the key, if any.
 static bool play_next_packet(void) {
     uint8_t packet[PACKET];
-    return !turns_take(&turns, packet) || play_bytes('>', packet, sizeof packet);
+    return !packet_queue_take(&queue, packet) || play_bytes('>', packet, sizeof packet);
 }
 
-// The last program has closed the device: plays the packets it wrote, and ends a request that waits for the user, with
-// a timeout.
+// Handles that the last program has closed the device: passes the packets still queued to the key, and ends a request
+// that waits for user presence with a timeout.
 static bool handle_close(void) {
     struct hidlog_need need;
-    while (turns.count > 0) {
+    while (queue.count > 0) {
         if (!play_next_packet()) {
             return false;
         }
@@ -208,7 +214,7 @@ static bool handle_close(void) {
     return hidlog_key_get_need(&state.vkey.key, &need) != HIDLOG_NEED_PRESENCE || play_word('p', "timeout");
 }
 
-// Reads a kernel event: a program wrote to the device, or the last one closed it.
+// Reads and handles a kernel event: a program wrote to the device, or the last program closed it.
 static bool handle_event(void) {
     struct uhid_event event = {0};
     ssize_t len = read(device, &event, sizeof event);
@@ -222,15 +228,16 @@ static bool handle_event(void) {
     if (event.type != UHID_OUTPUT) {
         return true;
     }
-    // The report ID, 0, comes before the packet; a short packet is zero-padded.
+    // Skip the report ID, 0, before the packet, and pad a short packet with zeros.
     size_t number = event.u.output.size > PACKET ? 1 : 0;
     size_t size = event.u.output.size - number;
     memset(event.u.output.data + number + (size < PACKET ? size : PACKET), 0, size < PACKET ? PACKET - size : 0);
-    turns_put(&turns, event.u.output.data + number);
+    packet_queue_add(&queue, event.u.output.data + number);
     return true;
 }
 
-// Reads the queued events, so that the kernel drops none; a limited number, in case a program floods.
+// Handles the queued events, so that the kernel drops none. Handles at most MAX_EVENTS, in case a program floods the
+// device.
 static bool handle_events(void) {
     struct pollfd file = {.fd = device, .events = POLLIN};
     for (int i = 0; i < MAX_EVENTS; i++) {
@@ -250,7 +257,7 @@ static bool handle_events(void) {
 
 // Returns how long to wait for events in milliseconds, or -1 for no limit.
 static int poll_timeout_ms(uint32_t kind, bool is_idle) {
-    if (turns.count > 0 || kind == HIDLOG_NEED_KEY_PAIR || kind == HIDLOG_NEED_SIGNATURE) {
+    if (queue.count > 0 || kind == HIDLOG_NEED_KEY_PAIR || kind == HIDLOG_NEED_SIGNATURE) {
         return 0;
     }
     if (kind == HIDLOG_NEED_NONE) {
@@ -261,7 +268,7 @@ static int poll_timeout_ms(uint32_t kind, bool is_idle) {
     return due <= time ? 0 : (int)(due - time);
 }
 
-// Returns what the key needs, and starts asking the user.
+// Returns what the key needs. If it newly needs user presence, starts asking the user.
 static uint32_t check_need(struct hidlog_need *need) {
     uint32_t kind = (uint32_t)hidlog_key_get_need(&state.vkey.key, need);
     if (kind == HIDLOG_NEED_PRESENCE && !is_asked) {
@@ -272,8 +279,8 @@ static uint32_t check_need(struct hidlog_need *need) {
     return kind;
 }
 
-// Serves until a signal arrives. Each round reads the queued events, plays one packet, and provides what the key needs,
-// so that a program that floods does not block the others.
+// Serves until a signal arrives. Each round handles the queued events, passes one packet to the key, and provides what
+// the key needs, so that a program that floods the device does not block the others.
 static bool run(int signals) {
     struct pollfd files[] = {{.fd = device, .events = POLLIN}, {.fd = signals, .events = POLLIN}, {.events = POLLIN}};
     struct hidlog_need need;
@@ -291,8 +298,8 @@ static bool run(int signals) {
         if (files[2].fd >= 0 && files[2].revents != 0) {
             user_read_input(&options.user);
         }
-        bool is_quiet = ready == 0 && kind == HIDLOG_NEED_NONE && turns.count == 0;
-        // An incomplete message ends when time passes.
+        bool is_quiet = ready == 0 && kind == HIDLOG_NEED_NONE && queue.count == 0;
+        // Advance the time, so that an incomplete message times out.
         if (is_quiet && !play_word('t', "")) {
             return false;
         }
@@ -328,8 +335,8 @@ static bool plug_in(void) {
     return write(device, &event, sizeof event) == sizeof event || print_system_error("cannot create the device");
 }
 
-// Whether a recording may be written to a path: it must not be the state file.
-static bool is_recordable(const char *path) {
+// Returns whether a recording may be written to a path, which must not be the state file.
+static bool is_recording_path_allowed(const char *path) {
     struct stat one, other;
     bool is_there = stat(path, &one) == 0;
     if (!is_there && errno != ENOENT) {
@@ -342,14 +349,14 @@ static bool is_recordable(const char *path) {
     bool is_one = is_there && has_state && one.st_dev == other.st_dev && one.st_ino == other.st_ino;
     if (is_one || strcmp(path, state.path) == 0) {
         fprintf(stderr,
-                "hidlog-uhid: %s: this is the state file, which a recording would overwrite; choose another path\n",
+                "hidlog-uhid: %s: the recording would overwrite the state file; choose another path\n",
                 path);
         return false;
     }
     return true;
 }
 
-// Stores the path of a recording's initial snapshot.
+// Writes the path of a recording's initial snapshot to `path`.
 static bool snapshot_path(const char *recorded, char path[PATH]) {
     if (snprintf(path, PATH, "%s.snapshot", recorded) >= PATH) {
         errno = ENAMETOOLONG;
@@ -358,15 +365,15 @@ static bool snapshot_path(const char *recorded, char path[PATH]) {
     return true;
 }
 
-// Truncates a file and writes it.
+// Replaces the contents of an open file.
 static bool overwrite_file(const char *path, int file, const uint8_t *bytes, size_t len) {
-    return (ftruncate(file, 0) == 0 && write_whole(file, bytes, len)) || print_system_error(path);
+    return (ftruncate(file, 0) == 0 && write_all(file, bytes, len)) || print_system_error(path);
 }
 
 // Opens the recording and its initial snapshot, if any. Neither is truncated unless both can be opened.
 static bool begin_recording(const char *path, const uint8_t *snapshot, size_t len) {
     char beside[PATH];
-    if (!snapshot_path(path, beside) || !is_recordable(path) || !is_recordable(beside)) {
+    if (!snapshot_path(path, beside) || !is_recording_path_allowed(path) || !is_recording_path_allowed(beside)) {
         return false;
     }
     recording = private_file_to_write(path);
@@ -389,13 +396,14 @@ static bool start_recording(const char *path) {
     size_t len = snapshot_write(&state.vkey.key, snapshot);
     hidlog_key_destroy(&state.vkey.key);
     if (hidlog_key_init(&state.vkey.key, aaguid, 0, snapshot, len) != 0) {
-        fprintf(stderr, "hidlog-uhid: cannot create the key: invalid credentials\n");
+        fprintf(stderr, "hidlog-uhid: cannot create the key: the state file has invalid credentials\n");
         return false;
     }
     return path == NULL || begin_recording(path, snapshot, len);
 }
 
-// Returns a descriptor that becomes readable at a signal that ends the bridge, or -1.
+// Blocks the signals that end the bridge, and returns a descriptor that becomes readable when one of them arrives.
+// Returns -1 on failure.
 static int open_signal_descriptor(void) {
     sigset_t ends;
     sigemptyset(&ends);
@@ -405,14 +413,14 @@ static int open_signal_descriptor(void) {
     if (sigprocmask(SIG_BLOCK, &ends, NULL) != 0) {
         return -1;
     }
-    // A file size limit or a closed pipe is reported as an error.
+    // With these signals ignored, a write over the file size limit or to a closed pipe returns an error.
     signal(SIGXFSZ, SIG_IGN);
     signal(SIGPIPE, SIG_IGN);
     return signalfd(-1, &ends, SFD_CLOEXEC);
 }
 
-// Plugs the key in, serves, and saves at the end, even a new key. After an error nothing is saved: unsaved changes were
-// not sent either.
+// Creates the device, serves requests until a signal arrives, and saves the key, even if it is new. Saves nothing after
+// an error, since no response to the unsaved changes has been sent.
 static bool play_session(void) {
     int signals = open_signal_descriptor();
     if (signals < 0) {

@@ -9,7 +9,7 @@
 
 static const char *const words[] = {"granted", "denied", "timeout"};
 
-// Parses a line of a script: a word, and optionally milliseconds.
+// Parses a line of a script: granted, denied or timeout, optionally followed by milliseconds.
 static bool parse_touch(char *line, uint64_t after, struct touch *touch) {
     char *rest, *word = strtok_r(line, " \t\n", &rest), *number = strtok_r(NULL, " \t\n", &rest), *end = "";
     errno = 0;
@@ -23,7 +23,7 @@ static bool parse_touch(char *line, uint64_t after, struct touch *touch) {
            strtok_r(NULL, " \t\n", &rest) == NULL;
 }
 
-// Reads a script. Empty lines and lines that start with # are skipped.
+// Reads the lines of a script. Empty lines and lines that start with # are skipped.
 static bool read_lines(struct user *user, FILE *file, const char *path, uint64_t after) {
     char line[USER_LINE];
     for (unsigned number = 1; fgets(line, sizeof line, file) != NULL; number++) {
@@ -40,7 +40,8 @@ static bool read_lines(struct user *user, FILE *file, const char *path, uint64_t
         user->count++;
     }
     if (ferror(file) || user->count == 0) {
-        fprintf(stderr, "hidlog-uhid: %s: %s\n", path, ferror(file) ? strerror(errno) : "no touch in the script");
+        fprintf(stderr, "hidlog-uhid: %s: %s\n", path,
+                ferror(file) ? strerror(errno) : "expected at least one granted, denied or timeout");
         return false;
     }
     return true;
@@ -64,7 +65,7 @@ bool user_parse(struct user *user, const char *word, uint64_t after) {
         return read_script(user, word + 7, after);
     }
     if (strcmp(word, "granted") != 0 && strcmp(word, "ask") != 0) {
-        fprintf(stderr, "hidlog-uhid: --presence %s: must be granted, ask or script:FILE\n", word);
+        fprintf(stderr, "hidlog-uhid: invalid value '%s' of --presence: expected granted, ask or script:FILE\n", word);
         return false;
     }
     user->kind = *word == 'a' ? USER_ASKED : USER_FIXED;
@@ -76,8 +77,8 @@ bool user_parse(struct user *user, const char *word, uint64_t after) {
 void user_start_asking(struct user *user, uint64_t now) {
     if (user->kind == USER_ASKED) {
         fprintf(stderr,
-                "hidlog-uhid: the key asks for a touch: y and Enter grants it, n denies it, and after %d s it "
-                "times out\n",
+                "hidlog-uhid: the key asks for a touch: type y to touch the key or n to refuse, then Enter "
+                "(timeout: %d s)\n",
                 USER_SECONDS);
         user->due = now + USER_SECONDS * 1000;
         return;
@@ -97,7 +98,8 @@ bool user_reads_input(const struct user *user) {
     return user->kind == USER_ASKED && !user->is_gone;
 }
 
-// Removes the first typed line. Returns the word of its reply, or NULL without a line that begins with y or n.
+// Removes the first typed line, if any. Returns "granted" if the line begins with y, "denied" if it begins with n, or
+// NULL.
 static const char *take_line(struct user *user) {
     char *end = memchr(user->typed, '\n', user->typed_len);
     if (end == NULL) {

@@ -1,5 +1,4 @@
-// What the user does when the key asks for a touch: always the same, the reply of a person at the terminal, or the next
-// line of a script.
+// What the user does when the key asks for a touch: always touch it, reply at the terminal, or follow a script.
 #ifndef USER_H
 #define USER_H
 
@@ -7,7 +6,7 @@
 #include <stddef.h>
 #include <stdint.h>
 
-// Limits of a script. Without a reply, a person's touch times out after 30 seconds.
+// Limits of a script, and the number of seconds after which a person's touch times out.
 enum { USER_TOUCHES = 1000, USER_LINE = 200, USER_SECONDS = 30 };
 enum user_kind { USER_FIXED, USER_ASKED, USER_SCRIPT };
 
@@ -26,20 +25,20 @@ struct user {
     bool is_gone; // standard input has ended
 };
 
-// Parses `granted`, `ask` or `script:FILE`. A touch of a script without a time takes `after` milliseconds. Errors are
-// printed to standard error.
+// Parses `granted`, `ask` or `script:FILE`. `after` is the time of a touch in milliseconds, unless the script sets one.
+// Errors are printed to standard error.
 bool user_parse(struct user *user, const char *word, uint64_t after);
 
-// Starts a request for a touch at `now`, in milliseconds: prints the question, or sets when the user acts.
+// Starts to ask for a touch at `now`, in milliseconds: prints the question, or schedules the user's action.
 void user_start_asking(struct user *user, uint64_t now);
 
-// Reads what a person has typed from standard input, which must be ready.
+// Reads typed characters from standard input, which must be readable.
 void user_read_input(struct user *user);
 
-// Whether the user's reply comes from standard input, which has not ended.
+// Returns whether the user replies on standard input, and standard input has not ended.
 bool user_reads_input(const struct user *user);
 
-// Returns what the user does, as in a log, or NULL while waiting.
+// Returns the user's reply ("granted", "denied" or "timeout"), or NULL if there is none yet.
 const char *user_get_reply(struct user *user, uint64_t now);
 
 #endif

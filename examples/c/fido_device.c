@@ -2,7 +2,7 @@
 
 #include <string.h>
 
-// libfido2 writes the report ID, 0, before the 64 bytes of a packet.
+// libfido2 writes 65 bytes: the report ID, 0, and the 64 bytes of a packet.
 enum { REPORT = 65 };
 
 static struct virtual_key *current_key;
@@ -20,7 +20,8 @@ static int write_packet(void *handle, const unsigned char *report, size_t len) {
     return len == REPORT && virtual_key_write(handle, report + 1) ? (int)len : -1;
 }
 
-// Provides what the key needs instead of waiting. Fails like a timeout if the key needs nothing and sends nothing.
+// Reads a packet. Instead of waiting, provides what the key needs. Fails as a timeout does if the key needs nothing and
+// sends nothing.
 static int read_packet(void *handle, unsigned char *packet, size_t len, int ms) {
     (void)ms;
     if (len < 64) {

@@ -12,20 +12,20 @@
 
 enum { PATH = 4096 };
 
-static bool print_refusal(const char *path, const char *why) {
+static bool print_error(const char *path, const char *why) {
     fprintf(stderr, "hidlog: %s: %s\n", path, why);
     return false;
 }
 
-// Prints the system error of a file, and what it means for the file.
-static bool print_system_error(const char *path, const char *consequence) {
-    fprintf(stderr, "hidlog: %s: %s: %s\n", path, strerror(errno), consequence);
+// Prints which action on a file failed, and the system error.
+static bool print_system_error(const char *path, const char *failure) {
+    fprintf(stderr, "hidlog: %s: %s: %s\n", path, failure, strerror(errno));
     return false;
 }
 
-// Appends a suffix to the path.
-static bool append_suffix(const char *path, const char *ending, char made[PATH]) {
-    return snprintf(made, PATH, "%s%s", path, ending) < PATH || print_refusal(path, "the path is too long");
+// Writes the path followed by a suffix to `made`.
+static bool append_suffix(const char *path, const char *suffix, char made[PATH]) {
+    return snprintf(made, PATH, "%s%s", path, suffix) < PATH || print_error(path, "the path is too long");
 }
 
 static int lock_file(int file, int how) {
@@ -38,31 +38,35 @@ static int lock_file(int file, int how) {
 
 int private_file_lock(const char *path) {
     char lock[PATH];
-    int file = append_suffix(path, ".lock", lock) ? open(lock, O_RDWR | O_CREAT | O_NOFOLLOW | O_CLOEXEC, 0600) : -1;
+    if (!append_suffix(path, ".lock", lock)) {
+        return -1;
+    }
+    int file = open(lock, O_RDWR | O_CREAT | O_NOFOLLOW | O_CLOEXEC, 0600);
     if (file < 0) {
-        print_system_error(path, "cannot open its lock file, which ends in .lock");
+        print_system_error(lock, "cannot open the lock file");
         return -1;
     }
     int result = lock_file(file, LOCK_EX | LOCK_NB);
     if (result != 0 && errno == EWOULDBLOCK) {
-        print_refusal(path, "another program uses it: waiting for that program to exit");
+        print_error(path, "another program has locked the file; waiting until that program exits");
         result = lock_file(file, LOCK_EX);
     }
     if (result != 0) {
-        print_system_error(path, "cannot lock it");
+        print_system_error(lock, "cannot lock the lock file");
         close(file);
         return -1;
     }
     return file;
 }
 
-// Whether an open file is private by OpenSSH's rules for private keys. `contents` is named in the error.
+// Returns whether an open file is private, by OpenSSH's rules for private keys. `contents` describes the file in the
+// error.
 static bool is_private(const char *path, int file, const char *contents, struct stat *facts) {
     if (fstat(file, facts) != 0) {
-        return print_system_error(path, "cannot get its mode and size");
+        return print_system_error(path, "cannot get the file's mode and size");
     }
     if (!S_ISREG(facts->st_mode)) {
-        return print_refusal(path, "it is not a regular file");
+        return print_error(path, "not a regular file");
     }
     if ((facts->st_mode & 077) != 0) {
         fprintf(stderr, "hidlog: %s: permissions %04o are too open for a file with %s: run chmod 600\n", path,
@@ -72,35 +76,35 @@ static bool is_private(const char *path, int file, const char *contents, struct 
     return true;
 }
 
-// Whether an open file is private and not longer than `most` bytes.
-static bool is_readable(const char *path, int file, size_t most) {
+// Returns whether an open file is private and has at most `max_len` bytes.
+static bool is_readable(const char *path, int file, size_t max_len) {
     struct stat facts;
     return is_private(path, file, "private keys", &facts) &&
-           ((uint64_t)facts.st_size <= most || print_refusal(path, "it is too long"));
+           ((uint64_t)facts.st_size <= max_len || print_error(path, "the file is too large"));
 }
 
-// Whether an open file may be overwritten: it belongs to this user, and has no other hard link.
+// Returns whether an open file may be overwritten: it is private, belongs to this user, and has no other hard link.
 static bool is_overwritable(const char *path, int file) {
     struct stat facts;
     if (!is_private(path, file, "names of services and users", &facts)) {
         return false;
     }
     if (facts.st_uid != geteuid()) {
-        return print_refusal(path, "it belongs to another user: remove it or name another file");
+        return print_error(path, "the file belongs to another user; remove it or choose another path");
     }
     return facts.st_nlink == 1 ||
-           print_refusal(path, "it has a second name (a hard link): remove it or name another file");
+           print_error(path, "the file has another hard link; remove it or choose another path");
 }
 
-static const char *explain_open_failure(void) {
-    return errno == ELOOP ? "name the file that the link leads to" : "cannot open it";
+static const char *describe_open_failure(void) {
+    return errno == ELOOP ? "the path must not be a symbolic link" : "cannot open the file";
 }
 
-// Reads a file up to its end, or up to `most` bytes. Returns -1 on failure.
-static long read_whole(int file, uint8_t *bytes, size_t most) {
+// Reads a file to its end, but at most `max_len` bytes. Returns the number of bytes, or -1 on failure.
+static long read_all(int file, uint8_t *bytes, size_t max_len) {
     size_t len = 0;
-    while (len < most) {
-        ssize_t part = read(file, bytes + len, most - len);
+    while (len < max_len) {
+        ssize_t part = read(file, bytes + len, max_len - len);
         if (part == 0) {
             break;
         }
@@ -112,19 +116,19 @@ static long read_whole(int file, uint8_t *bytes, size_t most) {
     return (long)len;
 }
 
-long private_file_read(const char *path, uint8_t *bytes, size_t most) {
-    // O_NONBLOCK: opening a named pipe would wait for a writer.
+long private_file_read(const char *path, uint8_t *bytes, size_t max_len) {
+    // Without O_NONBLOCK, opening a named pipe would wait for a writer.
     int file = open(path, O_RDONLY | O_NOFOLLOW | O_NONBLOCK | O_CLOEXEC);
     if (file < 0 && errno == ENOENT) {
         return PRIVATE_FILE_NONE;
     }
     if (file < 0) {
-        print_system_error(path, explain_open_failure());
+        print_system_error(path, describe_open_failure());
         return PRIVATE_FILE_REFUSED;
     }
-    long len = is_readable(path, file, most) ? read_whole(file, bytes, most) : PRIVATE_FILE_REFUSED;
+    long len = is_readable(path, file, max_len) ? read_all(file, bytes, max_len) : PRIVATE_FILE_REFUSED;
     if (len == -1) {
-        print_system_error(path, "cannot read it");
+        print_system_error(path, "cannot read the file");
         len = PRIVATE_FILE_REFUSED;
     }
     close(file);
@@ -134,7 +138,7 @@ long private_file_read(const char *path, uint8_t *bytes, size_t most) {
 int private_file_to_write(const char *path) {
     int file = open(path, O_WRONLY | O_CREAT | O_NOFOLLOW | O_NONBLOCK | O_CLOEXEC, 0600);
     if (file < 0) {
-        print_system_error(path, explain_open_failure());
+        print_system_error(path, describe_open_failure());
         return -1;
     }
     if (!is_overwritable(path, file)) {
@@ -144,7 +148,7 @@ int private_file_to_write(const char *path) {
     return file;
 }
 
-bool write_whole(int file, const uint8_t *bytes, size_t len) {
+bool write_all(int file, const uint8_t *bytes, size_t len) {
     while (len > 0) {
         ssize_t part = write(file, bytes, len);
         if (part < 0 && (errno == EAGAIN || errno == EWOULDBLOCK)) {
@@ -160,13 +164,13 @@ bool write_whole(int file, const uint8_t *bytes, size_t len) {
     return true;
 }
 
-// Writes a new file to disk, without following links. On failure there is no file, and errno is set.
+// Creates a file, writes its contents to disk, and does not follow links. On failure removes the file and sets errno.
 static bool write_new(const char *path, const uint8_t *bytes, size_t len) {
     int file = open(path, O_WRONLY | O_CREAT | O_EXCL | O_NOFOLLOW | O_CLOEXEC, 0600);
     if (file < 0) {
         return false;
     }
-    bool is_written = write_whole(file, bytes, len) && fsync(file) == 0;
+    bool is_written = write_all(file, bytes, len) && fsync(file) == 0;
     int why = errno;
     if (close(file) != 0 && is_written) {
         is_written = false;
@@ -179,7 +183,7 @@ static bool write_new(const char *path, const uint8_t *bytes, size_t len) {
     return is_written;
 }
 
-// Opens the directory of a file.
+// Opens the directory that contains a file.
 static int open_folder(const char *path) {
     char folder[PATH];
     const char *name = strrchr(path, '/');
@@ -193,7 +197,7 @@ static int open_folder(const char *path) {
     return open(len == 0 ? "." : folder, O_RDONLY | O_DIRECTORY | O_CLOEXEC);
 }
 
-// Renames the new file. The name is on disk once the directory is synced.
+// Renames the new file to `path`, and syncs the directory so that the new name is on disk.
 static bool rename_synced(const char *path, const char *written, int folder) {
     if (rename(written, path) != 0) {
         int why = errno;
@@ -201,7 +205,7 @@ static bool rename_synced(const char *path, const char *written, int folder) {
         errno = why;
         return print_system_error(path, "nothing was saved, and the old file is kept");
     }
-    // Some file systems cannot sync directories.
+    // Some file systems cannot sync directories (EINVAL).
     return fsync(folder) == 0 || errno == EINVAL ||
            print_system_error(path, "the new file is in place, but a power loss may restore the old one");
 }
@@ -212,7 +216,7 @@ bool private_file_replace(const char *path, const uint8_t *bytes, size_t len) {
         return false;
     }
     int folder = open_folder(path);
-    // An existing temporary file is left over from a killed program, since the caller has the lock.
+    // The caller has the lock, so an existing temporary file was left by a program that was killed.
     bool is_written = folder >= 0 && (unlink(fresh) == 0 || errno == ENOENT) && write_new(fresh, bytes, len);
     if (!is_written) {
         print_system_error(path, "nothing was saved, and the old file is kept");

@@ -2,10 +2,10 @@
 
 #include <string.h>
 
-// Major types of CBOR (RFC 8949), shifted as in the first byte of an item.
+// Major types of CBOR (RFC 8949), shifted to the high three bits of an item's first byte.
 enum { NUMBER = 0x00, BYTES = 0x40, TEXT = 0x60, ARRAY = 0x80, MAP = 0xa0, NO = 0xf4 };
 
-// Writes the shortest head for an argument, as canonical CBOR requires.
+// Writes the head of an item in its shortest form, as canonical CBOR requires.
 static uint8_t *write_head(uint8_t *to, unsigned major, uint32_t argument) {
     unsigned extra = argument < 24 ? 0 : argument < 0x100 ? 1 : argument < 0x10000 ? 2 : 4;
     *to++ = (uint8_t)(major | (extra == 0 ? argument : extra == 1 ? 24u : extra == 2 ? 25u : 26u));

@@ -1,10 +1,10 @@
-// The credentials of a key as a snapshot for hidlog_key_init: canonical CBOR, version 2 (docs/use/LOG_FORMAT.md).
+// Writes the credentials of a key as a snapshot for hidlog_key_init, version 2 of the format (docs/use/LOG_FORMAT.md).
 #ifndef SNAPSHOT_H
 #define SNAPSHOT_H
 
 #include "hidlog.h"
 
-// A credential takes at most 290 bytes.
+// A credential has at most 290 bytes in a snapshot.
 enum { MAX_SNAPSHOT = 20 + 290 * HIDLOG_CAPACITY };
 
 // Writes the snapshot. Returns its length, or 0 if the key has no credentials or is not initialized.

@@ -54,7 +54,7 @@ static OSSL_PARAM *make_parameters(const struct software_key *key, BIGNUM *secre
     return parameters;
 }
 
-// Whether the private key matches the public key.
+// Returns whether the private key matches the public key.
 static bool is_pair(EVP_PKEY *pair) {
     EVP_PKEY_CTX *context = EVP_PKEY_CTX_new_from_pkey(NULL, pair, NULL);
     bool is_one = context != NULL && EVP_PKEY_pairwise_check(context) == 1;

@@ -1,4 +1,5 @@
-// The private keys of a software security key, by libcrypto, in clear text in memory: for tests only.
+// The private keys of a software security key, generated and used with libcrypto. They are in clear text in memory, so
+// this is for tests only.
 #ifndef SOFTWARE_KEYS_H
 #define SOFTWARE_KEYS_H
 
@@ -9,7 +10,7 @@
 #include <stddef.h>
 #include <stdint.h>
 
-// One slot for each credential, and one for a credential being made.
+// One slot for each credential, and one for a credential that is being created.
 enum { SOFTWARE_KEYS = HIDLOG_CAPACITY + 1, MAX_SIGNATURE = 72 };
 
 struct software_key {
@@ -27,13 +28,13 @@ struct software_keys {
 // Generates a P-256 key pair with a random ID. Returns NULL if all slots are used or libcrypto fails.
 const struct software_key *software_keys_make(struct software_keys *keys);
 
-// Adds an existing key pair. False if all slots are used, it is not a valid pair, or libcrypto fails.
+// Adds an existing key pair. Returns false if all slots are used, the key pair is invalid, or libcrypto fails.
 bool software_keys_add(struct software_keys *keys, const struct software_key *key);
 
-// Returns the key pair of an ID, or NULL.
+// Returns the key pair with this ID, or NULL.
 const struct software_key *software_keys_find(const struct software_keys *keys, const uint8_t id[32]);
 
-// Signs bytes with ES256. Returns the length of the DER signature, or 0 if there is no such key or libcrypto fails.
+// Signs bytes with ES256. Returns the length of the DER signature, or 0 if no key pair has this ID or libcrypto fails.
 size_t software_keys_sign(const struct software_keys *keys, const uint8_t id[32], const uint8_t *bytes, size_t len,
                           uint8_t signature[MAX_SIGNATURE]);
 

@@ -16,7 +16,7 @@ static uint64_t now_ms(const struct virtual_key *vkey) {
 }
 
 bool virtual_key_open(struct virtual_key *vkey, const uint8_t *snapshot, size_t snapshot_len) {
-    // "hidlog-software!" identifies this authenticator model.
+    // The AAGUID, which identifies this authenticator model: "hidlog-software!".
     static const uint8_t aaguid[16] = {'h', 'i', 'd', 'l', 'o', 'g', '-', 's', 'o', 'f', 't', 'w', 'a', 'r', 'e', '!'};
     memset(vkey, 0, sizeof *vkey);
     vkey->powered_up = clock_ms();
@@ -34,8 +34,8 @@ void virtual_key_close(struct virtual_key *vkey) {
     software_keys_free(&vkey->keys);
 }
 
-// Moves the key's queued packets into the queue for the client, since the key accepts no input before that. `queued` is
-// the result of the input: a number of packets, or an error < 0.
+// Moves the packets that the key has queued to the client's queue, since the key accepts no input while packets are
+// queued. `queued` is the return value of the last input: the number of packets, or a negative error.
 static bool queue_packets(struct virtual_key *vkey, int32_t queued) {
     if (queued < 0) {
         return false;

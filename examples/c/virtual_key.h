@@ -1,12 +1,12 @@
-// An in-memory security key with everything it needs from its caller: a clock, a user and private keys. A client writes
-// and reads packets, as with a USB device.
+// An in-memory security key with a clock, a simulated user and private keys. A client writes and reads packets, as with
+// a USB device.
 #ifndef VIRTUAL_KEY_H
 #define VIRTUAL_KEY_H
 
 #include "hidlog.h"
 #include "software_keys.h"
 
-// One input causes at most 130 packets. If a client does not read, the oldest are lost, as with a device.
+// One input causes at most 130 packets. If the client does not read, the oldest packets are lost, as with a USB device.
 enum { VIRTUAL_KEY_PACKETS = 512 };
 
 struct virtual_key {
@@ -27,13 +27,13 @@ void virtual_key_close(struct virtual_key *vkey);
 // Writes a packet from the client.
 bool virtual_key_write(struct virtual_key *vkey, const uint8_t packet[64]);
 
-// Reads the oldest packet from the key. False if there is none.
+// Reads the oldest packet from the key. Returns false if there is none.
 bool virtual_key_read(struct virtual_key *vkey, uint8_t packet[64]);
 
 // Advances the time, so that the key sends a KEEPALIVE if one is due.
 bool virtual_key_tick(struct virtual_key *vkey);
 
-// Provides what the key needs now. False if it needs nothing.
+// Provides what the key needs now. Returns false if the key needs nothing.
 bool virtual_key_provide_need(struct virtual_key *vkey);
 
 // Returns what the key needs: an enum hidlog_need_kind.

@@ -1,6 +1,7 @@
-// The program's runtime for aarch64: arguments, the environment, errno and the heap, by POSIX calls. The toolchain has it
-// for x86-64 only. Each function fulfils the contract of its declaration in the toolchain's libraries `os` and `libc`, which
-// is not proved. tests/packages.sh runs the worked logs and the program's tests with it.
+// The program's runtime for aarch64: arguments, environment variables, errno and the heap, with POSIX calls. The
+// toolchain has a runtime for x86-64 only. Each function has to fulfil the contract of its declaration in the
+// toolchain's libraries `os` and `libc`; this is tested, not proved: tests/packages.sh runs the worked logs and the
+// program's tests on aarch64.
 #include <errno.h>
 #include <stdbool.h>
 #include <stddef.h>
@@ -17,14 +18,14 @@ static int argument_count;
 static char **arguments;
 
 // The C library passes the arguments of main to the functions in the section .init_array.
-static void keep_arguments(int count, char **words)
+static void store_arguments(int count, char **words)
 {
     argument_count = count;
     arguments = words;
 }
-__attribute__((section(".init_array"), used)) static void (*const keeps)(int, char **) = keep_arguments;
+__attribute__((section(".init_array"), used)) static void (*const keeps)(int, char **) = store_arguments;
 
-// Copies a text to a buffer. Returns its length, or TOO_LONG if it is truncated.
+// Copies a text to a buffer. Returns the text's length, or TOO_LONG if the text was truncated.
 static ssize_t copy_text(const char *text, uint8_t *buffer, size_t size)
 {
     size_t length = strlen(text);

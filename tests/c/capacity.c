@@ -1,5 +1,6 @@
-// Fills a key up to its capacity, saves it, loads the snapshot, and signs in. The expected bytes are from the standard:
-// CTAP 2.1, sections 6.1.2 (0x28, CTAP2_ERR_KEY_STORE_FULL) and 6.2.2 (numberOfCredentials), and USB HID framing.
+// Fills a key up to its capacity, saves a snapshot, initializes a key with the snapshot, and signs in. The expected
+// bytes are written after the standards: CTAP 2.1, sections 6.1.2 (0x28, CTAP2_ERR_KEY_STORE_FULL) and 6.2.2
+// (numberOfCredentials), and USB HID framing.
 //
 //     Usage: capacity CAPACITY
 #include "hidlog.h"
@@ -38,7 +39,7 @@ static struct hidlog_credential credential(size_t number) {
     return made;
 }
 
-// Sends a message on a channel. Returns the length of the response, skipping KEEPALIVEs.
+// Sends a message on a channel, skips KEEPALIVEs, and returns the length of the response.
 static size_t exchange(struct hidlog_key *key, uint32_t channel, uint8_t command, const uint8_t *message, size_t len,
                        uint8_t *response) {
     uint8_t packet[64] = {(uint8_t)(channel >> 24),
@@ -92,7 +93,7 @@ static uint32_t open_channel(struct hidlog_key *key) {
     return (uint32_t)response[8] << 24 | (uint32_t)response[9] << 16 | (uint32_t)response[10] << 8 | response[11];
 }
 
-// A registration of a discoverable credential for another user returns 0x28.
+// Expects that registering a discoverable credential for a further user returns 0x28 (CTAP2_ERR_KEY_STORE_FULL).
 static void expect_full(struct hidlog_key *key) {
     uint8_t message[91] = {1, 0xa5, 1, 0x58, 0x20}, response[7700];
     static const uint8_t rest[] = "\x02\xa1\x62id\x6b"
@@ -106,7 +107,8 @@ static void expect_full(struct hidlog_key *key) {
     expect(response[0], 0x28, "the status of a registration on a full key");
 }
 
-// A sign-in without an allow list finds all credentials: numberOfCredentials is member 5 of the response, its last.
+// Expects that a sign-in without an allow list finds all credentials: numberOfCredentials is the last member of the
+// response, with the key 5.
 static void expect_all_found(struct hidlog_key *key, size_t capacity) {
     uint8_t message[50] = {2, 0xa2, 1, 0x6b, 'e', 'x', 'a', 'm', 'p', 'l', 'e', '.', 'c', 'o', 'm', 2, 0x58, 0x20};
     uint8_t response[7700];

@@ -1,6 +1,6 @@
-// hidlog_key_cause: the codes that causes.c does not test, each in a session of its own, with expected values written by
-// hand from CTAP 2.1. Not reachable here: HIDLOG_CAUSE_NO_CHANNEL_LEFT (after 2^32 - 2 INITs) and
-// HIDLOG_CAUSE_EMPTY_REQUEST. Prints nothing and returns 0 on success.
+// Tests the codes of hidlog_key_cause that causes.c does not test, each in a session of its own. The expected values
+// are written by hand from CTAP 2.1. Two codes are not tested: HIDLOG_CAUSE_NO_CHANNEL_LEFT needs 2^32 - 2 INITs, and
+// HIDLOG_CAUSE_EMPTY_REQUEST cannot be reached by packets. Prints nothing and returns 0 on success.
 #include "hidlog.h"
 
 #include <inttypes.h>
@@ -13,8 +13,8 @@
 #define USER_ENTITY "a16269644101"
 #define OTHER_USER "a16269644102"
 #define ES256_PARAMETER "81a263616c672664747970656a7075626c69632d6b6579"
-// authenticatorMakeCredential: head is the head of the parameters' map, more its encoded parameters after
-// pubKeyCredParams.
+// A request of authenticatorMakeCredential. `head` is the head of the parameter map, `user` the user entity, and `more`
+// the encoded parameters after pubKeyCredParams.
 #define MAKE_CREDENTIAL(head, user, more)                                                                              \
     "01" head "015820" CLIENT_DATA_HASH "02" RP_ENTITY "03" user "04" ES256_PARAMETER more
 #define DISCOVERABLE "07a162726bf5"
@@ -22,8 +22,7 @@
 #define ALLOW_LIST "81a26269645820" CREDENTIAL_ID "64747970656a7075626c69632d6b6579"
 #define GET_ASSERTION "02a2016b6578616d706c652e636f6d025820" CLIENT_DATA_HASH
 
-// An event: a packet or a CTAPHID_CBOR message on a channel, a reply of the caller, or filling the key with
-// credentials.
+// An event of a session: a packet, a CTAPHID_CBOR message, a reply of the caller, or filling the key with credentials.
 enum kind { END, PACKET, CBOR, PRESENCE, KEY_PAIR, NO_KEY_PAIR, SIGNATURE, NO_SIGNATURE, STORE };
 struct event {
     enum kind kind;
@@ -37,7 +36,8 @@ struct session {
     struct event events[12];
 };
 
-// Channels 1 and 2, and a credential with the ID ab.. for example.com.
+// Events that allocate channels 1 and 2, and events that register a credential for example.com whose ID is
+// CREDENTIAL_ID.
 #define CHANNELS                                                                                                       \
     {PACKET, 1, 0xffffffff, "86000800010203040506"}, {                                                                 \
         PACKET, 2, 0xffffffff, "86000800010203040506"                                                                  \
@@ -165,7 +165,7 @@ static void send_packet(struct hidlog_key *key, const struct event *event, const
     expect(hidlog_key_write_packet(key, event->at, packet) >= 0, "a packet");
 }
 
-// Sends a message: an initialization packet with up to 57 bytes, and continuation packets with up to 59.
+// Sends a message in an initialization packet with up to 57 bytes, and continuation packets with up to 59 bytes.
 static void send_message(struct hidlog_key *key, const struct event *event) {
     uint8_t data[512], part[60];
     size_t len = read_digits(event->digits, data, sizeof data), sent = len < 57 ? len : 57;
@@ -185,7 +185,7 @@ static void send_message(struct hidlog_key *key, const struct event *event) {
 
 // Fills the key with discoverable credentials of example.com.
 static void store(struct hidlog_key *key, uint32_t sign_count) {
-    // SHA-256 of example.com, by sha256sum.
+    // SHA-256 of "example.com", computed with sha256sum.
     static const char hash[] = "a379a6f6eeafb9a55e378c118034e2751e682fab9f2d30ab13d2125586ce1947";
     struct hidlog_credential credential = {.user_id_len = 1, .discoverable = 1, .sign_count = sign_count};
     read_digits(hash, credential.rp_id_hash, 32);

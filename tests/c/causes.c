@@ -1,5 +1,5 @@
-// hidlog_key_cause: codes, statuses and operands for rejected inputs, written by hand from CTAP 2.1. Prints nothing and
-// returns 0 on success.
+// Tests hidlog_key_cause with rejected inputs: codes, statuses, operands and sentences, written by hand from CTAP 2.1.
+// Prints nothing and returns 0 on success.
 #include "hidlog.h"
 
 #include <inttypes.h>
@@ -7,7 +7,8 @@
 #include <stdlib.h>
 #include <string.h>
 
-// The first bytes of a packet (the rest is zeros), its timestamp, and the cause; code 0 if it is not rejected.
+// The first bytes of a packet (zeros follow), its timestamp, and the expected cause. The code is 0 if the packet is not
+// rejected.
 struct step {
     const char *digits;
     uint64_t at;
@@ -75,7 +76,7 @@ static void discard_packets(struct hidlog_key *key) {
     }
 }
 
-// Checks the cause of a timeout (0) or of the input (1).
+// Checks the cause of a timeout (`which` is 0) or of the last input (`which` is 1).
 static void check_cause(struct hidlog_key *key, uint32_t which, const struct hidlog_cause *expected, const char *sentence) {
     struct hidlog_cause cause = {0};
     char text[160];
@@ -83,13 +84,13 @@ static void check_cause(struct hidlog_key *key, uint32_t which, const struct hid
     if (len != (int32_t)strlen(sentence) || memcmp(text, sentence, strlen(sentence)) != 0 ||
         cause.code != expected->code || cause.status != expected->status || cause.first != expected->first ||
         cause.second != expected->second) {
-        fprintf(stderr, "causes: %d bytes, code %" PRIu32 ", status %" PRIu32 ", %" PRIu64 ", %" PRIu64 ": %.*s\n", len,
+        fprintf(stderr, "causes: unexpected cause: %d bytes, code %" PRIu32 ", status %" PRIu32 ", %" PRIu64 ", %" PRIu64 ": %.*s\n", len,
                 cause.code, cause.status, cause.first, cause.second, len > 0 ? (int)len : 0, text);
         expect(0, sentence);
     }
 }
 
-// The cause of a timeout is separate from that of the input that triggers it.
+// The cause of a timeout is separate from the cause of the input that triggers the timeout.
 static void test_timeout(struct hidlog_key *key) {
     static const struct hidlog_cause none, late = {HIDLOG_CAUSE_TIMED_OUT, 0x05, 20000, 20500};
     uint8_t packet[64];

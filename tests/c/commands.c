@@ -1,4 +1,4 @@
-/* Tests the commands of libhidlog: commands FOLDER, where FOLDER has the worked logs. */
+/* Tests the commands of libhidlog with the worked logs in FOLDER. Usage: commands FOLDER */
 #include "hidlog.h"
 
 #include <inttypes.h>
@@ -45,7 +45,7 @@ static size_t read_file(const char *name, uint8_t *to)
     return size;
 }
 
-/* Runs a command with a buffer of this capacity. Returns whether the byte after it is unchanged. */
+/* Runs a command with a buffer of this capacity. Returns whether the byte after the buffer is unchanged. */
 static int run(command *command_fn, size_t log_len, size_t snapshot_len, size_t out_cap)
 {
     memset(out, CANARY, sizeof out);
@@ -63,7 +63,7 @@ static void test_worked_log(const char *name, const char *from)
     expect(result.status == HIDLOG_OK && !memcmp(out, "same ", 5), name);
 }
 
-/* hidlog_live reports the need after each input, and replaying its output writes the same. */
+/* hidlog_live reports the key's need after each input, and replaying the output of hidlog_live writes the same log. */
 static void test_live(void)
 {
     size_t size = read_file("registration.log", log_bytes);
@@ -77,7 +77,7 @@ static void test_live(void)
     expect(result.status == HIDLOG_OK && result.written == size && !memcmp(out, log_bytes, size), "replayed");
 }
 
-/* With each buffer that is too small, the result is an error and the buffer has the start of the text. */
+/* With a buffer of each smaller size, the result is an error, and the buffer has the start of the output. */
 static void test_small_buffers(void)
 {
     size_t size = read_file("registration.log", log_bytes);
@@ -89,7 +89,7 @@ static void test_small_buffers(void)
     expect(run(hidlog_replay, size, 0, size) && result.status == HIDLOG_OK, "a buffer that is just large enough");
 }
 
-/* The output of each command for one tick (docs/use/LOG_FORMAT.md). */
+/* The output of each command for a log of one tick, written by hand from docs/use/LOG_FORMAT.md. */
 static void test_tick(void)
 {
     static const struct {
@@ -124,7 +124,8 @@ static void test_errors(void)
     expect(is_result(HIDLOG_OK, 0, 0, 0, 0), "an empty log");
 }
 
-/* After changing a digit of a response, check names the line of the input and the packet. */
+/* After a digit of a response has been changed, hidlog_check reports the line of the input and the number of the
+   packet. */
 static void test_difference(void)
 {
     size_t size = read_file("registration.log", log_bytes);
@@ -144,8 +145,8 @@ static void test_snapshots(void)
     expect(out[0] == CANARY, "nothing is written if the snapshot is rejected");
 }
 
-/* The message of each error of a C function, also truncated in a small buffer. The texts are those of
- * docs/use/LOG_FORMAT.md, "Faults". */
+/* The message of each error of a C function, and truncated messages in small buffers. The texts are listed in
+   docs/use/LOG_FORMAT.md, "Faults". */
 static void test_texts(void)
 {
     static const struct {

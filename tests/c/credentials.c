@@ -1,6 +1,6 @@
-// Saves, removes and adds the credentials of an in-memory key. Plays a log from standard input, compares the output
-// of hidlog_key_save_snapshot with the program's snapshot of the same log, removes the credentials, adds them again one
-// by one, and expects the same snapshot. Also tests invalid calls.
+// Saves, removes and adds the credentials of an in-memory key. Replays a log from standard input, compares the output
+// of hidlog_key_save_snapshot with the program's snapshot of the same log, removes the credentials, adds them one by
+// one, and expects the same snapshot. Then makes invalid calls and expects errors.
 //
 //     credentials SNAPSHOT < LOG
 #include "hidlog.h"
@@ -30,12 +30,12 @@ static void play_log(struct hidlog_key *key) {
     struct hidlog_result result;
     while (fgets(line, sizeof line, stdin) != NULL) {
         if (hidlog_key_replay_lines(key, (const uint8_t *)line, strlen(line), text, sizeof text, &result) != 0) {
-            fail("the key rejects a valid line");
+            fail("the key rejected a valid line");
         }
     }
 }
 
-// Reads the program's snapshot. Returns its length.
+// Reads the snapshot that the program wrote. Returns its length.
 static int32_t read_snapshot(const char *path, uint8_t *snapshot) {
     FILE *file = fopen(path, "rb");
     if (file == NULL) {
@@ -51,11 +51,11 @@ static void expect_snapshot(struct hidlog_key *key, const uint8_t *snapshot, int
     memset(saved, 0xee, sizeof saved);
     expect(hidlog_key_save_snapshot(key, saved, SNAPSHOT), len, what);
     if (memcmp(saved, snapshot, (size_t)len) != 0) {
-        fail("the snapshot differs");
+        fail("the saved snapshot is not the expected one");
     }
     for (size_t i = (size_t)len; i < sizeof saved; i++) {
         if (saved[i] != 0xee) {
-            fail("a byte after the snapshot was written");
+            fail("a byte after the snapshot was changed");
         }
     }
     expect(hidlog_key_save_snapshot(key, saved, SNAPSHOT - 1), HIDLOG_KEY_ERR_BUFFER_TOO_SMALL,

@@ -1,5 +1,5 @@
-// Compares an in-memory key with the program: reads a log from standard input, passes its inputs to a key one by one,
-// and writes what `hidlog replay` writes. The caller compares the two.
+// Reads a log from standard input, passes its inputs to an in-memory key one by one, and writes what `hidlog replay`
+// should write for the log. The caller compares the two outputs.
 //
 //     key                  with one call per input
 //     key lines            with hidlog_key_replay_lines, one line per call
@@ -61,10 +61,10 @@ static uint32_t parse_presence(const char *word) {
     return strcmp(word, "denied") == 0 ? HIDLOG_PRESENCE_DENIED : HIDLOG_PRESENCE_TIMED_OUT;
 }
 
-// Whether to use the calls of hidlog_recording.h, with standard output as the log.
+// Whether to call the functions of hidlog_recording.h, with standard output as the recording.
 static bool is_recorded;
 
-// Provides a key pair or a signature, or refuses them ("no").
+// Provides a key pair or a signature, or refuses to provide one ("no").
 static int32_t provide_reply(struct hidlog_key *key, char letter, uint64_t now_ms, char *fields[3]) {
     uint8_t bytes[3][72];
     bool is_no = strcmp(fields[0], "no") == 0;
@@ -121,7 +121,7 @@ static void write_packets(struct hidlog_key *key, int32_t queued) {
     uint8_t packet[64];
     for (; queued > 0; queued--) {
         if (hidlog_key_queued_packets(key) != queued || hidlog_key_read_packet(key, packet) != queued - 1) {
-            fail("wrong packet count");
+            fail("hidlog_key_queued_packets returned another number than the input's call");
         }
         fputs("< ", stdout);
         for (int i = 0; i < 64; i++) {
@@ -161,7 +161,7 @@ static void play_log(struct hidlog_key *key) {
     write_stats(key);
 }
 
-// Writes only the recording.
+// Replays the log with the functions of hidlog_recording.h, which write the recording.
 static void play_recorded(struct hidlog_key *key) {
     char line[LINE];
     uint8_t packet[64];
@@ -185,7 +185,7 @@ static void play_lines(struct hidlog_key *key) {
     while (fgets(line, sizeof line, stdin) != NULL) {
         int32_t status = hidlog_key_replay_lines(key, (const uint8_t *)line, strlen(line), text, sizeof text, &result);
         if (status != 0 || result.status != 0) {
-            fail("the key rejects a valid line");
+            fail("the key rejected a valid line");
         }
         fwrite(text, 1, result.written, stdout);
     }

@@ -1,5 +1,6 @@
-// hidlog_recording.h: each line, written by hand from docs/use/LOG_FORMAT.md, is in the file when its call returns, a
-// rejected call writes nothing, and a failed write is reported. Prints nothing and returns 0 on success.
+// Tests hidlog_recording.h: each line is in the file when its call returns, a rejected call writes nothing, and a
+// failed write is reported. The expected lines are written by hand from docs/use/LOG_FORMAT.md. Prints nothing and
+// returns 0 on success.
 //
 //     recording FILE    writes the recording to FILE
 #include "hidlog_recording.h"
@@ -12,7 +13,7 @@
 enum { TEXT = 4096, LINE = 300 };
 
 static const char *path;
-// What the file must contain.
+// The expected contents of the file.
 static char expected[TEXT];
 
 static void expect(int holds, const char *what) {
@@ -22,7 +23,7 @@ static void expect(int holds, const char *what) {
     }
 }
 
-// Checks that the file has the expected lines, through a stream of its own.
+// Checks that the file has the expected lines. Opens the file again, since unflushed lines must not count.
 static void check_file(const char *what) {
     static char found[TEXT];
     FILE *file = fopen(path, "rb");
@@ -32,8 +33,8 @@ static void check_file(const char *what) {
     expect(fclose(file) == 0 && strcmp(found, expected) == 0, what);
 }
 
-// A call returned `result`, expected to be `wanted`, and wrote this line.
-static void recorded(int32_t result, int32_t wanted, const char *line) {
+// Expects that a call returned `wanted` and wrote this line. `result` is the call's return value.
+static void expect_recorded(int32_t result, int32_t wanted, const char *line) {
     expect(result == wanted, line);
     expect(strlen(expected) + strlen(line) + 2 < sizeof expected, "too many lines");
     strcat(expected, line);
@@ -41,14 +42,14 @@ static void recorded(int32_t result, int32_t wanted, const char *line) {
     check_file(line);
 }
 
-// A call returned `result`, expected to be `wanted`, and wrote nothing.
-static void rejected(int32_t result, int32_t wanted, const char *what) {
+// Expects that a call returned `wanted` and wrote nothing. `result` is the call's return value.
+static void expect_rejected(int32_t result, int32_t wanted, const char *what) {
     expect(result == wanted, what);
     check_file(what);
 }
 
 // Returns a text followed by `count` copies of two digits.
-static const char *repeated(const char *text, const char *digits, size_t count) {
+static const char *repeat_digits(const char *text, const char *digits, size_t count) {
     static char line[LINE];
     strcpy(line, text);
     while (count-- > 0) {
@@ -66,50 +67,51 @@ static void read_response(struct hidlog_key *key, FILE *log, const char *start) 
         snprintf(line + 2 + 2 * i, 3, "%02x", packet[i]);
     }
     expect(strncmp(line + 2, start, strlen(start)) == 0, start);
-    recorded(result, 0, line);
+    expect_recorded(result, 0, line);
 }
 
-// authenticatorSelection (CTAP 2.1, section 6.9) on channel 1 at `now_ms`, and the KEEPALIVE UPNEEDED for it.
+// Sends authenticatorSelection (CTAP 2.1, section 6.9) on channel 1 at `now_ms`, and reads the KEEPALIVE with status
+// UPNEEDED.
 static void select_key(struct hidlog_key *key, FILE *log, uint64_t now_ms, const char *line) {
     static const uint8_t selection[64] = {0, 0, 0, 1, 0x90, 0, 1, 0x0b};
-    recorded(hidlog_record_write_packet(key, log, now_ms, selection), 1, repeated(line, "00", 56));
+    expect_recorded(hidlog_record_write_packet(key, log, now_ms, selection), 1, repeat_digits(line, "00", 56));
     read_response(key, log, "00000001bb000102");
 }
 
 static void test_packets(struct hidlog_key *key, FILE *log) {
     static const uint8_t init[64] = {0xff, 0xff, 0xff, 0xff, 0x86, 0, 8, 1, 2, 3, 4, 5, 6, 7, 0xfe};
     uint8_t packet[64];
-    // 2^40, which doesn't fit in 32 bits.
-    recorded(hidlog_record_write_packet(key, log, UINT64_C(1099511627776), init), 1,
-             repeated("> 1099511627776 ffffffff86000801020304050607fe", "00", 49));
-    rejected(hidlog_record_write_packet(key, log, UINT64_C(1099511627777), init), HIDLOG_KEY_ERR_PACKETS_QUEUED,
+    // The timestamps are 2^40 and more, which do not fit in 32 bits.
+    expect_recorded(hidlog_record_write_packet(key, log, UINT64_C(1099511627776), init), 1,
+             repeat_digits("> 1099511627776 ffffffff86000801020304050607fe", "00", 49));
+    expect_rejected(hidlog_record_write_packet(key, log, UINT64_C(1099511627777), init), HIDLOG_KEY_ERR_PACKETS_QUEUED,
              "a packet");
-    rejected(hidlog_record_tick(key, log, UINT64_C(1099511627777)), HIDLOG_KEY_ERR_PACKETS_QUEUED, "a tick");
+    expect_rejected(hidlog_record_tick(key, log, UINT64_C(1099511627777)), HIDLOG_KEY_ERR_PACKETS_QUEUED, "a tick");
     read_response(key, log, "ffffffff86001101020304050607fe00000001");
-    rejected(hidlog_record_read_packet(key, log, packet), HIDLOG_KEY_ERR_NO_PACKET, "no packet is queued");
-    recorded(hidlog_record_tick(key, log, UINT64_C(1099511627781)), 0, "t 1099511627781");
+    expect_rejected(hidlog_record_read_packet(key, log, packet), HIDLOG_KEY_ERR_NO_PACKET, "no packet is queued");
+    expect_recorded(hidlog_record_tick(key, log, UINT64_C(1099511627781)), 0, "t 1099511627781");
 }
 
 static void test_presence(struct hidlog_key *key, FILE *log) {
     select_key(key, log, UINT64_C(1099511627790), "> 1099511627790 000000019000010b");
-    rejected(hidlog_record_provide_presence(key, log, UINT64_C(1099511627791), 3), HIDLOG_KEY_ERR_INVALID_ARGUMENT,
+    expect_rejected(hidlog_record_provide_presence(key, log, UINT64_C(1099511627791), 3), HIDLOG_KEY_ERR_INVALID_ARGUMENT,
              "an invalid presence");
-    recorded(hidlog_record_provide_presence(key, log, UINT64_C(1099511627792), HIDLOG_PRESENCE_GRANTED), 1,
+    expect_recorded(hidlog_record_provide_presence(key, log, UINT64_C(1099511627792), HIDLOG_PRESENCE_GRANTED), 1,
              "p 1099511627792 granted");
-    rejected(hidlog_record_provide_presence(key, log, UINT64_C(1099511627793), HIDLOG_PRESENCE_GRANTED),
+    expect_rejected(hidlog_record_provide_presence(key, log, UINT64_C(1099511627793), HIDLOG_PRESENCE_GRANTED),
              HIDLOG_KEY_ERR_PACKETS_QUEUED, "a presence");
     read_response(key, log, "0000000190000100");
     select_key(key, log, UINT64_C(1099511627800), "> 1099511627800 000000019000010b");
-    recorded(hidlog_record_provide_presence(key, log, UINT64_C(1099511627801), HIDLOG_PRESENCE_DENIED), 1,
+    expect_recorded(hidlog_record_provide_presence(key, log, UINT64_C(1099511627801), HIDLOG_PRESENCE_DENIED), 1,
              "p 1099511627801 denied");
     read_response(key, log, "0000000190000127");
     select_key(key, log, UINT64_C(1099511627810), "> 1099511627810 000000019000010b");
-    recorded(hidlog_record_provide_presence(key, log, UINT64_C(1099511627811), HIDLOG_PRESENCE_TIMED_OUT), 1,
+    expect_recorded(hidlog_record_provide_presence(key, log, UINT64_C(1099511627811), HIDLOG_PRESENCE_TIMED_OUT), 1,
              "p 1099511627811 timeout");
     read_response(key, log, "000000019000012f");
 }
 
-// Replies that aren't needed are ignored by the key, and recorded.
+// Replies that the key does not need are ignored by the key, but recorded.
 static void test_replies(struct hidlog_key *key, FILE *log) {
     uint8_t id[32], x[32], y[32], signature[73];
     char line[LINE];
@@ -117,40 +119,40 @@ static void test_replies(struct hidlog_key *key, FILE *log) {
     memset(x, 0xb2, sizeof x);
     memset(y, 0xc3, sizeof y);
     memset(signature, 0xd4, sizeof signature);
-    strcpy(line, repeated("k 1099511627820 ", "a1", 32));
+    strcpy(line, repeat_digits("k 1099511627820 ", "a1", 32));
     strcat(line, " ");
-    strcpy(line, repeated(line, "b2", 32));
+    strcpy(line, repeat_digits(line, "b2", 32));
     strcat(line, " ");
-    strcpy(line, repeated(line, "c3", 32));
-    recorded(hidlog_record_provide_key_pair(key, log, UINT64_C(1099511627820), id, x, y), 0, line);
-    recorded(hidlog_record_refuse_key_pair(key, log, UINT64_C(1099511627821)), 0, "k 1099511627821 no");
-    rejected(hidlog_record_provide_signature(key, log, UINT64_C(1099511627822), signature, 0),
+    strcpy(line, repeat_digits(line, "c3", 32));
+    expect_recorded(hidlog_record_provide_key_pair(key, log, UINT64_C(1099511627820), id, x, y), 0, line);
+    expect_recorded(hidlog_record_refuse_key_pair(key, log, UINT64_C(1099511627821)), 0, "k 1099511627821 no");
+    expect_rejected(hidlog_record_provide_signature(key, log, UINT64_C(1099511627822), signature, 0),
              HIDLOG_KEY_ERR_INVALID_ARGUMENT, "an empty signature");
-    rejected(hidlog_record_provide_signature(key, log, UINT64_C(1099511627822), signature, 73),
+    expect_rejected(hidlog_record_provide_signature(key, log, UINT64_C(1099511627822), signature, 73),
              HIDLOG_KEY_ERR_INVALID_ARGUMENT, "a long signature");
-    recorded(hidlog_record_provide_signature(key, log, UINT64_C(1099511627823), signature, 1), 0, "s 1099511627823 d4");
-    recorded(hidlog_record_provide_signature(key, log, UINT64_C(1099511627824), signature, 72), 0,
-             repeated("s 1099511627824 ", "d4", 72));
-    recorded(hidlog_record_refuse_signature(key, log, UINT64_C(1099511627825)), 0, "s 1099511627825 no");
+    expect_recorded(hidlog_record_provide_signature(key, log, UINT64_C(1099511627823), signature, 1), 0, "s 1099511627823 d4");
+    expect_recorded(hidlog_record_provide_signature(key, log, UINT64_C(1099511627824), signature, 72), 0,
+             repeat_digits("s 1099511627824 ", "d4", 72));
+    expect_recorded(hidlog_record_refuse_signature(key, log, UINT64_C(1099511627825)), 0, "s 1099511627825 no");
 }
 
-// Each call of a key that isn't initialized.
+// Makes each call on a key that is not initialized.
 static void test_destroyed_key(struct hidlog_key *key, FILE *log) {
     uint8_t bytes[64] = {0};
     int32_t wanted = HIDLOG_KEY_ERR_NOT_INITIALIZED;
-    rejected(hidlog_record_write_packet(key, log, 1, bytes), wanted, "a packet to a destroyed key");
-    rejected(hidlog_record_tick(key, log, 1), wanted, "a tick of a destroyed key");
-    rejected(hidlog_record_provide_presence(key, log, 1, 0), wanted, "a presence for a destroyed key");
-    rejected(hidlog_record_provide_key_pair(key, log, 1, bytes, bytes, bytes), wanted,
+    expect_rejected(hidlog_record_write_packet(key, log, 1, bytes), wanted, "a packet to a destroyed key");
+    expect_rejected(hidlog_record_tick(key, log, 1), wanted, "a tick of a destroyed key");
+    expect_rejected(hidlog_record_provide_presence(key, log, 1, 0), wanted, "a presence for a destroyed key");
+    expect_rejected(hidlog_record_provide_key_pair(key, log, 1, bytes, bytes, bytes), wanted,
              "a key pair for a destroyed key");
-    rejected(hidlog_record_refuse_key_pair(key, log, 1), wanted, "no key pair for a destroyed key");
-    rejected(hidlog_record_provide_signature(key, log, 1, bytes, 64), wanted, "a signature for a destroyed key");
-    rejected(hidlog_record_refuse_signature(key, log, 1), wanted, "no signature for a destroyed key");
-    rejected(hidlog_record_read_packet(key, log, bytes), wanted, "a packet of a destroyed key");
+    expect_rejected(hidlog_record_refuse_key_pair(key, log, 1), wanted, "no key pair for a destroyed key");
+    expect_rejected(hidlog_record_provide_signature(key, log, 1, bytes, 64), wanted, "a signature for a destroyed key");
+    expect_rejected(hidlog_record_refuse_signature(key, log, 1), wanted, "no signature for a destroyed key");
+    expect_rejected(hidlog_record_read_packet(key, log, bytes), wanted, "a packet of a destroyed key");
 }
 
 #ifndef _WIN32
-// A line that can't be written is reported, with errno.
+// A line that cannot be written is reported with HIDLOG_ERR_NOT_RECORDED, and errno is set.
 static void test_full_disk(struct hidlog_key *key) {
     FILE *full = fopen("/dev/full", "wb");
     if (full == NULL) {

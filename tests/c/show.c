@@ -1,6 +1,6 @@
-/* Writes the output of hidlog_show for the log on standard input, explained with `explain`, or of hidlog_transactions,
- * and its error message: show [explain | transactions]. The buffer starts with a few bytes and grows while it is too
- * small, which tests calls with small buffers. */
+/* Writes the output and the error message of hidlog_show, or of hidlog_transactions, for the log on standard input.
+   The first buffer has a few bytes, and grows while it is too small, so calls with small buffers are tested as well.
+   Usage: show [explain | transactions] */
 #include "hidlog.h"
 
 #include <stdio.h>
@@ -22,7 +22,8 @@ static uint8_t *read_log(size_t *size)
     return bytes;
 }
 
-/* Shows the log in an allocated buffer of this capacity. Writes past it change a canary byte, or are found by a sanitizer. */
+/* Shows the log in an allocated buffer of this capacity. A write past the buffer changes a canary byte, or is found by
+   a sanitizer. */
 static uint8_t *show(const uint8_t *log, size_t size, enum form form, size_t out_cap, struct hidlog_result *result)
 {
     uint8_t *out = malloc(out_cap + 1);
@@ -37,7 +38,7 @@ static uint8_t *show(const uint8_t *log, size_t size, enum form form, size_t out
         hidlog_show(log, size, form == EXPLAINED, out, out_cap, result);
     if (out[out_cap] != CANARY || result->written > out_cap || result->packet != 0 ||
         result->status > HIDLOG_LOG_ERROR) {
-        fprintf(stderr, "show: a call with capacity %zu violated its contract\n", out_cap);
+        fprintf(stderr, "show: a call with capacity %zu wrote past the buffer, or reported a wrong length\n", out_cap);
         exit(2);
     }
     return out;
@@ -52,7 +53,7 @@ int main(int count, char **words)
     for (;;) {
         uint8_t *out = show(log, size, form, out_cap, &result);
         if (known > result.written || memcmp(before, out, known)) {
-            fprintf(stderr, "show: the text starts differently with capacity %zu\n", out_cap);
+            fprintf(stderr, "show: with capacity %zu: the output is not a prefix of the complete output\n", out_cap);
             return 2;
         }
         free(before);

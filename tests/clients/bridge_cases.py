@@ -82,7 +82,7 @@ def test_unreadable_state_is_kept(work_dir: Path) -> None:
         os.chown(state, user, user)
         os.chown(work_dir / "key.state.lock", user, user)
     state.chmod(0)
-    check_refused(state, "Permission denied: cannot open it", user=user)
+    check_refused(state, "cannot open the file: Permission denied", user=user)
     state.chmod(0o600)
     assert state.read_bytes() == old
 
@@ -107,12 +107,12 @@ def test_links_are_refused(work_dir: Path) -> None:
     link = work_dir / "link"
     for target in (state, work_dir / "nowhere"):
         link.symlink_to(target)
-        check_refused(link, "name the file that the link leads to")
+        check_refused(link, "the path must not be a symbolic link")
         link.unlink()
     lock = work_dir / "key.state.lock"
     lock.unlink()
     lock.symlink_to(work_dir / "nowhere")
-    check_refused(state, "cannot open its lock file, which ends in .lock")
+    check_refused(state, ".lock: cannot open the lock file")
     assert state.read_bytes() == old and not (work_dir / "nowhere").exists()
 
 
@@ -153,7 +153,7 @@ def test_link_planted_meanwhile_is_not_overwritten(work_dir: Path) -> None:
     finally:
         is_over.set()
         lane.join(TIMEOUT_SECONDS)
-    check_exit(bridge.wait_until_exited(), 1, "File exists: nothing was saved, and the old file is kept")
+    check_exit(bridge.wait_until_exited(), 1, "nothing was saved, and the old file is kept: File exists")
     assert other.read_bytes() == b"another's" and state.read_bytes() == old
 
 
@@ -167,7 +167,7 @@ def test_folder_at_temporary_path_is_reported(work_dir: Path) -> None:
         raise AssertionError(f"a response was sent: {bridge.register().hex()}")
     except EndedError:
         pass
-    check_exit(bridge.wait_until_exited(), 1, "key.state: Is a directory: nothing was saved, and the old file is kept")
+    check_exit(bridge.wait_until_exited(), 1, "key.state: nothing was saved, and the old file is kept: Is a directory")
     assert state.read_bytes() == old
 
 
@@ -185,7 +185,7 @@ def test_damaged_state_is_refused(work_dir: Path) -> None:
         older = b"hidlogS1" + data[8:] if data[:8] == old[:8] else data
         for form in (data + sha256(data).digest(), older, data):
             state.write_bytes(form)
-            check_refused(state, "key.state: it")
+            check_refused(state, "key.state: the ")
             assert state.read_bytes() == form
 
 
@@ -195,7 +195,7 @@ def test_checksum_covers_each_byte(work_dir: Path) -> None:
     for place in range(len(saved)):
         state.write_bytes(saved[:place] + bytes([saved[place] ^ 1 << place % 8]) + saved[place + 1 :])
         said = subprocess.run([UHID_PLAIN, "-f", "99", str(state)], capture_output=True, text=True)
-        assert said.returncode == 1 and "key.state: it is" in said.stderr, (place, said.stderr)
+        assert said.returncode == 1 and "key.state: the file is" in said.stderr, (place, said.stderr)
     state.write_bytes(b"hidlogS1" + saved[8:-32])
     bridge = Bridge([UHID, str(state)])
     assert bridge.wait_until_plugged_in(), bridge.wait_until_exited()
@@ -207,9 +207,9 @@ def test_special_files_are_refused(work_dir: Path) -> None:
     """A folder, a pipe or a device is refused at once, and not replaced."""
     (work_dir / "folder").mkdir()
     os.mkfifo(work_dir / "pipe", 0o600)
-    check_refused(work_dir / "folder", "it is not a regular file")
-    check_refused(work_dir / "pipe", "it is not a regular file")
-    check_refused(work_dir / "none" / "key.state", "No such file or directory: cannot open its lock")
+    check_refused(work_dir / "folder", "not a regular file")
+    check_refused(work_dir / "pipe", "not a regular file")
+    check_refused(work_dir / "none" / "key.state", "cannot open the lock file: No such file or directory")
     assert (work_dir / "folder").is_dir() and (work_dir / "pipe").is_fifo()
 
 
@@ -228,7 +228,7 @@ def test_second_bridge_waits(work_dir: Path) -> None:
     state, old = make_state(work_dir)
     first = Bridge([UHID, str(state)])
     assert first.wait_until_plugged_in(), first.wait_until_exited()
-    waits = "another program uses it: waiting for that program to exit"
+    waits = "another program has locked the file; waiting until that program exits"
     second = Bridge([UHID, str(state)])
     assert not second.wait_until_plugged_in(0.3), "both are plugged in"
     check_exit(second.stop(signal.SIGINT), -signal.SIGINT, waits)
@@ -269,7 +269,7 @@ def test_full_disk_keeps_state(work_dir: Path) -> None:
         raise AssertionError(f"a response was sent: {bridge.register().hex()}")
     except EndedError:
         pass
-    check_exit(bridge.wait_until_exited(), 1, "File too large: nothing was saved, and the old file is kept")
+    check_exit(bridge.wait_until_exited(), 1, "nothing was saved, and the old file is kept: File too large")
     assert state.read_bytes() == old and not (work_dir / "key.state.new").exists()
 
 

@@ -18,7 +18,7 @@ from bridge_cases import NOBODY, UHID, check_exit, make_state, run_tests
 def test_recording_does_not_replace_state(work_dir: Path) -> None:
     """A recording that would replace the state file is refused."""
     state, old = make_state(work_dir)
-    refused = "this is the state file, which a recording would overwrite; choose another path"
+    refused = "the recording would overwrite the state file; choose another path"
     for path in (str(state), f"{work_dir}/./key.state"):
         check_not_recording(path, state, refused)
     assert state.read_bytes() == old
@@ -57,13 +57,13 @@ def plant_files(path: Path, other: Path) -> Iterator[str]:
     """Creates files at a path to which a bridge must not write, and yields the expected messages."""
     for target in (other, other.parent / "nowhere"):
         path.symlink_to(target)
-        yield "name the file that the link leads to"
+        yield "the path must not be a symbolic link"
     os.link(other, path)
-    yield "it has a second name (a hard link): remove it or name another file"
+    yield "the file has another hard link; remove it or choose another path"
     os.mkfifo(path, 0o600)
-    yield f"{path}: No such device or address: cannot open it"
+    yield f"{path}: cannot open the file: No such device or address"
     path.mkdir()
-    yield f"{path}: Is a directory: cannot open it"
+    yield f"{path}: cannot open the file: Is a directory"
     for mode in (0o644, 0o660, 0o602):
         path.write_bytes(b"kept")
         path.chmod(mode)
@@ -72,7 +72,7 @@ def plant_files(path: Path, other: Path) -> Iterator[str]:
         path.write_bytes(b"kept")
         path.chmod(0o600)
         os.chown(path, NOBODY, NOBODY)
-        yield "it belongs to another user: remove it or name another file"
+        yield "the file belongs to another user; remove it or choose another path"
 
 
 def test_planted_files_are_not_overwritten(work_dir: Path) -> None:

@@ -16,7 +16,7 @@ work=$(mktemp -d)
 trap 'rm -rf "$work"' EXIT
 chmod 755 "$work" # another user runs the bridge, too
 parts=("$top/bridges/ssh/state.c" "$top"/examples/c/{virtual_key,private_file,software_keys,snapshot}.c)
-bridge=("$top"/bridges/uhid/{uhid,turns,user,options}.c "${parts[@]}" "$library/libhidlog.a" -lcrypto)
+bridge=("$top"/bridges/uhid/{uhid,packet_queue,user,options}.c "${parts[@]}" "$library/libhidlog.a" -lcrypto)
 compile -I "$top/bridges/ssh" -o "$work/uhid" "${bridge[@]}"
 compile -g -fsanitize=address,undefined -fno-sanitize-recover=all -I "$top/bridges/ssh" -o "$work/uhid_checked" \
     "${bridge[@]}"

@@ -70,7 +70,7 @@ copy_python() {
 build_initramfs() {
     local parts module file
     find_kernel
-    parts=("$top"/bridges/uhid/{uhid,turns,user,options}.c "$top/bridges/ssh/state.c"
+    parts=("$top"/bridges/uhid/{uhid,packet_queue,user,options}.c "$top/bridges/ssh/state.c"
         "$top"/examples/c/{virtual_key,private_file,software_keys,snapshot}.c)
     mkdir -p "$root"/{bin,dev,etc/pam.d,modules,proc,root,sys,tmp}
     # The sanitizers of addresses and undefined behaviour end the bridge at the first error, with a status other than 0.

@@ -1,9 +1,9 @@
-// Calls OpenSSH's provider of bridges/ssh as ssh-sk-helper does, for tests/clients/bridge_faults.py:
+// Calls the OpenSSH security key provider of bridges/ssh as ssh-sk-helper does, for tests/clients/bridge_faults.py:
 //
 //     sk_call enroll         prints the key handle in hex
-//     sk_call sign HANDLE    prints the signature's counter
+//     sk_call sign HANDLE    prints the signature counter
 //
-// Exit status: 1 if the provider returns an error, which is printed.
+// If the provider returns an error, prints the error and exits with 1.
 #include "sk_api.h"
 
 #include <stdio.h>
@@ -13,7 +13,7 @@
 static const uint8_t data[32] = "what is signed, or its challenge";
 
 static int report_error(int result) {
-    fprintf(stderr, "the provider returned %d\n", result);
+    fprintf(stderr, "sk_call: the provider returned error %d\n", result);
     return 1;
 }
 

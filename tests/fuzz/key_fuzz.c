@@ -1,6 +1,6 @@
-// A libFuzzer target for the functions on a key. The data is decoded into inputs; each is given to an in-memory key and
-// written as a log line, and at the end `hidlog_replay` replays that log. Both must send the same packets and report the
-// same statistics. Calls in a wrong state must fail and change nothing.
+// A libFuzzer target for the functions on a key. The data is decoded into inputs. Each input is passed to an in-memory
+// key and appended to a log; at the end `hidlog_replay` replays the log. The key and the replay must send the same
+// packets and report the same statistics. Calls in an invalid state must fail and change nothing.
 //
 // tests/fuzz/guided.sh builds it with an instrumented core. Without instrumentation:
 //
@@ -23,7 +23,7 @@ struct bytes {
     size_t left;
 };
 
-// Returns the next bytes of the data; zeros after its end.
+// Copies the next bytes of the data to `to`; zeros after the end of the data.
 static void take_bytes(struct bytes *from, uint8_t *to, size_t len) {
     size_t there = from->left < len ? from->left : len;
     memset(to, 0, len);
@@ -55,7 +55,7 @@ static void append_digits(char *text, size_t *len, const uint8_t *bytes, size_t 
     }
 }
 
-// Appends the beginning of an input line to both texts.
+// Appends the beginning of an input line to the log and to the expected output.
 static void append_line_start(const char *front) {
     append_text(log_text, &log_len, front);
     append_text(written, &written_len, front);
@@ -67,7 +67,7 @@ static void append_line_digits(const char *front, const uint8_t *bytes, size_t c
     append_digits(written, &written_len, bytes, count);
 }
 
-// Decodes a packet. Most are valid, so that requests become complete.
+// Decodes a packet. Most packets are valid, so that requests become complete.
 static void make_packet(struct bytes *from, uint8_t packet[64]) {
     uint8_t kind = next_byte(from);
     if (kind < 32) {
@@ -138,7 +138,7 @@ static int32_t handle_input(struct hidlog_key *key, struct bytes *from, uint64_t
     }
 }
 
-// Reads the queued packets, after a call that must fail because of them.
+// Expects that an input fails while packets are queued, and reads the packets.
 static void write_packets(struct hidlog_key *key, int32_t waiting) {
     uint8_t packet[64];
     if (waiting < 0 || waiting > 130 || (waiting > 0 && hidlog_key_tick(key, UINT64_MAX) != HIDLOG_KEY_ERR_PACKETS_QUEUED)) {

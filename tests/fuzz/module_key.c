@@ -1,5 +1,5 @@
-// The functions of hidlog.h with release/hidlog.wasm, translated to C by wasm2c, so that libFuzzer can instrument the core.
-// The caller's memory is copied into the module's memory and back. Guard bytes beside each buffer must stay unchanged.
+// Implements hidlog.h with release/hidlog.wasm, translated to C by wasm2c, so that libFuzzer can instrument the core.
+// The caller's buffers are copied into the module's memory and back. Guard bytes after each buffer must stay unchanged.
 #include "hidlog.h"
 #include "module.h"
 
@@ -7,20 +7,20 @@
 #include <stdlib.h>
 #include <string.h>
 
-// Sizes of the areas in the module's memory: the key's struct, two inputs, the output, and the guard after each.
+// Sizes of areas in the module's memory: the key's struct, two inputs, the output, and the guard bytes after each area.
 enum { KEY_SPACE = 64, MAX_READ = 1 << 20, MAX_MORE = 1 << 16, MAX_WRITE = 1 << 20, GUARD = 256, PAGE = 65536 };
 enum { ID = 32, GUARD_BYTE = 0xee };
 
 static Z_hidlog_instance_t module;
 static void *loaded_memory; // the memory of the key that is in the module
-static u64 key_at, memory_at, read_at, more_at, write_at, outcome_at, key_size;
+static u64 key_at, memory_at, read_at, more_at, write_at, result_at, key_size;
 
 static _Noreturn void fail(const char *what) {
     fprintf(stderr, "module_key: %s\n", what);
     abort();
 }
 
-// Called by wasm2c's code when the module traps.
+// Called by the code of wasm2c when the module traps.
 _Noreturn void module_trap(wasm_rt_trap_t code) {
     fprintf(stderr, "module_key: trap %d\n", (int)code);
     abort();
@@ -41,38 +41,39 @@ static void start_module(void) {
     read_at = (memory_at + key_size + GUARD + 15) / 16 * 16;
     more_at = read_at + MAX_READ;
     write_at = more_at + MAX_MORE;
-    outcome_at = write_at + MAX_WRITE + GUARD;
-    u64 pages = outcome_at / PAGE + 2, there = module.w2c_memory.pages;
+    result_at = write_at + MAX_WRITE + GUARD;
+    u64 pages = result_at / PAGE + 2, there = module.w2c_memory.pages;
     if (pages > there && wasm_rt_grow_memory(&module.w2c_memory, pages - there) == (u32)-1) {
         fail("no memory");
     }
 }
 
-static u8 *to_address(u64 place) {
-    return module.w2c_memory.data + place;
+static u8 *to_address(u64 address) {
+    return module.w2c_memory.data + address;
 }
 
-static u64 copy_in(u64 place, const void *bytes, size_t len, size_t most) {
-    if (len > most) {
+static u64 copy_in(u64 address, const void *bytes, size_t len, size_t cap) {
+    if (len > cap) {
         fail("the input is too long for the module's memory");
     }
-    memcpy(to_address(place), bytes, len);
-    return place;
+    memcpy(to_address(address), bytes, len);
+    return address;
 }
 
-static void put_guard(u64 place) {
-    memset(to_address(place), GUARD_BYTE, GUARD);
+static void put_guard(u64 address) {
+    memset(to_address(address), GUARD_BYTE, GUARD);
 }
 
-static void check_guard(u64 place, const char *what) {
+static void check_guard(u64 address, const char *what) {
     for (size_t i = 0; i < GUARD; i++) {
-        if (*to_address(place + i) != GUARD_BYTE) {
+        if (*to_address(address + i) != GUARD_BYTE) {
             fail(what);
         }
     }
 }
 
-// Copies the memory of the key in the module back to its owner, who does not read it while the key is initialized.
+// Copies the key's memory out of the module to the caller's memory, which the caller does not read while the key is
+// initialized.
 static void copy_key_out(void) {
     if (loaded_memory != NULL) {
         memcpy(loaded_memory, to_address(memory_at), key_size);
@@ -80,7 +81,7 @@ static void copy_key_out(void) {
     }
 }
 
-// Copies a key into the module, unless it is already there.
+// Copies a key into the module, unless the module already has this key.
 static u64 load_key(const struct hidlog_key *key) {
     start_module();
     if (loaded_memory != key->memory) {
@@ -95,7 +96,7 @@ static u64 load_key(const struct hidlog_key *key) {
     return key_at;
 }
 
-// Copies the key's struct back; its memory too, if the key is no longer initialized.
+// Copies the key's struct out of the module, and the key's memory as well if the key is no longer initialized.
 static int32_t store_key(struct hidlog_key *key, u32 result) {
     check_guard(memory_at + key_size, "bytes after the key's memory were written");
     memcpy(&key->state, to_address(key_at + 8), sizeof key->state);
@@ -110,10 +111,10 @@ size_t hidlog_key_size(void) {
     return key_size;
 }
 
-int32_t hidlog_key_init(struct hidlog_key *key, const uint8_t aaguid[16], uint64_t moment, const uint8_t *snapshot,
+int32_t hidlog_key_init(struct hidlog_key *key, const uint8_t aaguid[16], uint64_t time_ms, const uint8_t *snapshot,
                         size_t len) {
-    u64 entered = load_key(key), name = copy_in(read_at, aaguid, 16, MAX_READ), more = copy_in(more_at, snapshot, len, MAX_MORE);
-    int32_t result = store_key(key, Z_hidlogZ_hidlog_key_init(&module, entered, name, moment, more, len));
+    u64 key_address = load_key(key), name = copy_in(read_at, aaguid, 16, MAX_READ), more = copy_in(more_at, snapshot, len, MAX_MORE);
+    int32_t result = store_key(key, Z_hidlogZ_hidlog_key_init(&module, key_address, name, time_ms, more, len));
     if (result < 0) {
         copy_key_out();
     }
@@ -126,48 +127,48 @@ int32_t hidlog_key_destroy(struct hidlog_key *key) {
     return result;
 }
 
-int32_t hidlog_key_write_packet(struct hidlog_key *key, uint64_t moment, const uint8_t packet[64]) {
-    u64 entered = load_key(key);
-    return store_key(key, Z_hidlogZ_hidlog_key_write_packet(&module, entered, moment, copy_in(read_at, packet, 64, MAX_READ)));
+int32_t hidlog_key_write_packet(struct hidlog_key *key, uint64_t time_ms, const uint8_t packet[64]) {
+    u64 key_address = load_key(key);
+    return store_key(key, Z_hidlogZ_hidlog_key_write_packet(&module, key_address, time_ms, copy_in(read_at, packet, 64, MAX_READ)));
 }
 
-int32_t hidlog_key_tick(struct hidlog_key *key, uint64_t moment) {
-    return store_key(key, Z_hidlogZ_hidlog_key_tick(&module, load_key(key), moment));
+int32_t hidlog_key_tick(struct hidlog_key *key, uint64_t time_ms) {
+    return store_key(key, Z_hidlogZ_hidlog_key_tick(&module, load_key(key), time_ms));
 }
 
-int32_t hidlog_key_provide_presence(struct hidlog_key *key, uint64_t moment, uint32_t presence) {
-    return store_key(key, Z_hidlogZ_hidlog_key_provide_presence(&module, load_key(key), moment, presence));
+int32_t hidlog_key_provide_presence(struct hidlog_key *key, uint64_t time_ms, uint32_t presence) {
+    return store_key(key, Z_hidlogZ_hidlog_key_provide_presence(&module, load_key(key), time_ms, presence));
 }
 
-int32_t hidlog_key_provide_key_pair(struct hidlog_key *key, uint64_t moment, const uint8_t id[ID], const uint8_t x[ID],
+int32_t hidlog_key_provide_key_pair(struct hidlog_key *key, uint64_t time_ms, const uint8_t id[ID], const uint8_t x[ID],
                            const uint8_t y[ID]) {
-    u64 entered = load_key(key);
+    u64 key_address = load_key(key);
     copy_in(read_at, id, ID, MAX_READ);
     copy_in(read_at + ID, x, ID, MAX_READ);
     copy_in(read_at + 2 * ID, y, ID, MAX_READ);
-    return store_key(key, Z_hidlogZ_hidlog_key_provide_key_pair(&module, entered, moment, read_at, read_at + ID, read_at + 2 * ID));
+    return store_key(key, Z_hidlogZ_hidlog_key_provide_key_pair(&module, key_address, time_ms, read_at, read_at + ID, read_at + 2 * ID));
 }
 
-int32_t hidlog_key_refuse_key_pair(struct hidlog_key *key, uint64_t moment) {
-    return store_key(key, Z_hidlogZ_hidlog_key_refuse_key_pair(&module, load_key(key), moment));
+int32_t hidlog_key_refuse_key_pair(struct hidlog_key *key, uint64_t time_ms) {
+    return store_key(key, Z_hidlogZ_hidlog_key_refuse_key_pair(&module, load_key(key), time_ms));
 }
 
-int32_t hidlog_key_provide_signature(struct hidlog_key *key, uint64_t moment, const uint8_t *signature, size_t len) {
-    u64 entered = load_key(key), bytes = copy_in(read_at, signature, len, MAX_READ);
-    return store_key(key, Z_hidlogZ_hidlog_key_provide_signature(&module, entered, moment, bytes, len));
+int32_t hidlog_key_provide_signature(struct hidlog_key *key, uint64_t time_ms, const uint8_t *signature, size_t len) {
+    u64 key_address = load_key(key), bytes = copy_in(read_at, signature, len, MAX_READ);
+    return store_key(key, Z_hidlogZ_hidlog_key_provide_signature(&module, key_address, time_ms, bytes, len));
 }
 
-int32_t hidlog_key_refuse_signature(struct hidlog_key *key, uint64_t moment) {
-    return store_key(key, Z_hidlogZ_hidlog_key_refuse_signature(&module, load_key(key), moment));
+int32_t hidlog_key_refuse_signature(struct hidlog_key *key, uint64_t time_ms) {
+    return store_key(key, Z_hidlogZ_hidlog_key_refuse_signature(&module, load_key(key), time_ms));
 }
 
 int32_t hidlog_key_queued_packets(struct hidlog_key *key) {
     return store_key(key, Z_hidlogZ_hidlog_key_queued_packets(&module, load_key(key)));
 }
 
-// Calls a function that writes a structure, which is copied in and back.
+// Defines a function with an output structure, which is copied into the module and back.
 #define DEFINE_GETTER(call, structure)                                                                                        \
-    u64 entered = load_key(key), place = copy_in(read_at, structure, sizeof *(structure), MAX_READ);                         \
+    u64 key_address = load_key(key), address = copy_in(read_at, structure, sizeof *(structure), MAX_READ);                         \
     put_guard(read_at + sizeof *(structure));                                                                          \
     int32_t result = store_key(key, call);                                                                                 \
     check_guard(read_at + sizeof *(structure), "guard bytes were overwritten");                            \
@@ -176,73 +177,73 @@ int32_t hidlog_key_queued_packets(struct hidlog_key *key) {
 
 int32_t hidlog_key_read_packet(struct hidlog_key *key, uint8_t packet[64]) {
     uint8_t(*whole)[64] = (uint8_t(*)[64])packet;
-    DEFINE_GETTER(Z_hidlogZ_hidlog_key_read_packet(&module, entered, place), whole);
+    DEFINE_GETTER(Z_hidlogZ_hidlog_key_read_packet(&module, key_address, address), whole);
 }
 
 int32_t hidlog_key_get_need(struct hidlog_key *key, struct hidlog_need *need) {
-    DEFINE_GETTER(Z_hidlogZ_hidlog_key_get_need(&module, entered, place), need);
+    DEFINE_GETTER(Z_hidlogZ_hidlog_key_get_need(&module, key_address, address), need);
 }
 
 int32_t hidlog_key_get_credential(struct hidlog_key *key, size_t number, struct hidlog_credential *credential) {
-    DEFINE_GETTER(Z_hidlogZ_hidlog_key_get_credential(&module, entered, number, place), credential);
+    DEFINE_GETTER(Z_hidlogZ_hidlog_key_get_credential(&module, key_address, number, address), credential);
 }
 
-int32_t hidlog_key_get_stats(struct hidlog_key *key, struct hidlog_stats *meters) {
-    DEFINE_GETTER(Z_hidlogZ_hidlog_key_get_stats(&module, entered, place), meters);
+int32_t hidlog_key_get_stats(struct hidlog_key *key, struct hidlog_stats *stats) {
+    DEFINE_GETTER(Z_hidlogZ_hidlog_key_get_stats(&module, key_address, address), stats);
 }
 
 int32_t hidlog_key_credential_count(struct hidlog_key *key) {
     return store_key(key, Z_hidlogZ_hidlog_key_credential_count(&module, load_key(key)));
 }
 
-int32_t hidlog_key_add_credential(struct hidlog_key *key, uint64_t moment, const struct hidlog_credential *credential) {
-    u64 entered = load_key(key), place = copy_in(read_at, credential, sizeof *credential, MAX_READ);
-    return store_key(key, Z_hidlogZ_hidlog_key_add_credential(&module, entered, moment, place));
+int32_t hidlog_key_add_credential(struct hidlog_key *key, uint64_t time_ms, const struct hidlog_credential *credential) {
+    u64 key_address = load_key(key), address = copy_in(read_at, credential, sizeof *credential, MAX_READ);
+    return store_key(key, Z_hidlogZ_hidlog_key_add_credential(&module, key_address, time_ms, address));
 }
 
-int32_t hidlog_key_remove_credential(struct hidlog_key *key, uint64_t moment, const uint8_t id[ID]) {
-    u64 entered = load_key(key), place = copy_in(read_at, id, ID, MAX_READ);
-    return store_key(key, Z_hidlogZ_hidlog_key_remove_credential(&module, entered, moment, place));
+int32_t hidlog_key_remove_credential(struct hidlog_key *key, uint64_t time_ms, const uint8_t id[ID]) {
+    u64 key_address = load_key(key), address = copy_in(read_at, id, ID, MAX_READ);
+    return store_key(key, Z_hidlogZ_hidlog_key_remove_credential(&module, key_address, time_ms, address));
 }
 
-int32_t hidlog_key_clear_credentials(struct hidlog_key *key, uint64_t moment) {
-    return store_key(key, Z_hidlogZ_hidlog_key_clear_credentials(&module, load_key(key), moment));
+int32_t hidlog_key_clear_credentials(struct hidlog_key *key, uint64_t time_ms) {
+    return store_key(key, Z_hidlogZ_hidlog_key_clear_credentials(&module, load_key(key), time_ms));
 }
 
-// An output buffer, followed by guard bytes.
-static u64 reserve_output(size_t most) {
-    if (most > MAX_WRITE) {
+// Returns the address of the output area, with guard bytes after the given number of bytes.
+static u64 reserve_output(size_t cap) {
+    if (cap > MAX_WRITE) {
         fail("the output buffer is too large for the module's memory");
     }
-    put_guard(write_at + most);
+    put_guard(write_at + cap);
     return write_at;
 }
 
-int32_t hidlog_key_save_snapshot(struct hidlog_key *key, uint8_t *out, size_t most) {
-    u64 entered = load_key(key), place = reserve_output(most);
-    int32_t len = store_key(key, Z_hidlogZ_hidlog_key_save_snapshot(&module, entered, place, most));
-    check_guard(write_at + most, "bytes after the snapshot were written");
+int32_t hidlog_key_save_snapshot(struct hidlog_key *key, uint8_t *out, size_t cap) {
+    u64 key_address = load_key(key), address = reserve_output(cap);
+    int32_t len = store_key(key, Z_hidlogZ_hidlog_key_save_snapshot(&module, key_address, address, cap));
+    check_guard(write_at + cap, "bytes after the snapshot were written");
     memcpy(out, to_address(write_at), len > 0 ? (size_t)len : 0);
     return len;
 }
 
-// Copies the output and result of a function back.
-static void copy_output(uint8_t *out, size_t most, struct hidlog_result *outcome) {
-    memcpy(outcome, to_address(outcome_at), sizeof *outcome);
-    check_guard(write_at + most, "bytes after the text were written");
-    if (outcome->written > most) {
+// Copies the output and the result of a function out of the module.
+static void copy_output(uint8_t *out, size_t cap, struct hidlog_result *result) {
+    memcpy(result, to_address(result_at), sizeof *result);
+    check_guard(write_at + cap, "bytes after the text were written");
+    if (result->written > cap) {
         fail("the module wrote past the output buffer");
     }
-    memcpy(out, to_address(write_at), outcome->written);
+    memcpy(out, to_address(write_at), result->written);
 }
 
 #define DEFINE_COMMAND(name)                                                                                                    \
     void name(const uint8_t *log, size_t log_len, const uint8_t *snapshot, size_t snapshot_len, uint8_t *out,          \
-              size_t most, struct hidlog_result *outcome) {                                                           \
+              size_t cap, struct hidlog_result *result) {                                                           \
         start_module();                                                                                                       \
         u64 lines = copy_in(read_at, log, log_len, MAX_READ), more = copy_in(more_at, snapshot, snapshot_len, MAX_MORE);     \
-        Z_hidlogZ_##name(&module, lines, log_len, more, snapshot_len, reserve_output(most), most, outcome_at);             \
-        copy_output(out, most, outcome);                                                                                 \
+        Z_hidlogZ_##name(&module, lines, log_len, more, snapshot_len, reserve_output(cap), cap, result_at);             \
+        copy_output(out, cap, result);                                                                                 \
     }
 
 DEFINE_COMMAND(hidlog_replay)
@@ -250,10 +251,10 @@ DEFINE_COMMAND(hidlog_live)
 DEFINE_COMMAND(hidlog_check)
 DEFINE_COMMAND(hidlog_quiet)
 
-void hidlog_show(const uint8_t *log, size_t log_len, uint32_t explain, uint8_t *out, size_t most,
-                 struct hidlog_result *outcome) {
+void hidlog_show(const uint8_t *log, size_t log_len, uint32_t explain, uint8_t *out, size_t cap,
+                 struct hidlog_result *result) {
     start_module();
     u64 lines = copy_in(read_at, log, log_len, MAX_READ);
-    Z_hidlogZ_hidlog_show(&module, lines, log_len, explain, reserve_output(most), most, outcome_at);
-    copy_output(out, most, outcome);
+    Z_hidlogZ_hidlog_show(&module, lines, log_len, explain, reserve_output(cap), cap, result_at);
+    copy_output(out, cap, result);
 }

@@ -1,5 +1,6 @@
-// A libFuzzer target for the state files of the bridges (bridges/ssh/state.c): a rejected file has an error message,
-// and a valid one is written again as the same key. tests/fuzz/guided.sh builds it.
+// A libFuzzer target for the state files of the bridges (bridges/ssh/state.c). The data is the file. A valid file, read
+// and written again, must stay the same; an invalid file must be rejected with an error message. tests/fuzz/guided.sh
+// builds it.
 #include "state.h"
 
 #include <openssl/crypto.h>
@@ -13,7 +14,7 @@ static void close_state(void) {
     OPENSSL_cleanse(&state, sizeof state);
 }
 
-// Checks that each credential of a valid file has a key pair and an application.
+// Checks that each credential of a valid file has a private key and an application.
 static void check_credentials(void) {
     struct hidlog_credential credential;
     for (size_t place = 0; hidlog_key_get_credential(&state.vkey.key, place, &credential) == 0; place++) {

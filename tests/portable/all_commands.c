@@ -1,5 +1,5 @@
-// Runs every function on logs, for comparison between libraries: reads a snapshot and logs from standard input, each as
-// "LENGTH NAME\n" and its bytes, and writes a record for each log and function.
+// Calls every function of the library on each log, and writes a record for each call, so that the records of two
+// libraries can be compared. Standard input has a snapshot and the logs, each as "LENGTH NAME\n" followed by its bytes.
 #include "hidlog.h"
 
 #include <inttypes.h>
@@ -26,7 +26,7 @@ static void *allocate(size_t len) {
     return memory;
 }
 
-// Reads a record. Returns 0 at the end.
+// Reads a record. Returns 0 at the end of the input.
 static int read_record(struct record *record) {
     unsigned long len;
     if (scanf("%lu %255[^\n]", &len, record->name) != 2) {
@@ -36,7 +36,7 @@ static int read_record(struct record *record) {
     record->len = len;
     record->bytes = allocate(len);
     if (fread(record->bytes, 1, len, stdin) != len) {
-        fail("a record is too short");
+        fail("the input ends within a record");
     }
     return 1;
 }
@@ -72,7 +72,7 @@ static void call(const char *command, const struct record *log, const struct rec
     }
 }
 
-// Plays a log on a key, and writes its output, its snapshot and its totals.
+// Replays a log on a key, and writes the output, the snapshot and the totals.
 static void play_on_key(const struct record *log, uint8_t *out, size_t out_cap) {
     static const uint8_t aaguid[16];
     static uint8_t saved[HIDLOG_SNAPSHOT_MAX_LEN];

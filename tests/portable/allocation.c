@@ -1,5 +1,6 @@
-// Includes the portable library, to test what happens if an instance of the module cannot be allocated, that instances
-// above the pool's size are freed, that a key may be copied, and that 10,000 keys need nothing but their own memory.
+// Tests memory management of the portable library, which is included here: a call fails cleanly if no instance of the
+// module can be allocated, instances that exceed the pool's size are freed, a key may be copied, and 10,000 keys need
+// only their own memory.
 #include <stddef.h>
 #include <stdlib.h>
 
@@ -30,7 +31,7 @@ static void expect(long long actual, long long expected, const char *what) {
     }
 }
 
-// Takes all instances out of the pool, as calls in other threads do.
+// Takes all instances out of the pool, as concurrent calls do.
 static void empty_pool(struct instance **taken) {
     for (u32 i = 0; i < POOL_SLOTS; i++) {
         taken[i] = EXCHANGE(&pool[i], NULL);
@@ -54,7 +55,7 @@ static void test_refused(struct hidlog_key *key) {
     expect(hidlog_client_request(0, log, 0, log, 0, log, 0, log, 0, 0, &report, out, sizeof out),
            HIDLOG_CLIENT_TOO_SMALL, "a refused request");
     is_refused = 0;
-    return_instance(taken[0]);
+    release_instance(taken[0]);
     expect(hidlog_key_queued_packets(key), 0, "packets after a refused one");
     expect(hidlog_key_write_packet(key, 1, packet), 1, "packets after one");
     hidlog_check(log, sizeof log - 1, log, 0, out, sizeof out, &result);
@@ -62,18 +63,18 @@ static void test_refused(struct hidlog_key *key) {
 }
 
 static void test_freed(void) {
-    struct instance *borrowed[POOL_SLOTS + 5];
+    struct instance *acquired[POOL_SLOTS + 5];
     for (int i = 0; i < POOL_SLOTS + 5; i++) {
-        borrowed[i] = borrow_instance();
+        acquired[i] = acquire_instance();
     }
     expect(live_count, POOL_SLOTS + 4, "allocated instances in use");
     for (int i = 0; i < POOL_SLOTS + 5; i++) {
-        return_instance(borrowed[i]);
+        release_instance(acquired[i]);
     }
     expect(live_count < POOL_SLOTS + 1, 1, "whether the pool keeps no more than its slots");
 }
 
-// A copy of a key and its memory is a key of its own.
+// A copy of a key and of its memory is an independent key.
 static void test_copied(const struct hidlog_key *key) {
     uint8_t packet[64];
     struct hidlog_key copy = *key;
@@ -86,23 +87,23 @@ static void test_copied(const struct hidlog_key *key) {
     free(copy.memory);
 }
 
-// Buffers of several windows are contiguous in the module, up to the last window's end.
+// A buffer of several windows is contiguous in the module's address space, up to the end of its last window.
 static void test_windows(void) {
     static uint8_t bytes[1];
     struct call call;
     begin_call(&call);
-    u64 first = lend(&call, bytes, 3ull << WINDOW_BITS), second = lend(&call, bytes, 16);
+    u64 first = map_buffer(&call, bytes, 3ull << WINDOW_BITS), second = map_buffer(&call, bytes, 16);
     expect((long long)first, (long long)ADDRESS_OF(FIRST_BUFFER), "the first buffer's address");
     expect((long long)second, (long long)ADDRESS_OF(FIRST_BUFFER + 3), "the second buffer's address");
     expect(bytes_at(&call.module->w2c_memory, first + (1u << WINDOW_BITS) - 4, 8) == bytes + (1u << WINDOW_BITS) - 4, 1,
            "whether an access may cross windows");
-    lend(&call, bytes, 9ull << WINDOW_BITS);
+    map_buffer(&call, bytes, 9ull << WINDOW_BITS);
     expect(call.is_too_long, 1, "whether a buffer beyond the last window is refused");
     end_call(&call);
     expect(call.module->w2c_memory.windows[FIRST_BUFFER].size, 0, "a window's size after the call");
 }
 
-// Many keys in one process: each answers, and none needs memory beyond hidlog_key_size().
+// Many keys in one process: each responds, and no key needs more memory than hidlog_key_size().
 static void test_many(void) {
     enum { KEYS = 10000 };
     static const uint8_t aaguid[16], packet[64] = {0xff, 0xff, 0xff, 0xff, 0x86, 0, 8};

@@ -1,4 +1,4 @@
-// Makes the standard streams of a test program binary, as they are elsewhere. Only for Windows.
+// Sets the standard streams of a test program to binary mode on Windows. Other systems have no text mode.
 #include <fcntl.h>
 #include <io.h>
 

@@ -1,5 +1,5 @@
-// Uses the portable library from several threads, and in forked children while other threads are in calls. Each key has
-// to send what it sends alone:
+// Uses the portable library from several threads, and in child processes that are forked while other threads are in
+// calls. Each key must send the same packets as in a single thread. Usage:
 //
 //     concurrency LOG            both
 //     concurrency LOG threads    without fork
@@ -22,8 +22,9 @@ static uint8_t session[CAP], expected[CAP];
 static size_t session_len, expected_len;
 static atomic_int failures, is_ending;
 
-// Plays the log on a key of its own, and by hidlog_check. Returns whether both results are as alone.
-static int plays_as_alone(void) {
+// Replays the log on a new key, and checks the log with hidlog_check. Returns whether both results are those of a
+// single thread.
+static int matches_single_thread(void) {
     static const uint8_t aaguid[16];
     struct hidlog_key key = {malloc(hidlog_key_size()), 0};
     struct hidlog_result result, checked;
@@ -43,7 +44,7 @@ static int plays_as_alone(void) {
 
 static void *run_thread(void *rounds) {
     for (int i = 0; rounds == NULL ? !is_ending : i < ROUNDS; i++) {
-        failures += !plays_as_alone();
+        failures += !matches_single_thread();
     }
     return NULL;
 }
@@ -63,7 +64,7 @@ static void join_threads(const pthread_t *threads) {
     }
 }
 
-// Forks while threads are in calls: each child plays the log.
+// Forks while threads are in calls. Each child process replays the log.
 static void fork_children(void) {
 #if !defined(_WIN32)
     pthread_t threads[THREADS];
@@ -72,7 +73,7 @@ static void fork_children(void) {
         int status = 1;
         pid_t child = fork();
         if (child == 0) {
-            _exit(!plays_as_alone());
+            _exit(!matches_single_thread());
         }
         failures += child < 0 || waitpid(child, &status, 0) != child || status != 0;
     }

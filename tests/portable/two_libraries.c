@@ -1,5 +1,5 @@
-// Loads two shared libraries in one process, calls them alternately, and checks that both play a log alike:
-// two_libraries FIRST SECOND LOG
+// Loads two shared libraries in one process, calls them alternately with the lines of a log, and checks that their
+// outputs are equal. Usage: two_libraries FIRST SECOND LOG
 #include "hidlog.h"
 
 #include <dlfcn.h>
@@ -15,8 +15,9 @@ struct library {
     void *handle;
 };
 
-// ISO C has no conversion from an object pointer to a function pointer, so the bytes are copied.
-static void find(void *handle, const char *name, void *function) {
+// Stores the address of a function in a function pointer. The bytes are copied, since ISO C has no conversion from an
+// object pointer to a function pointer.
+static void find_function(void *handle, const char *name, void *function) {
     void *found = dlsym(handle, name);
     if (found == NULL) {
         fprintf(stderr, "two_libraries: %s\n", dlerror());
@@ -34,9 +35,9 @@ static void open_library(struct library *library, const char *path) {
         fprintf(stderr, "two_libraries: %s\n", dlerror());
         exit(2);
     }
-    find(library->handle, "hidlog_key_size", &size);
-    find(library->handle, "hidlog_key_init", &init);
-    find(library->handle, "hidlog_key_replay_lines", &library->lines);
+    find_function(library->handle, "hidlog_key_size", &size);
+    find_function(library->handle, "hidlog_key_init", &init);
+    find_function(library->handle, "hidlog_key_replay_lines", &library->lines);
     memset(&library->key, 0, sizeof library->key);
     library->key.memory = aligned_alloc(16, (size() + 15) / 16 * 16);
     if (library->key.memory == NULL || init(&library->key, aaguid, 0, aaguid, 0) != 0) {
@@ -62,7 +63,7 @@ int main(int count, char **words) {
             libraries[i].lines(&libraries[i].key, line, strlen((char *)line), out[i], CAP, &results[i]);
         }
         if (results[0].written != results[1].written || memcmp(out[0], out[1], (size_t)results[0].written) != 0) {
-            fprintf(stderr, "two_libraries: the libraries differ at line %d\n", lines + 1);
+            fprintf(stderr, "two_libraries: the outputs of the libraries differ at line %d\n", lines + 1);
             return 1;
         }
         lines++;

@@ -1,6 +1,6 @@
 /*
- * A library for LD_PRELOAD: each read, write, send and receive of more than
- * one byte transfers half of it, as the system may do at any call.
+ * A library for LD_PRELOAD that halves the size of each read, write, send and recv of more than one byte, since the
+ * system may transfer fewer bytes than requested.
  */
 #define _GNU_SOURCE
 #include <sys/socket.h>
@@ -25,6 +25,6 @@ ssize_t send(int file, const void *data, size_t size, int flags) {
 }
 
 ssize_t recv(int file, void *data, size_t size, int flags) {
-    /* Also with MSG_PEEK, which does not remove the bytes. */
+    /* The size is halved with MSG_PEEK as well, which does not remove the bytes. */
     return syscall(SYS_recvfrom, file, data, halve(size), flags, NULL, NULL);
 }

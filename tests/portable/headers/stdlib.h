@@ -1,4 +1,5 @@
-// What hidlog.c uses of <stdlib.h>, to check its syntax for systems whose headers are missing.
+// The declarations of <stdlib.h> that hidlog.c uses, so that hidlog.c can be compiled for systems whose headers are not
+// installed.
 #include <stddef.h>
 void *calloc(size_t count, size_t size);
 void free(void *memory);
