@@ -8,15 +8,16 @@ import (
 	"encoding/binary"
 )
 
-// Browser registers and signs in as a page's navigator.credentials does, at an origin.
+// Browser is a simulated browser at an origin, with a security key. It registers and signs in as navigator.credentials
+// of a page does.
 type Browser struct {
 	key    *SecurityKey
 	origin string
-	// Account is the index of the account to sign in with, newest first, if there are several.
+	// Account is the index of the account to sign in with, if several match. The newest account has index 0.
 	Account int
 }
 
-// DOMError is the error a page would see. Name is, for example, NotAllowedError or InvalidStateError.
+// DOMError is the error that a page would get. Name is, for example, NotAllowedError or InvalidStateError.
 type DOMError struct{ Name, Message string }
 
 // Error returns the name and the message.
@@ -27,13 +28,13 @@ func (k *SecurityKey) Browser(origin string) *Browser {
 	return &Browser{key: k, origin: origin}
 }
 
-// Create registers: it takes PublicKeyCredentialCreationOptionsJSON, and returns RegistrationResponseJSON. Errors a
-// page would see are *DOMError. It rejects the same options as Chromium.
+// Create registers a credential. The options are PublicKeyCredentialCreationOptionsJSON, and the result is
+// RegistrationResponseJSON. An error that a page would get is a *DOMError. Create rejects the same options as Chromium.
 func (b *Browser) Create(optionsJSON []byte) ([]byte, error) {
 	return b.call(createCeremony, optionsJSON)
 }
 
-// Get signs in: it takes PublicKeyCredentialRequestOptionsJSON, and returns AuthenticationResponseJSON.
+// Get signs in. The options are PublicKeyCredentialRequestOptionsJSON, and the result is AuthenticationResponseJSON.
 func (b *Browser) Get(optionsJSON []byte) ([]byte, error) {
 	return b.call(getCeremony, optionsJSON)
 }
@@ -66,7 +67,7 @@ func (b *Browser) call(kind ceremony, options []byte) ([]byte, error) {
 // getNextAssertion is the command byte of authenticatorGetNextAssertion (CTAP 2.1, section 6.3).
 const getNextAssertion = 0x08
 
-// exchange sends a request, and returns the response with its status byte.
+// exchange sends a request to the key, and returns the response with its status byte.
 func (b *Browser) exchange(request []byte) ([]byte, error) {
 	data, err := b.key.Exchange(request)
 	if status, is := err.(Status); is {
@@ -78,7 +79,7 @@ func (b *Browser) exchange(request []byte) ([]byte, error) {
 	return append([]byte{0}, data...), nil
 }
 
-// signedResponse is the authenticator data and signature of a response, with the ID of the credential that signed it and
+// signedResponse is the authenticator data and the signature of a response, the ID of the credential that signed, and
 // the clientDataHash of the request.
 type signedResponse struct {
 	id              CredentialID
@@ -86,7 +87,7 @@ type signedResponse struct {
 	clientDataHash  []byte
 }
 
-// applyFaults applies the enabled faults to a response, and remembers its signature counter.
+// applyFaults applies the enabled faults to a response, and records the response's signature counter.
 func (b *Browser) applyFaults(kind ceremony, request, response []byte) ([]byte, error) {
 	parameters, err := decodeMembers(request[1:])
 	if err != nil {
@@ -122,7 +123,7 @@ func (b *Browser) applyFaults(kind ceremony, request, response []byte) ([]byte, 
 	return append([]byte{0}, encode(buildResponse(kind, members, signed))...), nil
 }
 
-// decodeMembers decodes a CBOR map.
+// decodeMembers decodes bytes that must be exactly one CBOR map.
 func decodeMembers(from []byte) (map[any]any, error) {
 	item, rest, err := decode(from)
 	members, isMap := item.(map[any]any)
@@ -132,8 +133,7 @@ func decodeMembers(from []byte) (map[any]any, error) {
 	return members, nil
 }
 
-// buildResponse returns the members of a response with the authenticator data and signature replaced by signed's, in
-// canonical order.
+// buildResponse encodes a response in canonical order, with the authenticator data and the signature of signed.
 func buildResponse(kind ceremony, members map[any]any, signed signedResponse) []entry {
 	if kind == createCeremony {
 		statement := []entry{{"alg", -7}, {"sig", signed.signature}}

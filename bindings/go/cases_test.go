@@ -16,8 +16,8 @@ import (
 	"cogtzil.example/hidlog"
 )
 
-// findCasesFolder returns the folder of browser_cases.json: registrations and sign-ins, with the results of Chromium's
-// own authenticator. It is tests/python of the repository, or $HIDLOG_CASES.
+// findCasesFolder returns the folder of browser_cases.json, which has registrations and sign-ins with the results of
+// Chromium's virtual authenticator. The folder is $HIDLOG_CASES [default: tests/python of the repository].
 func findCasesFolder() string {
 	if folder := os.Getenv("HIDLOG_CASES"); folder != "" {
 		return folder
@@ -46,8 +46,8 @@ func readJSON(t *testing.T, name string, to any) {
 	}
 }
 
-// expand returns options with placeholders replaced: "$0" by the ID of the first registration, {"$bytes": count} by
-// zeros, and {"$repeat": count} by credential descriptors.
+// expand replaces the placeholders in options: "$0" by the ID of the first registration, {"$bytes": count} by zero
+// bytes, and {"$repeat": count} by credential descriptors.
 func expand(value any, ids []string) any {
 	switch value := value.(type) {
 	case object:
@@ -116,7 +116,7 @@ func buildOptions(table caseTable, c object, ids []string) any {
 	return made
 }
 
-// selectStableMembers returns the parts of a credential that are the same in each run.
+// selectStableMembers returns the parts of a credential that do not differ between runs.
 func selectStableMembers(t *testing.T, credential object, ids []string) object {
 	t.Helper()
 	response := mergeObjects(credential["response"].(object), nil)
@@ -158,8 +158,8 @@ func selectStableMembers(t *testing.T, credential object, ids []string) object {
 	return found
 }
 
-// TestChromiumCases runs each case for the default key with a recorded result of Chromium, and compares the results.
-// Cases with a mediation, with a following call or marked as different are left out.
+// TestChromiumCases runs each case for the default key, and compares the result with the recorded result of Chromium.
+// Cases that set the mediation, make a further call or are marked as different are skipped.
 func TestChromiumCases(t *testing.T) {
 	var table caseTable
 	var recorded map[string]object
@@ -182,11 +182,11 @@ func TestChromiumCases(t *testing.T) {
 		})
 	}
 	if count < 150 {
-		t.Errorf("expected at least 150 cases, but only %d ran", count)
+		t.Errorf("expected to run at least 150 cases, but only %d ran", count)
 	}
 }
 
-// runCase makes the calls of a case, and returns the result of the last one.
+// runCase makes the calls of a case, and returns the result of the last call.
 func runCase(t *testing.T, table caseTable, c object) object {
 	t.Helper()
 	browser := newKey(t).Browser("http://localhost:5000")

@@ -6,7 +6,8 @@ import (
 	"fmt"
 )
 
-// entry is a key and value of a map. Maps are encoded in slice order, which must be canonical (CTAP 2.1, section 8).
+// entry is a key and a value of a map. A map is encoded in the order of its slice, which must be canonical (CTAP 2.1,
+// section 8).
 type entry struct{ key, value any }
 
 var errCBOR = errors.New("hidlog: invalid response from the authenticator")
@@ -16,26 +17,26 @@ func encode(item any) []byte {
 	switch value := item.(type) {
 	case int:
 		if value < 0 {
-			return head(1, uint64(-1-value))
+			return encodeHead(1, uint64(-1-value))
 		}
-		return head(0, uint64(value))
+		return encodeHead(0, uint64(value))
 	case []byte:
-		return append(head(2, uint64(len(value))), value...)
+		return append(encodeHead(2, uint64(len(value))), value...)
 	case string:
-		return append(head(3, uint64(len(value))), value...)
+		return append(encodeHead(3, uint64(len(value))), value...)
 	case bool:
 		if value {
 			return []byte{0xF5}
 		}
 		return []byte{0xF4}
 	case []any:
-		out := head(4, uint64(len(value)))
+		out := encodeHead(4, uint64(len(value)))
 		for _, element := range value {
 			out = append(out, encode(element)...)
 		}
 		return out
 	case []entry:
-		out := head(5, uint64(len(value)))
+		out := encodeHead(5, uint64(len(value)))
 		for _, element := range value {
 			out = append(append(out, encode(element.key)...), encode(element.value)...)
 		}
@@ -45,7 +46,7 @@ func encode(item any) []byte {
 	}
 }
 
-func head(major byte, argument uint64) []byte {
+func encodeHead(major byte, argument uint64) []byte {
 	switch {
 	case argument < 24:
 		return []byte{major<<5 | byte(argument)}
@@ -56,7 +57,7 @@ func head(major byte, argument uint64) []byte {
 	}
 }
 
-// decode decodes the first item, and returns it with the bytes after it. Maps are map[any]any.
+// decode decodes the first item, and returns the item and the bytes after it. A map becomes a map[any]any.
 func decode(from []byte) (item any, rest []byte, err error) {
 	if len(from) == 0 {
 		return nil, nil, errCBOR

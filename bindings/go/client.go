@@ -9,7 +9,7 @@ import (
 	"unsafe"
 )
 
-// ceremony is the method of navigator.credentials: create or get.
+// ceremony is a method of navigator.credentials: create or get.
 type ceremony C.uint32_t
 
 const (
@@ -17,10 +17,10 @@ const (
 	getCeremony    ceremony = C.HIDLOG_CLIENT_GET
 )
 
-// clientAbilities are the key's: discoverable credentials, but no user verification.
+// clientAbilities are the key's abilities: discoverable credentials, but no user verification.
 const clientAbilities = C.HIDLOG_CLIENT_RESIDENT_KEY
 
-// Maximum lengths of a request and of a credential's JSON.
+// Maximum lengths in bytes of a request and of a credential's JSON.
 const (
 	requestCapacity    = longestMessage
 	credentialCapacity = 16384
@@ -37,8 +37,8 @@ var domErrorNames = map[C.int64_t]string{
 	C.HIDLOG_CLIENT_SYNTAX_ERROR:        "SyntaxError",
 }
 
-// client makes the two calls of the C library (hidlog.h) for one call of navigator.credentials: the library checks the
-// options, and writes the request and the credential's JSON.
+// client has the parameters of one call of navigator.credentials. The C library (hidlog.h) checks the options, and
+// builds the request for the key and the credential's JSON.
 type client struct {
 	ceremony          ceremony
 	options, origin   []byte
@@ -59,7 +59,7 @@ func (c *client) buildRequest() ([]byte, error) {
 	return readResult(length, report, out)
 }
 
-// buildCredential returns the credential as JSON. It takes the key's response: a status byte, then CBOR.
+// buildCredential returns the credential as JSON. The key's response is a status byte, then CBOR.
 func (c *client) buildCredential(from []byte) ([]byte, error) {
 	out := make([]byte, credentialCapacity)
 	var report C.struct_hidlog_client_report
@@ -77,13 +77,13 @@ func readResult(length C.int64_t, report C.struct_hidlog_client_report, out []by
 	}
 	name, known := domErrorNames[length]
 	if !known {
-		return nil, fmt.Errorf("hidlog: the request or the credential's JSON is longer than %d bytes", len(out))
+		return nil, fmt.Errorf("hidlog: output too long: the request or the credential's JSON exceeds %d bytes", len(out))
 	}
 	member, reason := out[:report.member_len], out[report.member_len:report.member_len+report.reason_len]
 	return nil, &DOMError{name, strings.TrimPrefix(string(member)+": "+string(reason), ": ")}
 }
 
-// firstByte returns a pointer to the first byte; never nil, as hidlog.h requires.
+// firstByte returns a pointer to the first byte. The pointer is never nil, as hidlog.h requires.
 func firstByte(from []byte) *C.uint8_t {
 	if len(from) == 0 {
 		from = make([]byte, 1)

@@ -30,8 +30,8 @@ func (a *Authenticator) Credentials() []Credential {
 	return found
 }
 
-// updateCredentials changes the credentials with call, which power-cycles the authenticator, and begins a new recording.
-// It fails if a request is in progress. An error message begins with what.
+// updateCredentials changes the credentials with call, which power-cycles the authenticator, and begins a new
+// recording. It fails if a request is in progress. The prefix of an error message is what.
 func (a *Authenticator) updateCredentials(what string, call func() C.int32_t) error {
 	a.mutex.Lock()
 	defer a.mutex.Unlock()
@@ -45,7 +45,7 @@ func (a *Authenticator) updateCredentials(what string, call func() C.int32_t) er
 	return nil
 }
 
-// Add adds a credential, and replaces one with the same ID.
+// Add adds a credential. A credential with the same ID is replaced.
 func (a *Authenticator) Add(credential Credential) error {
 	if len(credential.UserID) > 64 || len(credential.UserName) > 64 {
 		return fmt.Errorf("hidlog: UserID and UserName must have at most 64 bytes, not %d and %d",
@@ -77,13 +77,13 @@ func (a *Authenticator) Clear() error {
 	return a.updateCredentials("clear", func() C.int32_t { return C.hidlog_key_clear_credentials(a.key, 0) })
 }
 
-// takeSnapshot returns a snapshot; the caller holds the mutex.
+// takeSnapshot returns a snapshot of the credentials. The caller must hold the mutex.
 func (a *Authenticator) takeSnapshot() []byte {
 	out := make([]byte, C.HIDLOG_SNAPSHOT_MAX_LEN)
 	return out[:C.hidlog_key_save_snapshot(a.key, firstByte(out), C.size_t(len(out)))]
 }
 
-// Snapshot returns the credentials as a snapshot for NewAuthenticator and `hidlog --load`, without the private keys.
+// Snapshot returns the credentials, without private keys, as a snapshot for NewAuthenticator and `hidlog --load`.
 func (a *Authenticator) Snapshot() ([]byte, error) {
 	a.mutex.Lock()
 	defer a.mutex.Unlock()

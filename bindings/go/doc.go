@@ -1,6 +1,6 @@
 // Package hidlog is a formally verified FIDO2 security key for tests, with recorded sessions that replay exactly.
 //
-// A Browser registers and signs in, with the JSON that a page exchanges with a service:
+// A Browser registers and signs in with the JSON that a page exchanges with a service:
 //
 //	key, err := hidlog.NewSecurityKey()
 //	browser := key.Browser("https://example.com")

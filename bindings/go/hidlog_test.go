@@ -30,7 +30,7 @@ var create = []byte(`{"rp": {"id": "example.com", "name": "Example"}, "challenge
 	"authenticatorSelection": {"residentKey": "required"}}`)
 var get = []byte(`{"publicKey": {"challenge": "AAECAwQFBgcICQoLDA0ODw", "rpId": "example.com"}}`)
 
-// publicKeyCredential is the part of a credential's JSON that a service reads.
+// publicKeyCredential has the members of a credential's JSON that a service reads.
 type publicKeyCredential struct {
 	ID       string
 	Response struct {
@@ -68,7 +68,7 @@ func newKey(t *testing.T) *hidlog.SecurityKey {
 	return key
 }
 
-// checkRecordings runs `hidlog check` on each recording, if the program is found.
+// checkRecordings runs `hidlog check` on each recording, if the program hidlog is found.
 func checkRecordings(t *testing.T, key *hidlog.Authenticator) {
 	t.Helper()
 	program := os.Getenv("HIDLOG_PROGRAM")
@@ -138,7 +138,7 @@ func TestRegisterAndSignIn(t *testing.T) {
 		used, err := browser.Get(get)
 		signedIn := parseCredential(t, used, err)
 		if signedIn.ID != registered.ID || signedIn.Response.UserHandle != "YW5u" {
-			t.Fatalf("expected the registered account, got %s", used)
+			t.Fatalf("expected the user handle of the registered account, got %s", used)
 		}
 		if !isVerified(t, registered, signedIn) || signCount(t, signedIn) != expected {
 			t.Fatalf("sign-in %d: %s", expected, used)
@@ -174,7 +174,8 @@ func TestInvalidCallsAreRejected(t *testing.T) {
 	browser := key.Browser(origin)
 	used, err := browser.Create(create)
 	made := parseCredential(t, used, err)
-	// options returns registration options: rp is a prefix of rp's members, user the user ID, rest further members.
+	// options returns registration options as JSON. The text rp is inserted before the members of rp, user is the user ID,
+	// and rest has further members.
 	options := func(rp, user, rest string) string {
 		return fmt.Sprintf(`{"rp": {%s"name": "Example"}, "challenge": "AAECAwQFBgcICQoLDA0ODw",
 			"user": {"id": "%s", "name": "a", "displayName": "A"}, "pubKeyCredParams": [{"type": "public-key", "alg": -7}]%s}`,
@@ -223,7 +224,7 @@ func TestFaults(t *testing.T) {
 	before := signCount(t, signIn())
 	key.Faults = hidlog.Faults{StaleSignCount: true}
 	if used := signIn(); signCount(t, used) != before || !isVerified(t, made, used) {
-		t.Fatal("the counter should be stale, with a valid signature")
+		t.Fatal("the signature counter should be stale, with a valid signature")
 	}
 	key.Faults = hidlog.Faults{BadSignature: true}
 	if isVerified(t, made, signIn()) {
@@ -321,7 +322,7 @@ func TestAccounts(t *testing.T) {
 	}
 }
 
-// The error of a request that the key rejected ends with the key's cause; the error of an injected status does not.
+// If the key rejected a request, the error ends with the key's cause. The error of an injected status has no cause.
 func TestCauses(t *testing.T) {
 	key := newKey(t)
 	browser := key.Browser(origin)
@@ -346,14 +347,14 @@ func TestCauses(t *testing.T) {
 	}
 }
 
-// An authenticator without a simulated user: packets, needs and time.
+// Tests an authenticator without a simulated user: packets, needs and time.
 func TestPackets(t *testing.T) {
 	key, err := hidlog.NewAuthenticator(nil)
 	if err != nil {
 		t.Fatal(err)
 	}
-	// The response to INIT on the broadcast channel (CTAP 2.1, section 11.2.9.1.3): nonce, channel ID, versions and
-	// capabilities.
+	// The expected response to INIT on the broadcast channel (CTAP 2.1, section 11.2.9.1.3): nonce, channel ID, versions
+	// and capabilities.
 	packet := hidlog.Packet{0xff, 0xff, 0xff, 0xff, 0x86, 0, 8, 1, 2, 3, 4, 5, 6, 7, 8}
 	sent, err := key.HandlePacket(0, packet)
 	expected := hidlog.Packet{0xff, 0xff, 0xff, 0xff, 0x86, 0, 17, 1, 2, 3, 4, 5, 6, 7, 8, 0, 0, 0, 1, 2, 1, 0, 0, 0x0c}

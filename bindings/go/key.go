@@ -1,6 +1,7 @@
 package hidlog
 
-// /* The module has the library in lib; a clone of the repository has it in release. Elsewhere portable.c is it. */
+// /* The library is in lib in the published module, and in release in a clone of the repository. On other platforms,
+//    portable.c compiles the library. */
 // #cgo CFLAGS: -I${SRCDIR}/lib -I${SRCDIR}/lib/portable -I${SRCDIR}/../../release
 // #cgo linux,amd64,!hidlog_portable LDFLAGS: -L${SRCDIR}/lib/amd64 -L${SRCDIR}/../../release -l:libhidlog.a
 // #cgo linux,arm64,!hidlog_portable LDFLAGS: -L${SRCDIR}/lib/arm64 -L${SRCDIR}/../../release/aarch64 -l:libhidlog.a
@@ -16,7 +17,7 @@ import (
 	"unsafe"
 )
 
-// causeCapacity is the maximum length of a cause in bytes (hidlog.h).
+// causeCapacity is the maximum length in bytes of the sentence that Cause returns (hidlog.h).
 const causeCapacity = 160
 
 // PacketSize is the length of a packet in bytes.
@@ -28,25 +29,25 @@ type CredentialID [32]byte
 // Packet is a CTAPHID packet.
 type Packet [PacketSize]byte
 
-// Presence is the user's reaction when the authenticator asks for a touch.
+// Presence is what the user does when the authenticator asks for a touch.
 type Presence int
 
-// The user touches the key, refuses, or does nothing.
+// The user touches the key, refuses to, or does nothing.
 const (
 	PresenceGranted Presence = iota
 	PresenceDenied
 	PresenceTimedOut
 )
 
-// String returns the presence as written in a session log: granted, denied or timeout.
+// String returns the word for the presence in a session log: granted, denied or timeout.
 func (p Presence) String() string {
 	return [...]string{"granted", "denied", "timeout"}[p]
 }
 
-// NeedKind is what an authenticator needs to continue its request.
+// NeedKind is the kind of a Need.
 type NeedKind int
 
-// An authenticator needs nothing, user presence, a new key pair, or a signature.
+// The kinds: nothing, user presence, a new key pair, or a signature.
 const (
 	NeedNone NeedKind = iota
 	NeedPresence
@@ -54,8 +55,8 @@ const (
 	NeedSignature
 )
 
-// Need is what an authenticator needs from its caller. For NeedSignature, ID is the credential and ToSign the bytes to
-// sign with ECDSA and SHA-256 (DER).
+// Need is what an authenticator needs from its caller to continue a request. For NeedSignature, ID is the credential
+// ID, and ToSign has the bytes to sign with ECDSA and SHA-256; the signature is in DER.
 type Need struct {
 	Kind   NeedKind
 	ID     CredentialID
@@ -73,14 +74,16 @@ type Credential struct {
 	SignCount    uint32
 }
 
-// Recording is a session log and the credential snapshot it starts with, if any: `hidlog check --load SNAPSHOT LOG`.
+// Recording is a session log, and the snapshot of the credentials at its start, if any. `hidlog check --load SNAPSHOT
+// LOG` checks a recording.
 type Recording struct {
 	Snapshot []byte
 	Log      []byte
 }
 
-// Authenticator is the authenticator alone: packets and replies in, packets out. Times are in milliseconds, and every
-// input is recorded. Its methods may be called from several goroutines. An input that fails leaves it unchanged.
+// Authenticator is the verified core alone: packets and replies in, packets out. Times are in milliseconds, and every
+// input is recorded. The methods may be called from several goroutines. An input that returns an error does not change
+// the authenticator.
 type Authenticator struct {
 	mutex      sync.Mutex
 	key        *C.struct_hidlog_key
@@ -101,7 +104,7 @@ var errorTexts = map[C.int32_t]string{
 	C.HIDLOG_KEY_ERR_BAD_CREDENTIAL:   "the snapshot has an invalid credential",
 }
 
-// toError returns the error for a return value of the library, or nil.
+// toError converts a return value of the library to an error, or to nil.
 func toError(what string, status C.int32_t) error {
 	if status >= 0 {
 		return nil
@@ -113,12 +116,13 @@ func toError(what string, status C.int32_t) error {
 	return fmt.Errorf("hidlog: %s: %s", what, text)
 }
 
-// NewAuthenticator returns an authenticator with the credentials of a snapshot, or without any if it is nil. Close it,
-// or leave it to the garbage collector.
+// NewAuthenticator returns an authenticator with the credentials of a snapshot, or without credentials if the snapshot
+// is nil. Close frees the authenticator's memory, as does the garbage collector.
 func NewAuthenticator(snapshot []byte) (*Authenticator, error) {
 	a := &Authenticator{recordings: []Recording{{Snapshot: clone(snapshot)}}}
 	a.key = (*C.struct_hidlog_key)(C.calloc(1, C.sizeof_struct_hidlog_key))
-	// malloc aligns to 16 where there is a prebuilt library; the portable one needs no alignment.
+	// The library needs memory aligned to 16 bytes, as malloc returns on the platforms with a prebuilt library. The
+	// portable library needs no alignment.
 	a.key.memory = C.malloc(C.hidlog_key_size())
 	var aaguid [16]C.uint8_t
 	status := C.hidlog_key_init(a.key, &aaguid[0], 0, firstByte(snapshot), C.size_t(len(snapshot)))
@@ -140,7 +144,7 @@ func (a *Authenticator) free() {
 	a.key = nil
 }
 
-// Close destroys the authenticator. Its recordings remain.
+// Close destroys the authenticator. The recordings remain available.
 func (a *Authenticator) Close() {
 	a.mutex.Lock()
 	defer a.mutex.Unlock()
@@ -204,7 +208,7 @@ func (a *Authenticator) ProvideKeyPair(timeMs uint64, id CredentialID, x, y [32]
 	})
 }
 
-// ProvideSignature provides a signature, 1 to 72 bytes of DER.
+// ProvideSignature provides a signature in DER, 1 to 72 bytes long.
 func (a *Authenticator) ProvideSignature(timeMs uint64, signature []byte) ([]Packet, error) {
 	if len(signature) == 0 || len(signature) > 72 {
 		return nil, fmt.Errorf("hidlog: a signature must have 1 to 72 bytes, not %d", len(signature))
@@ -214,7 +218,7 @@ func (a *Authenticator) ProvideSignature(timeMs uint64, signature []byte) ([]Pac
 	})
 }
 
-// Reject reports that there is no key pair (NeedKeyPair), or no signature (NeedSignature).
+// Reject reports that the caller cannot provide a key pair (NeedKeyPair) or a signature (NeedSignature).
 func (a *Authenticator) Reject(timeMs uint64, need NeedKind) ([]Packet, error) {
 	switch need {
 	case NeedKeyPair:
@@ -231,8 +235,8 @@ func (a *Authenticator) Reject(timeMs uint64, need NeedKind) ([]Packet, error) {
 	}
 }
 
-// Cause returns why the authenticator rejected its last input, as a sentence without a full stop: with an ERROR packet,
-// or with a status other than 0. It is empty if the input was not rejected, and after power-up.
+// Cause returns why the authenticator rejected its last input with an ERROR packet, or with a status other than 0. The
+// cause is a sentence without a full stop. It is empty after power-up, and if the input was not rejected.
 func (a *Authenticator) Cause() string {
 	a.mutex.Lock()
 	defer a.mutex.Unlock()
@@ -260,7 +264,7 @@ func (a *Authenticator) Need() Need {
 	return found
 }
 
-// Recordings returns what was recorded. A new recording begins at each Add, Remove and Clear.
+// Recordings returns all recordings, oldest first. A new recording begins at each Add, Remove and Clear.
 func (a *Authenticator) Recordings() []Recording {
 	a.mutex.Lock()
 	defer a.mutex.Unlock()

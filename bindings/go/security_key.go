@@ -21,27 +21,27 @@ const (
 	commandError     = 0x80 | hidERROR
 )
 
-// Faults are injected into responses, to test how a service handles them. They are injected outside the authenticator,
-// so that its recordings still replay.
+// Faults are injected into responses, to test how a service handles invalid responses. The faults are injected outside
+// the authenticator, so its recordings still pass `hidlog check`.
 type Faults struct {
 	// Status, if not 0, is the response to every request.
 	Status byte
-	// BadSignature signs with a different private key.
+	// BadSignature, if true, signs with a different private key.
 	BadSignature bool
-	// StaleSignCount repeats the signature counter of the previous response, with a valid signature.
+	// StaleSignCount, if true, repeats the signature counter of the previous response, with a valid signature.
 	StaleSignCount bool
-	// WrongRPID, if not empty, is the RP ID whose hash the authenticator data has, with a valid signature.
+	// WrongRPID, if not empty, is the RP ID whose hash replaces the one in the authenticator data, with a valid signature.
 	WrongRPID string
 	// TruncateBy is the number of bytes to remove from the end of the authenticator data.
 	TruncateBy int
 }
 
-// SecurityKey is an authenticator with private keys and a simulated user, for clients that send messages. Its methods
-// must not be called concurrently.
+// SecurityKey is an authenticator with private keys and a simulated user. Clients send messages to it. Its methods must
+// not be called concurrently.
 type SecurityKey struct {
 	*Authenticator
-	// Presence is what the user does each time the key asks for a touch. The last one is repeated; if empty, every touch
-	// is granted.
+	// Presence is the sequence of what the user does when the key asks for a touch. The last element is repeated. If the
+	// sequence is empty, the user grants every touch.
 	Presence []Presence
 	// Faults are the faults to inject.
 	Faults Faults
@@ -53,10 +53,10 @@ type SecurityKey struct {
 	last        map[CredentialID]uint32 // signature counter of the previous response
 }
 
-// Status is the CTAP status code with which a key rejected a request.
+// Status is the CTAP2 status code with which a key rejected a request.
 type Status byte
 
-// Error returns the status code and its name.
+// Error returns the status code and the code's name.
 func (s Status) Error() string {
 	return strings.TrimSpace(fmt.Sprintf("hidlog: the key returned status %02x %s", byte(s), statusNames[s]))
 }
@@ -79,12 +79,13 @@ func (k *SecurityKey) nowMs() uint64 {
 	return uint64(time.Since(k.poweredUp).Milliseconds())
 }
 
-// PrivateKey returns the private key of a credential, or nil.
+// PrivateKey returns the private key of the credential with this ID, or nil.
 func (k *SecurityKey) PrivateKey(id CredentialID) *ecdsa.PrivateKey {
 	return k.privateKeys[id]
 }
 
-// AddWithPrivateKey adds a credential with its private key, from which X and Y are set.
+// AddWithPrivateKey adds a credential with its private key. The credential's X and Y are set to the coordinates of the
+// public key.
 func (k *SecurityKey) AddWithPrivateKey(credential Credential, privateKey *ecdsa.PrivateKey) error {
 	if privateKey == nil || privateKey.Curve != elliptic.P256() {
 		return errors.New("hidlog: the private key must be on P-256")
@@ -111,7 +112,7 @@ func (k *SecurityKey) Clear() error {
 	return k.Authenticator.Clear()
 }
 
-// nextPresence returns the user's reply to the next request for user presence.
+// nextPresence returns what the user does at the next request for user presence.
 func (k *SecurityKey) nextPresence() Presence {
 	if len(k.Presence) == 0 {
 		return PresenceGranted
@@ -156,8 +157,8 @@ func sign(privateKey *ecdsa.PrivateKey, toSign []byte) ([]byte, error) {
 	return ecdsa.SignASN1(rand.Reader, privateKey, digest[:])
 }
 
-// provideNeeds provides what the authenticator needs until it needs nothing. It takes the result of an input, and returns
-// all packets sent.
+// provideNeeds provides what the authenticator needs until it needs nothing, and returns all packets sent. The
+// parameters are the results of the input.
 func (k *SecurityKey) provideNeeds(sent []Packet, err error) ([]Packet, error) {
 	for err == nil {
 		var more []Packet
@@ -177,7 +178,7 @@ func (k *SecurityKey) provideNeeds(sent []Packet, err error) ([]Packet, error) {
 	return nil, err
 }
 
-// transact sends a message on a channel, and returns the command and the data of the response.
+// transact sends a message on a channel, and returns the response's command and data.
 func (k *SecurityKey) transact(channel [4]byte, command byte, data []byte) (byte, []byte, error) {
 	var sent []Packet
 	for _, packet := range fragment(channel, command, data) {
@@ -190,7 +191,7 @@ func (k *SecurityKey) transact(channel [4]byte, command byte, data []byte) (byte
 	return reassemble(channel, sent)
 }
 
-// fragment returns the packets of a message.
+// fragment splits a message into packets.
 func fragment(channel [4]byte, command byte, data []byte) []Packet {
 	var packet Packet
 	copy(packet[:], channel[:])
@@ -208,7 +209,7 @@ func fragment(channel [4]byte, command byte, data []byte) []Packet {
 	return found
 }
 
-// reassemble returns the command and the data of the message sent on a channel, without KEEPALIVEs.
+// reassemble returns the command and the data of the message that the packets have for a channel, without KEEPALIVEs.
 func reassemble(channel [4]byte, sent []Packet) (command byte, data []byte, err error) {
 	length := -1
 	for _, packet := range sent {
@@ -242,7 +243,8 @@ func (k *SecurityKey) openChannel() error {
 	return nil
 }
 
-// causeSuffix returns what to append to an error message: a colon and why the key rejected its last request, if it did.
+// causeSuffix returns a suffix for an error message: a colon and the cause, if the key rejected its last request, or an
+// empty string.
 func (k *SecurityKey) causeSuffix() string {
 	if cause := k.Cause(); cause != "" && k.Faults.Status == 0 {
 		return ": " + cause

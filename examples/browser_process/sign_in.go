@@ -1,4 +1,4 @@
-// Tests a Go service that uses duo-labs/webauthn with a `hidlog browser` process. Run it:
+// Tests a Go service that uses duo-labs/webauthn, with a `hidlog browser` process as the browser.
 //
 //	go run sign_in.go hidlog browser
 package main
@@ -89,7 +89,7 @@ func main() {
 	}
 	browser.call("setPresence", "denied")
 	if denied := browser.call("get", options); denied.Error != "NotAllowedError" {
-		log.Fatal("expected NotAllowedError, got ", denied)
+		log.Fatal("after a denied touch: expected NotAllowedError, got ", denied)
 	}
 	fmt.Println("ok")
 }

@@ -1,4 +1,5 @@
-// Checks cases with Go's duo-labs/webauthn: reads a JSON array and writes one line per case, "yes" or "no: reason".
+// Verifies registrations and sign-ins with Go's duo-labs/webauthn: reads a JSON array of cases, and writes a line for
+// each: "yes", "no: reason", or "none: reason".
 package main
 
 import (
@@ -47,12 +48,12 @@ func verifyAssertion(test testCase) error {
 	stored := webauthn.Authenticator{SignCount: test.Counter}
 	stored.UpdateCounter(parsed.Response.AuthenticatorData.Counter)
 	if stored.CloneWarning {
-		return fmt.Errorf("the counter did not increase: CloneWarning")
+		return fmt.Errorf("the signature counter did not increase (CloneWarning)")
 	}
 	return nil
 }
 
-// judge returns a verdict: "yes", "no: reason", or "none: reason" if the library panics.
+// judge returns the verdict on a case: "yes", "no: reason", or "none: reason" if the library panics.
 func judge(test testCase) (verdict string) {
 	defer func() {
 		if reason := recover(); reason != nil {
