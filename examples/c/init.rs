@@ -1,4 +1,5 @@
-//! Initializes a key, sends INIT on the broadcast channel (CTAP 2.1, section 11.2.9.1.3), prints the response. From Rust:
+//! Initializes a key, sends INIT on the broadcast channel (CTAP 2.1, section 11.2.9.1.3) and prints the response. From
+//! Rust:
 //!
 //!     rustc --edition 2021 -C link-arg=release/libhidlog.a -o init examples/c/init.rs
 use std::ffi::c_void;
@@ -19,7 +20,8 @@ extern "C" {
 }
 
 fn main() {
-    // The memory must be aligned to 16 bytes, as u128 is. Neither it nor the key moves while the key is initialized.
+    // The memory must be aligned to 16 bytes, as a u128 is. Neither the memory nor the key may move while the key is
+    // initialized.
     let mut memory = vec![0u128; (unsafe { hidlog_key_size() } + 15) / 16];
     let mut key = Box::new(Key { memory: memory.as_mut_ptr().cast(), state: 0 });
     let aaguid = [0u8; 16];

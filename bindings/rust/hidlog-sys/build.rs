@@ -1,5 +1,5 @@
-//! Links the static library for the target, from HIDLOG_LIBRARY_FOLDER if it is set. Where none fits, or if HIDLOG_PORTABLE
-//! is set, compiles the portable library with the C compiler $CC, or cc.
+//! Links the static library for the target; if HIDLOG_LIBRARY_FOLDER is set, from that folder. If there is no library
+//! for the target, or HIDLOG_PORTABLE is set, compiles the portable library with the C compiler $CC [default: cc].
 
 use std::env::var;
 use std::path::{Path, PathBuf};
@@ -15,7 +15,7 @@ fn main() {
     println!("cargo:rustc-link-lib=static=hidlog");
 }
 
-/// Returns the folder with the static library for the target, if there is one.
+/// Returns the folder of the prebuilt static library for the target, if there is one.
 fn find_prebuilt() -> Option<PathBuf> {
     let (system, processor) = (var("CARGO_CFG_TARGET_OS").unwrap(), var("CARGO_CFG_TARGET_ARCH").unwrap());
     if let Ok(folder) = var("HIDLOG_LIBRARY_FOLDER") {
@@ -24,20 +24,21 @@ fn find_prebuilt() -> Option<PathBuf> {
     if system != "linux" {
         return None;
     }
-    // The crate has the library in lib; a clone of the repository has it in release.
+    // The library is in lib in the published crate, and in release in a clone of the repository.
     let crate_folder = var("CARGO_MANIFEST_DIR").unwrap();
     let release = if processor == "x86_64" { "" } else { &processor };
     let folders = [format!("{crate_folder}/lib/{processor}"), format!("{crate_folder}/../../../release/{release}")];
     folders.iter().map(PathBuf::from).find(|folder| folder.join("libhidlog.a").exists())
 }
 
-/// Compiles the portable library, and returns its folder.
+/// Compiles the portable library, and returns the folder of the compiled library.
 fn compile_portable() -> PathBuf {
-    // In a clone bindings/c/sources.sh writes the sources there.
+    // The published crate contains the sources. In a clone of the repository, bindings/c/sources.sh writes them to this
+    // folder.
     let sources = Path::new(&var("CARGO_MANIFEST_DIR").unwrap()).join("lib/portable");
     let (target, out) = (var("TARGET").unwrap(), PathBuf::from(var("OUT_DIR").unwrap()));
     if !sources.join("hidlog.c").exists() || target.ends_with("msvc") {
-        panic!("hidlog-sys has no library for {target}; compile the portable one, and set HIDLOG_LIBRARY_FOLDER to its folder");
+        panic!("hidlog-sys has no library for {target}: compile the portable library, and set HIDLOG_LIBRARY_FOLDER to its folder");
     }
     let prefix = if target.ends_with("windows-gnu") && var("HOST") != Ok(target) { "x86_64-w64-mingw32-" } else { "" };
     let compiler = var("CC").unwrap_or(if prefix.is_empty() { "cc".into() } else { format!("{prefix}gcc") });
@@ -51,7 +52,7 @@ fn compile_portable() -> PathBuf {
     out
 }
 
-/// Runs a command, and ends the build if it fails.
+/// Runs a command, and fails the build if the command fails.
 fn run(command: &mut Command) {
     match command.status() {
         Ok(status) if status.success() => {}

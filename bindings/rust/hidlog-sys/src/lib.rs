@@ -1,4 +1,4 @@
-//! Bindings of `hidlog.h`, which documents each function (`lib/hidlog.h`). The crate `hidlog` is the safe API.
+//! Raw bindings to the C library. Each function is documented in `lib/hidlog.h`. The crate `hidlog` is the safe API.
 #![no_std]
 #![allow(non_camel_case_types)]
 #![allow(clippy::missing_safety_doc)]
@@ -7,7 +7,7 @@ use core::ffi::c_void;
 
 /// The command completed (`enum hidlog_status`).
 pub const HIDLOG_OK: u32 = 0;
-/// Maximum length of a snapshot.
+/// Maximum length of a snapshot in bytes.
 pub const HIDLOG_SNAPSHOT_MAX_LEN: usize = 18125;
 /// `enum hidlog_need_kind`.
 pub const HIDLOG_NEED_NONE: u32 = 0;

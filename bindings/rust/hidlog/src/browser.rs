@@ -5,7 +5,7 @@ use crate::private_keys::{sha256, PrivateKey};
 use crate::{Error, Id, SecurityKey};
 use std::collections::HashMap;
 
-/// Options of a registration: `PublicKeyCredentialCreationOptions`.
+/// Options for a registration: `PublicKeyCredentialCreationOptions`.
 #[derive(Clone, Debug)]
 pub struct CreationOptions {
     /// The RP ID [default: the origin's host].
@@ -18,7 +18,7 @@ pub struct CreationOptions {
     pub user_name: String,
     /// Whether to require a discoverable credential (`residentKey`).
     pub discoverable: bool,
-    /// Credentials that must not be on the key (`excludeCredentials`).
+    /// IDs of credentials that must not be on the key (`excludeCredentials`).
     pub exclude: Vec<Id>,
 }
 
@@ -36,16 +36,16 @@ impl CreationOptions {
     }
 }
 
-/// Options of a sign-in: `PublicKeyCredentialRequestOptions`.
+/// Options for a sign-in: `PublicKeyCredentialRequestOptions`.
 #[derive(Clone, Debug)]
 pub struct RequestOptions {
     /// The RP ID [default: the origin's host].
     pub rp_id: Option<String>,
     /// The service's challenge.
     pub challenge: Vec<u8>,
-    /// The credentials that may sign in (`allowCredentials`); if empty, all discoverable ones.
+    /// IDs of the credentials that may sign in (`allowCredentials`). If empty, any discoverable credential may.
     pub allow: Vec<Id>,
-    /// Index of the account to sign in with, newest first, if there are several.
+    /// Index of the account to sign in with, if several match. The newest account has index 0.
     pub account: usize,
 }
 
@@ -89,7 +89,7 @@ pub struct AuthenticationResponse {
 }
 
 impl CreationOptions {
-    /// Returns the options as `PublicKeyCredentialCreationOptionsJSON`.
+    /// Returns the options as `PublicKeyCredentialCreationOptionsJSON` (WebAuthn Level 3).
     fn to_json(&self) -> String {
         let rp_id = self.rp_id.iter().map(|id| format!(r#""id":{},"#, to_json_string(id))).collect::<String>();
         let name = to_json_string(&self.user_name);
@@ -113,7 +113,7 @@ impl CreationOptions {
 }
 
 impl RequestOptions {
-    /// Returns the options as `PublicKeyCredentialRequestOptionsJSON`.
+    /// Returns the options as `PublicKeyCredentialRequestOptionsJSON` (WebAuthn Level 3).
     fn to_json(&self) -> String {
         let rp_id = self.rp_id.iter().map(|id| format!(r#""rpId":{},"#, to_json_string(id))).collect::<String>();
         let (challenge, allow) = (base64url::encode(&self.challenge), to_json_descriptors(&self.allow));
@@ -135,14 +135,14 @@ fn to_json_string(text: &str) -> String {
     found
 }
 
-/// Returns credential descriptors, as the elements of a JSON array.
+/// Returns the credential descriptors for these IDs, as the elements of a JSON array.
 fn to_json_descriptors(ids: &[Id]) -> String {
     let each = |id: &Id| format!(r#"{{"type":"public-key","id":"{}"}}"#, base64url::encode(id));
     ids.iter().map(each).collect::<Vec<_>>().join(",")
 }
 
 impl RegistrationResponse {
-    /// Returns RegistrationResponseJSON (WebAuthn Level 3).
+    /// Returns the response as `RegistrationResponseJSON` (WebAuthn Level 3).
     pub fn to_json(&self) -> String {
         self.json.clone()
     }
@@ -160,7 +160,7 @@ impl RegistrationResponse {
 }
 
 impl AuthenticationResponse {
-    /// Returns AuthenticationResponseJSON (WebAuthn Level 3).
+    /// Returns the response as `AuthenticationResponseJSON` (WebAuthn Level 3).
     pub fn to_json(&self) -> String {
         self.json.clone()
     }
@@ -184,7 +184,8 @@ fn read_member(json: &str, name: &str) -> Option<Vec<u8>> {
     base64url::decode(rest.split_once('"')?.0)
 }
 
-/// Registers and signs in as a page's `navigator.credentials` does, at an origin.
+/// A simulated browser at an origin, with a security key. It registers and signs in as `navigator.credentials` of a
+/// page does.
 pub struct Browser {
     /// The security key.
     pub key: SecurityKey,
@@ -193,30 +194,50 @@ pub struct Browser {
 }
 
 impl Browser {
-    /// Returns a browser at an origin, such as `https://example.com` or `http://localhost:5000`, with a key.
+    /// Returns a browser with a key, at an origin such as `https://example.com` or `http://localhost:5000`.
     pub fn new(origin: &str, key: SecurityKey) -> Browser {
         Browser { key, origin: origin.into(), counters: HashMap::new() }
     }
 
-    /// Registers. Errors that a page would see are [`Error::Dom`].
+    /// Registers a credential.
+    ///
+    /// # Errors
+    ///
+    /// [`Error::Dom`] if a page would get an error, such as `NotAllowedError`. [`Error::InvalidResponse`] or
+    /// [`Error::OpenSsl`] if the key fails.
     pub fn create(&mut self, options: &CreationOptions) -> Result<RegistrationResponse, Error> {
         RegistrationResponse::parse(self.create_json(&options.to_json())?).ok_or(Error::InvalidResponse)
     }
 
-    /// Registers: takes PublicKeyCredentialCreationOptionsJSON, and returns RegistrationResponseJSON. Rejects the same
-    /// options as Chromium.
+    /// Registers a credential. The options are `PublicKeyCredentialCreationOptionsJSON`, and the result is
+    /// `RegistrationResponseJSON`. Rejects the same options as Chromium.
+    ///
+    /// # Errors
+    ///
+    /// [`Error::Dom`] if a page would get an error, such as `NotAllowedError`. [`Error::InvalidResponse`] or
+    /// [`Error::OpenSsl`] if the key fails.
     pub fn create_json(&mut self, options: &str) -> Result<String, Error> {
         self.call(Ceremony::Create, options, 0)
     }
 
-    /// Signs in. Errors that a page would see are [`Error::Dom`].
+    /// Signs in.
+    ///
+    /// # Errors
+    ///
+    /// [`Error::Dom`] if a page would get an error, such as `NotAllowedError`. [`Error::InvalidResponse`] or
+    /// [`Error::OpenSsl`] if the key fails.
     pub fn get(&mut self, options: &RequestOptions) -> Result<AuthenticationResponse, Error> {
         let json = self.call(Ceremony::Get, &options.to_json(), options.account)?;
         AuthenticationResponse::parse(json).ok_or(Error::InvalidResponse)
     }
 
-    /// Signs in: takes PublicKeyCredentialRequestOptionsJSON, and returns AuthenticationResponseJSON. If there are
-    /// several accounts, the newest is used.
+    /// Signs in. The options are `PublicKeyCredentialRequestOptionsJSON`, and the result is
+    /// `AuthenticationResponseJSON`. If several accounts match, uses the newest account.
+    ///
+    /// # Errors
+    ///
+    /// [`Error::Dom`] if a page would get an error, such as `NotAllowedError`. [`Error::InvalidResponse`] or
+    /// [`Error::OpenSsl`] if the key fails.
     pub fn get_json(&mut self, options: &str) -> Result<String, Error> {
         self.call(Ceremony::Get, options, 0)
     }
@@ -237,7 +258,7 @@ impl Browser {
         client.build_credential(&response).map_err(|error| self.with_cause(error, response[0]))
     }
 
-    /// Appends the key's cause to a page's error if the key rejected the request.
+    /// Appends the key's cause to an error that a page would get, if the key rejected the request.
     fn with_cause(&mut self, error: Error, status: u8) -> Error {
         let is_rejected = status != 0 && self.key.faults.status.is_none();
         match (error, self.key.cause()) {
@@ -248,7 +269,7 @@ impl Browser {
         }
     }
 
-    /// Sends a request, and returns the response with its status byte.
+    /// Sends a request to the key, and returns the response with its status byte.
     fn exchange(&mut self, request: &[u8]) -> Result<Vec<u8>, Error> {
         match self.key.exchange(request) {
             Ok(data) => Ok([&[0], &data[..]].concat()),
@@ -257,7 +278,7 @@ impl Browser {
         }
     }
 
-    /// Injects the enabled faults into a response, and remembers its signature counter.
+    /// Injects the enabled faults into a response, and records the response's signature counter.
     fn inject_faults(&mut self, ceremony: Ceremony, request: &[u8], response: &[u8]) -> Option<Result<Vec<u8>, Error>> {
         let parameters = Item::decode(&request[1..])?;
         let members = Item::decode(&response[1..])?;
@@ -293,7 +314,8 @@ impl Browser {
         }))
     }
 
-    /// Returns the authenticator data and the signature with the enabled faults; signs again if needed.
+    /// Returns the authenticator data and the signature with the enabled faults. If a fault changes the authenticator
+    /// data, signs again.
     fn alter_response(
         &mut self,
         id: &Id,

@@ -1,6 +1,6 @@
 //! The subset of CBOR that CTAP 2.1 uses.
 
-/// An item. Maps are encoded in `Vec` order, which must be canonical (CTAP 2.1, section 8).
+/// A CBOR data item. A map is encoded in the order of its `Vec`, which must be canonical (CTAP 2.1, section 8).
 #[derive(Clone, Debug, PartialEq, Eq)]
 pub enum Item {
     Number(i64),
@@ -20,7 +20,7 @@ impl Item {
         Item::Map(entries.into_iter().map(|(key, value)| (Item::from_text(key), value)).collect())
     }
 
-    /// Returns the value of a key, if this is a map that has it.
+    /// Returns the value of a key, if this is a map with the key.
     pub fn get(&self, key: &Item) -> Option<&Item> {
         match self {
             Item::Map(entries) => entries.iter().find(|entry| entry.0 == *key).map(|entry| &entry.1),
@@ -28,7 +28,7 @@ impl Item {
         }
     }
 
-    /// Returns the value of a key, if it is a byte string.
+    /// Returns the value of a key, if this is a map with the key and the value is a byte string.
     pub fn get_bytes(&self, key: &Item) -> Option<&[u8]> {
         match self.get(key) {
             Some(Item::Bytes(bytes)) => Some(bytes),
@@ -63,7 +63,7 @@ impl Item {
         }
     }
 
-    /// Decodes bytes that are exactly one item.
+    /// Decodes bytes. Returns `None` unless they are exactly one item.
     pub fn decode(mut from: &[u8]) -> Option<Item> {
         let item = read_item(&mut from)?;
         from.is_empty().then_some(item)

@@ -1,20 +1,21 @@
-//! Calls of `navigator.credentials`. The C library checks the options, and writes requests and the credential's JSON.
+//! Calls of `navigator.credentials`. The C library checks the options, and builds the request for the key and the
+//! credential's JSON.
 use crate::standard::LONGEST_MESSAGE;
 use crate::Error;
 use hidlog_sys as sys;
 
-/// Maximum length of a credential's JSON.
+/// Maximum length of a credential's JSON in bytes.
 const CREDENTIAL_CAPACITY: usize = 16384;
 const MEDIATION: &[u8] = b"optional";
 
-/// The method of `navigator.credentials`.
+/// A method of `navigator.credentials`.
 #[derive(Clone, Copy, PartialEq, Eq)]
 pub(crate) enum Ceremony {
     Create,
     Get,
 }
 
-/// A call of `navigator.credentials`: the method, the page's options as JSON, and its origin.
+/// A call of `navigator.credentials`: the method, the options as JSON, and the page's origin.
 pub(crate) struct Client<'a> {
     pub(crate) ceremony: Ceremony,
     pub(crate) options: &'a str,
@@ -54,7 +55,7 @@ impl Client<'_> {
         read_output(length, &report, out, "the request is longer than 7609 bytes")
     }
 
-    /// Returns the credential as JSON. `response` is the key's: a status byte, then CBOR.
+    /// Returns the credential as JSON. The key's response is a status byte, then CBOR.
     pub(crate) fn build_credential(&self, response: &[u8]) -> Result<String, Error> {
         let mut report = sys::hidlog_client_report::default();
         let mut out = vec![0; CREDENTIAL_CAPACITY];
@@ -83,7 +84,8 @@ impl Client<'_> {
     }
 }
 
-/// Returns the output of a library call, or its error; `too_long` is that of an output that does not fit.
+/// Returns the output of a library call, or its error. `too_long` is the error message if the output does not fit in
+/// `out`.
 fn read_output(
     length: i64,
     report: &sys::hidlog_client_report,

@@ -11,16 +11,16 @@ pub enum Error {
     InvalidArgument(&'static str),
     /// The CTAP status code with which the key rejected a request.
     Status(u8),
-    /// The error a page would see: its name, such as `NotAllowedError`, and message.
+    /// The error that a page would get: its name, such as `NotAllowedError`, and its message.
     Dom(&'static str, String),
-    /// The response is not valid CTAP 2.1.
+    /// A response of the key is not valid CTAP 2.1.
     InvalidResponse,
     /// OpenSSL could not generate a key or sign.
     OpenSsl,
 }
 
 impl Error {
-    /// Returns the name of the error a page would see, if it is one ([`Error::Dom`]).
+    /// Returns the name of an error that a page would get ([`Error::Dom`]), or `None` for another error.
     pub fn dom_name(&self) -> Option<&'static str> {
         match self {
             Error::Dom(name, _) => Some(name),

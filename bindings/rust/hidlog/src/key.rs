@@ -7,10 +7,10 @@ pub type Packet = [u8; 64];
 /// A credential ID.
 pub type Id = [u8; 32];
 
-/// Maximum length of a cause in bytes (`hidlog.h`).
+/// Maximum length in bytes of the sentence that `cause` returns (`hidlog.h`).
 const CAUSE_CAPACITY: usize = 160;
 
-/// The user's reaction when the authenticator asks for a touch.
+/// What the user does when the authenticator asks for a touch.
 #[derive(Clone, Copy, Debug, PartialEq, Eq)]
 pub enum Presence {
     /// The user touches the key.
@@ -24,13 +24,13 @@ pub enum Presence {
 /// What an authenticator needs from its caller to continue its request.
 #[derive(Clone, Debug, PartialEq, Eq)]
 pub enum Need {
-    /// Nothing: it is ready for packets.
+    /// Nothing: the authenticator is ready for packets.
     None,
     /// User presence: [`Authenticator::provide_presence`].
     Presence,
     /// A new key pair: [`Authenticator::provide_key_pair`].
     KeyPair,
-    /// A signature over these bytes with this credential's private key: ECDSA with SHA-256 (DER).
+    /// A signature over these bytes with the private key of the credential with this ID: ECDSA with SHA-256, in DER.
     Signature(Id, Vec<u8>),
 }
 
@@ -55,17 +55,18 @@ pub struct Credential {
     pub sign_count: u32,
 }
 
-/// A session log and the credential snapshot it starts with, if any: `hidlog check --load SNAPSHOT LOG`.
+/// A session log, and a snapshot of the credentials at its start. `hidlog check --load SNAPSHOT LOG` checks a
+/// recording.
 #[derive(Clone, Debug, Default, PartialEq, Eq)]
 pub struct Recording {
-    /// The credentials at the start; empty if none.
+    /// The snapshot of the credentials at the start; empty if there are none.
     pub snapshot: Vec<u8>,
     /// The log.
     pub log: Vec<u8>,
 }
 
-/// The authenticator alone: packets and replies in, packets out. Times are in milliseconds. Each input is recorded; one
-/// that fails changes nothing.
+/// The verified core alone: packets and replies in, packets out. Times are in milliseconds. Each input is recorded. An
+/// input that returns an error does not change the authenticator.
 pub struct Authenticator {
     // While the key is initialized, `key` points to `_memory`, and the library requires that neither moves.
     key: Box<sys::hidlog_key>,
@@ -73,19 +74,23 @@ pub struct Authenticator {
     recordings: Vec<Recording>,
 }
 
-// SAFETY: hidlog.h allows calls from any thread if no two overlap, and every call on the key needs `&mut self`.
+// SAFETY: hidlog.h allows calls from any thread unless two calls on a key overlap, and each call needs `&mut self`.
 unsafe impl Send for Authenticator {}
 
 impl Authenticator {
-    /// Returns an authenticator with the credentials of a snapshot, or without any if it is empty.
+    /// Returns an authenticator with the credentials of a snapshot, or without credentials if the snapshot is empty.
+    ///
+    /// # Errors
+    ///
+    /// [`Error::Core`] if the snapshot is invalid.
     pub fn new(snapshot: &[u8]) -> Result<Authenticator, Error> {
         // SAFETY: the function has no arguments and no state.
         let size = unsafe { sys::hidlog_key_size() };
         let mut memory = vec![0u128; (size + 15) / 16];
         let mut key = Box::new(sys::hidlog_key { memory: memory.as_mut_ptr().cast(), state: 0 });
         let aaguid = [0u8; 16];
-        // SAFETY: no pointer is null, not even that of an empty slice; the memory has the size the library asks for, is
-        // aligned to 16, and stays in place on the heap.
+        // SAFETY: no pointer is null, not even that of an empty slice. The memory has the size that the library needs,
+        // is aligned to 16 bytes, and is not moved on the heap.
         let status = unsafe { sys::hidlog_key_init(&mut *key, aaguid.as_ptr(), 0, snapshot.as_ptr(), snapshot.len()) };
         if status < 0 {
             return Err(Error::from_code(status));
@@ -157,7 +162,7 @@ impl Authenticator {
         })
     }
 
-    /// Reports that there is no key pair.
+    /// Reports that the caller cannot provide a key pair.
     pub fn reject_key_pair(&mut self, time_ms: u64) -> Result<Vec<Packet>, Error> {
         // SAFETY: the key is initialized.
         self.handle_input(format_args!("k {time_ms} no"), |key| unsafe {
@@ -165,18 +170,22 @@ impl Authenticator {
         })
     }
 
-    /// Provides a signature, 1 to 72 bytes of DER.
+    /// Provides a signature in DER, 1 to 72 bytes long.
+    ///
+    /// # Errors
+    ///
+    /// [`Error::InvalidArgument`] if the signature is empty or longer than 72 bytes.
     pub fn provide_signature(&mut self, time_ms: u64, signature: &[u8]) -> Result<Vec<Packet>, Error> {
         if signature.is_empty() || signature.len() > 72 {
             return Err(Error::InvalidArgument("a signature must have 1 to 72 bytes"));
         }
-        // SAFETY: the key is initialized, and the length is that of the signature.
+        // SAFETY: the key is initialized, and the signature's length is passed with its pointer.
         self.handle_input(format_args!("s {time_ms} {}", to_hex(signature)), |key| unsafe {
             sys::hidlog_key_provide_signature(key, time_ms, signature.as_ptr(), signature.len())
         })
     }
 
-    /// Reports that there is no signature.
+    /// Reports that the caller cannot provide a signature.
     pub fn reject_signature(&mut self, time_ms: u64) -> Result<Vec<Packet>, Error> {
         // SAFETY: the key is initialized.
         self.handle_input(format_args!("s {time_ms} no"), |key| unsafe {
@@ -184,8 +193,8 @@ impl Authenticator {
         })
     }
 
-    /// Returns why the authenticator rejected its last input, as a sentence without a full stop: with an ERROR packet,
-    /// or with a status other than 0. Empty if the input was not rejected, and after power-up.
+    /// Returns why the authenticator rejected its last input with an ERROR packet, or with a status other than 0. The
+    /// cause is a sentence without a full stop. It is empty after power-up, and if the input was not rejected.
     pub fn cause(&mut self) -> String {
         let mut cause = sys::hidlog_cause::default();
         let mut text = vec![0; CAUSE_CAPACITY];
@@ -217,7 +226,8 @@ impl Authenticator {
         (0..).map_while(&mut next).map(|row| from_c_credential(&row)).collect()
     }
 
-    /// Begins a new recording if the change of the credentials, which power-cycles the key, returned no error.
+    /// Begins a new recording after a change of the credentials, which power-cycles the authenticator. If `status`, the
+    /// result of the change, is an error, returns the error.
     fn restart_recording(&mut self, status: i32) -> Result<(), Error> {
         if status < 0 {
             return Err(Error::from_code(status));
@@ -227,7 +237,12 @@ impl Authenticator {
         Ok(())
     }
 
-    /// Adds a credential, and replaces one with the same ID.
+    /// Adds a credential. A credential with the same ID is replaced.
+    ///
+    /// # Errors
+    ///
+    /// [`Error::InvalidArgument`] if the user handle or the user name is longer than 64 bytes. [`Error::Core`] if a
+    /// request is in progress, the key is full, or another discoverable credential has the same RP and user.
     pub fn add(&mut self, credential: &Credential) -> Result<(), Error> {
         if credential.user_id.len() > 64 || credential.user_name.len() > 64 {
             return Err(Error::InvalidArgument("user_id and user_name must have at most 64 bytes"));
@@ -238,6 +253,10 @@ impl Authenticator {
     }
 
     /// Removes the credential with this ID.
+    ///
+    /// # Errors
+    ///
+    /// [`Error::Core`] if no credential has this ID, or a request is in progress.
     pub fn remove(&mut self, id: &Id) -> Result<(), Error> {
         // SAFETY: the key is initialized.
         let status = unsafe { sys::hidlog_key_remove_credential(&mut *self.key, 0, id.as_ptr()) };
@@ -245,13 +264,17 @@ impl Authenticator {
     }
 
     /// Removes all credentials.
+    ///
+    /// # Errors
+    ///
+    /// [`Error::Core`] if a request is in progress.
     pub fn clear(&mut self) -> Result<(), Error> {
         // SAFETY: the key is initialized.
         let status = unsafe { sys::hidlog_key_clear_credentials(&mut *self.key, 0) };
         self.restart_recording(status)
     }
 
-    /// Returns the credentials as a snapshot for [`Authenticator::new`] and `hidlog --load`, without the private keys.
+    /// Returns the credentials, without private keys, as a snapshot for [`Authenticator::new`] and `hidlog --load`.
     pub fn snapshot(&mut self) -> Vec<u8> {
         let mut out = vec![0; sys::HIDLOG_SNAPSHOT_MAX_LEN];
         // SAFETY: the key is initialized, and the length is that of the buffer.
@@ -260,7 +283,7 @@ impl Authenticator {
         out
     }
 
-    /// Returns what was recorded. A new recording begins at each `add`, `remove` and `clear`.
+    /// Returns all recordings, oldest first. A new recording begins at each `add`, `remove` and `clear`.
     pub fn recordings(&self) -> &[Recording] {
         &self.recordings
     }
@@ -268,7 +291,7 @@ impl Authenticator {
 
 impl Drop for Authenticator {
     fn drop(&mut self) {
-        // SAFETY: the key is initialized, and not used after this.
+        // SAFETY: the key is initialized, and is not used after this call.
         unsafe { sys::hidlog_key_destroy(&mut *self.key) };
     }
 }

@@ -1,6 +1,6 @@
 //! A formally verified FIDO2 security key for tests, with recorded sessions that replay exactly.
 //!
-//! A [`Browser`] registers and signs in, as a page does:
+//! A [`Browser`] registers and signs in as a page does:
 //!
 //! ```
 //! # #[cfg(feature = "openssl")]

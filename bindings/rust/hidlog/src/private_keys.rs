@@ -1,4 +1,4 @@
-//! Private keys, by the system's OpenSSL 3.
+//! Private keys, generated and used with the system's OpenSSL 3.
 use crate::Error;
 use std::os::raw::{c_char, c_int, c_uchar, c_void};
 use std::ptr::{null, null_mut};
@@ -57,13 +57,17 @@ pub(crate) fn random_bytes<const N: usize>() -> Result<[u8; N], Error> {
 /// A private key on P-256.
 pub struct PrivateKey(*mut c_void);
 
-// SAFETY: OpenSSL's keys are not tied to a thread, and calls only read them.
+// SAFETY: OpenSSL's keys are not bound to a thread, and the calls below only read them.
 unsafe impl Send for PrivateKey {}
 
 impl PrivateKey {
     /// Generates a new private key.
+    ///
+    /// # Errors
+    ///
+    /// [`Error::OpenSsl`] if OpenSSL fails.
     pub fn new() -> Result<PrivateKey, Error> {
-        // SAFETY: the strings are NUL-terminated; for EC the curve name follows.
+        // SAFETY: the strings are NUL-terminated, and for the type "EC" the next argument is the name of the curve.
         let key = unsafe { EVP_PKEY_Q_keygen(null_mut(), null(), b"EC\0".as_ptr().cast(), b"P-256\0".as_ptr()) };
         if key.is_null() {
             return Err(Error::OpenSsl);
@@ -71,7 +75,11 @@ impl PrivateKey {
         Ok(PrivateKey(key))
     }
 
-    /// Returns the coordinates of the public key.
+    /// Returns the x and y coordinates of the public key.
+    ///
+    /// # Errors
+    ///
+    /// [`Error::OpenSsl`] if OpenSSL fails.
     pub fn point(&self) -> Result<([u8; 32], [u8; 32]), Error> {
         let (mut out, mut len) = ([0u8; 65], 0);
         // SAFETY: the key is not null, and the length is that of the buffer.
@@ -88,8 +96,13 @@ impl PrivateKey {
     }
 
     /// Returns the public key as a SubjectPublicKeyInfo, as WebAuthn's `getPublicKey()` does.
+    ///
+    /// # Errors
+    ///
+    /// [`Error::OpenSsl`] if OpenSSL fails.
     pub fn public_key(&self) -> Result<Vec<u8>, Error> {
-        // RFC 5480: ecPublicKey, prime256v1, and the point as a bit string.
+        // The DER before the point (RFC 5480): the algorithm ecPublicKey, the curve prime256v1, and the head of the bit
+        // string.
         const SPKI_PREFIX: [u8; 27] = [
             0x30, 0x59, 0x30, 0x13, 0x06, 0x07, 0x2a, 0x86, 0x48, 0xce, 0x3d, 0x02, 0x01, 0x06, 0x08, 0x2a, 0x86, 0x48,
             0xce, 0x3d, 0x03, 0x01, 0x07, 0x03, 0x42, 0x00, 0x04,
@@ -99,9 +112,14 @@ impl PrivateKey {
     }
 
     /// Signs a text with ECDSA and SHA-256 (DER).
+    ///
+    /// # Errors
+    ///
+    /// [`Error::OpenSsl`] if OpenSSL fails.
     pub fn sign(&self, text: &[u8]) -> Result<Vec<u8>, Error> {
         let (mut out, mut len) = (vec![0; 72], 72);
-        // SAFETY: the key is not null, and lengths are those of the buffers. A signature on P-256 has at most 72 bytes.
+        // SAFETY: the key is not null, and the lengths are those of the buffers. A signature on P-256 has at most 72
+        // bytes.
         let is_signed = unsafe {
             let context = EVP_MD_CTX_new();
             let is_initialized = EVP_DigestSignInit(context, null_mut(), EVP_sha256(), null_mut(), self.0) == 1;
@@ -130,7 +148,7 @@ impl PrivateKey {
 
 impl Drop for PrivateKey {
     fn drop(&mut self) {
-        // SAFETY: this is the only owner.
+        // SAFETY: `self` is the only owner of the key.
         unsafe { EVP_PKEY_free(self.0) };
     }
 }

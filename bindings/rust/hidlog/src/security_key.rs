@@ -9,26 +9,27 @@ const COMMAND_INIT: u8 = 0x80 | standard::INIT;
 const COMMAND_CBOR: u8 = 0x80 | standard::CBOR;
 const COMMAND_KEEPALIVE: u8 = 0x80 | standard::KEEPALIVE;
 
-/// Faults to inject into responses, to test how a service handles them. They are injected outside the authenticator, so
-/// that its recordings still replay.
+/// Faults to inject into responses, to test how a service handles invalid responses. The faults are injected outside
+/// the authenticator, so its recordings still pass `hidlog check`.
 #[derive(Clone, Debug, Default, PartialEq, Eq)]
 pub struct Faults {
-    /// The status of every response.
+    /// If set, the status of every response.
     pub status: Option<u8>,
-    /// Signs with a different private key.
+    /// If true, signs with a different private key.
     pub bad_signature: bool,
-    /// Repeats the signature counter of the previous response, with a valid signature.
+    /// If true, repeats the signature counter of the previous response, with a valid signature.
     pub stale_sign_count: bool,
-    /// The RP ID whose hash the authenticator data has, with a valid signature.
+    /// If set, the RP ID whose hash replaces the one in the authenticator data, with a valid signature.
     pub wrong_rp_id: Option<String>,
     /// The number of bytes to remove from the end of the authenticator data.
     pub truncate_by: usize,
 }
 
-/// An authenticator with private keys and a simulated user, for clients that send messages.
+/// An authenticator with private keys and a simulated user. Clients send messages to it.
 pub struct SecurityKey {
     authenticator: Authenticator,
-    /// What the user does each time the key asks for a touch. The last one is repeated [default: granted].
+    /// The sequence of what the user does when the key asks for a touch. The last element is repeated. If the sequence
+    /// is empty, the user grants every touch.
     pub presence: Vec<Presence>,
     /// The faults to inject.
     pub faults: Faults,
@@ -39,6 +40,10 @@ pub struct SecurityKey {
 
 impl SecurityKey {
     /// Returns a key without credentials.
+    ///
+    /// # Errors
+    ///
+    /// [`Error::Core`] if the library cannot initialize the key.
     pub fn new() -> Result<SecurityKey, Error> {
         Ok(SecurityKey {
             authenticator: Authenticator::new(&[])?,
@@ -54,7 +59,7 @@ impl SecurityKey {
         self.powered_up.elapsed().as_millis() as u64
     }
 
-    /// Returns the private key of a credential.
+    /// Returns the private key of the credential with this ID.
     pub fn private_key(&self, id: &Id) -> Option<&PrivateKey> {
         self.private_keys.get(id)
     }
@@ -64,7 +69,13 @@ impl SecurityKey {
         self.authenticator.credentials()
     }
 
-    /// Adds a credential with its private key, from which `x` and `y` are set.
+    /// Adds a credential with its private key. The credential's `x` and `y` are set to the coordinates of the public
+    /// key.
+    ///
+    /// # Errors
+    ///
+    /// [`Error::InvalidArgument`] if the user handle or the user name is longer than 64 bytes. [`Error::Core`] if the
+    /// key is full, or another discoverable credential has the same RP and user. [`Error::OpenSsl`] if OpenSSL fails.
     pub fn add(&mut self, credential: &Credential, private_key: PrivateKey) -> Result<(), Error> {
         let (x, y) = private_key.point()?;
         self.authenticator.add(&Credential { x, y, ..credential.clone() })?;
@@ -74,18 +85,26 @@ impl SecurityKey {
     }
 
     /// Removes the credential with this ID.
+    ///
+    /// # Errors
+    ///
+    /// [`Error::Core`] if no credential has this ID.
     pub fn remove(&mut self, id: &Id) -> Result<(), Error> {
         self.channel = None;
         self.authenticator.remove(id)
     }
 
     /// Removes all credentials.
+    ///
+    /// # Errors
+    ///
+    /// [`Error::Core`] if a request is in progress.
     pub fn clear(&mut self) -> Result<(), Error> {
         self.channel = None;
         self.authenticator.clear()
     }
 
-    /// Returns what was recorded. A new recording begins at each `add`, `remove` and `clear`.
+    /// Returns all recordings, oldest first. A new recording begins at each `add`, `remove` and `clear`.
     pub fn recordings(&self) -> &[Recording] {
         self.authenticator.recordings()
     }
@@ -112,7 +131,8 @@ impl SecurityKey {
         }
     }
 
-    /// Sends a packet to the authenticator, provides what it needs until it needs nothing, and returns its packets.
+    /// Sends a packet to the authenticator, provides what the authenticator needs until it needs nothing, and returns
+    /// the packets sent.
     fn exchange_packet(&mut self, packet: &Packet) -> Result<Vec<Packet>, Error> {
         let mut sent = self.authenticator.handle_packet(self.now_ms(), packet)?;
         loop {
@@ -129,7 +149,7 @@ impl SecurityKey {
         }
     }
 
-    /// Sends a message on a channel, and returns the command and the data of the response.
+    /// Sends a message on a channel, and returns the response's command and data.
     fn transact(&mut self, channel: [u8; 4], command: u8, data: &[u8]) -> Result<(u8, Vec<u8>), Error> {
         let mut sent = Vec::new();
         for packet in fragment(channel, command, data) {
@@ -148,12 +168,19 @@ impl SecurityKey {
         Ok(channel)
     }
 
-    /// Returns why the key rejected its last request, as a sentence without a full stop; empty if it did not.
+    /// Returns why the key rejected its last request, as a sentence without a full stop. Empty if the request was not
+    /// rejected.
     pub fn cause(&mut self) -> String {
         self.authenticator.cause()
     }
 
     /// Sends an authenticator command and its CBOR parameters, and returns the response after the status byte.
+    ///
+    /// # Errors
+    ///
+    /// [`Error::Status`] if the status byte is not 0; `cause` returns why. [`Error::InvalidArgument`] if the request is
+    /// empty or longer than 7609 bytes. [`Error::InvalidResponse`] if the response is not valid. [`Error::OpenSsl`] if
+    /// OpenSSL fails.
     pub fn exchange(&mut self, request: &[u8]) -> Result<Vec<u8>, Error> {
         if request.is_empty() || request.len() > LONGEST_MESSAGE {
             return Err(Error::InvalidArgument("a request must have 1 to 7609 bytes"));
@@ -186,7 +213,7 @@ fn fragment(channel: [u8; 4], command: u8, data: &[u8]) -> Vec<Packet> {
         .collect()
 }
 
-/// Returns the command and the data of the message sent on a channel, without KEEPALIVEs.
+/// Returns the command and the data of the message that the packets have for a channel, without KEEPALIVEs.
 fn reassemble(channel: [u8; 4], sent: &[Packet]) -> Option<(u8, Vec<u8>)> {
     let (mut command, mut length, mut data) = (None, 0, Vec::new());
     for packet in sent.iter().filter(|packet| packet[..4] == channel && packet[4] != COMMAND_KEEPALIVE) {

@@ -1,4 +1,4 @@
-//! An authenticator without a simulated user: packets, needs and time.
+//! Tests an authenticator without a simulated user: packets, needs and time.
 use hidlog::{Authenticator, Error, Need, Packet, Presence};
 
 fn build_packet(front: &[u8]) -> Packet {
@@ -7,8 +7,8 @@ fn build_packet(front: &[u8]) -> Packet {
     packet
 }
 
-/// The response to INIT on the broadcast channel (CTAP 2.1, section 11.2.9.1.3): nonce, channel ID, versions and
-/// capabilities.
+/// The expected response to INIT on the broadcast channel (CTAP 2.1, section 11.2.9.1.3): nonce, channel ID, versions
+/// and capabilities.
 #[test]
 fn responds_to_init() {
     let mut key = Authenticator::new(&[]).unwrap();

@@ -1,5 +1,5 @@
-//! Registers and signs in, verifies the signatures with OpenSSL, and runs `hidlog check` on the recordings if the program
-//! is found.
+//! Registers and signs in, verifies the signatures with OpenSSL, and runs `hidlog check` on the recordings if the
+//! program hidlog is found.
 #![cfg(feature = "openssl")]
 
 use hidlog::{
@@ -79,7 +79,7 @@ fn registers_and_signs_in() {
     check_recordings(browser.key.recordings());
 }
 
-/// Options and responses as JSON, with a user name that needs escapes.
+/// Options and responses as JSON, with a user name that has to be escaped.
 #[test]
 fn exchanges_json() {
     let mut browser = new_browser();
@@ -106,7 +106,7 @@ fn follows_presence_sequence() {
     check_recordings(browser.key.recordings());
 }
 
-/// The error of a request that the key rejected ends with the key's cause; the error of an injected status does not.
+/// If the key rejected a request, the error ends with the key's cause. The error of an injected status has no cause.
 #[test]
 fn errors_say_why() {
     let mut browser = new_browser();
@@ -139,7 +139,7 @@ fn rejects_invalid_calls() {
             Some("SecurityError")
         );
     }
-    // Options without rp, user or parameters.
+    // Options without rp, user or pubKeyCredParams.
     let bare = browser.create_json(r#"{"challenge":"AAECAwQFBgcICQoLDA0ODw"}"#).unwrap_err();
     assert_eq!(bare.dom_name(), Some("TypeError"));
     let nobody = browser.get(&RequestOptions { allow: vec![[9; 32]], ..request_options() });
