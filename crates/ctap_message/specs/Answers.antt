@@ -3,11 +3,11 @@ use Rattle.std.specs.Prelude.{ℕ, pos, negsuc, Bool, true, false, List, ◌∷�
 use Rattle.ctap_cbor.specs.Tree.{Int, Bytes, Text, Flag, Tree, Plain, Array, Map, no_trees, tree, no_pairs, pair, Pairs}
 use Rattle.ctap_cbor.specs.Grammar.{text}
 
--- An error response: the status alone.
+-- An error response, which consists of the status byte alone.
 abbrev pub refusal : ℕ → List ℕ
 refusal status = status ∷ []
 
--- A success response: status 0x00 and a map.
+-- A success response: status byte 0x00, followed by a map.
 abbrev pub success : Tree → List ℕ
 success map = 0x00 ∷ text map
 
@@ -43,7 +43,7 @@ es256 =
     Map (pair (name (codes "alg")) (Plain (Int (negsuc 6)))
     (pair (name (codes "type")) (name (codes "public-key")) no_pairs))
 
--- The map of the authenticatorGetInfo response, its keys in ascending order.
+-- The map of the authenticatorGetInfo response, with its keys in ascending order.
 unfoldable pub info_tree : List ℕ → Tree
 info_tree aaguid =
     Map (pair (number 0x01) (Array (tree (name (codes "FIDO_2_0")) no_trees))  -- versions
@@ -84,12 +84,12 @@ credential id =
     Map (pair (name (codes "id")) (byte_string id)
     (pair (name (codes "type")) (name (codes "public-key")) no_pairs))
 
--- The user entity with only its ID, if given.
+-- The pair with the user entity, if a user handle is given, followed by the other pairs.
 abbrev pub with_user : Option (List ℕ) → Pairs → Pairs
 with_user None rest = rest
 with_user (Some id) rest = pair (number 0x04) (Map (pair (name (codes "id")) (byte_string id) no_pairs)) rest
 
--- numberOfCredentials, if given.
+-- The pair with numberOfCredentials, if any.
 abbrev pub with_number : Option ℕ → Pairs
 with_number None = no_pairs
 with_number (Some n) = pair (number 0x05) (number n) no_pairs

@@ -21,13 +21,13 @@ abbrev pub valued_result : Result Request Status → Result RequestParameters �
 valued_result (Ok request) = Ok (valued_request request)
 valued_result (Err status) = Err status.0
 
--- The iterator over the request's list, if any, is at its beginning.
+-- The iterator over the list of descriptors, if the result is a request with a list, is at its beginning.
 abbrev pub IsAtStart : Result Request Status → Type 0
 IsAtStart (Ok (request.Make hash rp_id user_id user_name discoverable exclude)) = list_of exclude ≡ left_of exclude
 IsAtStart (Ok (request.Assert hash rp_id allow presence)) = list_of allow ≡ left_of allow
 IsAtStart other = Unit {0}
 
--- The parameters of a request have the lengths that the checks require.
+-- If the result is a request, its parameters have the lengths that the checks require.
 abbrev pub HasChecked : Result Request Status → Type 0
 HasChecked (Ok (request.Make hash rp_id user_id user_name discoverable exclude)) =
     (length hash.now ≡ 32) × (length user_id.now ≤ 64)

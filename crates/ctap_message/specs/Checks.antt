@@ -1,5 +1,5 @@
--- The checks of a message: a list of conditions, each with the status of the response if it fails. The first one that
--- fails determines the status.
+-- The checks of a message: a list of conditions, each with the status of the response if the condition is false. The
+-- first false condition determines the status.
 use Rattle.std.specs.Prelude.{ℕ, Bool, List, [], ◌∷◌, Result, Ok, Err, if◌then◌else◌}
 
 -- The request if all checks pass, or else the status of the first check that fails.

@@ -1,5 +1,5 @@
--- The members of the maps inside a request as they are collected, one pair at a time: rp, user, options, credential
--- parameters and descriptors.
+-- The members of the maps inside a request, collected one pair at a time: rp, user, options, credential parameters and
+-- descriptors.
 use Rattle.std.specs.Prelude.{◌≡◌, ℕ, Bool, false, List, Option, if◌then◌else◌}
 use Rattle.std.specs.Option.{option_copied}
 use Rattle.ctap_cbor.specs.Tree.{Tree, Trees, as_bytes, as_text, as_int, as_flag}
@@ -17,11 +17,11 @@ use Rattle.ctap_message.specs.DescriptorWalk.{list_of, left_of}
 
 -- ---- rp
 
--- Converts the code's fields of rp to those of the definitions: the ID.
+-- Converts the code's fields of rp to the RP ID, if any.
 abbrev pub to_rp : Rp → Option (List ℕ)
 to_rp x = option_copied x.id
 
--- The fields of rp after one more member.
+-- The RP ID, if any, after one more member of rp.
 abbrev pub rp_next : Tree → Tree → Option (List ℕ) → Option (List ℕ)
 rp_next k v id = if is_key (Name "id") k then as_text v else id
 
@@ -31,7 +31,7 @@ rp_next k v id = if is_key (Name "id") k then as_text v else id
 abbrev pub to_user : UserFields → User
 to_user x = record { id = option_copied x.id; name = option_copied x.name }
 
--- The fields of user after one more member.
+-- The fields of user after one more member of user.
 abbrev pub user_next : Tree → Tree → User → User
 user_next k v x = record {
   id = if is_key (Name "id") k then as_bytes v else x.id;
@@ -59,7 +59,7 @@ options_next k v x =
 abbrev pub to_parameter : ParameterFields → Parameter
 to_parameter x = record { alg = x.alg; credential_type = option_copied x.kind }
 
--- The fields of a credential parameter after one more member.
+-- The fields of a credential parameter after one more of its members.
 abbrev pub parameter_next : Tree → Tree → Parameter → Parameter
 parameter_next k v x =
     record {
@@ -77,7 +77,7 @@ to_parameters x = record { is_whole = x.is_whole; has_es256 = x.has_es256 }
 abbrev pub to_descriptor : DescriptorFields → Descriptor
 to_descriptor x = record { id = option_copied x.id; credential_type = option_copied x.kind }
 
--- The fields of a descriptor after one more member.
+-- The fields of a descriptor after one more of its members.
 abbrev pub descriptor_next : Tree → Tree → Descriptor → Descriptor
 descriptor_next k v x =
     record {
@@ -85,11 +85,11 @@ descriptor_next k v x =
       credential_type = if is_key (Name "type") k then as_text v else x.credential_type;
     }
 
--- The key of a descriptor's member other than the list of transports.
+-- The key of a descriptor's member is not `transports`.
 abbrev pub IsPlainName : Tree → Type 0
 IsPlainName k = is_key (Name "transports") k ≡ false
 
--- The summary of a list of descriptors: whether all its entries have an ID and a type, and whether it has an entry.
+-- The summary of a list of descriptors: whether all entries have an ID and a type, and whether the list has any entry.
 abbrev pub listing_in : Option Tree → Bool × Bool
 listing_in t = ((descriptors_in t).is_whole, has_entries (entries_of t))
 
@@ -97,10 +97,10 @@ listing_in t = ((descriptors_in t).is_whole, has_entries (entries_of t))
 abbrev pub to_list_summary : ListSummary → Bool × Bool
 to_list_summary x = (x.is_whole, x.given)
 
--- The summary of a list of descriptors, and its entries, over which an iterator runs.
+-- The summary of a list of descriptors, and the entries that an iterator returns.
 abbrev pub list_in : Option Tree → DescriptorList × Trees
 list_in t = (descriptors_in t, entries_of t)
 
--- Converts the code's summary of a list of descriptors, with its iterator, to that of the definitions.
+-- Converts the code's summary of a list of descriptors, with its iterator, to a summary and entries of the definitions.
 abbrev pub to_descriptor_list : ListFields → DescriptorList × Trees
 to_descriptor_list x = (record { is_whole = x.is_whole; entries = left_of x.list }, list_of x.list)

@@ -1,5 +1,5 @@
--- The parameters of a request as they are collected from its map, one pair at a time, together with the entries of
--- its list of descriptors.
+-- The parameters of a request, collected from its map one pair at a time, together with the entries of its list of
+-- descriptors.
 use Rattle.std.specs.Prelude.{◌≡◌, ℕ, pos, true, false, Option, Some, if◌then◌else◌}
 use Rattle.std.specs.Option.{option_copied}
 use Rattle.ctap_cbor.specs.Tree.{Int, Tree, Plain, Trees, as_bytes, as_text, as_uint}
@@ -9,7 +9,7 @@ use Rattle.ctap_message.specs.Fields.{parameters_in, descriptors_in, options_in,
 use Rattle.ctap_message.specs.Judged.{MakeParameters, make_parameters, AssertionParameters, assertion_parameters}
 use Rattle.ctap_message.specs.Collected.{to_rp, to_user, to_parameters, to_options, to_descriptor_list}
 
--- The key of a parameter.
+-- The map key of the parameter with this number.
 abbrev pub parameter_key : ℕ → Tree
 parameter_key n = Plain (Int (pos n))
 
@@ -19,7 +19,7 @@ parameter_key n = Plain (Int (pos n))
 abbrev pub make_in : Option Tree → MakeParameters × Trees
 make_in t = (make_parameters t, entries_of (member (Number 0x05) t))
 
--- Converts the code's parameters to those of the definitions.
+-- Converts the code's parameters of authenticatorMakeCredential to those of the definitions.
 abbrev pub to_make_parameters : Make → MakeParameters × Trees
 to_make_parameters m = (
   record {
@@ -36,7 +36,7 @@ to_make_parameters m = (
   (to_descriptor_list m.exclude).1,
 )
 
--- The parameters after one more member.
+-- The parameters of authenticatorMakeCredential after one more member of the map.
 abbrev pub make_next : Tree → Tree → MakeParameters × Trees → MakeParameters × Trees
 make_next k v m = (
   record {
@@ -53,7 +53,7 @@ make_next k v m = (
   if is_key (Number 0x05) k then entries_of (Some v) else m.1,
 )
 
--- The key of a parameter other than rp, user, a list or the options.
+-- The key is not that of rp, user, pubKeyCredParams, excludeList or options.
 pub record IsPlainMake (k : Tree) : Type 0 where
   pub rp : is_key (Number 0x02) k ≡ false
   pub user : is_key (Number 0x03) k ≡ false
@@ -76,7 +76,7 @@ pub record IsOtherMake (k : Tree) : Type 0 where
 abbrev pub assertion_in : Option Tree → AssertionParameters × Trees
 assertion_in t = (assertion_parameters t, entries_of (member (Number 0x03) t))
 
--- Converts the code's parameters to those of the definitions.
+-- Converts the code's parameters of authenticatorGetAssertion to those of the definitions.
 abbrev pub to_assertion_parameters : Assert → AssertionParameters × Trees
 to_assertion_parameters a = (
   record {
@@ -89,7 +89,7 @@ to_assertion_parameters a = (
   (to_descriptor_list a.allow).1,
 )
 
--- The parameters after one more member.
+-- The parameters of authenticatorGetAssertion after one more member of the map.
 abbrev pub assert_next : Tree → Tree → AssertionParameters × Trees → AssertionParameters × Trees
 assert_next k v a = (
   record {
@@ -102,7 +102,7 @@ assert_next k v a = (
   if is_key (Number 0x03) k then entries_of (Some v) else a.1,
 )
 
--- The key of a parameter other than a list or the options.
+-- The key is not that of allowList or options.
 pub record IsPlainAssert (k : Tree) : Type 0 where
   pub allow_list : is_key (Number 0x03) k ≡ false
   pub options : is_key (Number 0x05) k ≡ false

@@ -1,5 +1,5 @@
--- Iterating over a list of descriptors: the remaining entries, and the iterator's own count of steps. The iterator
--- reads the bytes of the list again, after the request was parsed.
+-- Iterating over a list of descriptors: the remaining entries, and the number of steps that the iterator takes. After
+-- the request was parsed, the iterator reads the bytes of the list again.
 use Rattle.std.specs.Prelude.{◌≡◌, ℕ, ◌+◌, ◌-◌, ◌≤◌, min, Bool, true, List, length, Option, Some, None, is_some}
 use Rattle.std.specs.{Prelude.if◌then◌else◌, Borrow.Bor, Iterator.YieldsFirstBy, List.cons_option}
 use Rattle.ctap_cbor.specs.Tree.{Array, Trees, no_trees, tree, depth_all, count}
@@ -22,21 +22,21 @@ list_of w = entries_of (canonical_tree w.cursor.bytes)
 abbrev pub left_of : DescriptorWalk → Trees
 left_of w = items_at 3 w.count (rest_of w.cursor)
 
--- An iterator at the beginning of these entries.
+-- The iterator is at the beginning of these entries.
 abbrev pub IsAtFirst : DescriptorWalk → Trees → Type 0
 IsAtFirst w ts = (list_of w ≡ ts) × (left_of w ≡ ts)
 
--- The steps of iterating over a whole list: one less than checking its bytes takes, because the end of the input isn't
--- checked; 0 for an empty list.
+-- The number of steps of iterating over a whole list: one less than `check` takes for its bytes, because the end of the
+-- input isn't checked; 0 for an empty list.
 abbrev pub list_steps : Trees → ℕ
 list_steps no_trees = 0
 list_steps (tree t ts) = steps (text (Array (tree t ts))) (Whole (Array (tree t ts))) - 1
 
--- The steps of skipping entries.
+-- The number of steps of skipping entries.
 abbrev pub entry_steps : Trees → ℕ
 entry_steps ts = length (texts ts) + later_in_all ts
 
--- The number of steps so far, saturating at 2^64-1.
+-- The number of steps of the iterator so far, saturating at 2^64-1.
 abbrev pub walked_steps : DescriptorWalk → ℕ
 walked_steps w = min (list_steps (list_of w) - entry_steps (left_of w)) 18446744073709551615
 
@@ -54,27 +54,27 @@ pub record NextId (old : DescriptorWalk) (id : Option (Bor (List ℕ))) (new : D
 
 -- ---- the cursor of an iterator
 
--- These are the `n` entries that the cursor still has to read.
+-- The cursor has `n` entries left to read: the entries `ts`.
 pub record HasEntriesLeft (r : Reading) (n : ℕ) (ts : Trees) : Type 0 where
   pub spelled : rest_of r ≡ texts ts
   pub number : count ts ≡ n
   pub lawful : AreLawful ts
   pub flat : depth_all ts ≤ 3
 
--- The cursor moved from the entries `ts` to the remaining entries `us`, in `more` steps.
+-- The cursor moves from the entries `ts` to the remaining entries `us`, in `more` steps.
 pub record MovesPast (r s : Reading) (n : ℕ) (ts us : Trees) (more : ℕ) : Type 0 where
   pub left : HasEntriesLeft s n us
   pub same : s.bytes ≡ r.bytes
   pub cost : entry_steps ts ≡ more + entry_steps us
   pub steps : s.steps ≡ add_steps r.steps more
 
--- The result of searching for the next entry of type `public-key`: its ID, or None if no such entry is left.
+-- The result of searching for the next entry of type `public-key`: its ID, or None if there is no such entry.
 abbrev pub YieldsId : Reading → ℕ → Reading → ℕ → Option (List ℕ) → Type 0
 YieldsId r n s m id =
     (ts : Trees) → HasEntriesLeft r n ts → (us : Trees) × (more : ℕ) × MovesPast r s m ts us more
     × (ids_of ts ≡ cons_option id (ids_of us)) × (id ≡ None → us ≡ no_trees) × (us ≡ after_first ts)
 
--- The bytes are the encoding of this list of descriptors, which isn't empty.
+-- The bytes are the encoding of this list of descriptors, and the list is not empty.
 pub record IsList (l : List ℕ) (ts : Trees) : Type 0 where
   pub lawful : IsLawful (Array ts)
   pub flat : depth_all ts ≤ 3

@@ -1,5 +1,5 @@
--- Credential descriptors (WebAuthn Level 2, section 5.8.3), credential parameters (WebAuthn Level 2, section 5.3) and
--- options, as the parameters of requests have them.
+-- Parameters of requests: credential descriptors (WebAuthn Level 2, section 5.8.3), credential parameters (WebAuthn
+-- Level 2, section 5.3) and options.
 use Rattle.std.specs.Prelude.{ℕ, ℤ, negsuc, ◌==◌, Bool, false, ◌&&◌, List, [], ◌∷◌, Option, Some, None, is_some}
 use Rattle.std.specs.{Prelude.if◌then◌else◌, Prelude.codes, List.cons_option, Str.bytes_eq}
 use Rattle.ctap_cbor.specs.Tree.{Tree, Trees, no_trees, tree, as_bytes, as_text, as_int}
@@ -10,7 +10,7 @@ use Rattle.ctap_message.specs.Members.{array_of}
 abbrev pub descriptor_types : List (MemberKey × (Tree → Bool))
 descriptor_types = (Name "id", is_bytes) ∷ (Name "type", is_text) ∷ (Name "transports", array_of is_text) ∷ []
 
--- The types of a credential parameter.
+-- The required types of the members of a credential parameter.
 abbrev pub parameter_types : List (MemberKey × (Tree → Bool))
 parameter_types = (Name "alg", is_int) ∷ (Name "type", is_text) ∷ []
 
@@ -18,28 +18,28 @@ parameter_types = (Name "alg", is_int) ∷ (Name "type", is_text) ∷ []
 abbrev pub option_types : List (MemberKey × (Tree → Bool))
 option_types = (Name "rk", is_flag) ∷ (Name "up", is_flag) ∷ (Name "uv", is_flag) ∷ []
 
--- The credential type `public-key`.
+-- The credential type is `public-key`.
 abbrev pub is_public_key : Option (List ℕ) → Bool
 is_public_key = is_some_and (λ s. bytes_eq s (codes "public-key"))
 
--- The type of a descriptor or credential parameter.
+-- The type in a descriptor or credential parameter.
 abbrev pub type_of : Tree → Option (List ℕ)
 type_of t = member_as as_text (Name "type") (Some t)
 
--- The ID and the type are present.
+-- The descriptor has an ID and a type.
 abbrev pub has_id_and_type : Tree → Bool
 has_id_and_type t = is_some (member_as as_bytes (Name "id") (Some t)) && is_some (type_of t)
 
--- The ID if the type is `public-key`.
+-- The ID in a descriptor of type `public-key`.
 abbrev pub id_of : Tree → Option (List ℕ)
 id_of t = if is_public_key (type_of t) then member_as as_bytes (Name "id") (Some t) else None
 
--- The IDs in a list of descriptors, in order, without those of other types.
+-- The IDs of all descriptors of type `public-key` in a list, in order.
 abbrev pub ids_of : Trees → List (List ℕ)
 ids_of no_trees = []
 ids_of (tree t ts) = cons_option (id_of t) (ids_of ts)
 
--- The algorithm and the type are present.
+-- The credential parameter has an algorithm and a type.
 abbrev pub has_alg_and_type : Tree → Bool
 has_alg_and_type t = is_some (member_as as_int (Name "alg") (Some t)) && is_some (type_of t)
 
@@ -48,6 +48,6 @@ abbrev pub is_es256 : Option ℤ → Bool
 is_es256 (Some (negsuc n)) = n == 6
 is_es256 _ = false
 
--- A credential parameter for ES256 public keys.
+-- The credential parameter is for ES256 public keys.
 abbrev pub is_es256_parameter : Tree → Bool
 is_es256_parameter t = is_es256 (member_as as_int (Name "alg") (Some t)) && is_public_key (type_of t)

@@ -1,4 +1,4 @@
--- The members of descriptors, options, credential parameters, rp and user that the code stores, as functions of their
+-- The members of descriptors, options, credential parameters, rp and user that the code stores, as functions of the
 -- CBOR items.
 use Rattle.std.specs.Prelude.{ℕ, ℤ, Bool, ◌&&◌, List, Option, Some, None, is_some, if◌then◌else◌}
 use Rattle.ctap_cbor.specs.Tree.{Tree, Trees, as_bytes, as_text, as_int, as_flag}
@@ -12,19 +12,19 @@ pub record Descriptor : Type 0 where
   pub id : Option (List ℕ)
   pub credential_type : Option (List ℕ)
 
--- The fields of a descriptor in an item.
+-- The fields of the descriptor in an item.
 abbrev pub descriptor_in : Option Tree → Descriptor
 descriptor_in t = record { id = member_as as_bytes (Name "id") t; credential_type = member_as as_text (Name "type") t }
 
--- The ID and the type are present.
+-- The descriptor has an ID and a type.
 abbrev pub is_complete_descriptor : Descriptor → Bool
 is_complete_descriptor d = is_some d.id && is_some d.credential_type
 
--- The ID if the type is `public-key`.
+-- The ID of a descriptor of type `public-key`.
 abbrev pub id_of_public_key : Descriptor → Option (List ℕ)
 id_of_public_key d = if is_public_key d.credential_type then d.id else None
 
--- The summary of a list of descriptors: whether each entry has an ID and a type, and the entries. An absent list has no
+-- The summary of a list of descriptors: whether each entry has an ID and a type, and the entries. A missing list has no
 -- entries.
 pub record DescriptorList : Type 0 where
   pub is_whole : Bool
@@ -64,16 +64,16 @@ pub record Parameter : Type 0 where
 abbrev pub parameter_in : Option Tree → Parameter
 parameter_in t = record { alg = member_as as_int (Name "alg") t; credential_type = member_as as_text (Name "type") t }
 
--- The algorithm and the type are present.
+-- The credential parameter has an algorithm and a type.
 abbrev pub is_whole_parameter : Parameter → Bool
 is_whole_parameter p = is_some p.alg && is_some p.credential_type
 
--- The parameter is ES256 for public keys.
+-- The credential parameter is for ES256 public keys.
 abbrev pub names_es256 : Parameter → Bool
 names_es256 p = is_es256 p.alg && is_public_key p.credential_type
 
--- The summary of pubKeyCredParams: whether each entry has an algorithm and a type, and whether one is ES256 for public
--- keys.
+-- The summary of pubKeyCredParams: whether each entry has an algorithm and a type, and whether any entry is for ES256
+-- public keys.
 pub record Parameters : Type 0 where
   pub is_whole : Bool
   pub has_es256 : Bool
@@ -88,7 +88,7 @@ parameters_in t =
 
 -- ---- the ID of rp, and the members of user
 
--- The ID of the relying party in an item.
+-- The RP ID in an item.
 abbrev pub rp_in : Option Tree → Option (List ℕ)
 rp_in t = member_as as_text (Name "id") t
 

@@ -1,5 +1,5 @@
--- The parameters of a request as the code stores them, and the checks on them. For the parameters of a map these
--- checks give the same result as those of MakeCredential.antt and GetAssertion.antt.
+-- The parameters of a request as the code stores them, and the checks of these parameters. The results are the same as
+-- those of MakeCredential.antt and GetAssertion.antt.
 use Rattle.std.specs.Prelude.{ℕ, ◌==◌, nat_le, Bool, true, false, not, ◌&&◌, List, [], ◌∷◌, length, Option, is_some}
 use Rattle.std.specs.Prelude.{is_none, unwrap_or, Result}
 use Rattle.ctap_cbor.specs.Tree.{Tree, as_bytes, as_text, as_uint}
@@ -20,7 +20,7 @@ pub record MakeParameters : Type 0 where
   pub pin_uv_auth_param : Option (List ℕ)
   pub enterprise_attestation : Option ℕ
 
--- The parameters in a map.
+-- The parameters of authenticatorMakeCredential in a map.
 abbrev pub make_parameters : Option Tree → MakeParameters
 make_parameters t =
     record {
@@ -63,7 +63,7 @@ pub record AssertionParameters : Type 0 where
   pub options : Options
   pub pin_uv_auth_param : Option (List ℕ)
 
--- The parameters in a map.
+-- The parameters of authenticatorGetAssertion in a map.
 abbrev pub assertion_parameters : Option Tree → AssertionParameters
 assertion_parameters t =
     record {

@@ -1,4 +1,4 @@
--- Finding the parameters of a request in its CBOR item (CTAP 2.1, section 8): members of maps, entries of arrays, and
+-- Access to the parameters of a request in its CBOR item (CTAP 2.1, section 8): members of maps, entries of arrays, and
 -- their required types.
 use Prim.Native.String.{String}
 use Rattle.std.specs.Prelude.{ℕ, pos, ◌==◌, Bool, true, false, ◌&&◌, ◌||◌, List, [], ◌∷◌, Option, Some, None, is_some}
@@ -8,12 +8,12 @@ use Rattle.ctap_cbor.specs.Tree.{is_map, is_array, as_bytes, as_text, as_int, as
 
 -- ---- members and entries
 
--- The pairs of a map.
+-- The pairs of a map, or none for any other item.
 abbrev pub pairs_of : Option Tree → Pairs
 pairs_of (Some (Map ps)) = ps
 pairs_of _ = no_pairs
 
--- The entries of an array.
+-- The entries of an array, or none for any other item.
 abbrev pub entries_of : Option Tree → Trees
 entries_of (Some (Array ts)) = ts
 entries_of _ = no_trees
@@ -23,22 +23,23 @@ pub data MemberKey : Type 0 where
   Number : ℕ → MemberKey
   Name : String → MemberKey
 
--- The tree is this key.
+-- The tree is the encoding of this key.
 abbrev pub is_key : MemberKey → Tree → Bool
 is_key (Number n) (Plain (Int (pos m))) = m == n
 is_key (Name name) (Plain (Text s)) = bytes_eq s (codes name)
 is_key key _ = false
 
--- The value of a key, the last one. Canonical maps have no duplicate keys.
+-- The value of a key in a list of pairs, or None. If a key occurs twice, the last value counts; canonical maps have no
+-- duplicate keys.
 unfoldable pub value_at : MemberKey → Pairs → Option Tree
 value_at key no_pairs = None
 value_at key (pair k v ps) = option_or (value_at key ps) (if is_key key k then Some v else None)
 
--- The value of a map's member.
+-- The value of the member with this key of a map.
 abbrev pub member : MemberKey → Option Tree → Option Tree
 member key map = value_at key (pairs_of map)
 
--- The value of a map's member, converted by `kind`.
+-- The value of the member with this key of a map, converted by a function.
 abbrev pub member_as : {A : Type 0} → (Tree → Option A) → MemberKey → Option Tree → Option A
 member_as kind key map = option_and_then kind (member key map)
 
@@ -47,7 +48,7 @@ unfoldable pub all_entries : (Tree → Bool) → Trees → Bool
 all_entries test no_trees = true
 all_entries test (tree t ts) = test t && all_entries test ts
 
--- Some entry passes the test.
+-- At least one entry passes the test.
 unfoldable pub some_entry : (Tree → Bool) → Trees → Bool
 some_entry test no_trees = false
 some_entry test (tree t ts) = test t || some_entry test ts
@@ -57,7 +58,7 @@ abbrev pub has_entries : Trees → Bool
 has_entries no_trees = false
 has_entries (tree t ts) = true
 
--- There is a value, and it passes the test.
+-- The value is present and passes the test.
 abbrev pub is_some_and : {A : Type 0} → (A → Bool) → Option A → Bool
 is_some_and test None = false
 is_some_and test (Some x) = test x
@@ -79,7 +80,7 @@ is_uint t = is_some (as_uint t)
 abbrev pub is_flag : Tree → Bool
 is_flag t = is_some (as_flag t)
 
--- An array whose entries have this type.
+-- The tree is an array, and each of its entries has this type.
 abbrev pub array_of : (Tree → Bool) → Tree → Bool
 array_of type t = is_array t && all_entries type (entries_of (Some t))
 
@@ -93,6 +94,6 @@ abbrev pub has_listed_type : List (MemberKey × (Tree → Bool)) → Tree → Tr
 has_listed_type [] k v = true
 has_listed_type (t ∷ ts) k v = if is_key t.0 k then t.1 v else has_listed_type ts k v
 
--- A map whose members have the listed types.
+-- The tree is a map whose members have the listed types.
 abbrev pub map_of : List (MemberKey × (Tree → Bool)) → Tree → Bool
 map_of types t = is_map t && all_pairs (has_listed_type types) (pairs_of (Some t))

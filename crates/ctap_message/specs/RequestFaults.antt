@@ -1,5 +1,5 @@
--- Why a message isn't a supported request: the first check that fails, with the values compared (CTAP 2.1, sections
--- 6.1, 6.2 and 8).
+-- Why a message isn't a supported request: the first check that fails, with the values that it compares (CTAP 2.1,
+-- sections 6.1, 6.2 and 8).
 use Rattle.std.specs.Prelude.{ℕ, ◌==◌, ◌||◌, nat_le, Bool, true, false, not, List, [], ◌∷◌, length, Option, Some, None, is_some}
 use Rattle.std.specs.Prelude.{is_none, unwrap_or, Result, Ok, Err, if◌then◌else◌}
 use Rattle.ctap_cbor.specs.declared.fault.Kind.{Kind}
@@ -14,7 +14,7 @@ use Rattle.ctap_message.specs.MakeCredential.{make_types}
 use Rattle.ctap_message.specs.GetAssertion.{assertion_types}
 use Rattle.ctap_message.specs.Judged.{MakeParameters, make_parameters, AssertionParameters, assertion_parameters}
 
--- The status code of the response (section 8.2).
+-- The status code of the error response (section 8.2).
 abbrev pub status_of : RequestFault → ℕ
 status_of because.Empty = 0x03  -- INVALID_LENGTH
 status_of (because.NoSuchCommand byte) = 0x01  -- INVALID_COMMAND
@@ -32,12 +32,12 @@ status_of because.UpOption = 0x2c  -- INVALID_OPTION
 status_of because.RkOption = 0x2b  -- UNSUPPORTED_OPTION
 status_of because.EnterpriseAttestation = 0x02  -- INVALID_PARAMETER
 
--- The first check that fails, or else the last argument.
+-- The first error in the list whose condition is false, or else the last argument.
 abbrev pub or_first : List (Bool × RequestFault) → Option RequestFault → Option RequestFault
 or_first [] other = other
 or_first (check ∷ checks) other = if check.0 then or_first checks other else Some check.1
 
--- The checks of authenticatorMakeCredential after those of the first three required parameters, in order.
+-- The checks of authenticatorMakeCredential after those that clientDataHash, rp and user are present, in order.
 abbrev pub fault_of_make : MakeParameters → (hash user_id : List ℕ) → Option RequestFault
 fault_of_make m hash user_id =
     or_first
@@ -81,28 +81,28 @@ assertion_fault is_typed a =
     ∷ [])
     None
 
--- The error of parameters that aren't canonical CBOR, or else the first check that fails.
+-- The error if the parameters aren't canonical CBOR, or else the error of the first check that fails.
 abbrev pub fault_after : Option (ℕ × Kind) → Option RequestFault → Option RequestFault
 fault_after (Some f) checked = Some (because.NotCanonical (record { at = f.0; kind = f.1 }))
 fault_after None checked = checked
 
--- The first check of authenticatorMakeCredential that fails.
+-- The error of the first check of authenticatorMakeCredential that fails.
 abbrev pub checked_make : Option Tree → Option RequestFault
 checked_make t = make_fault (is_some_and (map_of make_types) t) (make_parameters t)
 
--- The first check of authenticatorGetAssertion that fails.
+-- The error of the first check of authenticatorGetAssertion that fails.
 abbrev pub checked_assertion : Option Tree → Option RequestFault
 checked_assertion t = assertion_fault (is_some_and (map_of assertion_types) t) (assertion_parameters t)
 
--- The error of parameters, from the outcome of decoding them.
+-- The error of a request's parameters, from the outcome of decoding them.
 abbrev pub fault_of : Outcome → (Option Tree → Option RequestFault) → Option RequestFault
 fault_of outcome checked = fault_after (result_of outcome) (checked (whole_tree outcome))
 
--- The error of bytes after a command without parameters (sections 6.3, 6.4, 6.6 and 6.9).
+-- The error if bytes follow the command byte of a command without parameters (sections 6.3, 6.4, 6.6 and 6.9).
 abbrev pub trailing_fault : ℕ → Option RequestFault
 trailing_fault count = if count == 0 then None else Some (because.Trailing count)
 
--- The error of a message, if it isn't a supported request.
+-- The error of a message, or None if the message is a supported request.
 unfoldable pub fault_in : List ℕ → Option RequestFault
 fault_in [] = Some because.Empty
 fault_in (byte ∷ parameters) =

@@ -1,16 +1,16 @@
--- The request in a message, or the status of its first failed check; and its parsing steps (CTAP 2.1, sections 6 and
--- 8.1).
+-- The request in a message, or the status of the first check that fails; and the number of parsing steps (CTAP 2.1,
+-- sections 6 and 8.1).
 use Rattle.std.specs.Prelude.{ℕ, ◌*◌, ◌==◌, ◌||◌, List, [], ◌∷◌, length, is_some, Result, Ok, Err, if◌then◌else◌}
 use Rattle.ctap_cbor.specs.Telling.{canonical_tree, check_steps}
 use Rattle.ctap_message.specs.Asked.{RequestParameters, GetInfo, Reset, GetNextAssertion, Selection}
 use Rattle.ctap_message.specs.{MakeCredential.make_request, GetAssertion.assertion_request}
 
--- The request of a command without parameters (CTAP 2.1, sections 6.3, 6.4, 6.6 and 6.9).
+-- The request of a command without parameters, or an error if bytes follow the command byte (CTAP 2.1, sections 6.3,
+-- 6.4, 6.6 and 6.9).
 abbrev pub without_parameters : List ℕ → RequestParameters → Result RequestParameters ℕ
 without_parameters parameters asked = if length parameters == 0 then Ok asked else Err 0x03  -- INVALID_LENGTH
 
--- The request in a message, or the status of its first failed check; and its parsing steps (CTAP 2.1, sections 6 and
--- 8.1).
+-- The request in a message, or the status of the first check that fails (CTAP 2.1, sections 6 and 8.1).
 unfoldable pub read_of : List ℕ → Result RequestParameters ℕ
 read_of [] = Err 0x03  -- INVALID_LENGTH
 read_of (byte ∷ parameters) =
@@ -22,13 +22,13 @@ read_of (byte ∷ parameters) =
     else if byte == 0x0b then without_parameters parameters Selection
     else Err 0x01  -- INVALID_COMMAND
 
--- The steps of parsing parameters: those of checking that they are canonical CBOR, and if they are, as many again for
--- reading them.
+-- The number of steps of parsing parameters: those of checking that the bytes are canonical CBOR, and as many again for
+-- reading them if they are.
 abbrev pub reading_steps : List ℕ → ℕ
 reading_steps parameters = if is_some (canonical_tree parameters) then 2 * check_steps parameters
     else check_steps parameters
 
--- The steps of parsing a message: 0 for commands without parameters.
+-- The number of steps of parsing a message: 0 for commands without parameters.
 unfoldable pub steps_of : List ℕ → ℕ
 steps_of [] = 0
 steps_of (byte ∷ parameters) = if byte == 0x01 || byte == 0x02 then reading_steps parameters else 0

@@ -8,7 +8,7 @@ use Rattle.ctap_message.specs.declared.fault.RequestFault.{RequestFault}
 use Rattle.ctap_message.specs.RequestFaults.{status_of}
 use Rattle.ctap_message.specs.DescriptorWalk.{list_of, left_of}
 
--- Converts a request of the code to one of the definitions.
+-- Converts the code's request to a request of the definitions.
 abbrev pub to_request : Request → RequestParameters
 to_request (request.Make m) =
     asks.MakeCredential m.hash.now m.rp_id.now m.user_id.now m.user_name.now m.discoverable (left_of m.exclude)
@@ -18,39 +18,39 @@ to_request request.Reset = asks.Reset
 to_request request.Next = asks.GetNextAssertion
 to_request request.Select = asks.Selection
 
--- Converts a result of the code, a request or a status, to one of the definitions.
+-- Converts the code's result, a request or a status, to a result of the definitions.
 abbrev pub request_result : Result Request Status → Result RequestParameters ℕ
 request_result (Ok request) = Ok (to_request request)
 request_result (Err status) = Err status.0
 
--- Converts a result of the code, a request or an error, to one of the definitions, with the error's status.
+-- Converts the code's result, a request or an error, to a result of the definitions, with the error's status.
 abbrev pub parsed_result : Result Request RequestFault → Result RequestParameters ℕ
 parsed_result (Ok request) = Ok (to_request request)
 parsed_result (Err fault) = Err (status_of fault)
 
--- The error, if any.
+-- The error in a result, if any.
 abbrev pub fault_of_result : Result Request RequestFault → Option RequestFault
 fault_of_result (Ok request) = None
 fault_of_result (Err fault) = Some fault
 
--- The iterator over the request's list is at its beginning.
+-- The iterator over the request's list of descriptors is at its beginning.
 abbrev pub HasFreshList : Request → Type 0
 HasFreshList (request.Make m) = list_of m.exclude ≡ left_of m.exclude
 HasFreshList (request.Assert a) = list_of a.allow ≡ left_of a.allow
 HasFreshList _ = Unit {0}
 
--- The iterator over the request's list is at its beginning, if the result is a request.
+-- If the result is a request, the iterator over its list of descriptors is at its beginning.
 abbrev pub IsFresh : {E : Type 0} → Result Request E → Type 0
 IsFresh (Ok request) = HasFreshList request
 IsFresh (Err refused) = Unit {0}
 
--- The parameters have the lengths that the checks require.
+-- The request's parameters have the lengths that the checks require.
 abbrev pub HasTheLengths : Request → Type 0
 HasTheLengths (request.Make m) = (length m.hash.now ≡ 32) × (length m.user_id.now ≤ 64)
 HasTheLengths (request.Assert a) = length a.hash.now ≡ 32
 HasTheLengths _ = Unit {0}
 
--- The parameters have the lengths that the checks require, if the result is a request.
+-- If the result is a request, its parameters have the lengths that the checks require.
 abbrev pub HasLengths : {E : Type 0} → Result Request E → Type 0
 HasLengths (Ok request) = HasTheLengths request
 HasLengths (Err refused) = Unit {0}

@@ -1,11 +1,10 @@
--- The value of a tree that a cursor read, and the values collected from the pairs of a map or the entries of an
--- array.
+-- The value of a tree that a cursor reads, and the values collected from the pairs of a map or the entries of an array.
 use Rattle.std.specs.Prelude.{◌≡◌, ℕ, Bool, false, List, Option, Some, unwrap_or}
 use Rattle.ctap_cbor.specs.{Tree.Tree, Tree.Array, Tree.Map, Tree.Trees, Tree.Pairs, Reading.Reading, Reading.Passes}
 use Rattle.ctap_cbor.specs.Collecting.{ReadsMap}
 use Rattle.ctap_message.specs.Members.{MemberKey, all_pairs, all_entries, has_listed_type}
 
--- The cursor read a tree `t`, and `value` is `f t`.
+-- The cursor reads a tree `t`, and `value` is `f t`.
 abbrev pub Reads : {V : Type 0} → (Tree → V) → ℕ → V → Reading → Reading → Type 0
 Reads f levels value old new = (t : Tree) × Passes levels t old new × (value ≡ f t)
 
@@ -13,15 +12,16 @@ Reads f levels value old new = (t : Tree) × Passes levels t old new × (value �
 abbrev pub typed : {V : Type 0} → (Tree → Bool) → (Option Tree → V) → Tree → Bool × V
 typed type view t = (type t, view (Some t))
 
--- `ok` is whether these pairs have the listed types, and `value` is the value of the map that consists of them.
+-- `ok` is whether the pairs have the listed types, and `value` is the value of the map of these pairs.
 abbrev pub HasPairs : {V : Type 0} → List (MemberKey × (Tree → Bool)) → (Option Tree → V) → V → Bool → Pairs → Type 0
 HasPairs types view value ok ps = (ok ≡ all_pairs (has_listed_type types) ps) × (value ≡ view (Some (Map ps)))
 
--- `ok` is whether these entries have the type, and `value` is the value of the array that consists of them.
+-- `ok` is whether the entries have the type, and `value` is the value of the array of these entries.
 abbrev pub HasEntries : {V : Type 0} → (Tree → Bool) → (Option Tree → V) → V → Bool → Trees → Type 0
 HasEntries type view value ok ts = (ok ≡ all_entries type ts) × (value ≡ view (Some (Array ts)))
 
--- An item was read, and its members collected. `taken` is whether it is a map and all members were accepted.
+-- The cursor reads an item, and its members are collected. `taken` is whether the item is a map all of whose members
+-- were accepted.
 abbrev pub ReadsMembers : {M : Type 0} → (M → Bool → Pairs → Type 0) → ℕ → Bool → M → M → Reading → Reading → Type 0
 ReadsMembers H levels taken before after old new =
     (r : Option Bool) × (taken ≡ unwrap_or r false) × ReadsMap H levels r before after old new

@@ -1,4 +1,4 @@
--- Why a key refused its last input, as the numbers of enum hidlog_cause_code in hidlog.h.
+-- The causes for which a key refused its last input, as the numbers of enum hidlog_cause_code in hidlog.h.
 use Rattle.std.specs.Prelude.{◌≡◌, ◌≤◌, ℕ, ℤ, pos, List, length, Bool, true, false, Option, Some, None}
 use Rattle.std.specs.Prelude.{if◌then◌else◌, nat_eq}
 use Rattle.ctap_cbor.specs.Faults.{number_of}
@@ -83,27 +83,29 @@ report_of (Transport why) = transport_report why
 report_of (Request why) = request_report why
 report_of (Command why) = command_report why
 
--- The cause of a time-out that was handled before the input, if any.
+-- The cause of dropping a message that timed out before the input, if any.
 abbrev pub time_cause_of : Option TransportRefusal → Option Cause
 time_cause_of None = None
 time_cause_of (Some overdue) = Some (Transport overdue)
 
--- The cause of the input's refusal, or that of the time-out before it.
+-- The cause of refusing the input if `is_input` is true; otherwise the cause of dropping a message that timed out
+-- before the input.
 abbrev pub cause_at : TwoCauses → (is_input : Bool) → Option Cause
 cause_at causes true = causes.input
 cause_at causes false = time_cause_of causes.time
 
--- The cause is stored, with as much of its sentence as fits. Without a cause nothing is written.
+-- The report of the cause is stored, and the return value is the number of bytes of text in the output buffer. Without
+-- a cause nothing is written, and the return value is 0.
 abbrev pub ReportsOne : Option Cause → CauseReport × CauseReport → List ℕ × List ℕ → ℤ → Type 0
 ReportsOne None report out result = (report.1 ≡ report.0) × (out.1 ≡ out.0) × (result ≡ pos 0)
 ReportsOne (Some cause) report out result = (report.1 ≡ report_of cause)
     × ((n : ℕ) × (n ≤ length out.1) × (result ≡ pos n))
 
--- 0 selects the cause of a time-out, 1 that of the input.
+-- Selector 0 selects the cause of a time-out, and selector 1 the cause of refusing the input.
 abbrev pub parsed_which : ℕ → Option Bool
 parsed_which which = if nat_eq which 0 then Some false else if nat_eq which 1 then Some true else None
 
--- The selected cause is reported. A selector other than 0 and 1 is an error.
+-- The selected cause is reported. Any selector other than 0 and 1 is an error.
 abbrev pub ReportsWhich : Option Bool → TwoCauses → CauseReport × CauseReport → List ℕ × List ℕ → ℤ → Type 0
 ReportsWhich None causes report out result = (report.1 ≡ report.0) × (out.1 ≡ out.0) × (result ≡ ERR_INVALID_ARGUMENT)
 ReportsWhich (Some is_input) causes report out result = ReportsOne (cause_at causes is_input) report out result

@@ -17,16 +17,17 @@ HasRows d rows = rows ≡ d.session.machine.core.state.rows
 abbrev pub IsIdle : DeviceState → Type 0
 IsIdle d = (d.waiting ≡ []) × (needs d.session.machine.core.state.work ≡ nothing)
 
--- Why a key cannot start a new session: queued packets are checked before a pending request.
+-- The error if a key cannot start a new session: ERR_PACKETS_QUEUED if packets are queued, or else ERR_BUSY if a
+-- request is pending.
 abbrev pub IsBusy : DeviceState → ℤ → Type 0
 IsBusy d result = ((d.waiting ≢ []) × (result ≡ ERR_PACKETS_QUEUED))
     ⊎ ((d.waiting ≡ []) × (needs d.session.machine.core.state.work ≢ nothing) × (result ≡ ERR_BUSY))
 
--- A new session began at this time, with these credentials.
+-- A new session began at time `at`, with these credentials.
 abbrev pub StartsWith : DeviceState → Option DeviceState → (at : ℕ) → List Row → Type 0
 StartsWith d after at rows = (e : DeviceState) × (after ≡ Some e) × IsStarted e d.aaguid at rows
 
--- The C struct describes this credential.
+-- The C struct `c` describes the credential in the table row `row`.
 pub record Describes (c : Credential) (row : Row) : Type 0 where
   pub rp : row.rp ≡ c.rp
   pub id : row.id ≡ c.id
@@ -43,16 +44,16 @@ pub record Describes (c : Credential) (row : Row) : Type 0 where
 abbrev pub DescribesNoRow : Credential → Type 0
 DescribesNoRow c = (row : Row) → IsUtf8 row.name → Describes c row → ⊥
 
--- The rows with a credential appended; an earlier one with the same ID is removed.
+-- The rows with a credential appended. An earlier row with the same ID is removed.
 abbrev pub with_row : Row → List Row → List Row
 with_row row rows = without row.id rows ++ row ∷ []
 
--- The credential was added, in a new session.
+-- The credential was added, and a new session began.
 abbrev pub IsAdded : DeviceState → Option DeviceState → (at : ℕ) → Credential → Type 0
 IsAdded d after at c = (row : Row) × (rows : List Row) × IsIdle d × Describes c row × HasRows d rows
     × StartsWith d after at (with_row row rows)
 
--- The error of a credential that is not added, the first of these: the key is busy; the struct is invalid; the key is
+-- The error if a credential cannot be added, checked in this order: the key is busy; the struct is invalid; the key is
 -- full; another discoverable credential has the same RP and user handle.
 abbrev pub IsNotAdded : DeviceState → Credential → ℤ → Type 0
 IsNotAdded d c result = IsBusy d result ⊎ (IsIdle d × ((DescribesNoRow c × (result ≡ ERR_INVALID_ARGUMENT))
@@ -66,12 +67,12 @@ Adds None after at c result = (after ≡ None) × (result ≡ ERR_NOT_INITIALIZE
 Adds (Some d) after at c result =
     (IsAdded d after at c × (result ≡ pos 0)) ⊎ ((after ≡ Some d) × IsNotAdded d c result)
 
--- The credential with this ID is removed, if there is one.
+-- The credential with this ID was removed, and a new session began.
 abbrev pub IsRemoved : DeviceState → Option DeviceState → (at : ℕ) → (id : List ℕ) → Type 0
 IsRemoved d after at id = (rows : List Row) × IsIdle d × HasRows d rows × (is_some (find (has_id id) rows) ≡ true)
     × StartsWith d after at (without id rows)
 
--- The error of a credential that is not removed: the key is busy, or it has no credential with this ID.
+-- The error if a credential cannot be removed: the key is busy, or it has no credential with this ID.
 abbrev pub IsNotRemoved : DeviceState → (id : List ℕ) → ℤ → Type 0
 IsNotRemoved d id result = IsBusy d result
     ⊎ (IsIdle d × (rows : List Row) × HasRows d rows × (find (has_id id) rows ≡ None) × (result ≡ ERR_INVALID_ARGUMENT))
@@ -82,22 +83,21 @@ Removes None after at id result = (after ≡ None) × (result ≡ ERR_NOT_INITIA
 Removes (Some d) after at id result =
     (IsRemoved d after at id × (result ≡ pos 0)) ⊎ ((after ≡ Some d) × IsNotRemoved d id result)
 
--- All credentials are removed.
+-- The effect of removing all credentials, and the call's return value.
 abbrev pub Clears : (before after : Option DeviceState) → (at : ℕ) → ℤ → Type 0
 Clears None after at result = (after ≡ None) × (result ≡ ERR_NOT_INITIALIZED)
 Clears (Some d) after at result = (IsIdle d × StartsWith d after at [] × (result ≡ pos 0))
     ⊎ ((after ≡ Some d) × IsBusy d result)
 
--- The snapshot, of this length, is written to the start of the buffer. A pair is the buffer before and after the
--- call.
+-- A snapshot of `len` bytes is written to the start of the buffer. A pair is the buffer before and after the call.
 abbrev pub SavesLen : DeviceState → (List ℕ × List ℕ) → (len : ℕ) → Type 0
 SavesLen d out len = (rows : List Row) × HasRows d rows × SavesInto CAPACITY rows out.0 out.1 (Some len)
 
--- The snapshot was written, and its length returned.
+-- The snapshot was written, and the call returned its length.
 abbrev pub IsSaved : DeviceState → (List ℕ × List ℕ) → ℤ → Type 0
 IsSaved d out result = (len : ℕ) × SavesLen d out len × (result ≡ pos len)
 
--- A buffer shorter than the maximum length of a snapshot is not changed.
+-- The snapshot was written; or the buffer is shorter than the maximum length of a snapshot, and is not changed.
 abbrev pub SavesRows : DeviceState → (List ℕ × List ℕ) → ℤ → Type 0
 SavesRows d out result = IsSaved d out result
     ⊎ ((length out.0 < max_snapshot_len CAPACITY) × (out.1 ≡ out.0) × (result ≡ ERR_BUFFER_TOO_SMALL))

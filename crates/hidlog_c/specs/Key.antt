@@ -6,7 +6,8 @@ use Rattle.token_session.specs.Meters.{SessionState, IsStateAfterValidStart, ste
 use Rattle.token_session.specs.{Causes.causes_of, declared.cause.Causes.Causes as TwoCauses}
 use Rattle.hidlog_c.specs.declared.fault.TheConstants.{ERR_NOT_INITIALIZED, ERR_PACKETS_QUEUED, ERR_NO_PACKET}
 
--- A session of an authenticator with an AAGUID, its queued packets, and why its last input was refused.
+-- A device: the authenticator's AAGUID, its session, its queued packets, and the causes for which its last input was
+-- refused.
 pub record DeviceState : Type 0 where
   pub aaguid : List ℕ
   pub session : SessionState
@@ -17,7 +18,7 @@ pub record DeviceState : Type 0 where
 abbrev pub no_causes : TwoCauses
 no_causes = record { time = None; input = None }
 
--- The session processes the input, and the packets that it sends are queued.
+-- The device after an input: the session processes the input, and the packets that it sends are queued.
 abbrev pub device_after : DeviceState → Timed → DeviceState
 device_after d x = record {
   aaguid = d.aaguid;
@@ -26,18 +27,18 @@ device_after d x = record {
   causes = causes_of d.session.machine x;
 }
 
--- A key that is not initialized rejects each call, and a key with queued packets rejects inputs.
+-- The device after a call with an input. If packets are queued, the call is rejected, and the device is not changed.
 abbrev pub device_after_input : DeviceState → List (List ℕ) → Timed → Option DeviceState
 device_after_input d [] x = Some (device_after d x)
 device_after_input d (packet ∷ more) x = Some d
 
--- The device after a call with an input.
+-- The device after a call with an input, or None if the key is not initialized.
 abbrev pub after_input : Option DeviceState → Timed → Option DeviceState
 after_input None x = None
 after_input (Some d) x = device_after_input d d.waiting x
 
--- The return value of a call with an input on an initialized key: the number of packets that it sends, or the error for
--- queued packets.
+-- The return value of a call with an input on an initialized key: the number of packets sent for the input, or
+-- ERR_PACKETS_QUEUED.
 abbrev pub device_return_value : DeviceState → List (List ℕ) → Timed → ℤ
 device_return_value d [] x = pos (length (input_packets_of d.session x))
 device_return_value d (packet ∷ more) x = ERR_PACKETS_QUEUED
@@ -47,24 +48,24 @@ abbrev pub input_return_value : Option DeviceState → Timed → ℤ
 input_return_value None x = ERR_NOT_INITIALIZED
 input_return_value (Some d) x = device_return_value d d.waiting x
 
--- For each history that leads to the session's state: the history with the input leads to its new state, and the
--- packets that are defined for the input are queued.
+-- For each history that leads to the session's state, the history extended by the input leads to its new state, and
+-- exactly the packets that the definitions give for the input are queued.
 abbrev pub FollowsHistory : DeviceState → Timed → Type 0
 FollowsHistory d x = (start : Start) (h : List Timed) → IsStateAfterValidStart d.session start h
     → IsStateAfterValidStart (device_after d x).session start (x ∷ h) × ((device_after d x).waiting ≡ packets_sent_now start h x)
 
--- The state after a call with an input, and the call's return value.
+-- The state of the key after a call with an input, and the call's return value.
 pub record Answers (before after : Option DeviceState) (x : Timed) (result : ℤ) : Type 0 where
   pub state : after ≡ after_input before x
   pub answer : result ≡ input_return_value before x
   pub history : (d : DeviceState) → before ≡ Some d → d.waiting ≡ [] → FollowsHistory d x
 
--- The first queued packet is removed.
+-- The device without its first queued packet.
 abbrev pub without_first : DeviceState → List (List ℕ) → Option DeviceState
 without_first d [] = Some d
 without_first d (packet ∷ more) = Some (record d { waiting = more })
 
--- The device after a call that takes a packet.
+-- The device after a call of hidlog_key_read_packet.
 abbrev pub after_next : Option DeviceState → Option DeviceState
 after_next None = None
 after_next (Some d) = without_first d d.waiting
@@ -74,22 +75,22 @@ abbrev pub waiting_of : Option DeviceState → List (List ℕ)
 waiting_of None = []
 waiting_of (Some d) = d.waiting
 
--- The first queued packet, or the old content without one.
+-- The first queued packet. If no packet is queued, the old content.
 abbrev pub first_or : List ℕ → List (List ℕ) → List ℕ
 first_or old [] = old
 first_or old (packet ∷ more) = packet
 
--- The number of packets left after the first, or the error without one.
+-- The number of queued packets after the first one. If no packet is queued, ERR_NO_PACKET.
 abbrev pub left_after : List (List ℕ) → ℤ
 left_after [] = ERR_NO_PACKET
 left_after (packet ∷ more) = pos (length more)
 
--- The return value of a call that takes a packet.
+-- The return value of a call of hidlog_key_read_packet.
 abbrev pub next_answer : Option DeviceState → ℤ
 next_answer None = ERR_NOT_INITIALIZED
 next_answer (Some d) = left_after d.waiting
 
--- The result of taking the first queued packet. A pair is the caller's packet before and after the call.
+-- The result of returning the first queued packet. A pair is the caller's packet before and after the call.
 pub record Sends (before after : Option DeviceState) (packet : List ℕ × List ℕ) (result : ℤ) : Type 0 where
   pub state : after ≡ after_next before
   pub packet_is : packet.1 ≡ first_or packet.0 (waiting_of before)

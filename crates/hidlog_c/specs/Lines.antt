@@ -8,19 +8,19 @@ use Rattle.hidlog_c.specs.declared.fault.TheConstants.{ERR_NOT_INITIALIZED, ERR_
 use Rattle.hidlog_c.specs.{declared.outcome.CResult.CResult, Commands.IsWritten, Key.DeviceState, Key.no_causes}
 use Rattle.hidlog_c.specs.Numbers.{to_c_result}
 
--- The lines were played as `live` plays them, from one state of the session to another: `bytes` of them were read,
--- all but `rest`, and this text was written.
+-- Playing the lines as `session_log::live` does takes the session from state `s` to `t`, ending with `ending`: it reads
+-- `bytes`, leaves `rest` unread, and writes `text`.
 abbrev pub PlaysLines : SessionState → SessionState → (bytes rest text : List ℕ) → Ending → Type 0
 PlaysLines s t bytes rest text ending = Plays live_machine s t bytes text ending
     × ReadsUpToEnding live_machine s bytes (rest ≡ []) ending
 
--- As `PlaysLines`, for a history and its extension by the inputs of the lines.
+-- As `PlaysLines`, on a history `h`, which the inputs in the lines extend to `later`.
 abbrev pub PlaysLinesOnHistory : Start → List Timed → List Timed → (bytes rest text : List ℕ) → Ending → Type 0
 PlaysLinesOnHistory start h later bytes rest text ending = Writes (live_history start) h later bytes text ending
     × ReadsUpToEnding (live_history start) h bytes (rest ≡ []) ending
 
--- For each history that leads to the session's state before: the lines extend it to one that leads to the state
--- after, and the text that is defined for that history was written.
+-- For each history that leads to state `s`, the inputs in the lines extend it to a history that leads to state `t`, and
+-- the written text is the one that the definitions give for that history.
 abbrev pub FollowsLines : SessionState → SessionState → (log out : List ℕ) → (written : ℕ) → Result (Unit {0}) LogFault
     → Type 0
 FollowsLines s t log out written answer = (start : Start) (h : List Timed) → IsStateAfter s start h
@@ -31,11 +31,12 @@ abbrev pub ArePlayed : SessionState → SessionState → (log out : List ℕ) �
 ArePlayed s t log out outcome = (answer : Result (Unit {0}) LogFault) × (outcome ≡ to_c_result answer outcome.written)
     × IsWritten log out outcome.written answer (PlaysLines s t) × FollowsLines s t log out outcome.written answer
 
--- The device with another session, no queued packet and no cause.
+-- The device with another session, without queued packets and causes.
 abbrev pub with_session : DeviceState → SessionState → DeviceState
 with_session d t = record { aaguid = d.aaguid; session = t; waiting = []; causes = no_causes }
 
--- A key plays lines if no packet is queued. A pair is the caller's memory before and after the call.
+-- The result of playing lines on a key: the lines are played if no packet is queued; otherwise nothing changes. A pair
+-- is the caller's memory before and after the call.
 abbrev pub PlaysOn : DeviceState → List (List ℕ) → Option DeviceState → (log : List ℕ) → (List ℕ × List ℕ)
     → (CResult × CResult) → ℤ → Type 0
 PlaysOn d [] after log out outcome result = (t : SessionState) × (after ≡ Some (with_session d t))

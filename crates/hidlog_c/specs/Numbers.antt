@@ -6,7 +6,7 @@ use Rattle.session_log.specs.Numbers.{fault_number}
 use Rattle.session_log.specs.declared.fault.LogFault.TheVariants.{BadLine, TooLong, Differs, Read, Write, TooManyLines}
 use Rattle.hidlog_c.specs.declared.outcome.CResult.{CResult}
 
--- The line of an error, or 0.
+-- The number of the line that an error concerns, or 0.
 abbrev pub line_of : LogFault → ℕ
 line_of (BadLine n) = n
 line_of (TooLong n) = n
@@ -16,12 +16,12 @@ line_of Write = 0
 line_of TooManyLines = 0
 line_of (Memory n) = n
 
--- The number of the packet that differs, or 0.
+-- The number of the first packet that differs, or 0 for other errors.
 abbrev pub packet_of : LogFault → ℕ
 packet_of (Differs line packet) = packet
 packet_of _ = 0
 
--- The result of a command with this answer that wrote this many bytes.
+-- Converts the result of a command that wrote this many bytes to a C struct.
 abbrev pub to_c_result : {A : Type 0} → Result A LogFault → ℕ → CResult
 to_c_result (Ok x) written = record { status = 0; fault = 0; line = 0; packet = 0; written = written }
 to_c_result (Err f) written = record {
@@ -32,6 +32,6 @@ to_c_result (Err f) written = record {
   written = written;
 }
 
--- The result for a rejected snapshot: nothing was written.
+-- The C struct for a rejected snapshot: nothing was written.
 abbrev pub refused : SnapshotFault → CResult
 refused f = record { status = 2; fault = refusal_number f; line = 0; packet = 0; written = 0 }

@@ -4,7 +4,7 @@ use Rattle.std.specs.Prelude.{Option, Some, None}
 use denote.RawPtr.{Ptr}
 use Rattle.hidlog_c.specs.{contracts.device.Device.the_row as device_row, Key.DeviceState}
 
--- The memory at this address has a device, or else is unused and large enough for one.
+-- The memory at this address contains the device. For None, the memory is unused and large enough for a device.
 abbrev pub holds : Ptr → Option DeviceState → Fml
 holds p None = room_at device_row p
 holds p (Some d) = lies_at device_row full_share p d

@@ -1,4 +1,5 @@
--- The values that the calls on a key write for their C caller: statistics, what the key needs, credentials.
+-- The values that the calls on a key store for their C caller: statistics, what the pending request needs, and
+-- credentials.
 use Rattle.std.specs.Prelude.{◌≡◌, ◌<◌, ◌≤◌, ℕ, ℤ, pos, ◌-◌, List, ◌++◌, length, replicate, Bool, true, false, Option}
 use Rattle.std.specs.Prelude.{Some, None, slice_index_or}
 use Rattle.authn_core.specs.Views.{Needed, needs, nothing, presence, key, sign}
@@ -12,7 +13,7 @@ use Rattle.hidlog_c.specs.Key.{DeviceState}
 abbrev pub with_zeros : ℕ → List ℕ → List ℕ
 with_zeros n bytes = bytes ++ replicate (n - length bytes) 0
 
--- A need without bytes to sign.
+-- A need of this kind, without bytes to sign.
 abbrev pub plain_need : ℕ → CNeed
 plain_need kind = record { kind = kind; to_sign_len = 0; id = replicate 32 0; signed = replicate 196 0 }
 
@@ -55,13 +56,13 @@ to_c_stats m = record {
   unused = 0;
 }
 
--- The need is stored, and its kind returned.
+-- What the pending request needs is stored, and the return value is the number of its kind.
 abbrev pub ReportsNeed : Option DeviceState → CNeed × CNeed → ℤ → Type 0
 ReportsNeed None need result = (need.1 ≡ need.0) × (result ≡ ERR_NOT_INITIALIZED)
 ReportsNeed (Some d) need result = (need.1 ≡ to_c_need (needs d.session.machine.core.state.work))
     × (result ≡ pos need.1.kind)
 
--- The credential at this index is stored, if there is one.
+-- The credential at index `place` is stored. If the index is out of range, nothing is stored.
 abbrev pub ReportsRow : List Row → ℕ → Credential × Credential → ℤ → Type 0
 ReportsRow rows place credential result =
     (place < length rows → ((row : Row) × (slice_index_or rows place row ≡ row) × (credential.1 ≡ to_c_credential row))
@@ -79,7 +80,7 @@ abbrev pub ReportsMeters : Option DeviceState → CStats × CStats → ℤ → T
 ReportsMeters None meters result = (meters.1 ≡ meters.0) × (result ≡ ERR_NOT_INITIALIZED)
 ReportsMeters (Some d) meters result = (meters.1 ≡ to_c_stats d.session.meters) × (result ≡ pos 0)
 
--- A count, or the error of a key that is not initialized.
+-- A count, or ERR_NOT_INITIALIZED if the key is not initialized.
 abbrev pub count_or : (DeviceState → ℕ) → Option DeviceState → ℤ
 count_or count None = ERR_NOT_INITIALIZED
 count_or count (Some d) = pos (count d)

@@ -1,17 +1,17 @@
--- The result of showing a log.
+-- The result of writing a readable form of a log.
 use Rattle.std.specs.Prelude.{◌≡◌, ℕ, Bool, true, false, List, [], Result}
 use Rattle.session_log.specs.{declared.fault.LogFault.LogFault, Ending.Ending, Replay.ReadsUpToEnding, Replay.Plays}
 use Rattle.session_show.specs.Shown.{IsLineText, IsTextUpTo, read_only_world}
 use Rattle.session_show.specs.declared.detail.Detail.{Detail, TheVariants.Explained, TheVariants.Fixed}
 use Rattle.hidlog_c.specs.{declared.outcome.CResult.CResult, Commands.IsWritten, Numbers.to_c_result}
 
--- The level of detail.
+-- The level of detail of the readable form.
 abbrev pub detail_for : (explained : Bool) → Detail
 detail_for true = Explained
 detail_for false = Fixed
 
--- `bytes` of the log were read, all but `rest`. Without an error, every line is a log line; an error is that of the
--- first invalid line, and the text shows the lines before it. The bytes after the invalid line don't matter.
+-- Showing the log ends with `ending`: it reads `bytes`, leaves `rest` unread, and writes `text`. If a line is invalid,
+-- the text shows the lines before it, and the bytes after it have no effect on the result.
 abbrev pub Shows : Detail → (bytes rest text : List ℕ) → Ending → Type 0
 Shows detail bytes rest text ending =
     ((lines : List ℕ) × Plays read_only_world tt tt bytes lines ending × IsTextUpTo (IsLineText detail) lines text ending)

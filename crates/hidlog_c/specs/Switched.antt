@@ -7,7 +7,7 @@ use Rattle.token_session.specs.Meters.{IsStateAfterValidStart}
 use Rattle.hidlog_c.specs.{Begin.IsSnapshotOrEmpty, declared.capacity.TheConstants.CAPACITY, Key.DeviceState, Key.no_causes}
 use Rattle.hidlog_c.specs.declared.fault.TheConstants.{ERR_ALREADY_INITIALIZED, ERR_NOT_A_SNAPSHOT, ERR_FULL, ERR_BAD_CREDENTIAL, NO_MEMORY}
 
--- The start of a session with the library's capacity.
+-- The start of a session with the capacity of this library.
 abbrev pub start_of : (aaguid : List ℕ) → (moment : ℕ) → List Row → Start
 start_of aaguid moment rows = record { aaguid = aaguid; moment = moment; capacity = CAPACITY; rows = rows }
 
@@ -22,7 +22,7 @@ refusal TooMany = ERR_FULL
 refusal (RowBroken place) = ERR_BAD_CREDENTIAL
 refusal Memory = NO_MEMORY
 
--- The device has a new session with these credentials, no queued packet and no cause.
+-- The device has a new session with these credentials, and neither queued packets nor causes.
 abbrev pub IsStarted : DeviceState → (aaguid : List ℕ) → (moment : ℕ) → List Row → Type 0
 IsStarted d aaguid moment rows =
     (d.aaguid ≡ aaguid) × (d.waiting ≡ []) × (d.causes ≡ no_causes) × IsStateAfterValidStart d.session (start_of aaguid moment rows) []

@@ -11,7 +11,7 @@ abbrev pub parsed_presence_number : ℕ → Option Reply
 parsed_presence_number n =
     if nat_eq n 0 then Some Granted else if nat_eq n 1 then Some Denied else if nat_eq n 2 then Some TimedOut else None
 
--- A signature of 1 to 72 bytes.
+-- A signature input of 1 to 72 bytes, or None for any other length.
 abbrev pub signature_input : List ℕ → Option Input
 signature_input bytes =
     if nat_le 1 (length bytes) && nat_le (length bytes) 72 then Some (Signature (Some bytes)) else None
@@ -21,7 +21,8 @@ abbrev pub refusal_of : Option DeviceState → ℤ
 refusal_of None = ERR_NOT_INITIALIZED
 refusal_of (Some d) = ERR_INVALID_ARGUMENT
 
--- A call whose argument may be invalid: then it returns an error, and the key is not changed.
+-- The effect of a call whose argument may be invalid (None). In that case the call returns an error, and the key is not
+-- changed.
 abbrev pub AnswersChecked : (before after : Option DeviceState) → (at : ℕ) → Option Input → ℤ → Type 0
 AnswersChecked before after at None result = (after ≡ before) × (result ≡ refusal_of before)
 AnswersChecked before after at (Some input) result = Answers before after (record { at = at; input = input }) result
