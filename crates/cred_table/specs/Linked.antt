@@ -5,7 +5,7 @@ use Rattle.cred_table.specs.declared.{row.Row.Row, slot.Slot.Slot, chains.Chains
 use Rattle.cred_table.specs.declared.slot.ChainKind.TheVariants.{Next, Newer, Older}
 use Rattle.cred_table.specs.Slots.{links, slot_at, chain, is_chain, is_among, distinct, bucket, row_plus_one}
 
--- The slots with rows, oldest first.
+-- The slots that contain rows, the oldest first.
 abbrev pub slots_by_age : {C : ℕ} → Chains C → List ℕ
 slots_by_age chains = chain (links Newer chains.slots) chains.oldest
 
@@ -13,11 +13,11 @@ slots_by_age chains = chain (links Newer chains.slots) chains.oldest
 abbrev pub free_slots : {C : ℕ} → Chains C → List ℕ
 free_slots chains = chain (links Next chains.slots) chains.free
 
--- The first slot of one of the 32 ID chains.
+-- The first slot of an ID chain, of which there are 32.
 abbrev pub head : {C : ℕ} → ℕ → Chains C → Option ℕ
 head b chains = slice_index_or chains.heads b None
 
--- The slots of one of the 32 ID chains.
+-- The slots of an ID chain, of which there are 32.
 abbrev pub id_slots : {C : ℕ} → ℕ → Chains C → List ℕ
 id_slots b chains = chain (links Next chains.slots) (head b chains)
 
@@ -25,12 +25,12 @@ id_slots b chains = chain (links Next chains.slots) (head b chains)
 abbrev pub row_at : List Slot → ℕ → Row
 row_at slots k = (slot_at slots k).row
 
--- The rows, oldest first.
+-- The rows of the table, the oldest first.
 abbrev pub rows_in : {C : ℕ} → Chains C → List Row
 rows_in chains = map (row_at chains.slots) (slots_by_age chains)
 
--- The invariant of the links: each slot except those in `away` is either in the free list, or once in the age list
--- and once in the chain of its ID; and the backward links match the forward ones.
+-- The invariant of the links, except for the slots in `away`: a slot is either in the free list, or once in the age
+-- list and once in the chain of its ID. The backward links match the forward links.
 pub record Linked {C : ℕ} (away : List ℕ) (chains : Chains C) : Type 0 where
   pub aged : is_chain (links Newer chains.slots) chains.oldest ≡ true
   pub back : is_chain (links Older chains.slots) chains.newest ≡ true
@@ -45,6 +45,6 @@ pub record Linked {C : ℕ} (away : List ℕ) (chains : Chains C) : Type 0 where
   pub inside : (k : ℕ) → is_among k (away ++ slots_by_age chains) ≡ true → k < length chains.slots
   pub all : length (away ++ slots_by_age chains) + length (free_slots chains) ≡ length chains.slots
 
--- The row in a slot, after the counter of one slot's row was incremented.
+-- The row in slot `k` after the counter of the row in slot `number` was incremented.
 abbrev pub incremented_at : ℕ → List Slot → ℕ → Row
 incremented_at number slots k = if nat_eq number k then row_plus_one (row_at slots k) else row_at slots k

@@ -1,4 +1,4 @@
--- The effect of reading a part of a snapshot, wherever the cursor is.
+-- How a cursor reads the parts of a snapshot, from any position.
 use Rattle.std.specs.Prelude.{◌≡◌, ℕ, ◌^◌, ◌<◌, pos, Bool, true, false, if◌then◌else◌, nat_eq, nat_le, nat_lt, List, []}
 use Rattle.std.specs.Prelude.{◌∷◌, ◌++◌, length, Option, Some, None, IsSome, IsTrue, Result, Ok, Err}
 use Rattle.std.specs.List.{AllByRecursion}
@@ -10,29 +10,29 @@ use Rattle.cred_table.specs.{declared.row.Row.Row, Rows.ValidRows}
 use Rattle.cred_table.specs.declared.fault.SnapshotFault.{SnapshotFault, TheVariants.RowBroken}
 use Rattle.cred_table.specs.Snapshots.{version, row_tree, rows_then, IsRow, clashes}
 
--- The property holds of the value, if any.
+-- The property is true for the value, if any.
 abbrev pub HoldsIfSome : {V : Type 0} → Option V → (V → Type 0) → Type 0
 HoldsIfSome None P = Unit {0}
 HoldsIfSome (Some v) P = P v
 
--- A reader returned a value if and only if the value's encoding is at the cursor, and then read it.
+-- A reader returns a value if and only if the value's encoding is at the cursor, and then moves the cursor past it.
 pub record Reads {V : Type 0} (Is : V → Type 0) (spell : V → List ℕ) (old new : Reading)
     (result : Option V) : Type 0 where
   pub took : HoldsIfSome result (λ v. Is v × (rest_of old ≡ spell v ++ rest_of new))
   pub found : (v : V) (rest : List ℕ) → Is v → rest_of old ≡ spell v ++ rest → IsSome result × (rest_of new ≡ rest)
 
--- A reader returned an item if and only if its encoding is at the cursor, and then read it: its head, and the content
--- of a string.
+-- A reader returns an item if and only if the item's encoding is at the cursor, and then moves the cursor past it. The
+-- encoding is the head and, for a string, the content.
 pub record ReadsPart (capacity : ℕ) (spell : Part → List ℕ) (old new : Reading) (result : Option Part) : Type 0 where
   pub took : HoldsIfSome result (λ i. IsAllowed capacity AnItem i × (rest_of old ≡ spell i ++ rest_of new))
   pub found : (i : Part) (rest : List ℕ) → IsAllowed capacity AnItem i → rest_of old ≡ spell i ++ rest
       → (result ≡ Some i) × (rest_of new ≡ rest)
 
--- The encoding of a map member: its key, and the head of its value or a whole string.
+-- The encoding of a map member: its key, followed by a whole string or the head of another value.
 abbrev pub member_text : ℕ → Part → List ℕ
 member_text key part = scalar_text (Int (pos key)) ++ item_text part
 
--- The head of a map with this number of members.
+-- Accepts the head of a map with this number of members.
 abbrev pub map_in : ℕ → Part → Option (Unit {0})
 map_in count (OpensMap n) = if nat_eq n count then Some tt else None
 map_in count _ = None
@@ -42,12 +42,12 @@ abbrev pub key_in : ℕ → Part → Option (Unit {0})
 key_in key (One (Int (pos n))) = if nat_eq n key then Some tt else None
 key_in key _ = None
 
--- A byte string of 32 bytes.
+-- The content of a byte string of 32 bytes, or None.
 abbrev pub hash_in : Part → Option (List ℕ)
 hash_in (One (Bytes s)) = if nat_eq (length s) 32 then Some s else None
 hash_in _ = None
 
--- A byte string of at most 64 bytes.
+-- The content of a byte string of at most 64 bytes, or None.
 abbrev pub handle_in : Part → Option (List ℕ)
 handle_in (One (Bytes s)) = if nat_le (length s) 64 then Some s else None
 handle_in _ = None
@@ -62,17 +62,17 @@ abbrev pub counter_in : Part → Option ℕ
 counter_in (One (Int (pos n))) = if nat_lt n (2 ^ 32) then Some n else None
 counter_in _ = None
 
--- A text string of at most 64 bytes.
+-- The content of a text string of at most 64 bytes, or None.
 abbrev pub name_in : Part → Option (List ℕ)
 name_in (One (Text s)) = if nat_le (length s) 64 then Some s else None
 name_in _ = None
 
--- The number of items of an array.
+-- The number of items of an array, or None for other items.
 abbrev pub count_in : Part → Option ℕ
 count_in (OpensArray n) = Some n
 count_in _ = None
 
--- Whether the rows of a version have user names.
+-- Whether the rows have user names, from the version of a snapshot, or None for unknown versions.
 abbrev pub has_names_in : Part → Option Bool
 has_names_in (One (Int (pos n))) = if nat_eq n 1 then Some false else if nat_eq n 2 then Some true else None
 has_names_in _ = None
@@ -83,16 +83,16 @@ and_then f None = None
 and_then f (Some v) = f v
 
 -- The result of reading the map member with this key, as in `Reads`. `Is` is the property of valid values, and `shown`
--- converts a value to its CBOR item.
+-- converts a value to a CBOR item.
 abbrev pub ReadsMember : {W : Type 0} → (Is : W → Type 0) (shown : W → Part) → ℕ → Reading → Reading → Option W → Type 0
 ReadsMember {W} Is shown key old new result = Reads {V = W} Is (λ w. member_text key (shown w)) old new result
 
--- The encoding of a row's user name, in versions that have one.
+-- The encoding of a row's member for the user name: nothing in version 1.
 abbrev pub name_text : (named : Bool) → List ℕ → List ℕ
 name_text true s = member_text 8 (One (Text s))
 name_text false s = []
 
--- The number of members of a row.
+-- The number of members in the map of a row.
 abbrev pub members_of : (named : Bool) → ℕ
 members_of named = if named then 8 else 7
 
@@ -108,30 +108,30 @@ header_text h = head 5 2 ++ (member_text 1 (One (Int (pos (version h.0)))) ++ me
 abbrev pub rows_text : (named : Bool) → List Row → List ℕ
 rows_text named rows = texts (rows_then named rows no_trees)
 
--- These bytes don't begin with the encoding of a row that may come after these rows.
+-- These bytes don't begin with the encoding of a row that could follow `rows` without a conflict.
 abbrev pub NoRowFollows : (named : Bool) → List Row → List ℕ → Type 0
 NoRowFollows named rows here = (row : Row) (rest : List ℕ) → IsRow named row → here ≡ row_text named row ++ rest
     → IsTrue (clashes row rows)
 
--- A row was read and appended to these.
+-- The cursor reads a row, which is appended to `rows`.
 pub record ReadsNextRow (named : Bool) (old new : Reading) (rows more : List Row) : Type 0 where
   pub row : Row
   pub typed : IsRow named row
   pub spelled : rest_of old ≡ row_text named row ++ rest_of new
   pub more_is : more ≡ rows ++ row ∷ []
 
--- The result of reading an entry.
+-- The result of reading one entry: true if the entry is a row that could be appended.
 abbrev pub ReadsEntry : (named : Bool) → Reading → Reading → List Row → List Row → Bool → Type 0
 ReadsEntry named old new rows more true = ReadsNextRow named old new rows more
 ReadsEntry named old new rows more false = NoRowFollows named rows (rest_of old)
 
--- These rows were read, from the first on.
+-- The cursor reads these rows, starting at the first entry.
 pub record ReadsFirstRows (named : Bool) (n : ℕ) (old new : Reading) (rows : List Row) : Type 0 where
   pub typed : AllByRecursion (IsRow named) rows
   pub number : length rows ≡ n
   pub spelled : rest_of old ≡ rows_text named rows ++ rest_of new
 
--- Some rows were read, fewer than the number of entries, and then an invalid one.
+-- The cursor reads valid rows, fewer than the number of entries, and then finds an invalid entry at index `place`.
 pub record FailsAtRow (named : Bool) (capacity n place : ℕ) (old : Reading) : Type 0 where
   pub rows : List Row
   pub between : Reading
@@ -140,7 +140,7 @@ pub record FailsAtRow (named : Bool) (capacity n place : ℕ) (old : Reading) : 
   pub fewer : place < n
   pub none : NoRowFollows named rows (rest_of between)
 
--- The result of reading this number of entries.
+-- The result of reading `n` entries.
 abbrev pub ReadsRows : (named : Bool) (capacity n : ℕ) → Reading → Reading → List Row → Result (Unit {0}) SnapshotFault
     → Type 0
 ReadsRows named capacity n old new rows (Ok _) = ReadsFirstRows named n old new rows

@@ -6,7 +6,7 @@ use Rattle.std.specs.List.{filter, list_any}
 use Rattle.cred_table.specs.declared.{row.Row.Row, slot.Slot.Slot, slot.ChainKind.ChainKind}
 use Rattle.cred_table.specs.declared.slot.ChainKind.TheVariants.{Next, Newer, Older}
 
--- The row of a slot that was never used.
+-- The row in a slot that was never used.
 abbrev pub blank_row : Row
 blank_row = record {
   rp = [];
@@ -27,96 +27,96 @@ blank = record { row = blank_row; next = None; newer = None; older = None }
 abbrev pub slot_at : List Slot → ℕ → Slot
 slot_at slots k = slice_index_or slots k blank
 
--- The link of a slot, by the kind of chain.
+-- The link of a slot in this kind of chain.
 abbrev pub link_of : ChainKind → Slot → Option ℕ
 link_of Next slot = slot.next
 link_of Newer slot = slot.newer
 link_of Older slot = slot.older
 
--- The links of all slots, by the kind of chain.
+-- The links of all slots in this kind of chain.
 abbrev pub links : ChainKind → List Slot → List (Option ℕ)
 links along slots = map (link_of along) slots
 
--- The slots reached by following links, at most `n`.
+-- The first `n` slots that are reached by following links from a slot.
 abbrev pub walk : ℕ → List (Option ℕ) → Option ℕ → List ℕ
 walk zero to at = []
 walk (suc n) to None = []
 walk (suc n) to (Some k) = k ∷ walk n to (slice_index_or to k None)
 
--- Following the links ends within `n` slots.
+-- Whether following the links from a slot ends within `n` slots.
 abbrev pub terminates : ℕ → List (Option ℕ) → Option ℕ → Bool
 terminates zero to None = true
 terminates zero to (Some k) = false
 terminates (suc n) to None = true
 terminates (suc n) to (Some k) = nat_lt k (length to) && terminates n to (slice_index_or to k None)
 
--- The slots of a chain. It has at most as many as there are slots.
+-- The slots of a chain, which has at most as many slots as the table.
 abbrev pub chain : List (Option ℕ) → Option ℕ → List ℕ
 chain to at = walk (length to) to at
 
--- The links form a chain without a cycle.
+-- Whether the links from a slot form a chain without a cycle.
 abbrev pub is_chain : List (Option ℕ) → Option ℕ → Bool
 is_chain to at = terminates (length to) to at
 
--- The slots of a chain with their indices.
+-- The slots of a chain, each with its index.
 abbrev pub numbered : List Slot → List ℕ → List (ℕ × Slot)
 numbered slots ks = map (λ k. (k, slot_at slots k)) ks
 
--- The slot is in the list.
+-- Whether the slot is in the list.
 abbrev pub is_among : ℕ → List ℕ → Bool
 is_among k ks = list_any (nat_eq k) ks
 
--- The list without one slot.
+-- The list, except one slot.
 abbrev pub without_slot : ℕ → List ℕ → List ℕ
 without_slot k ks = filter (λ j. not (nat_eq k j)) ks
 
--- No two elements are equal.
+-- Whether the elements of the list are distinct.
 abbrev pub distinct : List ℕ → Bool
 distinct [] = true
 distinct (k ∷ ks) = not (is_among k ks) && distinct ks
 
--- The slot with one link changed.
+-- The slot with one of its links changed.
 abbrev pub with_link : ChainKind → Option ℕ → Slot → Slot
 with_link Next to slot = record slot { next = to }
 with_link Newer to slot = record slot { newer = to }
 with_link Older to slot = record slot { older = to }
 
--- The slots after `before` was linked to `next`.
+-- The slots after the slot `before`, if any, was linked to `next`.
 abbrev pub relinked : ChainKind → (before next : Option ℕ) → List Slot → List Slot
 relinked along None next slots = slots
 relinked along (Some p) next slots = slice_set slots p (with_link along next (slot_at slots p))
 
--- The first slot of a chain after `before` was linked to `next`: it is `next` if there is no slot before it, and
--- otherwise unchanged.
+-- The first slot of a chain after the slot `before` was linked to `next`. Without a slot before it, `next` becomes the
+-- first slot.
 abbrev pub first_link : (before next : Option ℕ) → Option ℕ → Option ℕ
 first_link None next at = next
 first_link (Some p) next at = at
 
--- The index, if any, is that of one of the slots.
+-- Whether the index, if any, is below the number of slots.
 abbrev pub within : Option ℕ → List Slot → Bool
 within None slots = true
 within (Some p) slots = nat_lt p (length slots)
 
--- The index of an ID's chain: the low five bits of its first byte.
+-- The number of the chain for an ID: the low five bits of the ID's first byte.
 abbrev pub bucket : List ℕ → ℕ
 bucket id = slice_index_or id 0 0 % 32
 
--- The predecessor of a slot in a list.
+-- The predecessor of a slot in a list, if any.
 abbrev pub before : ℕ → List ℕ → Option ℕ
 before k [] = None
 before k (i ∷ []) = None
 before k (i ∷ j ∷ ks) = if nat_eq j k then Some i else before k (j ∷ ks)
 
--- The link points to this slot.
+-- Whether the link points to this slot.
 abbrev pub links_to : ℕ → Option ℕ → Bool
 links_to k None = false
 links_to k (Some j) = nat_eq j k
 
--- The chain link of the slot points to this slot.
+-- Whether the `next` link of the numbered slot points to this slot.
 abbrev pub points_to : ℕ → (ℕ × Slot) → Bool
 points_to k slot = links_to k slot.1.next
 
--- The link of a slot if all slots are free, in order.
+-- The `next` link of slot `k` while all slots are free: slots are linked in order.
 abbrev pub next_free : (capacity k : ℕ) → Option ℕ
 next_free capacity k = if nat_lt (k + 1) capacity then Some (k + 1) else None
 

@@ -1,6 +1,6 @@
--- A snapshot is one data item in canonical CBOR, the map {1: version, 2: [row, ..]}, with the rows of a credential
--- table in order of creation. Rows of version 2 have the user's name, rows of version 1 do not; `named` is true for
--- version 2.
+-- Snapshots of a credential table. A snapshot is one data item in canonical CBOR, the map {1: version, 2: [row, ..]},
+-- with the rows in order of creation. Rows of version 2 contain the user's name, rows of version 1 don't. `named` is
+-- true for version 2.
 use Rattle.std.specs.Prelude.{◌≡◌, ℕ, ◌^◌, ◌<◌, ◌≤◌, pos, Bool, true, false, ◌||◌, if◌then◌else◌, IsTrue, List, [], ◌∷◌}
 use Rattle.std.specs.Prelude.{◌++◌, length, Result, Ok, Err}
 use Rattle.std.specs.{List.AllByRecursion, List.list_any, Str.IsUtf8}
@@ -20,12 +20,12 @@ bytes s = Plain (Bytes s)
 
 -- ---- rows
 
--- The last member of a row's map, the user's name, which only version 2 has.
+-- The last member of a row's map: the user's name. Only version 2 has this member.
 abbrev pub name_member : (named : Bool) → Row → Pairs
 name_member true row = pair (number 8) (Plain (Text row.name)) no_pairs
 name_member false row = no_pairs
 
--- The map of a row: RP ID hash, credential ID, coordinates of the public key, user handle, whether it is
+-- The map of a row: RP ID hash, credential ID, coordinates of the public key, user handle, whether the credential is
 -- discoverable, signature counter, and in version 2 the user's name.
 abbrev pub row_tree : (named : Bool) → Row → Tree
 row_tree named row =
@@ -38,15 +38,15 @@ row_tree named row =
     (pair (number 7) (number row.counter)
     (name_member named row))))))))
 
--- A hash, a credential ID or a coordinate: 32 bytes.
+-- The bytes are a hash, a credential ID or a coordinate: 32 bytes.
 abbrev pub IsHash : List ℕ → Type 0
 IsHash s = (length s ≡ 32) × AreBytes s
 
--- A user handle: at most 64 bytes.
+-- The bytes are a user handle: at most 64 bytes.
 abbrev pub IsUserHandle : List ℕ → Type 0
 IsUserHandle s = (length s ≤ 64) × AreBytes s
 
--- The user's name: at most 64 bytes of UTF-8 in version 2, empty in version 1.
+-- The bytes are a user's name: at most 64 bytes of UTF-8 in version 2, empty in version 1.
 abbrev pub IsName : (named : Bool) → List ℕ → Type 0
 IsName true s = (length s ≤ 64) × IsUtf8 s
 IsName false s = s ≡ []
@@ -63,7 +63,7 @@ pub record IsRow (named : Bool) (row : Row) : Type 0 where
 
 -- ---- the whole
 
--- The version of a snapshot with or without user names.
+-- The version number of snapshots with or without user names.
 abbrev pub version : (named : Bool) → ℕ
 version named = if named then 2 else 1
 
@@ -71,7 +71,7 @@ version named = if named then 2 else 1
 abbrev pub snapshot_of : (named : Bool) → Trees → Tree
 snapshot_of named entries = Map (pair (number 1) (number (version named)) (pair (number 2) (Array entries) no_pairs))
 
--- The maps of these rows, followed by further entries.
+-- The maps of these rows, followed by other entries.
 abbrev pub rows_then : (named : Bool) → List Row → Trees → Trees
 rows_then named [] entries = entries
 rows_then named (row ∷ rows) entries = tree (row_tree named row) (rows_then named rows entries)
@@ -88,27 +88,27 @@ pub record IsSnapshot (named : Bool) (capacity : ℕ) (rows : List Row) (text : 
 
 -- ---- saving
 
--- The snapshot of the rows, in version 2, was appended to the old bytes.
+-- The snapshot of the rows in version 2 was appended to the old bytes.
 abbrev pub Saves : (capacity : ℕ) → List Row → (old new : List ℕ) → Type 0
 Saves capacity rows old new = (saved : List ℕ) × IsSnapshot true capacity rows saved × (new ≡ old ++ saved)
 
--- The length of the rows' snapshot in version 2, in bytes.
+-- The length in bytes of the snapshot of the rows in version 2.
 abbrev pub saved_len : List Row → ℕ
 saved_len rows = length (text (snapshot true rows))
 
 -- ---- loading
 
--- The bytes are the canonical encoding of a snapshot's map with these entries, which need not be valid rows.
+-- The bytes are the canonical encoding of a snapshot with these entries, which need not be valid rows.
 abbrev pub HasEntriesOf : (named : Bool) → Trees → List ℕ → Type 0
 HasEntriesOf named entries text = IsCanonical (snapshot_of named entries) text
 
--- The row conflicts with one of these rows: both have the same ID, or both are discoverable with the same RP and user
--- handle.
+-- Whether the row conflicts with one of these rows: both have the same ID, or both are discoverable with the same RP
+-- and user handle.
 abbrev pub clashes : Row → List Row → Bool
 clashes row rows = list_any (has_id row.id) rows || list_any (replaces row) rows
 
--- The entry at this index, counted from 0, is the first invalid one: it isn't the map of a row, or that row conflicts
--- with an earlier one.
+-- The entry at index `place`, counted from 0, is the first invalid entry: it isn't the map of a row, or the row
+-- conflicts with an earlier row.
 pub record FirstInvalid (named : Bool) (capacity : ℕ) (entries : Trees) (place : ℕ) : Type 0 where
   pub before : List Row
   pub entry : Tree
@@ -119,8 +119,8 @@ pub record FirstInvalid (named : Bool) (capacity : ℕ) (entries : Trees) (place
   pub lawful : ValidRows capacity before
   pub broken : (row : Row) → IsRow named row → entry ≡ row_tree named row → IsTrue (clashes row before)
 
--- The bytes are rejected with this error. The errors are checked in this order: the bytes aren't a snapshot, it has
--- more entries than the capacity, an entry is invalid.
+-- The bytes are rejected with this error. The checks are, in this order: the bytes are a snapshot, the number of
+-- entries is within the capacity, each entry is valid.
 abbrev pub Refuses : (capacity : ℕ) → List ℕ → SnapshotFault → Type 0
 Refuses capacity text NotSnapshot = (named : Bool) (entries : Trees) → HasEntriesOf named entries text → ⊥
 Refuses capacity text TooMany = (named : Bool) × (entries : Trees) × HasEntriesOf named entries text

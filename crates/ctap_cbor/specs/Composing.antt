@@ -1,9 +1,9 @@
--- The bytes that several calls of a sink append, from the bytes that each call appends.
+-- The bytes that several calls of a sink append, computed from the bytes of each call.
 use Rattle.std.proofs.Common.{ℕ, ◌+◌, List, [], ◌++◌, drop, arith, refl, sym, ap, ◌∙◌, append_assoc, append-nil}
 use Rattle.std.proofs.lemmas.List.{drop-drop}
 use Rattle.ctap_cbor.specs.{declared.sink.Sink.Sink, Writing.contents, Writing.Appends}
 
--- Two calls that append `x` and then `y` append `x ++ y`.
+-- If one call appends `x` and the next one appends `y`, both together append `x ++ y`.
 pub then : {a b c : Sink} {x y : List ℕ} {m n : ℕ} → Appends a b x m → Appends b c y n → Appends a c (x ++ y) (m + n)
 then {a = a} {x = x} {y = y} {m = m} {n = n} p q = record {
   grows = q.grows ∙ ap (λ w. w ++ y) p.grows ∙ append_assoc (contents a) x y;

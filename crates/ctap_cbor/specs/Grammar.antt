@@ -16,7 +16,7 @@ scalar_text (Flag false) = 0xf4 ∷ []
 scalar_text (Flag true) = 0xf5 ∷ []
 scalar_text Null = 0xf6 ∷ []
 
--- The encoding of a tree. The head of an array or a map has the number of its items or pairs.
+-- The encoding of a tree. The argument of an array's or map's head is the number of its items or pairs.
 abbrev mutual
   pub text : Tree → List ℕ
   text (Plain s) = scalar_text s
@@ -31,7 +31,7 @@ abbrev mutual
   pair_texts no_pairs = []
   pair_texts (pair k v ps) = text k ++ (text v ++ pair_texts ps)
 
--- A scalar that can be encoded: an integer of 64 bits, or a string shorter than 2^64 bytes.
+-- The scalar can be encoded: an integer from -2^64 to 2^64-1, or a string shorter than 2^64 bytes.
 abbrev pub Fits : Scalar → Type 0
 Fits (Int (pos n)) = n < 2 ^ 64
 Fits (Int (negsuc n)) = n < 2 ^ 64
@@ -40,7 +40,7 @@ Fits (Text s) = (length s < 2 ^ 64) × IsUtf8 s
 Fits (Flag b) = Unit {0}
 Fits Null = Unit {0}
 
--- A type allowed for map keys: an integer, a byte string or a text string.
+-- The tree may be a map key: an integer, a byte string or a text string.
 abbrev pub IsKey : Tree → Type 0
 IsKey (Plain (Int i)) = Unit {0}
 IsKey (Plain (Bytes s)) = Unit {0}
@@ -57,7 +57,7 @@ abbrev pub KeysAscend : Option (List ℕ) → Pairs → Type 0
 KeysAscend before no_pairs = Unit {0}
 KeysAscend before (pair k v ps) = IsKey k × IsAbove before (text k) × KeysAscend (Some (text k)) ps
 
--- The trees that have an encoding, at any depth of nesting.
+-- The tree has an encoding, at any depth of nesting.
 abbrev mutual
   pub IsLawful : Tree → Type 0
   IsLawful (Plain s) = Fits s

@@ -1,5 +1,5 @@
--- Heads (RFC 8949, section 3): an initial byte with a major type and five bits of additional information, and up to
--- eight bytes of an argument in big-endian order.
+-- Heads of data items (RFC 8949, section 3): an initial byte with a major type and five bits of additional information,
+-- followed by an argument of up to eight bytes in big-endian order.
 use Rattle.std.specs.Prelude.{ℕ, ◌+◌, ◌-◌, ◌*◌, ◌/◌, ◌%◌, ◌^◌, ◌<◌, List, [], ◌∷◌, take, if◌then◌else◌, nat_lt, nat_eq}
 use Rattle.std.specs.List.{AllByRecursion}
 use Rattle.std.specs.Int.{w16 as two_bytes, w32 as four_bytes, w64 as eight_bytes, to_be_bytes}
@@ -17,7 +17,7 @@ head major n =
     else if nat_lt n 0x1_0000_0000 then (32 * major + 26) ∷ to_be_bytes four_bytes n
     else (32 * major + 27) ∷ to_be_bytes eight_bytes n
 
--- The length of the shortest head with this argument, in bytes.
+-- The length in bytes of the shortest head with this argument.
 abbrev pub head_len : ℕ → ℕ
 head_len n = if nat_lt n 24 then 1 else if nat_lt n 0x100 then 2 else if nat_lt n 0x1_0000 then 3
     else if nat_lt n 0x1_0000_0000 then 5 else 9
@@ -30,7 +30,7 @@ major first = first / 32
 abbrev pub info : ℕ → ℕ
 info first = first % 32
 
--- The number of argument bytes after an initial byte with this additional information.
+-- The number of argument bytes that follow an initial byte with this additional information.
 unfoldable pub argument_len : ℕ → ℕ
 argument_len i = if nat_lt i 24 then 0 else 2 ^ (i - 24)
 
@@ -44,7 +44,7 @@ unfoldable pub argument : ℕ → List ℕ → ℕ
 argument first rest =
     if nat_lt (info first) 24 then info first else number_after 0 (take (argument_len (info first)) rest)
 
--- The smallest argument for which this additional information is the shortest encoding.
+-- The smallest argument whose shortest encoding uses this additional information.
 unfoldable pub least_argument : ℕ → ℕ
 least_argument i =
     if nat_lt i 24 then 0

@@ -1,4 +1,4 @@
--- Laws of encoding and decoding, stated over the definitions alone.
+-- Laws of encoding and decoding that refer to the definitions alone, not to the code.
 use Rattle.std.specs.Prelude.{◌≡◌, ◌↔◌, ℕ, ◌+◌, ◌*◌, ◌≤◌, List, ◌++◌, length, Some, None}
 use Rattle.ctap_cbor.specs.{declared.fault.Kind.Kind, Head.AreBytes, Refusals.refusal, Faults.AnItem}
 use Rattle.ctap_cbor.specs.Tree.{Tree, Trees, depth, depth_all, count}
@@ -8,7 +8,7 @@ use Rattle.ctap_cbor.specs.Parts.{Part, item_text, IsAllowed}
 use Rattle.ctap_cbor.specs.Telling.{outcome_of, canonical_tree, check_steps, items_at}
 use Rattle.ctap_cbor.specs.Reading.{Reading, cursor_at_start, rest_of, add_steps, Passes, Fails, HasNoByteLeft, HasTrailingBytes}
 
--- Each byte string is the encoding of exactly one tree, or has exactly one first error.
+-- Each byte string has exactly one outcome: either it is the encoding of one tree, or it has one first error.
 abbrev pub EncodingsAreUnique : Type 0
 EncodingsAreUnique = (b : List ℕ) → AreBytes b → (o : Outcome) × IsOutcome b o × ((p : Outcome) → IsOutcome b p → p ≡ o)
 
@@ -17,7 +17,7 @@ abbrev pub NoEncodingIsAPrefix : Type 0
 NoEncodingIsAPrefix = (t u : Tree) (b c x y : List ℕ) → IsEncoding t b → IsEncoding u c → b ++ x ≡ c ++ y
     → (t ≡ u) × (b ≡ c) × (x ≡ y)
 
--- No head, with the content of a string, is a proper prefix of another, and no two items have the same one.
+-- No head with its string content is a proper prefix of another, and no two items have the same head and content.
 abbrev pub NoHeadIsAPrefix : Type 0
 NoHeadIsAPrefix = (levels : ℕ) (i j : Part) (x y : List ℕ) → IsAllowed levels AnItem i → IsAllowed levels AnItem j
     → item_text i ++ x ≡ item_text j ++ y → (i ≡ j) × (x ≡ y)
@@ -40,7 +40,7 @@ abbrev pub CanonicalIsAccepted : Type 0
 CanonicalIsAccepted = (levels : ℕ) (t : Tree) (rest : List ℕ) (old new : Reading) (at : ℕ) (kind : Kind) → IsLawful t
     → depth t ≤ levels → rest_of old ≡ text t ++ rest → Fails levels old new at kind → ⊥
 
--- Decoding what was encoded returns the same value, without an error.
+-- Decoding the encoding of a value returns the same value without an error.
 abbrev pub EncodedIsDecoded : Type 0
 EncodedIsDecoded = (t : Tree) (b : List ℕ) → IsCanonical t b
     → ((u : Tree) → IsCanonical u b → u ≡ t) × ((o : Outcome) → IsOutcome b o → result_of o ≡ None)
@@ -49,29 +49,31 @@ EncodedIsDecoded = (t : Tree) (b : List ℕ) → IsCanonical t b
 abbrev pub RejectedHasNoEncoding : Type 0
 RejectedHasNoEncoding = (t : Tree) (kind : Kind) → refusal 4 t ≡ Some kind → (b : List ℕ) → IsCanonical t b → ⊥
 
--- `outcome_of` is the outcome of each byte string.
+-- For each byte string, `outcome_of` returns its only outcome.
 pub record BytesDetermineTree : Type 0 where
   pub told : (b : List ℕ) → AreBytes b → IsOutcome b (outcome_of b)
   pub only : (b : List ℕ) (o : Outcome) → AreBytes b → IsOutcome b o → outcome_of b ≡ o
 
--- `canonical_tree` returns a tree if and only if the bytes are its canonical encoding (CTAP 2.1, section 8).
+-- `canonical_tree` returns a tree if and only if the bytes are the canonical encoding of the tree (CTAP 2.1, section
+-- 8).
 abbrev pub TreesAreComputed : Type 0
 TreesAreComputed = (b : List ℕ) (t : Tree) → AreBytes b → (canonical_tree b ≡ Some t) ↔ IsCanonical t b
 
--- A cursor at the first of these bytes read this tree up to their end: the bytes are its canonical encoding.
+-- A cursor at the first of these bytes reads this tree up to the last byte, and the bytes are the canonical encoding of
+-- the tree.
 pub record ReadsTree (b : List ℕ) (s : ℕ) (t : Tree) (new : Reading) : Type 0 where
   pub tree_is : canonical_tree b ≡ Some t
   pub moved : new ≡ record { bytes = b; place = length b; steps = add_steps s (check_steps b) }
 
--- A cursor at the first of these bytes found this error: they are no tree's canonical encoding.
+-- A cursor at the first of these bytes finds this error, and the bytes are not the canonical encoding of any tree.
 pub record ReadsNoTree (b : List ℕ) (s : ℕ) (new : Reading) (at : ℕ) (kind : Kind) : Type 0 where
   pub none : canonical_tree b ≡ None
   pub fault_is : result_of (outcome_of b) ≡ Some (at, kind)
   pub bytes_stay : new.bytes ≡ b
   pub steps_are : new.steps ≡ add_steps s (check_steps b)
 
--- Reading all of these bytes returns their tree or first error, and takes the steps that `check_steps` computes,
--- whatever the step count was before.
+-- Reading all of these bytes with a cursor returns their tree or their first error, and takes exactly `check_steps`
+-- steps, for each initial step count.
 pub record CursorAgreesWithCheck (b : List ℕ) : Type 0 where
   pub passed : (t : Tree) (s : ℕ) (middle new : Reading) → Passes 4 t (cursor_at_start b s) middle → HasNoByteLeft middle new
       → ReadsTree b s t new
@@ -84,7 +86,7 @@ pub record CursorAgreesWithCheck (b : List ℕ) : Type 0 where
 abbrev pub CheckStepsAreBounded : Type 0
 CheckStepsAreBounded = (b : List ℕ) → check_steps b ≤ 2 * length b + 1
 
--- `items_at` returns the items that are encoded one after another.
+-- `items_at` returns the items from their concatenated encodings.
 abbrev pub ItemsAreDecoded : Type 0
 ItemsAreDecoded = (levels : ℕ) (ts : Trees) → AreLawful ts → depth_all ts ≤ levels →
     items_at levels (count ts) (texts ts) ≡ ts

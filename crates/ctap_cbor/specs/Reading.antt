@@ -1,4 +1,4 @@
--- The state of a cursor, and the effects of its calls.
+-- The state of a cursor, and how its calls change it.
 use Rattle.std.specs.Prelude.{◌≡◌, ℕ, ◌+◌, ◌≤◌, ◌<◌, min, max, List, [], ◌++◌, length, drop, Option, Some, None, Result}
 use Rattle.std.specs.Prelude.{Ok, Err, ◌⊎◌}
 use Rattle.ctap_cbor.specs.declared.fault.{Fault.Fault, Kind.Kind, Kind.TheVariants.Trailing}
@@ -9,7 +9,7 @@ use Rattle.ctap_cbor.specs.Faults.{Expected, AnItem, AKey, fault, passed, fault_
 use Rattle.ctap_cbor.specs.Parts.{Part, One, OpensArray, OpensMap, item_text, IsAllowed}
 use Rattle.ctap_cbor.specs.Outcome.{Enclosing, open_encodings, last_key, FailsInside, later_keys, later_in_all, later_in_map}
 
--- The state of a cursor: the message, the position, and the steps so far.
+-- The state of a cursor: the message, the position, and the number of steps so far.
 pub record Reading : Type 0 where
   pub bytes : List ℕ
   pub place : ℕ
@@ -23,59 +23,59 @@ cursor_at_start b s = record { bytes = b; place = 0; steps = s }
 abbrev pub rest_of : Reading → List ℕ
 rest_of r = drop r.place r.bytes
 
--- The step count `n` plus `more`, saturating at 2^64-1.
+-- The step count `n` increased by `more`, saturating at 2^64-1.
 abbrev pub add_steps : ℕ → ℕ → ℕ
 add_steps n more = max n (min (n + more) 18446744073709551615)
 
--- The cursor after this many bytes and steps.
+-- The cursor after it moved by this number of bytes and steps.
 abbrev pub advance : Reading → ℕ → ℕ → Reading
 advance r n s = record { bytes = r.bytes; place = r.place + n; steps = add_steps r.steps s }
 
--- The position and the step count don't decrease.
+-- The message stays the same, and the position and the step count don't decrease.
 pub record MovesOn (old new : Reading) : Type 0 where
   pub same : new.bytes ≡ old.bytes
   pub place : old.place ≤ new.place
   pub steps : old.steps ≤ new.steps
 
--- The cursor read an item: its head, and the content of a string.
+-- The cursor reads an item: its head and, for a string, the content.
 pub record TakesItem (levels : ℕ) (old new : Reading) (part : Part) : Type 0 where
   pub suits : IsAllowed levels AnItem part
   pub spelled : rest_of old ≡ item_text part ++ rest_of new
   pub moved : new ≡ advance old (length (item_text part)) (length (item_text part))
 
--- The item at the position has an error.
+-- The item at the cursor's position has this error.
 pub record HasItemError (levels : ℕ) (due : Expected) (old new : Reading) (at : ℕ) (kind : Kind) : Type 0 where
   pub is : fault levels due (rest_of old) ≡ Some kind
   pub place : at ≡ old.place
   pub moved : new ≡ advance old (passed kind (rest_of old)) (fault_steps kind (rest_of old))
 
--- The steps of comparing a key with the previous one.
+-- The number of steps of comparing a key of length `n` with the previous key, if any.
 abbrev pub log_comparison : Option (List ℕ) → ℕ → ℕ
 log_comparison None n = 0
 log_comparison (Some before) n = n
 
--- The cursor read a map key.
+-- The cursor reads a map key.
 pub record TakesKey (last : Option (List ℕ)) (old new : Reading) (s : Scalar) : Type 0 where
   pub suits : IsAllowed 0 (AKey last) (One s)
   pub spelled : rest_of old ≡ scalar_text s ++ rest_of new
   pub moved : new ≡ advance old (length (scalar_text s))
       (length (scalar_text s) + log_comparison last (length (scalar_text s)))
 
--- The cursor read a map key, and this is its encoding.
+-- The cursor reads a map key, and returns its encoding.
 pub record GivesKey (last : Option (List ℕ)) (old new : Reading) (part : Part) (bytes : List ℕ) : Type 0 where
   pub key : Scalar
   pub part_is : part ≡ One key
   pub bytes_is : bytes ≡ scalar_text key
   pub takes : TakesKey last old new key
 
--- The cursor read a whole item with its content.
+-- The cursor reads an item with its content.
 pub record Passes (levels : ℕ) (tree : Tree) (old new : Reading) : Type 0 where
   pub lawful : IsLawful tree
   pub flat : depth tree ≤ levels
   pub spelled : rest_of old ≡ text tree ++ rest_of new
   pub moved : new ≡ advance old (length (text tree)) (length (text tree) + later_keys tree)
 
--- The cursor found an error, inside of these unfinished arrays and maps.
+-- The cursor finds an error inside zero or more unfinished arrays and maps.
 pub record Fails (levels : ℕ) (old new : Reading) (at : ℕ) (kind : Kind) : Type 0 where
   pub os : List Enclosing
   pub tail : List ℕ
@@ -85,7 +85,7 @@ pub record Fails (levels : ℕ) (old new : Reading) (at : ℕ) (kind : Kind) : T
   pub moved : new ≡ advance old (length (open_encodings os) + passed kind tail)
       (length (open_encodings os) + later_keys_in_open os + fault_steps kind tail)
 
--- The cursor read this many items of an array.
+-- The cursor reads `n` items of an array.
 pub record PassesAll (levels n : ℕ) (done : Trees) (old new : Reading) : Type 0 where
   pub lawful : AreLawful done
   pub flat : depth_all done ≤ levels
@@ -93,7 +93,7 @@ pub record PassesAll (levels n : ℕ) (done : Trees) (old new : Reading) : Type 
   pub spelled : rest_of old ≡ texts done ++ rest_of new
   pub moved : new ≡ advance old (length (texts done)) (length (texts done) + later_in_all done)
 
--- The cursor read fewer items than the array's count, and then found an error.
+-- The cursor reads fewer than `n` items of an array, and then finds an error in the next item.
 pub record FailsInArray (levels n : ℕ) (old new : Reading) (at : ℕ) (kind : Kind) : Type 0 where
   pub before : ℕ
   pub fewer : before < n
@@ -102,7 +102,7 @@ pub record FailsInArray (levels n : ℕ) (old new : Reading) (at : ℕ) (kind : 
   pub passes : PassesAll levels before done old between
   pub halts : Fails levels between new at kind
 
--- The cursor read this many pairs of a map; `last` is the encoding of the last key, if any.
+-- The cursor reads `n` pairs of a map. `last` is the encoding of the last key, if any.
 pub record PassesPairs (levels n : ℕ) (done : Pairs) (last : Option (List ℕ)) (old new : Reading) : Type 0 where
   pub rises : KeysAscend None done
   pub lawful : AreLawfulPairs done
@@ -112,7 +112,7 @@ pub record PassesPairs (levels n : ℕ) (done : Pairs) (last : Option (List ℕ)
   pub spelled : rest_of old ≡ pair_texts done ++ rest_of new
   pub moved : new ≡ advance old (length (pair_texts done)) (length (pair_texts done) + later_in_map done)
 
--- The cursor read fewer pairs than the map's count, and then found an error in a key.
+-- The cursor reads fewer than `n` pairs of a map, and then finds an error in the next key.
 pub record FailsAtKey (levels n : ℕ) (old new : Reading) (at : ℕ) (kind : Kind) : Type 0 where
   pub before : ℕ
   pub last : Option (List ℕ)
@@ -122,7 +122,7 @@ pub record FailsAtKey (levels n : ℕ) (old new : Reading) (at : ℕ) (kind : Ki
   pub passes : PassesPairs levels before done last old between
   pub refuses : HasItemError 0 (AKey last) between new at kind
 
--- The cursor read fewer pairs than the map's count, and then a key, and found an error in its value.
+-- The cursor reads fewer than `n` pairs of a map, then a key, and then finds an error in the key's value.
 pub record FailsAtValue (levels n : ℕ) (old new : Reading) (at : ℕ) (kind : Kind) : Type 0 where
   pub before : ℕ
   pub last : Option (List ℕ)
@@ -135,45 +135,45 @@ pub record FailsAtValue (levels n : ℕ) (old new : Reading) (at : ℕ) (kind : 
   pub takes : TakesKey last between at_value key
   pub halts : Fails levels at_value new at kind
 
--- The cursor read `n` pairs of a map.
+-- The cursor reads some `n` pairs of a map.
 abbrev pub PassesSomePairs : ℕ → ℕ → Reading → Reading → Type 0
 PassesSomePairs levels n old new = (ps : Pairs) × (last : Option (List ℕ)) × PassesPairs levels n ps last old new
 
--- The cursor read a whole item.
+-- The cursor reads some item with its content.
 abbrev pub PassesOne : ℕ → Reading → Reading → Type 0
 PassesOne levels old new = (t : Tree) × Passes levels t old new
 
--- The item at the root of a tree, without its content.
+-- The root of a tree as an item, without the content of an array or map.
 abbrev pub part_of_tree : Tree → Part
 part_of_tree (Plain s) = One s
 part_of_tree (Array ts) = OpensArray (count ts)
 part_of_tree (Map ps) = OpensMap (count_pairs ps)
 
--- The cursor read a whole item with this head.
+-- The cursor reads an item with this head, including its content.
 abbrev pub PassesHead : ℕ → Part → Reading → Reading → Type 0
 PassesHead levels part old new = (t : Tree) × Passes levels t old new × (part ≡ part_of_tree t)
 
--- The cursor read `n` whole items.
+-- The cursor reads some `n` items with their content.
 abbrev pub PassesSome : ℕ → ℕ → Reading → Reading → Type 0
 PassesSome levels n old new = (ts : Trees) × PassesAll levels n ts old new
 
--- The cursor found an error in a key or a value of a map.
+-- The cursor finds an error in a key or a value of a map.
 abbrev pub FailsInPairs : ℕ → ℕ → Reading → Reading → ℕ → Kind → Type 0
 FailsInPairs levels n old new at kind = FailsAtKey levels n old new at kind ⊎ FailsAtValue levels n old new at kind
 
--- The result is the only possible one: a tree whose encoding is at the position is the one that was read, and an error
--- is the first.
+-- The result of reading is the only possible one: if the encoding of a tree is at the position, that tree is read;
+-- otherwise the result is the first error.
 pub record IsOnlyResult (levels : ℕ) (old new : Reading) (result : Result (Unit {0}) Fault) : Type 0 where
   pub passed : (t : Tree) (r : Reading) → Passes levels t old r → (result ≡ Ok tt) × (new ≡ r)
   pub halted : (at : ℕ) (kind : Kind) (r : Reading) → Fails levels old r at kind
       → (result ≡ Err record { at = at; kind = kind }) × (new ≡ r)
 
--- No byte is left. Detecting this takes one step.
+-- The cursor is at the end of the message. Detecting this takes one step.
 pub record HasNoByteLeft (old new : Reading) : Type 0 where
   pub at_end : rest_of old ≡ []
   pub moved : new ≡ advance old 0 1
 
--- Bytes are left after the item.
+-- Bytes follow the item, which is an error.
 pub record HasTrailingBytes (old new : Reading) (at : ℕ) (kind : Kind) : Type 0 where
   pub left : 0 < length (rest_of old)
   pub place : at ≡ old.place

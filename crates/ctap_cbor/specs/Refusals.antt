@@ -1,4 +1,4 @@
--- The trees without a canonical encoding, and the encoder's error for each: the first one in the order of encoding.
+-- The encoder's first error for each tree without a canonical encoding, in the order of encoding.
 use Rattle.std.specs.Prelude.{ℕ, ◌-◌, pos, negsuc, Bool, true, false, List, Option, Some, None, if◌then◌else◌, nat_lt}
 use Rattle.std.specs.Prelude.{nat_eq}
 use Rattle.ctap_cbor.specs.{declared.fault.Kind.Kind, Grammar.text, Tree.no_pairs, Tree.pair}
@@ -12,7 +12,7 @@ is_in_range (Int (pos n)) = nat_lt n 18446744073709551616
 is_in_range (Int (negsuc n)) = nat_lt n 18446744073709551616
 is_in_range _ = true
 
--- A scalar that may be a map key.
+-- Whether a scalar may be a map key.
 abbrev pub is_key_scalar : Scalar → Bool
 is_key_scalar (Int i) = true
 is_key_scalar (Bytes s) = true
@@ -23,21 +23,21 @@ is_key_scalar _ = false
 abbrev pub range_refusal : Scalar → Option Kind
 range_refusal s = if is_in_range s then None else Some Unsupported
 
--- The encoder's error for a map key alone: its type, or else its range.
+-- The encoder's error for a map key by itself: a type that isn't allowed, or an integer out of range.
 abbrev pub own_refusal : Tree → Option Kind
 own_refusal (Plain s) = if is_key_scalar s then range_refusal s else Some KeyType
 own_refusal _ = Some KeyType
 
--- The first error, or else the second.
+-- The first error, if any, or else the second.
 abbrev pub or_else : Option Kind → Option Kind → Option Kind
 or_else None other = other
 or_else (Some kind) other = Some kind
 
--- The encoder's error for a key that isn't above the previous one.
+-- The encoder's error for a key that isn't greater than the previous one.
 abbrev pub order_refusal : Option (List ℕ) → List ℕ → Option Kind
 order_refusal last key = if is_above (AKey last) key then None else Some KeyOrder
 
--- The encoder's first error for a tree with at most this many levels of arrays and maps, if any.
+-- The encoder's first error for a tree, if any. `levels` is the maximum number of nested arrays and maps.
 abbrev mutual
   pub refusal : ℕ → Tree → Option Kind
   refusal levels (Plain s) = range_refusal s

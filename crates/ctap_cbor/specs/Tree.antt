@@ -1,4 +1,4 @@
--- Data items as trees (RFC 8949, section 2), with their depth and content.
+-- Data items as trees (RFC 8949, section 2), their depth and their content.
 use Rattle.std.specs.Prelude.{ℕ, ◌+◌, ◌^◌, ℤ, pos, Bool, true, false, nat_lt, List, Option, Some, None, if◌then◌else◌}
 use Rattle.std.specs.Prelude.{max}
 
@@ -10,7 +10,7 @@ pub data Scalar : Type 0 where
   Flag : Bool → Scalar
   Null : Scalar
 
--- A data item: a scalar, an array of items, or a map of keys and values.
+-- Data items: scalars, arrays of items, and maps of keys and values.
 mutual
   pub data Tree : Type 0 where
     Plain : Scalar → Tree
@@ -72,12 +72,12 @@ abbrev pub as_flag : Tree → Option Bool
 as_flag (Plain (Flag b)) = Some b
 as_flag _ = None
 
--- The number of items.
+-- The number of items in a list.
 abbrev pub count : Trees → ℕ
 count no_trees = 0
 count (tree t ts) = count ts + 1
 
--- The number of pairs.
+-- The number of pairs in a list.
 abbrev pub count_pairs : Pairs → ℕ
 count_pairs no_pairs = 0
 count_pairs (pair k v ps) = count_pairs ps + 1

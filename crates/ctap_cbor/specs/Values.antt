@@ -1,4 +1,4 @@
--- The tree that a value of the code represents.
+-- The tree that a value of the code's type `Value` represents.
 use Rattle.std.specs.Prelude.{◌≡◌, ◌≢◌, List, [], ◌∷◌, map, string_bytes}
 use Rattle.ctap_cbor.specs.declared.fault.{Fault.Fault, Kind.TheVariants.Memory}
 use Rattle.ctap_cbor.specs.declared.value.Value.{Value, Value-F, fold-Value}
@@ -17,7 +17,7 @@ abbrev pub pairs : List (Tree × Tree) → Pairs
 pairs [] = no_pairs
 pairs (p ∷ ps) = pair p.0 p.1 (pairs ps)
 
--- The tree of a value, given the trees of its content.
+-- The tree of a value, from the trees of its content.
 abbrev pub tree_step : Value-F Tree → Tree
 tree_step (layer.Int i) = Plain (tree.Int i)
 tree_step (layer.Bytes v) = Plain (tree.Bytes v.items)
@@ -31,7 +31,7 @@ tree_step layer.Null = Plain tree.Null
 abbrev pub to_tree : Value → Tree
 to_tree = fold-Value Tree tree_step
 
--- The trees of a pair of values.
+-- The trees of a key and its value.
 abbrev pub to_tree_pair : Value × Value → Tree × Tree
 to_tree_pair p = (to_tree p.0, to_tree p.1)
 
@@ -39,14 +39,14 @@ to_tree_pair p = (to_tree p.0, to_tree p.1)
 abbrev pub to_trees : List Value → Trees
 to_trees vs = trees (map to_tree vs)
 
--- The trees of a list of pairs of values.
+-- The trees of a list of keys and values.
 abbrev pub to_pairs : List (Value × Value) → Pairs
 to_pairs vs = pairs (map to_tree_pair vs)
 
--- The tree of an item that is neither an array nor a map.
+-- If the item is a scalar, the tree is this scalar.
 abbrev pub IsScalarOf : Part → Tree → Type 0
 IsScalarOf part t = (s : Scalar) → part ≡ One s → Fits s → t ≡ Plain s
 
--- The error satisfies `p`, unless it is `Memory`, which is reported at position 0.
+-- The error satisfies `p`, or it is `Memory` at position 0.
 abbrev pub UnlessMemory : Fault → Type 0 → Type 0
 UnlessMemory f p = (f.kind ≢ Memory → p) × (f.kind ≡ Memory → f.at ≡ 0)

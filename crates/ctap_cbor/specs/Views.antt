@@ -11,7 +11,7 @@ use Rattle.ctap_cbor.specs.Tree as tree
 use Rattle.ctap_cbor.specs.Parts.{Part, One, OpensArray, OpensMap, item_text, item_by_major, IsAllowed}
 use Rattle.ctap_cbor.specs.Reading.{Reading, rest_of}
 
--- Converts an item of the code (`Item`) to one of the definitions.
+-- Converts the code's type `Item` to an item of the definitions.
 abbrev pub to_part : Item → Part
 to_part (Int i) = One (tree.Int i)
 to_part (Bytes s) = One (tree.Bytes s.now)
@@ -27,24 +27,25 @@ head_tree (One s) = tree.Plain s
 head_tree (OpensArray n) = tree.Array tree.no_trees
 head_tree (OpensMap n) = tree.Map tree.no_pairs
 
--- The result is the only possible one: an item that is at the position is the one that was read.
+-- The result of reading an item is the only possible one: if the encoding of an item is at the position, that item is
+-- read.
 abbrev pub ReadsItem : ℕ → Reading → Reading → Result Item Fault → Type 0
 ReadsItem levels old new result =
     (i : Part) (rest : List ℕ) → IsAllowed levels AnItem i → rest_of old ≡ item_text i ++ rest
     → IsOkAnd result (λ j. (to_part j ≡ i) × (rest_of new ≡ rest))
 
--- The code's result equals that of the definition `read`.
+-- The code's result equals that of the definition `read`, and the number of bytes read is `passed`.
 abbrev pub IsDecodedItem : List ℕ → Result (Item × ℕ) (Kind × ℕ) → Result (Part × List ℕ) Kind → Type 0
 IsDecodedItem bytes (Ok (i, len)) read = (read ≡ Ok (to_part i, drop len bytes)) × (len ≤ length bytes)
     × (len ≡ passed KeyOrder bytes)
 IsDecodedItem bytes (Err (kind, n)) read = (read ≡ Err kind) × (n ≡ passed kind bytes) × (n ≤ length bytes)
 
--- What is expected: a key, or any item.
+-- What is expected, given whether a key is expected.
 abbrev pub expected_of : Bool → Expected
 expected_of true = AKey None
 expected_of false = AnItem
 
--- The item with this head, unless it is a string.
+-- The item with this major type, additional information and argument, unless it is a string.
 abbrev pub item_with_head : ℕ → ℕ → ℕ → Part
 item_with_head zero i n = One (tree.Int (pos n))
 item_with_head (suc zero) i n = One (tree.Int (negsuc n))
@@ -52,8 +53,8 @@ item_with_head (suc (suc (suc (suc zero)))) i n = OpensArray n
 item_with_head (suc (suc (suc (suc (suc zero))))) i n = OpensMap n
 item_with_head m i n = One (if nat_eq i 20 then tree.Flag false else if nat_eq i 21 then tree.Flag true else tree.Null)
 
--- The result of reading a head's argument after a valid initial byte: the argument and the number of its bytes, or the
--- first error and the number of bytes read.
+-- The result of reading a head's argument after a valid initial byte: the argument and its length, or the first error
+-- and the number of bytes read.
 abbrev pub IsHeadArgument : ℕ → List ℕ → Result (ℕ × ℕ) (Kind × ℕ) → Type 0
 IsHeadArgument first rest (Ok (n, len)) = (n ≡ argument first rest) × (len ≡ argument_len (info first))
     × (len ≤ length rest) × (least_argument (info first) ≤ n)
@@ -68,7 +69,7 @@ IsDecodedItemRest first rest (Ok (i, len)) = (first_fault_of (later_faults AnIte
 IsDecodedItemRest first rest (Err (kind, n)) = (first_fault_of (later_faults AnItem first rest) ≡ Some kind)
     × (n ≡ passed kind (first ∷ rest)) × (n ≤ suc (length rest))
 
--- The steps for finding the end of the input, by the kind of error.
+-- The number of steps for finding the end of the input: 1 if the item is truncated.
 abbrev pub end_steps_of : Kind → ℕ
 end_steps_of Truncated = 1
 end_steps_of _ = 0

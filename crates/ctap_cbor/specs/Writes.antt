@@ -1,4 +1,4 @@
--- The effect of an encoder on its output vector.
+-- How an encoder changes its output vector.
 use Rattle.std.specs.Prelude.{◌≡◌, ◌≢◌, ℕ, ◌+◌, ◌-◌, ◌<◌, ◌≤◌, List, ◌++◌, length, take, drop, Option, Some, None}
 use Rattle.ctap_cbor.specs.declared.fault.Kind.{Kind, TheVariants.Memory}
 use Rattle.ctap_cbor.specs.{declared.encode.Span.Span, Grammar.AreLawfulPairs}
@@ -10,7 +10,7 @@ use Rattle.ctap_cbor.specs.Refusals.{refusal, refusal_all, refusal_pairs, own_re
 abbrev pub Extends : List ℕ → List ℕ → Type 0
 Extends old new = (more : List ℕ) × (new ≡ old ++ more)
 
--- The vector's capacity is too small for these additional bytes.
+-- The vector's capacity is too small for these further bytes.
 abbrev pub IsShort : (capacity : ℕ) (old more : List ℕ) → Type 0
 IsShort capacity old more = capacity < length old + length more
 
@@ -49,15 +49,15 @@ pub record WritesKey (t : Tree) (old new : List ℕ) : Type 0 where
   pub flat : depth t ≤ 0
   pub appended : new ≡ old ++ text t
 
--- Encoding failed, with this error or because an allocation failed. The appended bytes are incomplete.
+-- Encoding failed with this error, or an allocation failed. The appended bytes are incomplete.
 abbrev pub FailsWith : Kind → Option Kind → List ℕ → List ℕ → Type 0
 FailsWith kind refusal old new = (kind ≢ Memory → refusal ≡ Some kind) × Extends old new
 
--- The encoding in the vector at this span.
+-- The bytes of this span of the vector.
 abbrev pub text_at : List ℕ → Span → List ℕ
 text_at out span = take (span.end - span.start) (drop span.start out)
 
--- The encoding of the previous key, if any.
+-- The encoding of the previous key, if any, at its span of the vector.
 abbrev pub last_text : List ℕ → Option Span → Option (List ℕ)
 last_text out None = None
 last_text out (Some span) = Some (text_at out span)

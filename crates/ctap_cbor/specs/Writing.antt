@@ -1,14 +1,14 @@
--- The effect of a sink on its borrowed buffer.
+-- How a sink changes its borrowed buffer.
 use Rattle.std.specs.Prelude.{◌≡◌, ℕ, ◌+◌, ◌-◌, pos, negsuc, List, ◌++◌, length, take, drop}
 use Rattle.std.specs.Borrow.{MutBor}
 use Rattle.ctap_cbor.specs.Tree.{Scalar, Int, Bytes, Text, Flag, Null}
 use Rattle.ctap_cbor.specs.{Head.head_len, declared.sink.Sink.Sink}
 
--- The bytes written so far.
+-- The bytes that were written to the buffer so far.
 abbrev pub contents : Sink → List ℕ
 contents s = take s.len s.buffer.now
 
--- The rest of the buffer, after the bytes written.
+-- The rest of the buffer, after the bytes that were written.
 abbrev pub unwritten_rest : Sink → List ℕ
 unwritten_rest s = drop s.len s.buffer.now
 
@@ -25,7 +25,7 @@ scalar_len Null = 1
 abbrev pub space_of : Sink → ℕ
 space_of s = length s.buffer.now - s.len
 
--- The sink appended exactly these bytes. The buffer keeps its length, and its rest is unchanged.
+-- The sink appended exactly these bytes. The length of the buffer and the bytes after them are unchanged.
 pub record Appends (old new : Sink) (bytes : List ℕ) (len : ℕ) : Type 0 where
   pub grows : contents new ≡ contents old ++ bytes
   pub len_is : length (contents new) ≡ length (contents old) + len

@@ -1,4 +1,4 @@
--- Authenticator data: WebAuthn Level 2, section 6.1.
+-- Authenticator data (WebAuthn Level 2, section 6.1).
 use Rattle.std.specs.Prelude.{ℕ, List, [], ◌∷◌, ◌++◌, length, Bool, true, false, bit_or, if◌then◌else◌, Option, Some}
 use Rattle.std.specs.Prelude.{None, is_some}
 use Rattle.byteorder.specs.Endian.{big_bytes}
@@ -21,12 +21,12 @@ abbrev pub created_bytes : (rp_hash aaguid id x y : List ℕ) → List ℕ
 created_bytes rp_hash aaguid id x y =
     rp_hash ++ flags_byte true true ∷ [] ++ big_bytes 4 0 ++ attested_bytes aaguid id x y
 
--- The attested credential data, if any.
+-- The encoding of the attested credential data, if any.
 abbrev pub attested_part : Option AttestedCredential → List ℕ
 attested_part None = []
 attested_part (Some a) = attested_bytes a.aaguid a.id a.x a.y
 
--- The encoding of the code's type `AuthData`.
+-- The encoding of the code's type `AuthData` (WebAuthn Level 2, section 6.1).
 abbrev pub auth_data_bytes : (rp_hash : List ℕ) (user_present : Bool) (counter : ℕ) → Option AttestedCredential → List ℕ
 auth_data_bytes rp_hash user_present counter attested =
     rp_hash ++ flags_byte user_present (is_some attested) ∷ [] ++ big_bytes 4 counter ++ attested_part attested

@@ -15,23 +15,23 @@ pub record Message : Type 0 where
   pub cmd : ℕ
   pub bytes : List ℕ
 
--- The number of allocated channels, the incomplete message if any, and the data of the message that the last packet
--- completed.
+-- The state of message assembly: the number of allocated channels, the incomplete message, if any, and the data of the
+-- message that the last packet completed.
 pub record Assembly : Type 0 where
   pub given : ℕ
   pub current : Option Open
   pub finished : List ℕ
 
--- A message times out 500 ms after its last packet (CTAP 2.1, section 11.2.5.2).
+-- Whether the incomplete message, if any, timed out: 500 ms after its last packet (CTAP 2.1, section 11.2.5.2).
 unfoldable pub is_overdue : Option Open → ℕ → Bool
 is_overdue None at = false
 is_overdue (Some m) at = nat_le (m.last + MESSAGE_TIMEOUT) at
 
--- The incomplete message, unless it timed out.
+-- The incomplete message, or None if it timed out.
 abbrev pub still_open : Option Open → ℕ → Option Open
 still_open current at = if is_overdue current at then None else current
 
--- The number of data bytes stored of the incomplete message: 57 of its initialization packet, and 59 of each
+-- The number of data bytes stored for the incomplete message: 57 from its initialization packet, and 59 from each
 -- continuation packet.
 abbrev pub stored_len : Option Open → ℕ
 stored_len None = 0
@@ -42,7 +42,7 @@ abbrev pub channels_after : ℕ → PacketClass → ℕ
 channels_after given (Begins InitNew) = given + 1
 channels_after given _ = given
 
--- The incomplete message that an initialization packet begins.
+-- The incomplete message after its initialization packet.
 abbrev pub open_message : ℕ → Fields → Open
 open_message at f = record {
   cid = channel_of f;
@@ -53,7 +53,7 @@ open_message at f = record {
   last = at;
 }
 
--- The message with the data of a continuation packet.
+-- The incomplete message with the data of one more continuation packet.
 abbrev pub with_continuation : ℕ → Fields → Open → Open
 with_continuation at f m = record {
   cid = m.cid;
@@ -64,7 +64,7 @@ with_continuation at f m = record {
   last = at;
 }
 
--- The incomplete message, unless it is on this channel.
+-- The incomplete message, or None if it is on this channel.
 abbrev pub drop_on : Option Open → ℕ → Option Open
 drop_on None cid = None
 drop_on (Some m) cid = if m.cid == cid then None else Some m
@@ -96,7 +96,7 @@ message_after current f (Begins Short) = Some (record {
 message_after current f (Continues Whole) = option_map (completed_by f) current
 message_after current f _ = None
 
--- The bytes of a message, or none.
+-- The bytes of a message. Without a message, the empty list.
 abbrev pub bytes_of : Option Message → List ℕ
 bytes_of None = []
 bytes_of (Some m) = m.bytes
@@ -110,11 +110,12 @@ assembly_after_class a at f ruling =
       finished = bytes_of (message_after a.current f ruling);
     }
 
--- The state after a packet with these fields.
+-- The state after a packet with these fields. `work` is the channel of the pending request, if any.
 unfoldable pub accepted : Assembly → ℕ → Option ℕ → Fields → Assembly
 accepted a at work f = assembly_after_class a at f (packet_class a.given a.current work f)
 
--- An incomplete message: PING or CBOR, on an allocated channel, longer than one packet.
+-- The invariant of an incomplete message: PING or CBOR, on an allocated channel, and longer than the data received so
+-- far.
 pub record IsOpenMessage (given cid cmd len kept : ℕ) : Type 0 where
   pub low : 1 ≤ cid
   pub high : cid ≤ given
@@ -123,12 +124,12 @@ pub record IsOpenMessage (given cid cmd len kept : ℕ) : Type 0 where
   pub longest : len ≤ MAX_MESSAGE_LEN
   pub more : data_capacity kept < len
 
--- The incomplete message, if any, is valid.
+-- The incomplete message, if any, satisfies the invariant of `IsOpenMessage`.
 abbrev pub OpenIsValid : ℕ → Option Open → Type 0
 OpenIsValid given None = Unit {0}
 OpenIsValid given (Some m) = IsOpenMessage given m.cid m.cmd m.len m.kept × (length m.bytes ≡ data_capacity m.kept)
 
--- The invariant of the state.
+-- The invariant of the state of message assembly.
 pub record IsValidAssembly (a : Assembly) : Type 0 where
   pub channels : a.given ≤ MAX_CHANNEL
   pub current : OpenIsValid a.given a.current

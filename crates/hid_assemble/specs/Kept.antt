@@ -5,7 +5,7 @@ use Rattle.hid_assemble.specs.declared.assembler.{OpenMessage.OpenMessage, Conte
 use Rattle.hid_assemble.specs.declared.assembler.Contents.TheVariants.{Nothing, Open as HoldsOpen, Finished}
 use Rattle.hid_packet.specs.Limits.{data_capacity, MAX_MESSAGE_LEN}
 
--- The incomplete message of the code's state, whose data is at the beginning of the buffer.
+-- Converts the code's incomplete message, whose data is at the beginning of the buffer, to one of the definitions.
 abbrev pub stored_open_message : List ℕ → OpenMessage → Open
 stored_open_message buffer m = record {
   cid = m.cid;
@@ -22,7 +22,7 @@ stored_open buffer Nothing = None
 stored_open buffer (HoldsOpen m) = Some (stored_open_message buffer m)
 stored_open buffer (Finished len) = None
 
--- The bytes of the completed message in the code's state, or none.
+-- The bytes of the completed message in the code's state. Without a completed message, the empty list.
 abbrev pub stored_finished : List ℕ → Contents → List ℕ
 stored_finished buffer Nothing = []
 stored_finished buffer (HoldsOpen m) = []
@@ -36,13 +36,13 @@ assembly given contents buffer = record {
   finished = stored_finished buffer contents;
 }
 
--- The code's fields are valid for this number of allocated channels.
+-- The code's fields satisfy the invariant for this number of allocated channels.
 abbrev pub AreValidContents : ℕ → Contents → Type 0
 AreValidContents given Nothing = Unit {0}
 AreValidContents given (HoldsOpen m) = IsOpenMessage given m.cid m.cmd m.len m.kept
 AreValidContents given (Finished len) = len ≤ MAX_MESSAGE_LEN
 
--- The code's state is valid, with this buffer.
+-- The invariant of the code's state and of its buffer.
 pub record IsValidState (given : ℕ) (contents : Contents) (buffer : List ℕ) : Type 0 where
   pub channels : given ≤ MAX_CHANNEL
   pub size : length buffer ≡ MAX_MESSAGE_LEN

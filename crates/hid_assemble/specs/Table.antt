@@ -1,6 +1,6 @@
--- The reply table: the row that applies to a packet (CTAP 2.1, sections 11.2.4, 11.2.5 and 11.2.9, with choices of
--- this project). It depends on the packet's fields, the number of allocated channels, the incomplete message, and the
--- channel of the pending request.
+-- The reply table: how the transport reacts to a packet (CTAP 2.1, sections 11.2.4, 11.2.5 and 11.2.9, with choices of
+-- this project). The row that applies depends on the packet's fields, the number of allocated channels, the incomplete
+-- message, and the channel of the pending request.
 use Rattle.std.specs.Prelude.{ℕ, ◌+◌, Bool, true, false, not, ◌&&◌, ◌||◌, ◌==◌, nat_le, nat_lt, List, [], ◌∷◌, Option}
 use Rattle.std.specs.Prelude.{Some, None, option_map, if◌then◌else◌}
 use Rattle.hid_packet.specs.Commands.{PING, INIT, CBOR, CANCEL, BROADCAST}
@@ -23,31 +23,31 @@ pub record Open : Type 0 where
   pub kept : ℕ
   pub last : ℕ
 
--- The last channel ID that is allocated.
+-- The highest channel ID that can be allocated.
 abbrev pub MAX_CHANNEL : ℕ
 MAX_CHANNEL = 0xffff_fffe
 
--- Channels 1 to `given` are allocated.
+-- Whether the channel is allocated. Channels 1 to `given` are.
 abbrev pub is_allocated : ℕ → ℕ → Bool
 is_allocated given cid = nat_le 1 cid && nat_le cid given
 
--- A channel is busy, and it is this one.
+-- Whether this channel is busy. The first argument is the busy channel, if any.
 abbrev pub is_busy_here : Option ℕ → ℕ → Bool
 is_busy_here None cid = false
 is_busy_here (Some busy) cid = busy == cid
 
--- A channel is busy, and it is another one.
+-- Whether another channel is busy. The first argument is the busy channel, if any.
 abbrev pub is_busy_elsewhere : Option ℕ → ℕ → Bool
 is_busy_elsewhere None cid = false
 is_busy_elsewhere (Some busy) cid = not (busy == cid)
 
--- The first row whose test holds, or else the last argument.
+-- The first row whose condition is true, or else the last argument.
 abbrev pub first_row : List (Bool × ReplyRow) → ReplyRow → ReplyRow
 first_row [] else_row = else_row
 first_row (t ∷ ts) else_row = if t.0 then t.1 else first_row ts else_row
 
--- The row of the reply table for an initialization packet. `current` is the channel of the incomplete message, `work`
--- that of the pending request.
+-- The row of the reply table for an initialization packet. `current` is the channel of the incomplete message, and
+-- `work` is the channel of the pending request.
 unfoldable pub init_packet_row : ℕ → Option ℕ → Option ℕ → ℕ → ℕ → ℕ → ReplyRow
 init_packet_row given current work cid cmd len =
     let asks_for_channel = (cid == BROADCAST) && (cmd == INIT) in
@@ -76,12 +76,12 @@ continuation_kind on len kept cid number =
     else if nat_lt (data_capacity (kept + 1)) len then Kept
     else Whole
 
--- The kind of a continuation packet, which is ignored if there is no incomplete message.
+-- The kind of a continuation packet. Without an incomplete message it is ignored.
 unfoldable pub cont_packet_row : Option Open → ℕ → ℕ → Continuation
 cont_packet_row None cid number = Stray
 cont_packet_row (Some m) cid number = continuation_kind m.cid m.len m.kept cid number
 
--- The classification of a packet: the row of an initialization packet, or the kind of a continuation packet.
+-- The classification of a packet: the table row of an initialization packet, or the kind of a continuation packet.
 pub data PacketClass : Type 0 where
   Begins : ReplyRow → PacketClass
   Continues : Continuation → PacketClass
@@ -93,7 +93,7 @@ packet_class given current work (initialization cid cmd len part) =
     Begins (init_packet_row given (option_map (λ m. m.cid) current) work cid cmd len)
 packet_class given current work (continuation cid number part) = Continues (cont_packet_row current cid number)
 
--- A packet that changes nothing: a CANCEL without a pending request, a packet on a channel that isn't allocated or
+-- Whether a packet changes nothing: a CANCEL without a pending request, a packet on a channel that isn't allocated or
 -- while a channel is busy, or a continuation packet outside any transaction.
 abbrev pub is_noise : PacketClass → Bool
 is_noise (Begins CancelsNothing) = true

@@ -1,4 +1,4 @@
--- The verdict of the reply table on a packet, and the reason if it is rejected.
+-- The verdict of the reply table on a packet, and the cause if the packet is rejected.
 use Rattle.std.specs.Prelude.{ℕ, ◌+◌, Bool, true, false, List, take, Option, Some, None, option_map, if◌then◌else◌}
 use Rattle.hid_packet.specs.Commands.{BROADCAST}
 use Rattle.hid_packet.specs.Packet.{Fields, channel_of, command_of, length_of, data_of}
@@ -14,7 +14,7 @@ use Rattle.hid_assemble.specs.declared.table.Continuation.TheVariants.{Stray, Wr
 use Rattle.hid_assemble.specs.declared.verdict.Verdict.{Verdict, TheVariants.GreetAndDrop, TheVariants.CancelWork}
 use Rattle.hid_assemble.specs.declared.verdict.Verdict.TheVariants.{Ignored, Kept, Finished, Refuse, Greet}
 
--- The packet is ignored, or refused with ERROR "invalid channel" or "channel busy".
+-- The packet is ignored, or rejected with ERROR "invalid channel" or "channel busy".
 abbrev pub is_noise_verdict : Verdict → Bool
 is_noise_verdict Ignored = true
 is_noise_verdict (Refuse cid (because.NoSuchChannel given)) = true
@@ -22,16 +22,17 @@ is_noise_verdict (Refuse cid (because.BusyElsewhere channel)) = true
 is_noise_verdict (Refuse cid because.BusyHere) = true
 is_noise_verdict _ = false
 
--- The verdict on a packet that completes a message.
+-- The verdict on a packet that completes this message.
 abbrev pub finished_verdict : Option Message → Verdict
 finished_verdict None = Ignored
 finished_verdict (Some m) = Finished m.cid m.cmd
 
--- INIT on an allocated channel is answered with the same channel ID, and drops the pending request of that channel.
+-- The verdict on an INIT packet on an allocated channel: the response has the same channel ID, and the channel's
+-- pending request is dropped.
 abbrev pub init_on_allocated : Option ℕ → ℕ → List ℕ → Verdict
 init_on_allocated work cid nonce = if is_busy_here work cid then GreetAndDrop cid cid nonce else Greet cid cid nonce
 
--- The verdict on a packet by its classification, and the message that it completes, if any.
+-- The verdict on a packet, from its classification and the message that it completes, if any.
 unfoldable pub class_verdict : ℕ → Option Open → Option ℕ → Fields → Option Message → PacketClass → Verdict
 class_verdict given current work f m (Begins CancelsWork) = CancelWork
 class_verdict given current work f m (Begins CancelsNothing) = Ignored
@@ -55,7 +56,7 @@ class_verdict given current work f m (Continues WrongNumber) =
 class_verdict given current work f m (Continues KeptOn) = Kept
 class_verdict given current work f m (Continues Whole) = finished_verdict m
 
--- The verdict on a packet.
+-- The verdict of the reply table on a packet. `work` is the channel of the pending request, if any.
 unfoldable pub verdict : Assembly → Option ℕ → Fields → Verdict
 verdict a work f =
     let ruling = packet_class a.given a.current work f in

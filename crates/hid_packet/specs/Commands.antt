@@ -1,4 +1,4 @@
--- The commands of CTAPHID, and its broadcast channel (CTAP 2.1, sections 11.2.4 and 11.2.9).
+-- The commands and the broadcast channel of CTAPHID (CTAP 2.1, sections 11.2.4 and 11.2.9).
 use Rattle.std.specs.Prelude.{ℕ}
 
 abbrev pub PING : ℕ

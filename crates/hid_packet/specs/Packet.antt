@@ -10,7 +10,7 @@ use Rattle.hid_packet.specs.Limits.{CONT_PACKET_DATA, INIT_PACKET_DATA}
 unfoldable pub channel : List ℕ → ℕ
 channel packet = big_number 4 packet
 
--- An initialization packet: bit 7 of byte 4 is set.
+-- Whether the packet is an initialization packet: bit 7 of byte 4 is set.
 unfoldable pub is_initialization : List ℕ → Bool
 is_initialization packet = nat_le 128 (slice_index packet 4)
 
@@ -34,7 +34,7 @@ sequence packet = slice_index packet 4
 unfoldable pub continuation_data : List ℕ → List ℕ
 continuation_data packet = take CONT_PACKET_DATA (drop 5 packet)
 
--- An initialization packet with this command.
+-- Whether the packet is an initialization packet with this command.
 abbrev pub is_command : ℕ → List ℕ → Bool
 is_command asked packet = is_initialization packet && (command packet == asked)
 
@@ -55,12 +55,12 @@ abbrev pub channel_of : Fields → ℕ
 channel_of (initialization cid cmd len part) = cid
 channel_of (continuation cid number part) = cid
 
--- The command of an initialization packet, or 0.
+-- The command of an initialization packet, or 0 for a continuation packet.
 abbrev pub command_of : Fields → ℕ
 command_of (initialization cid cmd len part) = cmd
 command_of (continuation cid number part) = 0
 
--- The message length of an initialization packet, or 0.
+-- The message length of an initialization packet, or 0 for a continuation packet.
 abbrev pub length_of : Fields → ℕ
 length_of (initialization cid cmd len part) = len
 length_of (continuation cid number part) = 0
@@ -70,7 +70,7 @@ abbrev pub data_of : Fields → List ℕ
 data_of (initialization cid cmd len part) = part
 data_of (continuation cid number part) = part
 
--- The data has the packet's full length: 57 bytes, or 59 in a continuation packet.
+-- The data has the full length: 57 bytes in an initialization packet, 59 bytes in a continuation packet.
 abbrev pub FillsPacket : Fields → Type 0
 FillsPacket (initialization cid cmd len part) = length part ≡ INIT_PACKET_DATA
 FillsPacket (continuation cid number part) = length part ≡ CONT_PACKET_DATA

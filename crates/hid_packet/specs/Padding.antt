@@ -1,5 +1,5 @@
--- Packets of 64 bytes, and their data after the end of the message, which is zero (CTAP 2.1, section 11.2.4, "Message
--- and packet structure").
+-- Packets of 64 bytes, in which zeros follow the end of the message (CTAP 2.1, section 11.2.4, "Message and packet
+-- structure").
 use Rattle.std.specs.Prelude.{◌≡◌, ℕ, ◌<◌, List, [], ◌∷◌, ◌++◌, length, replicate}
 use Rattle.std.specs.List.{AllByRecursion}
 use Rattle.hid_packet.specs.Carries.{joined_data}
@@ -21,6 +21,6 @@ abbrev pub data_bytes : List (List ℕ) → List ℕ
 data_bytes [] = []
 data_bytes (first ∷ others) = joined_data first others
 
--- The packets' data is the message's bytes, followed by zeros.
+-- The concatenated data of the packets is the message's bytes, followed by zeros.
 abbrev pub PaddingIsZero : (bytes : List ℕ) (packets : List (List ℕ)) → Type 0
 PaddingIsZero bytes packets = (further : ℕ) × (data_bytes packets ≡ bytes ++ replicate further 0)

@@ -1,4 +1,4 @@
--- The queued packets of an outbox, from its entries and the bytes of its ring buffer.
+-- The queued packets of an outbox, computed from its entries and the bytes of its ring buffer.
 use Rattle.std.specs.Prelude.{◌≡◌, ℕ, ◌+◌, ◌*◌, ◌-◌, ◌<◌, ◌≤◌, List, [], ◌∷◌, ◌++◌, length, take, drop, sum_by}
 use Rattle.std.specs.List.{AllByRecursion}
 use Rattle.hid_packet.specs.{Remaining.packets_left, declared.fragments.NextPacket.NextPacket}
@@ -6,16 +6,16 @@ use Rattle.hid_packet.specs.declared.queued.Queued.{Queued, TheVariants.Whole, T
 use Rattle.hid_packet.specs.declared.fragments.NextPacket.TheVariants.{Initialization, Continuation}
 use Rattle.hid_packet.specs.Limits.{CONT_PACKET_DATA, MAX_MESSAGE_LEN, OUTBOX_CAPACITY}
 
--- `len` items of a ring buffer from index `first` on, wrapping around.
+-- `len` items of a ring buffer from index `first` on. After the last item, index 0 follows.
 abbrev pub window : {X : Type 0} → (first len : ℕ) → List X → List X
 window first len ring = take len (drop first ring ++ take first ring)
 
--- The ring buffer after `front` was written at an index, and `back` at index 0.
+-- The ring buffer after `front` was written at index `place`, and `back` at index 0.
 abbrev pub with_overwritten : (place : ℕ) (front back ring : List ℕ) → List ℕ
 with_overwritten place front back ring = back ++ drop (length back)
     (take place ring ++ (front ++ drop (place + length front) ring))
 
--- The number of the ring buffer's bytes that belong to a queue entry.
+-- The number of bytes of the ring buffer that belong to a queue entry.
 abbrev pub entry_len : Queued → ℕ
 entry_len Whole = 64
 entry_len (Part message) = message.left
@@ -31,22 +31,22 @@ queued_packets [] bytes = []
 queued_packets (entry ∷ more) bytes = entry_packets entry (take (entry_len entry) bytes)
     ++ queued_packets more (drop (entry_len entry) bytes)
 
--- The message has a packet left to send, and its remaining bytes fit into its remaining packets.
+-- The message has at least one packet left to send, and its remaining bytes fit into the remaining packets.
 abbrev pub HasPacketLeft : NextPacket → ℕ → Type 0
 HasPacketLeft (Initialization cmd) left = (cmd < 128) × (left ≤ MAX_MESSAGE_LEN)
 HasPacketLeft (Continuation number) left = (0 < left) × (left ≤ CONT_PACKET_DATA * (128 - number))
 
--- The entry has a packet left to send.
+-- The entry has at least one packet left to send.
 abbrev pub HasEntryPacket : Queued → Type 0
 HasEntryPacket Whole = Unit {0}
 HasEntryPacket (Part message) = HasPacketLeft message.due message.left
 
--- The bytes are those of the entries, each of which has a packet left.
+-- The bytes are those of the entries, and each entry has a packet left to send.
 pub record AreEntriesOf (entries : List Queued) (bytes : List ℕ) : Type 0 where
   pub due : AllByRecursion HasEntryPacket entries
   pub sum : sum_by entry_len entries ≡ length bytes
 
--- The bytes are those of the entries, and `len` is the number of their packets.
+-- The bytes are those of the entries, which have `len` packets in all.
 pub record IsQueued (entries : List Queued) (bytes : List ℕ) (len : ℕ) : Type 0 where
   pub held : AreEntriesOf entries bytes
   pub counted : len ≡ length (queued_packets entries bytes)

@@ -1,4 +1,4 @@
--- The task that a command line specifies, by the rules of `clap`.
+-- The task that the arguments of the command line specify, with the rules of the crate `clap`.
 use Rattle.std.specs.Prelude.{◌≡◌, ℕ, Bool, true, false, List, [], ◌∷◌, Option, Some, None, codes, option_map}
 use Rattle.std.specs.Prelude.{option_and_then, unwrap_or, map, if◌then◌else◌}
 use Rattle.std.specs.{Borrow.Bor, Option.option_map_or, Str.bytes_eq}
@@ -17,7 +17,7 @@ use Rattle.session_log.specs.declared.command.ReplayMode.TheVariants as playing
 
 -- ---- the grammar
 
--- An option with a value: the path of a snapshot.
+-- An option that takes the path of a snapshot.
 abbrev pub path_option : List ℕ → Rule
 path_option name = record (new_rule name) { long = Some name; value_names = 1 }
 
@@ -25,19 +25,19 @@ path_option name = record (new_rule name) { long = Some name; value_names = 1 }
 abbrev pub flag : List ℕ → Rule
 flag name = record (new_rule name) { long = Some name; action = Some SetTrue }
 
--- The path of a log.
+-- The positional argument with the path of a log.
 abbrev pub log_path : Rule
 log_path = record (new_rule (codes "log")) { value_names = 1 }
 
--- The paths of any number of logs.
+-- The positional arguments with the paths of any number of logs.
 abbrev pub log_paths : Rule
 log_paths = record (new_rule (codes "log")) { value_names = 1; action = Some Append }
 
--- The two options on the output that each command takes, and then its logs.
+-- The options --explain and --plain, which each command takes, followed by the arguments with its logs.
 abbrev pub with_text_options : Rule → List Rule
 with_text_options logs = flag (codes "explain") ∷ flag (codes "plain") ∷ logs ∷ []
 
--- A command with these options.
+-- A command with this name and these options.
 abbrev pub command : List ℕ → List Rule → Shape
 command name options = record (new_shape name) { rules = options }
 
@@ -48,15 +48,15 @@ rule_of_form Flag word = flag word
 rule_of_form Log word = record (new_rule word) { value_names = 1 }
 rule_of_form Logs word = record (new_rule word) { value_names = 1; action = Some Append }
 
--- The rule of clap for an argument of the code.
+-- The rule of clap for a parameter in the code's table of commands.
 abbrev pub rule_for : CommandParameter → Rule
 rule_for parameter = rule_of_form parameter.form parameter.word.now
 
--- The command of clap for a command of the code.
+-- The command of clap for an entry of the code's table of commands.
 abbrev pub command_for : CommandEntry → Shape
 command_for entry = command entry.word.now (map rule_for entry.parameters.now)
 
--- The five commands; one of them is required. clap adds `help` and `--version`.
+-- The five commands, one of which is required. clap adds `help` and `--version`.
 abbrev pub grammar : App
 grammar = record {
   top = record (new_shape (codes "hidlog")) { has_version = true; subcommand_required = true; is_leaf = false };
@@ -69,7 +69,8 @@ grammar = record {
       ∷ [];
 }
 
--- The kinds of clap's error for these arguments, which include help and the version; none if they are valid.
+-- The kinds of clap's errors for these arguments, including help and version. The list is empty if the arguments are
+-- valid.
 unfoldable pub answers_to : List (List ℕ) → Kinds
 answers_to words = fault_of grammar words
 
@@ -95,22 +96,22 @@ to_task (Play p) logs = play p.command (to_path p.load) (to_path p.save) (to_pat
 to_task (Check load all json) logs = check (to_path load) all json logs
 to_task (Show form wide log) logs = show form wide (to_path log)
 
--- Whether an option without a value is present.
+-- Whether this option without a value is present.
 abbrev pub is_set : List ℕ → List Row → Bool
 is_set name found = option_map_or (λ text. bytes_eq text (codes "true")) (first_of name found) false
 
--- The requested output format.
+-- The output format that the options select.
 abbrev pub show_format : List Row → ShowFormat
 show_format found =
     if is_set (codes "json") found then if is_set (codes "summary") found then JsonSummary else Json
     else if is_set (codes "summary") found then Summary else Lines
 
--- The level of detail: `--plain` overrides `--explain`.
+-- The level of detail that the options select. `--plain` overrides `--explain`.
 abbrev pub verbosity_of : List Row → Verbosity
 verbosity_of found = if is_set (codes "plain") found then Fixed
     else if is_set (codes "explain") found then Explained else ByTerminal
 
--- Whether texts are explained, given whether they go to a terminal: by default only there.
+-- Whether texts are explained. Unless an option decides, only texts on a terminal are.
 abbrev pub explains : Verbosity → (is_terminal : Bool) → Bool
 explains Explained is_terminal = true
 explains Fixed is_terminal = false
@@ -120,11 +121,11 @@ explains ByTerminal is_terminal = is_terminal
 abbrev pub logs_of : List Row → List (List ℕ)
 logs_of found = unwrap_or (all_of (codes "log") found) []
 
--- Converts the code's arguments to a task and a level of detail of the definitions.
+-- Converts the code's parsed arguments to a task and a level of detail of the definitions.
 abbrev pub task_and_verbosity : Invocation → Task × Verbosity
 task_and_verbosity asked = (to_task asked.task (to_texts asked.logs.items), asked.verbosity)
 
--- These are the parsed options.
+-- The code's options are those that clap parsed.
 abbrev pub AreParsedOptions : CommandOptions → List Row → Type 0
 AreParsedOptions options found = (to_path options.load ≡ first_of (codes "load") found)
     × (to_path options.save ≡ first_of (codes "save") found)
@@ -135,7 +136,7 @@ AreParsedOptions options found = (to_path options.load ≡ first_of (codes "load
     × (options.form ≡ show_format found)
     × (options.verbosity ≡ verbosity_of found)
 
--- The task of a command, by its name, its options and the paths of all logs.
+-- The task of a command, from its name, its options and the paths of all logs.
 abbrev pub task_for : List ℕ → CommandOptions → (logs : List (List ℕ)) → Option Task
 task_for name options logs =
     if bytes_eq name (codes "replay") then
@@ -148,7 +149,7 @@ task_for name options logs =
     else if bytes_eq name (codes "show") then Some (show options.form options.wide (to_path options.log))
     else None
 
--- The task of a command, by its name and its parsed options.
+-- The task of a command, from its name and its parsed options.
 abbrev pub task_by : List ℕ → List Row → Option Task
 task_by name found =
     if bytes_eq name (codes "replay") then Some (play playing.Replay (first_of (codes "load") found)
@@ -163,11 +164,11 @@ task_by name found =
     (first_of (codes "log") found))
     else None
 
--- The task and the level of detail of a command with its parsed options.
+-- The task and the level of detail of a command, from its name and its parsed options.
 abbrev pub command_task : List ℕ × List Row → Option (Task × Verbosity)
 command_task (name, found) = option_map (λ ask. (ask, verbosity_of found)) (task_by name found)
 
--- The task and the level of detail, unless clap has an error.
+-- The task and the level of detail, or None if clap reports an error.
 abbrev pub unless : Kinds → Option (Task × Verbosity) → Option (Task × Verbosity)
 unless [] ask = ask
 unless (kind ∷ kinds) ask = None
@@ -177,6 +178,6 @@ unless (kind ∷ kinds) ask = None
 unfoldable pub parsed_command_line : List (List ℕ) → Option (Task × Verbosity)
 parsed_command_line words = unless (answers_to words) (option_and_then command_task (subcommand_of grammar words))
 
--- The log at a path: no path and `-` mean standard input.
+-- The path of a log, or None for standard input, which is used without a path and for `-`.
 abbrev pub named : Option (List ℕ) → Option (List ℕ)
 named = option_and_then (λ path. if bytes_eq path (codes "-") then None else Some path)

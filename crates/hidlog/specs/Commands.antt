@@ -1,4 +1,5 @@
--- What each command does to the host's files, log, output and error output: `old` before it, `new` after it.
+-- The effect of each command on the host: its files, log, output and error output. `old` is the host before the
+-- command, and `new` after it.
 use Rattle.std.specs.Prelude.{◌≡◌, ◌≢◌, ◌⊎◌, ℕ, Bool, true, false, List, [], ◌∷◌, Option, Some, None, Ok, Err}
 use Rattle.std.specs.Prelude.{MatchOption, MatchResult, IsSomeAnd, OnOk, codes}
 use Rattle.std.specs.Bool.{MatchBool}
@@ -19,19 +20,20 @@ use Rattle.hidlog.specs.Fault.{RunResult, WritesFault, to_run_result, of_log, re
 use Rattle.hidlog.specs.Program.{Ended, IsWrittenTo, IsWhole, WritesMore, FlushesPending, cannot_read_log, is_help, no_memory}
 use Rattle.hidlog.specs.Saved.{FailsToOpen, FailsToSave, OpenSource, Saves}
 
--- The path for `--save` that is checked before the log is read: only for `live`, whose input may arrive slowly.
+-- The path for `--save`, if it is checked before the log is read. Only `live` does that, because its input may arrive
+-- slowly.
 abbrev pub checked_save_path : ReplayMode → Option (List ℕ) → Option (List ℕ)
 checked_save_path Live save = save
 checked_save_path _ save = None
 
--- The logs to compare: standard input if none is named.
+-- The logs to compare. Without paths, standard input.
 abbrev pub logs_or_input : List (List ℕ) → List (List ℕ)
 logs_or_input [] = codes "-" ∷ []
 logs_or_input (log ∷ logs) = log ∷ logs
 
--- The log was shown in this format. The text for each line begins with the line's number, and no more was read than it
--- takes to find an error. Without an error, the whole log was read, and no read or write failed. A pair is a source or
--- a target before and after.
+-- The log was shown in this format. In the format with text for each line, each text begins with the line's number, and
+-- only as much of the log was read as is needed to find an error. In the other formats, without an error the whole log
+-- was read, and no read or write failed. A pair is a source or a target before and after.
 abbrev pub ShowsIn : {I O : Type 0} → ShowFormat → Detail → (left : I → Option (List ℕ)) → (unread : I → ℕ) →
     (ended : I → Bool)
     → (taken : O → Option (List ℕ)) → (unput : O → ℕ) → Ended → (I × I) → (O × O) → Type 0
@@ -42,14 +44,14 @@ ShowsIn Lines detail left unread ended taken unput answer input output =
 ShowsIn _ detail left unread ended taken unput answer input output =
     OnOk answer (IsWhole left ended unread unput input output)
 
--- The level of detail.
+-- The level of detail of texts with or without explanations.
 abbrev pub detail_for : (explained : Bool) → Detail
 detail_for true = Explained
 detail_for false = Fixed
 
 module _ {D I O F : Type 0} (model : Model D I O F) where
-  -- The log at the path is read, or standard input without a path. If it cannot be opened, the status is 1, and
-  -- nothing is written.
+  -- The log at the path is opened, or standard input without a path, and `Goes` holds for the rest. If the log cannot
+  -- be opened, the exit status is 1, and nothing is written.
   abbrev pub Reads : Option (List ℕ) → (Host D I O F → Type 0) → RunResult → (old new : Host D I O F) → Type 0
   Reads log Goes came old new =
       ((came ≡ Err (reasoned 1 cannot_read_log)) × (new ≡ old) × IsSomeAnd (named log) (model.unopenable old.input))
@@ -57,14 +59,14 @@ module _ {D I O F : Type 0} (model : Model D I O F) where
       × Goes record old { input = begun })
 
   -- The log is played on a new session with the credentials of the snapshot at the path. If the snapshot cannot be
-  -- opened, the status is 2, the log is not read, and nothing is written.
+  -- loaded, the exit status is 2, the log is not read, and nothing is written.
   abbrev pub StartsFromSnapshot : Option (List ℕ) → (Start → Type 0) → RunResult → (old new : Host D I O F) → Type 0
   StartsFromSnapshot path Goes came old new =
       ((new ≡ old) × FailsToOpen model.holds model.unreadable old.files path came)
       ⊎ ((rows : List Row) × OpenSource model.holds old.files path rows × Goes (start_with rows))
 
-  -- The log was played on the new session, and the buffered output was written. Then, if nothing failed, the
-  -- credentials were saved at the path, if there is one.
+  -- The log was played on the new session, and the buffered output was written. If no error occurred, the credentials
+  -- were then saved at the path, if any.
   abbrev pub RunsOn : ReplayMode → Option (List ℕ) → RunResult → (old new : Host D I O F) → Start → Type 0
   RunsOn command save came old new start =
       (answer : Ended) × (whole : Ended) × (s : SessionState) × (put : O)
@@ -75,9 +77,9 @@ module _ {D I O F : Type 0} (model : Model D I O F) where
       (λ _. (came ≡ Err of_log) × (new.files ≡ old.files))
       × (new.faults ≡ old.faults)
 
-  -- The command plays the log at a path on a session with the credentials of a snapshot, and saves the session's
-  -- credentials at the end. If the file for `--save` is found to be unwritable before, the status is 2, the log is
-  -- not read, and nothing is written.
+  -- The command plays the log on a session with the credentials of a snapshot, and then saves the session's
+  -- credentials. If the file for `--save` is checked first and is not writable, the exit status is 2, the log is not
+  -- read, and nothing is written.
   abbrev pub RunsCommand : ReplayMode → (load save log : Option (List ℕ)) → RunResult → (old new : Host D I O F) → Type 0
   RunsCommand command load save log came old new =
       Reads log (λ read. StartsFromSnapshot load (λ start.
@@ -92,7 +94,7 @@ module _ {D I O F : Type 0} (model : Model D I O F) where
       × FlushesPending model.taken model.unput model.waits answer (put, new.output) whole
       × (new.files ≡ old.files) × (new.faults ≡ old.faults)
 
-  -- The exit status is that of the result, and an error was reported.
+  -- The exit status is that of the result. If the result is an error, it was reported.
   abbrev pub Reports : (explained : Bool) → RunResult → Status → (old new : Host D I O F) → Type 0
   Reports explained (Ok x) status old new = (status ≡ Ok tt) × (new ≡ old)
   Reports explained (Err told) status old new =
@@ -106,12 +108,12 @@ module _ {D I O F : Type 0} (model : Model D I O F) where
   DoesCommand command load save log explained status old new = (came : RunResult) × (played : Host D I O F)
       × RunsCommand command load save log came old played × Reports explained came status played new
 
-  -- Each of these logs is compared, the files are not changed, and the status is 0 only if none differs.
+  -- The logs were compared, and the files are not changed. The exit status is 0 only if no log has a difference.
   abbrev pub Compares : Option (List ℕ) → (logs : List (List ℕ)) → Status → (old new : Host D I O F) → Type 0
   Compares load logs status old new = (new.files ≡ old.files)
       × OnOk status (AreSame model load old.files logs (old.input, new.input))
 
-  -- The task is carried out. Several logs are compared one by one, and so are logs with `--json`.
+  -- The task was carried out. With several logs or `--json`, logs are compared one by one.
   abbrev pub CarriesOut : Task → Detail → (explained : Bool) → Status → (old new : Host D I O F) → Type 0
   CarriesOut (play command load save log) detail explained status old new =
       DoesCommand command load save log explained status old new
@@ -126,17 +128,17 @@ module _ {D I O F : Type 0} (model : Model D I O F) where
       × Reads log (λ read. ShowsLog form detail came read shown) came old shown
       × Reports explained came status shown new
 
-  -- An allocation failed, and that was reported.
+  -- An allocation failed, and the failure was reported.
   abbrev pub LacksMemory : Status → (old new : Host D I O F) → Type 0
   LacksMemory status old new = (status ≡ Err 2) × (new ≡ record old { faults = new.faults })
       × IsWrittenTo model.parsed model.unsaid (old.faults, new.faults) no_memory
 
-  -- The error in the arguments was reported.
+  -- An error in the arguments was reported.
   abbrev pub Refuses : Status → (old new : Host D I O F) → Type 0
   Refuses status old new = (status ≡ Err 2) × (new ≡ record old { faults = new.faults })
       × ((text : List ℕ) × IsWrittenTo model.parsed model.unsaid (old.faults, new.faults) text)
 
-  -- The help was written; or writing failed, and that was reported.
+  -- The help was written; or writing failed, and the failure was reported.
   abbrev pub WritesHelp : Status → (old new : Host D I O F) → Type 0
   WritesHelp status old new = (text : List ℕ) × (answer : Ended) × (ended : Ended) × (put : O)
       × WritesLogLine model.taken model.unput (old.output, put) text answer
@@ -145,14 +147,13 @@ module _ {D I O F : Type 0} (model : Model D I O F) where
       (λ _. (status ≡ Err 2) × (new ≡ record old { output = new.output; faults = new.faults })
       × IsWrittenTo model.parsed model.unsaid (old.faults, new.faults) writing_failed)
 
-  -- clap's message of this kind was written, or an allocation failed.
+  -- clap's message of this kind was written, or an allocation failed and was reported.
   abbrev pub WritesClapMessage : ErrorKind → Status → (old new : Host D I O F) → Type 0
   WritesClapMessage kind status old new = LacksMemory status old new
       ⊎ ((kind ≢ OutOfMemory) × MatchBool (is_help kind) (WritesHelp status old new) (Refuses status old new))
 
-  -- The task of the arguments was carried out, or an allocation failed. If the arguments are invalid, clap's error is
-  -- returned. Otherwise the files and the log are used only as the command says. Texts are explained with
-  -- `--explain`, or if they go to a terminal.
+  -- The task that the arguments specify was carried out, or an allocation failed. If the arguments are invalid, clap's
+  -- message was written. Texts are explained with `--explain`, or by default if they go to a terminal.
   abbrev pub Answers : List (List ℕ) → Status → (old new : Host D I O F) → Type 0
   Answers words status old new = MatchOption (parsed_command_line words)
       ((kind : ErrorKind) × IsAmong kind (OutOfMemory ∷ answers_to words) × WritesClapMessage kind status old new)
@@ -161,8 +162,8 @@ module _ {D I O F : Type 0} (model : Model D I O F) where
       status old new
       ⊎ LacksMemory status old new)
 
-  -- The task of the arguments was carried out; then at most one more text was written to the error output, and more
-  -- of the log may have been read.
+  -- As `Answers`. After that, at most one more text was written to the error output, and more of the log may have been
+  -- read.
   abbrev pub Plays : List (List ℕ) → Status → (old new : Host D I O F) → Type 0
   Plays words status old new = (ran : Host D I O F) × Answers words status old ran
       × (new ≡ record ran { input = new.input; faults = new.faults })

@@ -12,7 +12,7 @@ exit_status (Log fault) = 1
 exit_status (LogOpenError path error) = 1
 exit_status _ = 2
 
--- The message. That of a log error is not specified here.
+-- The message for an error. Messages of log errors are not specified here.
 abbrev pub text_of : ProgramFault → List ℕ
 text_of Memory = no_memory
 text_of (Log fault) = []
@@ -21,14 +21,14 @@ text_of (SnapshotReadError path error) = cannot_read
 text_of (RefusedSnapshot path fault bytes) = refused fault
 text_of (SnapshotWriteError path unwritten) = cannot_write
 
--- The text that is reported for an error: the message of a log error, which is specified elsewhere; or a message; or a
--- message that is followed, with explanations, by a reason.
+-- The text reported for an error: the message of a log error, which is specified elsewhere; a message alone; or a
+-- message that is followed by a reason if texts are explained.
 pub data FaultText : Type 0 where
   of_log : FaultText
   alone : (code : ℕ) (text : List ℕ) → FaultText
   reasoned : (code : ℕ) (text : List ℕ) → FaultText
 
--- The text that is reported for an error of the code.
+-- Converts an error of the code to the text reported for it.
 abbrev pub to_fault_text : ProgramFault → FaultText
 to_fault_text Memory = alone 2 no_memory
 to_fault_text (Log fault) = of_log
@@ -37,11 +37,11 @@ to_fault_text (SnapshotReadError path error) = reasoned 2 cannot_read
 to_fault_text (RefusedSnapshot path fault bytes) = reasoned 2 (refused fault)
 to_fault_text (SnapshotWriteError path unwritten) = reasoned 2 cannot_write
 
--- The result of working on a log: its end, or an error.
+-- The result of working on a log: success, or the text reported for an error.
 abbrev pub RunResult : Type 0
 RunResult = Result (Unit {0}) FaultText
 
--- Converts the result of work on a log.
+-- Converts a result of the code.
 abbrev pub to_result : {A : Type 0} → Result A ProgramFault → RunResult
 to_result (Ok x) = Ok tt
 to_result (Err fault) = Err (to_fault_text fault)
@@ -51,8 +51,8 @@ abbrev pub to_run_result : Ended → RunResult
 to_run_result (Ok x) = Ok tt
 to_run_result (Err fault) = Err of_log
 
--- The error was reported, and nothing else. The exit status is that of the error. A pair is a target before and after
--- the call.
+-- Exactly this error was reported, and the exit status is that of the error. A pair is a target before and after the
+-- call.
 abbrev pub WritesFault : {F : Type 0} → (explained : Bool) → (F → Option (List ℕ)) → (F → ℕ) → FaultText → Status → (F × F) →
     Type 0
 WritesFault explained parsed unsaid of_log status faults = status ≡ Err 1

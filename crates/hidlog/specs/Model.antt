@@ -1,4 +1,4 @@
--- The program's environment: its files, log, output and error output.
+-- The program's environment: its files, its log, its output and its error output.
 use Rattle.std.specs.Prelude.{◌<◌, ◌-◌, ◌^◌, ℕ, Bool, List, Option}
 use Rattle.hidlog.specs.declared.host.Host.{Host}
 
@@ -21,7 +21,7 @@ pub record Model (D I O F : Type 0) : Type 1 where
   pub parsed : F → Option (List ℕ)
   pub unsaid : F → ℕ
 
--- Each part can count one more failure.
+-- The count of failures of each part can still increase by one.
 abbrev pub CanFail : {D I O F : Type 0} → Model D I O F → Host D I O F → Type 0
 CanFail model host = (model.unread host.input < 2 ^ 64 - 1) × (model.unput host.output < 2 ^ 64 - 1)
     × (model.unsaid host.faults < 2 ^ 64 - 1)

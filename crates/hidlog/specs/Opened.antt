@@ -1,4 +1,4 @@
--- The unread bytes of a stream that is standard input or a file.
+-- The unread bytes of a stream, which is standard input or a file.
 use Rattle.std.specs.Prelude.{ℕ, List, Option}
 use Rattle.hidlog.specs.declared.logs.Stream.{Stream, TheVariants.Standard, TheVariants.Named}
 

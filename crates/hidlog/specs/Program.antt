@@ -7,17 +7,17 @@ use Rattle.cred_table.specs.declared.fault.SnapshotFault.TheVariants.{NotSnapsho
 use Rattle.session_log.specs.Streams.{IsAtEndOfInput, WritesAll, WriteFails}
 use Rattle.session_log.specs.declared.fault.LogFault.{LogFault, TheVariants.Write}
 
--- A text was written to a target, completely or only the beginning of it.
+-- The text, or only the beginning of it after a failed write, was written to a target.
 abbrev pub IsWrittenTo : {F : Type 0} → (F → Option (List ℕ)) → (F → ℕ) → (F × F) → List ℕ → Type 0
 IsWrittenTo taken failed target text = WritesAll taken failed target text ⊎ WriteFails taken failed target text
 
--- A text was written to a target and then, if all of it was taken, possibly an explanation.
+-- A text was written to a target. If all of it was written, an explanation may follow.
 abbrev pub IsExplained : {F : Type 0} → (F → Option (List ℕ)) → (F → ℕ) → (F × F) → List ℕ → Type 0
 IsExplained {F} taken failed target text = WriteFails taken failed target text
     ⊎ ((told : F) × WritesAll taken failed (target.0, told) text
     × ((target.1 ≡ told) ⊎ ((more : List ℕ) × IsWrittenTo taken failed (told, target.1) more)))
 
--- The message of an error was written to a target, and nothing else unless errors are explained.
+-- The message of an error was written to a target. If errors are explained, an explanation may follow.
 abbrev pub IsReported : {F : Type 0} → (explained : Bool) → (F → Option (List ℕ)) → (F → ℕ) → (F × F) → List ℕ → Type 0
 IsReported explained taken failed target text =
     MatchBool explained (IsExplained taken failed target text) (IsWrittenTo taken failed target text)
@@ -33,12 +33,13 @@ abbrev pub IsWhole : {I O : Type 0} → (I → Option (List ℕ)) → (I → Boo
 IsWhole left ended unread unput input output = IsAtEndOfInput left ended input.1
     × (unread input.1 ≡ unread input.0) × (unput output.1 ≡ unput output.0)
 
--- The result of playing a log: its end, or an error.
+-- The result of playing a log: success, or an error of the log.
 abbrev pub Ended : Type 0
 Ended = Result (Unit {0}) LogFault
 
--- After this result the target's buffered output was written, and the result is the same; or writing failed, and the
--- result is a failed write. After a failed write, or with the maximum number of failures, nothing is written.
+-- After playing a log with the result `answer`, the buffered output was written, and the result `ended` is the same; or
+-- writing failed, and `ended` is the error of a failed write. If a write failed before or the count of failures is at
+-- its maximum, nothing is written.
 abbrev pub FlushesPending : {O : Type 0} → (O → Option (List ℕ)) → (O → ℕ) → (waits : O → List ℕ) → Ended → (O × O) → Ended →
     Type 0
 FlushesPending taken failed waits answer output ended =
@@ -79,7 +80,7 @@ refused Memory = no_memory
 abbrev pub cannot_write : List ℕ
 cannot_write = codes "hidlog: cannot write snapshot" ++ 10 ∷ []
 
--- Results that are written to standard output.
+-- Whether clap's message is written to standard output: help and version are.
 abbrev pub is_help : ErrorKind → Bool
 is_help DisplayHelp = true
 is_help DisplayVersion = true

@@ -1,5 +1,5 @@
--- The snapshots that a session starts from and is saved to. The contents of files are those of `Files`
--- (src/files.rt).
+-- The snapshot from which a session starts, and the snapshot to which its credentials are saved. The contents of files
+-- are those of `Files` (src/files.rt).
 use Rattle.std.specs.Prelude.{◌≡◌, ◌⊎◌, ℕ, true, List, [], Option, Some, None, Ok, Err}
 use Rattle.cred_table.specs.declared.{fault.SnapshotFault.SnapshotFault, row.Row.Row}
 use Rattle.cred_table.specs.Snapshots.{IsSnapshot, Loads, Refuses}
@@ -7,12 +7,12 @@ use Rattle.token_session.specs.Meters.{SessionState}
 use Rattle.hidlog.specs.Fault.{RunResult, alone, reasoned}
 use Rattle.hidlog.specs.Program.{cannot_read, cannot_write, no_memory, refused}
 
--- The rows are those of the snapshot at the path; none without a path.
+-- The rows are those of the snapshot at the path. Without a path, there are no rows.
 abbrev pub OpenSource : {D : Type 0} → (D → List ℕ → List ℕ → Type 0) → D → Option (List ℕ) → List Row → Type 0
 OpenSource holds files None rows = rows ≡ []
 OpenSource holds files (Some path) rows = (text : List ℕ) × holds files path text × Loads 64 text (Ok tt) rows
 
--- The file at the path cannot be read, its snapshot is refused, or an allocation failed.
+-- The file at the path cannot be read, its snapshot is rejected, or an allocation failed.
 abbrev pub FailsToOpen : {D : Type 0} → (D → List ℕ → List ℕ → Type 0) → (D → List ℕ → Type 0) → D → Option (List ℕ)
     → RunResult → Type 0
 FailsToOpen holds unreadable files None came = ⊥
@@ -26,8 +26,8 @@ FailsToOpen holds unreadable files (Some path) came =
 abbrev pub IsSaved : SessionState → List ℕ → Type 0
 IsSaved s bytes = (rows : List Row) × (rows ≡ s.machine.core.state.rows) × IsSnapshot true 64 rows bytes
 
--- A snapshot of the credentials was written to the path; or writing failed, or an allocation failed. Without a path
--- nothing is written. A pair is the files before and after.
+-- A snapshot of the credentials was written to the path; or writing failed; or an allocation failed. Without a path,
+-- nothing was written. A pair is the files before and after.
 abbrev pub Saves : {D : Type 0} → (D → List ℕ → List ℕ → D → Type 0) → (D → List ℕ → List ℕ → D → Type 0)
     → Option (List ℕ) → SessionState → RunResult → (D × D) → Type 0
 Saves written unwritten None s came files = (came ≡ Ok tt) × (files.1 ≡ files.0)

@@ -1,4 +1,4 @@
--- Comparing several logs, one after the other. A pair is a source before and after.
+-- Comparing several logs one after the other. A pair is a source before and after.
 use Rattle.std.specs.Prelude.{◌≡◌, ℕ, List, [], ◌∷◌, Option, Some, None, MatchOption}
 use Rattle.std.specs.Io.KnownBytes.{Consumes}
 use Rattle.cred_table.specs.declared.row.Row.{Row}
@@ -7,21 +7,21 @@ use Rattle.session_log.specs.{Command.start_with, Streams.IsAtEndOfInput, Log.fa
 use Rattle.hidlog.specs.{CommandLine.named, Model.Model, Saved.OpenSource}
 
 module _ {D I O F : Type 0} (model : Model D I O F) where
-  -- The whole log was read, and its packets are those of a key that starts with the credentials of the snapshot at the
-  -- path.
+  -- The whole log was read, and its packets are exactly those sent by a key that starts with the credentials of the
+  -- snapshot at the path.
   abbrev pub IsSame : Option (List ℕ) → D → (I × I) → Type 0
   IsSame load files input = (rows : List Row) × (bytes : List ℕ) × OpenSource model.holds files load rows
       × Consumes (model.left input.0) (model.left input.1) bytes
       × (fault_of (check_history (start_with rows)) (play_all (check_history (start_with rows)) (first_comparison []) bytes) ≡ None)
       × IsAtEndOfInput model.left model.ended input.1
 
-  -- The log at this path, or on standard input, has no differences, as in `IsSame`.
+  -- The log at this path, or on standard input, has no difference, as `IsSame` defines it.
   abbrev pub IsSameAt : Option (List ℕ) → D → (log : List ℕ) → (I × I) → Type 0
   IsSameAt load files log input = (start : I)
       × MatchOption (named (Some log)) (Unit {0}) (λ path. model.opened input.0 path start)
       × IsSame load files (start, input.1)
 
-  -- None of these logs, read one after the other, has differences.
+  -- The logs were read one after the other, and no log has a difference.
   abbrev pub AreSame : Option (List ℕ) → D → (logs : List (List ℕ)) → (I × I) → Type 0
   AreSame load files [] input = input.1 ≡ input.0
   AreSame load files (log ∷ logs) input =

@@ -1,4 +1,4 @@
--- Which lines of a log were shown, and the text for each.
+-- Which lines of a log are shown, and the text for each line.
 use Rattle.std.specs.Prelude.{◌≡◌, ℕ, ◌+◌, Bool, true, false, not, ◌==◌, List, [], ◌∷◌, ◌++◌, length, flat_map, decimal}
 use Rattle.std.specs.Prelude.{Option, Some, None, ◌⊎◌}
 use Rattle.std.specs.{Bool.MatchBool, Io.KnownBytes.Appends, Io.KnownBytes.Keeps}
@@ -12,7 +12,7 @@ use Rattle.session_show.specs.declared.log_writer.OutputFormat.{OutputFormat, Th
 
 -- ---- The text for a line
 
--- Whether a line has a text: packets, ticks and replies do; with explanations, comments do, too.
+-- Whether there is text for a line. Packets, ticks and replies have text; comments have text only with explanations.
 abbrev pub has_text : Detail → List ℕ → Line → Bool
 has_text detail line (Input timed) = true
 has_text detail line (Sent packet) = true
@@ -20,21 +20,23 @@ has_text Explained line Comment = not (length line == 0)
 has_text Fixed line Comment = false
 has_text detail line Count = false
 
--- A text that begins with the line's number and a space.
+-- The text begins with the line's number and a space.
 abbrev pub IsNumbered : ℕ → List ℕ → Type 0
 IsNumbered n text = (more : List ℕ) × (text ≡ decimal n ++ 32 ∷ more)
 
--- The text for line n, which has these bytes and this parsed form.
+-- The text belongs to line `n`, given the bytes of the line and its parsed form.
 abbrev pub IsTextOfParsed : Detail → ℕ → List ℕ → Option Line → List ℕ → Type 0
 IsTextOfParsed detail n line None text = ⊥
 IsTextOfParsed detail n line (Some l) text = MatchBool (has_text detail line l) (IsNumbered n text) (text ≡ [])
 
--- A statement about a text: the text for line n, or, without a line, the text after the last line, whose number is n.
+-- A condition on a text. The arguments are a line number and a line, or the number of the last line and None for the
+-- text after the last line.
 abbrev pub LineTextRule : Type 1
 LineTextRule = ℕ → Option (List ℕ) → List ℕ → Type 0
 
--- The text for line n: its number, a space and more; or empty, if there is nothing to show. After the last line the
--- text is empty; with explanations it may be the last line's number, a space and more.
+-- The condition on the text for line `n`: it begins with the line's number and a space, or it is empty if nothing is
+-- shown. The text after the last line is empty, or with explanations it may begin with the number of the last line and
+-- a space.
 abbrev pub IsLineText : Detail → LineTextRule
 IsLineText detail n (Some line) text = IsTextOfParsed detail n line (parsed line) text
 IsLineText Fixed n None text = text ≡ []
@@ -44,24 +46,25 @@ IsLineText Explained n None text = (text ≡ []) ⊎ IsNumbered n text
 abbrev pub Unspecified : LineTextRule
 Unspecified n line text = Unit {0}
 
--- The level of detail of a format with text for each line.
+-- The level of detail of a format with text for each line, or None for other formats.
 abbrev pub detail_of : OutputFormat → Option Detail
 detail_of (Text detail) = Some detail
 detail_of Page = Some Fixed
 detail_of _ = None
 
--- The statement about the texts at a level of detail; without one, texts are unspecified.
+-- The condition on the texts at a level of detail. For None, the texts are unspecified.
 abbrev pub rule_for_detail : Option Detail → LineTextRule
 rule_for_detail (Some detail) = IsLineText detail
 rule_for_detail None = Unspecified
 
--- The statement about the texts of a format.
+-- The condition on the texts of a format.
 abbrev pub rule_for_format : OutputFormat → LineTextRule
 rule_for_format format = rule_for_detail (detail_of format)
 
 -- ---- the lines
 
--- A log that is only read: only a line that is not a log line is an error, and the text for a line is the line itself.
+-- The semantics of a log that is only read: the sole error is a line that is not a log line, and the text for a line is
+-- the line itself.
 abbrev pub read_only_world : LineSemantics (Unit {0})
 read_only_world = record {
   stops = λ s l. None;
@@ -78,19 +81,19 @@ pub record ShownLine : Type 0 where
   pub line : List ℕ
   pub text : List ℕ
 
--- From line n on, the statement holds for the text of each line.
+-- The condition is true for the text of each line. The first line has the number `n`.
 abbrev pub AreLineTexts : LineTextRule → ℕ → List ShownLine → Type 0
 AreLineTexts shows n [] = Unit {0}
 AreLineTexts shows n (t ∷ more) = shows n (Some t.line) t.text × AreLineTexts shows (n + 1) more
 
--- The text consists of the texts of these lines, each of which ends with a line feed.
+-- The text consists of the texts of these lines. Each line ends with a line feed.
 pub record IsShownText (shows : LineTextRule) (lines text : List ℕ) : Type 0 where
   pub told : List ShownLine
   pub lines_are : lines ≡ flat_map (λ t. with_line_feed t.line) told
   pub text_is : text ≡ flat_map (λ t. t.text) told
   pub each : AreLineTexts shows 1 told
 
--- The text consists of the texts of these lines and a text after the last line.
+-- The text consists of the texts of these lines, followed by a text after the last line.
 pub record IsWholeText (shows : LineTextRule) (lines text : List ℕ) : Type 0 where
   pub before : List ℕ
   pub behind : List ℕ
@@ -98,15 +101,15 @@ pub record IsWholeText (shows : LineTextRule) (lines text : List ℕ) : Type 0 w
   pub shown : IsShownText shows lines before
   pub last : shows (length shown.told) None behind
 
--- The text is that of these lines, and at the end of the log it also has the text after the last line. If a write
--- failed, this states nothing.
+-- The text consists of the texts of these lines. At the end of the log, the text after the last line follows. After a
+-- failed write, nothing is stated.
 abbrev pub IsTextUpTo : LineTextRule → (lines text : List ℕ) → Ending → Type 0
 IsTextUpTo shows lines text Done = IsWholeText shows lines text
 IsTextUpTo shows lines text Unwritten = Unit {0}
 IsTextUpTo shows lines text _ = IsShownText shows lines text
 
--- These bytes were read, and the text that was written shows their lines. A pair is a source or a target before and
--- after.
+-- The lines that were read are shown in the text that was written. A pair is the unread bytes of a source, or the bytes
+-- written to a target, before and after.
 abbrev pub Shows : LineTextRule → (Option (List ℕ) × Option (List ℕ))
     → (Option (List ℕ) × Option (List ℕ)) → Ending → Type 0
 Shows shows left taken ending = ReadsAndWrites left.0 left.1 taken.0 taken.1
@@ -114,27 +117,28 @@ Shows shows left taken ending = ReadsAndWrites left.0 left.1 taken.0 taken.1
 
 -- ---- one line
 
--- The bytes of the target, which are unspecified here.
+-- The bytes written to a target, which this definition leaves unspecified.
 abbrev pub unknown_bytes : ℕ → Option (List ℕ)
 unknown_bytes failures = None
 
--- The failures of a target that is represented by their number.
+-- The number of failures of a target. Here the target is represented by that number.
 abbrev pub failures_of : ℕ → ℕ
 failures_of failures = failures
 
--- Line n was shown; or it is invalid, and nothing was written; or writing its text failed. A pair is the number of the
--- target's failures before and after.
+-- Line `n` was shown; or the line is invalid, and nothing was written; or writing its text failed. A pair is the number
+-- of the target's failures before and after.
 abbrev pub ShowsLine : ℕ → List ℕ → (ℕ × ℕ) → Ending → Type 0
 ShowsLine n line failures ending = PlaysLine read_only_world unknown_bytes failures_of n tt tt line failures ending
 
--- The text for line n was written; or the line is invalid, and nothing was written; or writing failed.
+-- The text for line `n` was written; or the line is invalid, and nothing was written; or writing failed.
 abbrev pub WritesLine : LineTextRule → ℕ → List ℕ → (Option (List ℕ) × Option (List ℕ)) → Ending → Type 0
 WritesLine shows n line taken Done = (text : List ℕ) × Appends taken.0 taken.1 text × shows n (Some line) text
 WritesLine shows n line taken (Refused fault) = Keeps taken.0 taken.1
 WritesLine shows n line taken (Unread m) = Unit {0}
 WritesLine shows n line taken Unwritten = OnlyAppends taken.0 taken.1
 
--- The text after the last line, line n, was written, or writing failed. A pair is a target before and after.
+-- The text after the last line, which has the number `n`, was written, or writing failed. A pair is a target before and
+-- after.
 abbrev pub WritesEnd : {F : Type 0} → LineTextRule → (F → Option (List ℕ)) → (F → ℕ) → ℕ → (F × F) → Ending → Type 0
 WritesEnd shows taken failed n target Done = (text : List ℕ) × WritesAll taken failed target text × shows n None text
 WritesEnd shows taken failed n target (Refused fault) = ⊥

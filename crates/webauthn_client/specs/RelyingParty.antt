@@ -2,10 +2,11 @@
 -- equal to").
 use Rattle.std.specs.Prelude.{◌≡◌, ℕ, List, ◌-◌, ◌∷◌, ◌<◌, ◌⊎◌, length, drop}
 
--- The host is a subdomain of the domain.
+-- The host is a subdomain of this domain.
 abbrev pub IsSubdomain : List ℕ → List ℕ → Type 0
 IsSubdomain host domain = drop (length host - length domain - 1) host ≡ 46 ∷ domain
 
--- The page at this host may use this RP ID: it is the host, or a registrable suffix of it.
+-- A page at this host may use the RP ID `id`: it is the host itself, or a parent domain of the host longer than the
+-- public suffix.
 abbrev pub MayUse : List ℕ → List ℕ → List ℕ → Type 0
 MayUse id host suffix = (id ≡ host) ⊎ (IsSubdomain host id × (length suffix < length id))
