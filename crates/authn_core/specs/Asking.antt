@@ -1,4 +1,4 @@
--- The commands that only ask for user presence: authenticatorReset and authenticatorSelection (CTAP 2.1, sections
+-- The commands that need nothing but user presence: authenticatorReset and authenticatorSelection (CTAP 2.1, sections
 -- 6.6, 6.9 and 8.2).
 use Rattle.std.specs.Prelude.{ℕ, ◌+◌, nat_lt, List, Option, None, if◌then◌else◌}
 use Rattle.cred_table.specs.{declared.row.Row.Row, Waiting.PendingAssertions}
@@ -10,12 +10,12 @@ use Rattle.authn_core.specs.declared.replies.Presence.TheVariants.{Granted, Deni
 abbrev pub RESET_LIMIT : ℕ
 RESET_LIMIT = 10000
 
--- Asks for user presence for a reset, or rejects it if more than 10 seconds have passed since power-up.
+-- Waits for user presence for a reset, or rejects the reset if more than 10 seconds have passed since power-up.
 abbrev pub reset_turn : List Row → (began now cid : ℕ) → TurnResult
 reset_turn rows began now cid =
     if nat_lt (began + RESET_LIMIT) now then respond_refusal rows None (because.ResetTooLate began now) else await_reply rows None cid AwaitResetPresence
 
--- Responds to the user's reply: with `granted` if the user consents, or else with an error.
+-- The result of a user presence reply: `granted` if the user consents, or else an error.
 abbrev pub presence_turn : (granted : TurnResult) → List Row → Option PendingAssertions → Presence → TurnResult
 presence_turn granted rows pending Granted = granted
 presence_turn granted rows pending Denied = respond_refusal rows pending because.Denied

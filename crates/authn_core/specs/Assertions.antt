@@ -9,20 +9,21 @@ use Rattle.sha2.specs.Sha256.{sha256}
 use Rattle.authn_core.specs.{Exchanges.Exchange, Exchanges.rows_after, Turn.Start}
 use Rattle.authn_core.specs.State.{AssertState, Event, Request, SignatureIs, Answer, Answered, Waits, Ignored}
 
--- The applicable credentials: with an allow list, the first listed one of the RP, or else its discoverable ones, newest
--- first (CTAP 2.1, section 6.2.2).
+-- The IDs of the applicable credentials: with an allow list, the first ID in the list that belongs to a credential of
+-- the RP, or else all discoverable credentials of the RP, newest first (CTAP 2.1, section 6.2.2).
 abbrev pub applicable_ids : List Row → (rp : List ℕ) → (given : Bool) → (allow : List (List ℕ)) → List (List ℕ)
 applicable_ids rows rp given allow =
     if given then take 1 (filter (λ id. list_any (λ r. bytes_eq r.rp rp && bytes_eq r.id id) rows) allow)
     else map (λ r. r.id) (reverse (filter (λ r. r.discoverable && bytes_eq r.rp rp) rows))
 
--- numberOfCredentials (CTAP 2.1, section 6.2.2).
+-- The value of numberOfCredentials, if the response contains it (CTAP 2.1, section 6.2.2).
 abbrev pub number_of_applicable : (given : Bool) → ℕ → Option ℕ
 number_of_applicable given n = if given then None else if nat_le n 1 then None else Some n
 
 -- ---- the newest getAssertion, which getNextAssertion continues
 
--- The newest getAssertion that became pending, the history before it, and the events since, newest first.
+-- A series of assertions: the newest getAssertion that became pending, the history before it, and the events since
+-- then, newest first.
 pub record AssertionSeries : Type 0 where
   pub cid : ℕ
   pub hash : List ℕ
@@ -33,7 +34,7 @@ pub record AssertionSeries : Type 0 where
   pub before : List Exchange
   pub since : List Exchange
 
--- The series of assertions that a valid getAssertion begins.
+-- The series of assertions that begins with a valid getAssertion.
 abbrev pub new_series : (cid : ℕ) → List Exchange → Result RequestParameters ℕ → Option AssertionSeries
 new_series cid past (Ok (GetAssertion hash rp_id allow presence)) =
     Some (record {
@@ -48,7 +49,7 @@ new_series cid past (Ok (GetAssertion hash rp_id allow presence)) =
     })
 new_series cid past read = None
 
--- The series that an event begins, if it is a getAssertion that becomes pending.
+-- The series that begins with this event, if the event is a getAssertion that becomes pending.
 abbrev pub begins_series : Event → Answer → List Exchange → Option AssertionSeries
 begins_series (Request cid bytes) (Waits status) past = new_series cid past (read_of bytes)
 begins_series event answer past = None
@@ -60,13 +61,13 @@ latest_series (x ∷ past) =
     option_or (begins_series x.event x.answer past)
     (option_map (λ (s : AssertionSeries). record s { since = x ∷ s.since }) (latest_series past))
 
--- The request is getNextAssertion.
+-- Whether the request is getNextAssertion.
 abbrev pub is_get_next_assertion : Result RequestParameters ℕ → Bool
 is_get_next_assertion (Ok GetNextAssertion) = true
 is_get_next_assertion read = false
 
--- The event doesn't end the series: a pending getNextAssertion, a recorded or ignored reply, or a signature with a
--- response.
+-- Whether the series continues after this event: it is a getNextAssertion that becomes pending, a reply that is
+-- recorded or ignored, or a signature with a response.
 abbrev pub continues_series : Event → Answer → Bool
 continues_series (Request cid bytes) (Waits status) = is_get_next_assertion (read_of bytes)
 continues_series reply (Waits status) = true
@@ -74,7 +75,7 @@ continues_series (SignatureIs (Some sig)) (Answered bytes) = true
 continues_series event Ignored = true
 continues_series event answer = false
 
--- The event completed an assertion.
+-- Whether the event completes an assertion.
 abbrev pub answers_assertion : Event → Answer → Bool
 answers_assertion (SignatureIs (Some sig)) (Answered bytes) = true
 answers_assertion event answer = false
@@ -83,12 +84,12 @@ answers_assertion event answer = false
 abbrev pub answered_assertions : AssertionSeries → List Exchange
 answered_assertions s = filter (λ x. answers_assertion x.event x.answer) s.since
 
--- At most 30,000 ms after the last assertion (CTAP 2.1, section 6.3).
+-- Whether at most 30,000 ms passed since the last assertion (CTAP 2.1, section 6.3).
 abbrev pub is_in_time : (now : ℕ) → List Exchange → Bool
 is_in_time now [] = false
 is_in_time now (x ∷ older) = nat_le now (x.at + 30000)
 
--- A getNextAssertion on the same channel, in time.
+-- Whether a getNextAssertion may continue the series: it is on the same channel and in time.
 abbrev pub may_continue_series : (now cid : ℕ) → Option AssertionSeries → Bool
 may_continue_series now cid None = false
 may_continue_series now cid (Some s) =
@@ -96,20 +97,20 @@ may_continue_series now cid (Some s) =
 
 -- ---- the assertion that a request begins
 
--- The assertion by this credential.
+-- The assertion to sign with this credential, if any.
 abbrev pub assertion_by : (hash rp : List ℕ) (presence : Bool) → (number : Option ℕ) → Option (List ℕ) → Option AssertState
 assertion_by hash rp presence number None = None
 assertion_by hash rp presence number (Some id) =
     Some (record { hash = hash; rp = rp; id = id; presence = presence; number = number })
 
--- The next assertion of a series, by the next credential.
+-- The next assertion to sign in a series, if any.
 abbrev pub next_assertion : Start → Option AssertionSeries → Option AssertState
 next_assertion start None = None
 next_assertion start (Some s) =
     assertion_by s.hash s.rp s.presence None
     (slice_get (applicable_ids (rows_after start s.before) s.rp s.given s.allow) (length (answered_assertions s)))
 
--- The assertion that a request begins after this history, or None.
+-- The assertion to sign that a request begins after this history, if any.
 abbrev pub assertion_for : Start → List Exchange → RequestParameters → Option AssertState
 assertion_for start past (GetAssertion hash rp_id allow presence) =
     let given = has_entries allow in let ids = applicable_ids (rows_after start past) (sha256 rp_id) given (ids_of allow) in

@@ -1,4 +1,4 @@
--- The results of `by_value` as answers of the definitions.
+-- The results of the module `by_value` as answers of the definitions.
 use Rattle.std.specs.Prelude.{◌≡◌, ℕ, max}
 use Rattle.authn_core.specs.State.{Event, Answer, Answered, Waits, Ignored, Nothing}
 use Rattle.authn_core.specs.Turn.{CoreContents, core_answer}
@@ -12,12 +12,12 @@ valued_answer (turns.Answer response) = Answered response.items
 valued_answer (turns.Waits status) = Waits status
 valued_answer turns.Ignored = Ignored
 
--- The answer, where a dropped request counts as ignored: neither has a response.
+-- The answer, with that to a dropped request replaced by `Ignored`, because neither has a response.
 abbrev pub without_drops : Answer → Answer
 without_drops Nothing = Ignored
 without_drops answer = answer
 
--- The code handled an event: its state is that of `turn` at the latest timestamp, and its answer that of the event.
+-- The code handled an event: the new state and the answer are those that `turn` defines at the latest timestamp.
 abbrev pub TakesByValue : (old new : CoreContents) → Turn → (at : ℕ) → Event → Type 0
 TakesByValue old new result at e = IsTurn old new (core_answer old.core (max old.latest at) e) at e
     × (valued_answer result ≡ without_drops (core_answer old.core (max old.latest at) e))

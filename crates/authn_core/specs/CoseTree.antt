@@ -1,4 +1,4 @@
--- The public key of an ES256 credential as a map (RFC 8152, sections 7.1, 8.1 and 13.1.1).
+-- The public key of an ES256 credential as a CBOR map (RFC 8152, sections 7.1, 8.1 and 13.1.1).
 use Rattle.std.specs.Prelude.{ℕ, List, pos, negsuc}
 use Rattle.ctap_cbor.specs.Tree.{Int, Bytes, Tree, Plain, Map, no_pairs, pair}
 

@@ -1,20 +1,20 @@
--- The history of an authenticator: its events with their answers, newest first. The state that later answers depend
--- on, the credentials and the pending request, is computed from this list.
+-- The history of an authenticator: its events with their answers, newest first. The credentials and the pending
+-- request, on which later answers depend, are computed from this list.
 use Rattle.std.specs.Prelude.{ℕ, List, [], ◌∷◌, map, Option, Some, None, option_map, Result, Ok, Err}
 use Rattle.cred_table.specs.declared.row.Row.{Row}
 use Rattle.ctap_message.specs.{Asked.RequestParameters, Requests.read_of}
 use Rattle.authn_core.specs.{Marks.CredentialChange, Marks.rows_after_changes, Turn.Start, Turn.Work}
 use Rattle.authn_core.specs.State.{Event, Request, Answer, Waits, Ignored}
 
--- An event with its time, its answer, and how it changed the credentials.
+-- An event with its time, its answer, and its effect on the credentials.
 pub record Exchange : Type 0 where
   pub at : ℕ
   pub event : Event
   pub answer : Answer
   pub did : CredentialChange
 
--- The credentials after a history: those of the start and the created ones in order, without those reset or replaced
--- since.
+-- The credentials after a history, in order of creation: those of the start and those created later, except those that
+-- were reset or replaced.
 abbrev pub rows_after : Start → List Exchange → List Row
 rows_after start past = rows_after_changes start.rows (map (λ x. x.did) past)
 
@@ -32,8 +32,8 @@ begin_pending_request cid status past (Ok asked) =
     Some (record { cid = cid; asked = asked; took = []; status = status; before = past })
 begin_pending_request cid status past (Err code) = None
 
--- The pending request after an event. A request without an immediate response becomes pending, a needed reply is
--- recorded with it, and a response or a drop ends it.
+-- The pending request after an event. A request without an immediate response becomes pending, a reply that is needed
+-- is recorded with the request, and a response or a drop ends the request.
 abbrev pub pending_after : Event → Answer → List Exchange → Option PendingRequest → Option PendingRequest
 pending_after (Request cid bytes) (Waits status) past older = begin_pending_request cid status past (read_of bytes)
 pending_after reply (Waits status) past older =

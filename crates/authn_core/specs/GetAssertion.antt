@@ -1,4 +1,4 @@
--- The turns of authenticatorGetAssertion and authenticatorGetNextAssertion (CTAP 2.1, sections 6.2.2, 6.3 and 8.2).
+-- The effects of authenticatorGetAssertion and authenticatorGetNextAssertion (CTAP 2.1, sections 6.2.2, 6.3 and 8.2).
 use Rattle.std.specs.Prelude.{ℕ, ◌+◌, ◌==◌, nat_lt, nat_le, List, [], ◌∷◌, length, Bool, ◌&&◌, Option, Some, None}
 use Rattle.std.specs.{Prelude.option_to_list, Prelude.if◌then◌else◌, List.find, Option.option_or}
 use Rattle.cred_table.specs.{declared.row.Row.Row, Rows.has_id, Rows.is_named, Rows.discoverable_rows, Rows.counter_of}
@@ -11,16 +11,16 @@ use Rattle.authn_core.specs.declared.refusal.Refusal.TheVariants as because
 use Rattle.authn_core.specs.Refusals.{presence_refusal}
 use Rattle.authn_core.specs.State.{AssertState, AwaitAssertPresence, TurnResult, respond, respond_refusal, await_reply, await_signature}
 
--- The RP's credential with the first listed ID that exists.
+-- The credential of the RP with the first ID in the list that belongs to one.
 abbrev pub find_allowed : (rp : List ℕ) → List Row → List (List ℕ) → Option Row
 find_allowed rp rows [] = None
 find_allowed rp rows (id ∷ others) = option_or (find (is_named rp id) rows) (find_allowed rp rows others)
 
--- The applicable credentials: one of the allow list, or else the RP's discoverable ones.
+-- The applicable credentials: one from the allow list, if it is given, or else all discoverable credentials of the RP.
 abbrev pub applicable_rows : List Row → (rp : List ℕ) → (given : Bool) → (allow : List (List ℕ)) → List Row
 applicable_rows rows rp given allow = if given then option_to_list (find_allowed rp rows allow) else discoverable_rows rp rows
 
--- numberOfCredentials: none with an allow list, or for fewer than two credentials.
+-- The value of numberOfCredentials: None with an allow list, or for fewer than two credentials.
 abbrev pub number_of_credentials : (given : Bool) → ℕ → Option ℕ
 number_of_credentials given n = if nat_lt 1 n then (if given then None else Some n) else None
 
@@ -28,11 +28,11 @@ number_of_credentials given n = if nat_lt 1 n then (if given then None else Some
 abbrev pub MAX_SIGN_COUNT : ℕ
 MAX_SIGN_COUNT = 4294967295
 
--- Asks for user presence if the option `up` is set, or else for the signature.
+-- Waits for user presence if the option `up` is set, or else for the signature.
 abbrev pub await_presence_or_sign : List Row → Option PendingAssertions → (cid : ℕ) → AssertState → TurnResult
 await_presence_or_sign rows pending cid a = if a.presence then await_reply rows pending cid (AwaitAssertPresence a) else await_signature rows pending cid a
 
--- The first credential signs, and the others become pending assertions.
+-- The first credential has to sign, and the others become pending assertions.
 abbrev pub assertion_turn : List Row → (now cid : ℕ) (hash rp : List ℕ) (presence given : Bool) → List (List ℕ) → TurnResult
 assertion_turn rows now cid hash rp presence given [] = respond_refusal rows None (because.NoCredential given)
 assertion_turn rows now cid hash rp presence given (id ∷ others) =
@@ -41,17 +41,17 @@ assertion_turn rows now cid hash rp presence given (id ∷ others) =
     (record { hash = hash; rp = rp; id = id; presence = presence; number = number_of_credentials given (length others + 1) })
     else respond_refusal rows None because.CounterSpent
 
--- Continues only if the user consents.
+-- Waits for the signature if the user consents, or else responds with an error.
 abbrev pub assertion_after_presence : List Row → Option PendingAssertions → (cid : ℕ) → AssertState → Presence → TurnResult
 assertion_after_presence rows pending cid a Granted = await_signature rows pending cid a
 assertion_after_presence rows pending cid a reply = respond_refusal rows None (presence_refusal reply)
 
--- The user handle of a discoverable credential.
+-- The user handle, if the credential is discoverable.
 abbrev pub user_handle_in : Option Row → Option (List ℕ)
 user_handle_in None = None
 user_handle_in (Some row) = if row.discoverable then Some row.user.items else None
 
--- Responds, and restarts the time limit for the pending assertions.
+-- Responds with the signature, and restarts the time limit for the pending assertions.
 abbrev pub assertion_after_signature : List Row → Option PendingAssertions → (now : ℕ) → AssertState → (counter : ℕ) → Option (List ℕ) → TurnResult
 assertion_after_signature rows pending now a counter None = respond_refusal rows None because.SignatureRefused
 assertion_after_signature rows pending now a counter (Some sig) =
@@ -60,12 +60,11 @@ assertion_after_signature rows pending now a counter (Some sig) =
 
 -- ---- the next one
 
--- The time limit for the next assertion after a response, in milliseconds (CTAP 2.1, section 6.3).
+-- The time limit for getNextAssertion after a response, in milliseconds (CTAP 2.1, section 6.3).
 abbrev pub NEXT_LIMIT : ℕ
 NEXT_LIMIT = 30000
 
--- The credential signs with the first request's client data hash and its option `up`. Each pending ID is that of a
--- credential.
+-- The credential with a pending ID has to sign, with the client data hash and the option `up` of the getAssertion.
 abbrev pub sign_pending_row : List Row → Option PendingAssertions → (cid : ℕ) (hash : List ℕ) → Bool → List ℕ → Option Row → TurnResult
 sign_pending_row rows pending cid hash presence id None = respond_refusal rows None because.NothingPending
 sign_pending_row rows pending cid hash presence id (Some row) =
@@ -73,17 +72,17 @@ sign_pending_row rows pending cid hash presence id (Some row) =
     then await_signature rows pending cid (record { hash = hash; rp = row.rp; id = id; presence = presence; number = None })
     else respond_refusal rows None because.CounterSpent
 
--- The first pending credential signs.
+-- The credential with the first pending ID has to sign.
 abbrev pub sign_next_pending : List Row → PendingAssertions → (cid : ℕ) → List (List ℕ) → TurnResult
 sign_next_pending rows w cid [] = respond_refusal rows None because.NothingPending
 sign_next_pending rows w cid (id ∷ others) = sign_pending_row rows (new_pending w.cid w.hash w.presence w.moment others) cid
     w.hash w.presence id (find (has_id id) rows)
 
--- Why a getNextAssertion isn't allowed.
+-- The error of a getNextAssertion that isn't allowed.
 abbrev pub next_refusal : PendingAssertions → (now cid : ℕ) → Refusal
 next_refusal w now cid = if w.cid == cid then because.NextTooLate w.moment now else because.PendingElsewhere w.cid
 
--- A getNextAssertion is allowed on the channel of the request, in time.
+-- The result of a getNextAssertion, which is allowed on the channel of the getAssertion within the time limit.
 abbrev pub next_assertion_turn : List Row → Option PendingAssertions → (now cid : ℕ) → TurnResult
 next_assertion_turn rows None now cid = respond_refusal rows None because.NothingPending
 next_assertion_turn rows (Some w) now cid =

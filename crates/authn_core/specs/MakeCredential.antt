@@ -1,4 +1,4 @@
--- The turns of authenticatorMakeCredential (CTAP 2.1, sections 6.1.2 and 8.2).
+-- The effects of authenticatorMakeCredential (CTAP 2.1, sections 6.1.2 and 8.2).
 use Rattle.std.specs.Prelude.{ℕ, nat_lt, List, ◌++◌, length, Bool, true, false, ◌&&◌, ◌||◌, Option, Some, None, is_some}
 use Rattle.std.specs.{Prelude.if◌then◌else◌, List.find, List.list_any}
 use Rattle.arrayvec.specs.ArrayVec.{ArrayVec}
@@ -12,7 +12,7 @@ use Rattle.authn_core.specs.Refusals.{presence_refusal}
 use Rattle.sha2.specs.Sha256.{sha256}
 use Rattle.authn_core.specs.State.{MakeState, AwaitMakePresence, AwaitKeyPair, AwaitMakeSignature, TurnResult, respond, respond_refusal, await_reply}
 
--- One of the IDs is that of a credential of the RP.
+-- Whether one of the IDs belongs to a credential of the RP.
 abbrev pub has_listed_credential : (rp : List ℕ) → List Row → List (List ℕ) → Bool
 has_listed_credential rp rows ids = list_any (λ id. is_some (find (is_named rp id) rows)) ids
 
@@ -21,22 +21,23 @@ abbrev pub new_make_state : (hash rp_id user_id user_name : List ℕ) (rk : Bool
 new_make_state hash rp_id user_id name rk =
     record { hash = hash; rp = sha256 rp_id; user = user_id; name = cut name; discoverable = rk }
 
--- Asks for user presence, even if a credential is excluded.
+-- Waits for user presence, even if a credential is excluded.
 abbrev pub make_turn : List Row → (cid : ℕ) → MakeState → (exclude : List (List ℕ)) → TurnResult
 make_turn rows cid m exclude = await_reply rows None cid (AwaitMakePresence m (has_listed_credential m.rp rows exclude))
 
--- There is capacity, or the new credential replaces one.
+-- Whether a new credential fits: there is capacity, or it replaces another one.
 abbrev pub has_capacity : (capacity : ℕ) → MakeState → List Row → Bool
 has_capacity capacity m rows = nat_lt (length rows) capacity || (m.discoverable && is_some (find (is_user m.rp m.user) rows))
 
--- An excluded credential is reported after any reply.
+-- The result of a user presence reply. An excluded credential is reported after any reply.
 abbrev pub make_after_presence : ℕ → List Row → Option PendingAssertions → (cid : ℕ) → MakeState → (excluded : Bool) → Presence → TurnResult
 make_after_presence capacity rows pending cid m true reply = respond_refusal rows pending because.Excluded
 make_after_presence capacity rows pending cid m false Granted =
     if has_capacity capacity m rows then await_reply rows pending cid (AwaitKeyPair m) else respond_refusal rows pending because.Full
 make_after_presence capacity rows pending cid m false reply = respond_refusal rows pending (presence_refusal reply)
 
--- If the new credential ID doesn't exist yet, a signature is needed (WebAuthn Level 2, section 8.2).
+-- The result of a new key. Unless a credential with its ID exists, a signature is needed (WebAuthn Level 2, section
+-- 8.2).
 abbrev pub make_after_key : (aaguid : List ℕ) → List Row → Option PendingAssertions → (cid : ℕ) → MakeState → Option NewKey → TurnResult
 make_after_key aaguid rows pending cid m None = respond_refusal rows pending because.KeyRefused
 make_after_key aaguid rows pending cid m (Some key) =
@@ -49,7 +50,7 @@ new_row m k =
     let user : ArrayVec ℕ = record { items = m.user } in let rk = m.discoverable in
     record { rp = m.rp; id = k.id; x = k.x; y = k.y; user = user; discoverable = rk; counter = 0; name = m.name }
 
--- Stores the credential, and responds.
+-- Stores the credential, and responds with the attestation.
 abbrev pub make_after_signature : (aaguid : List ℕ) → List Row → Option PendingAssertions → MakeState → NewKey → Option (List ℕ) → TurnResult
 make_after_signature aaguid rows pending m key None = respond_refusal rows pending because.SignatureRefused
 make_after_signature aaguid rows pending m key (Some sig) =

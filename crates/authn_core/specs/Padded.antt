@@ -1,4 +1,4 @@
--- A signature of at most 72 bytes, stored in 72 bytes with zeros after it.
+-- A signature of at most 72 bytes, stored in 72 bytes and padded with zeros.
 use Rattle.std.specs.Prelude.{◌≡◌, ℕ, ◌-◌, ◌≤◌, List, ◌++◌, length, take, drop, replicate}
 use Rattle.std.proofs.Common.{ap, ◌∙◌, sym, arith}
 use Rattle.std.proofs.lemmas.List.{take-append-drop, length-take-le}

@@ -6,7 +6,8 @@ use Rattle.fido_authdata.specs.AuthData.{assertion_bytes, created_bytes}
 use Rattle.authn_core.specs.State.{Task, AwaitKeyPair, AwaitMakeSignature, AwaitAssertPresence, AwaitAssertSignature, PendingTask, State}
 use Rattle.authn_core.specs.MakeCredential.{has_capacity}
 
--- The task can be continued.
+-- The task can be continued: the credential that it needs exists, or there is capacity for the credential that it
+-- creates.
 abbrev pub TaskReady : (capacity : ℕ) → List Row → Task → Type 0
 TaskReady capacity rows (AwaitKeyPair m) = has_capacity capacity m rows ≡ true
 TaskReady capacity rows (AwaitMakeSignature m k signed) = (has_capacity capacity m rows ≡ true)
@@ -16,7 +17,7 @@ TaskReady capacity rows (AwaitAssertPresence a) = (is_some (find (has_id a.id) r
 TaskReady capacity rows (AwaitAssertSignature a counter signed) = is_some (find (has_id a.id) rows) ≡ true
 TaskReady capacity rows task = Unit {0}
 
--- The pending task, if any, can be continued.
+-- The pending task, if any, can be continued, as `TaskReady` defines.
 abbrev pub WorkReady : (capacity : ℕ) → List Row → Option PendingTask → Type 0
 WorkReady capacity rows None = Unit {0}
 WorkReady capacity rows (Some work) = TaskReady capacity rows work.task
@@ -39,23 +40,23 @@ abbrev pub WorkSignsItsResponse : (aaguid : List ℕ) → Option PendingTask →
 WorkSignsItsResponse aaguid None = Unit {0}
 WorkSignsItsResponse aaguid (Some work) = SignsItsResponse aaguid work.task
 
--- Each ID is that of a credential.
+-- Each ID belongs to a credential.
 abbrev pub AllHaveRows : List Row → List (List ℕ) → Type 0
 AllHaveRows rows ids = AllByRecursion (λ id. is_some (find (has_id id) rows) ≡ true) ids
 
--- Each pending ID is that of a credential.
+-- Each pending ID belongs to a credential.
 abbrev pub PendingReady : List Row → Option PendingAssertions → Type 0
 PendingReady rows None = Unit {0}
 PendingReady rows (Some w) = AllHaveRows rows w.ids
 
--- Exactly these IDs are pending.
+-- The pending assertions are exactly those with these IDs.
 pub record IsPendingAlone (p : Option PendingAssertions) (cid : ℕ) (hash : List ℕ) (presence : Bool) (now : ℕ)
     (ids : List (List ℕ)) (count : ℕ) : Type 0 where
   pub are : p ≡ new_pending cid hash presence now ids
   pub counted : length ids ≡ count
   pub few : count < 2 ^ 16
 
--- The invariant of the state: each pending ID is that of a credential, and the pending request can be continued.
+-- The invariant of the state: each pending ID belongs to a credential, and the pending request can be continued.
 pub record Ready (capacity : ℕ) (s : State) : Type 0 where
   pub pending : PendingReady s.rows s.pending
   pub work : WorkReady capacity s.rows s.work

@@ -1,4 +1,4 @@
--- Why a command is rejected, and the status of its response (CTAP 2.1, section 8.2, "Status codes").
+-- Why a command is refused, and the status of its response (CTAP 2.1, section 8.2, "Status codes").
 use Rattle.std.specs.Prelude.{ℕ}
 use Rattle.authn_core.specs.declared.replies.Presence.{Presence, TheVariants.Denied as UserDenied}
 use Rattle.authn_core.specs.declared.refusal.Refusal.{Refusal}
@@ -27,7 +27,7 @@ status_of (PendingElsewhere channel) = 0x30  -- NOT_ALLOWED
 status_of (NextTooLate since at) = 0x30  -- NOT_ALLOWED
 status_of (ResetTooLate since at) = 0x30  -- NOT_ALLOWED
 
--- The error if the user doesn't consent to creating or using a credential.
+-- The error if the user refuses to create or use a credential, or doesn't react in time.
 abbrev pub presence_refusal : Presence → Refusal
 presence_refusal UserDenied = Denied
 presence_refusal reply = NoConsentInTime

@@ -1,6 +1,6 @@
--- What an authenticator signs, as a function of the requests and of the keys that the caller supplied: the
--- authenticator data and the client data hash, of an assertion (WebAuthn Level 2, section 6.3.3) and of a new
--- credential (sections 6.3.2 and 8.2).
+-- The bytes that an authenticator signs, as a function of the requests and of the keys that the caller supplied: the
+-- authenticator data and the client data hash of an assertion (WebAuthn Level 2, section 6.3.3) or of a new credential
+-- (sections 6.3.2 and 8.2).
 use Rattle.std.specs.Prelude.{ℕ, ◌≡◌, ◌⊎◌, List, [], ◌∷◌, ◌++◌, Bool, true, false, Option, Some, None, option_map}
 use Rattle.std.specs.{Prelude.Result, Prelude.Ok, Prelude.Err, List.AllByRecursion, List.find}
 use Rattle.cred_table.specs.{declared.row.Row.Row, Waiting.PendingAssertions, Rows.has_id, Rows.counter_of}
@@ -15,8 +15,8 @@ use Rattle.authn_core.specs.State.{PendingTask, State, Event, Request, PresenceI
 
 -- ---- what came
 
--- The newest valid request other than getNextAssertion, whether the user consented since, and the keys that the caller
--- supplied.
+-- The newest request, unless it is invalid; getNextAssertion doesn't count. Also, whether the user consented since
+-- then, and the keys that the caller supplied.
 pub record LatestRequests : Type 0 where
   pub asked : Option RequestParameters
   pub granted : Bool
@@ -45,17 +45,17 @@ abbrev pub IsAmong : NewKey → List NewKey → Type 0
 IsAmong key [] = ⊥
 IsAmong key (k ∷ keys) = (key ≡ k) ⊎ IsAmong key keys
 
--- The RP of the credential with this ID.
+-- The RP ID hash of the credential with this ID, if any.
 abbrev pub rp_of : (id : List ℕ) → List Row → Option (List ℕ)
 rp_of id rows = option_map (λ (r : Row). r.rp) (find (has_id id) rows)
 
 -- ---- the bytes to sign, and the response
 
--- The bytes to sign. For an assertion: the authenticator data with the hash of the RP ID, the requested UP flag and
--- the signature counter of one of this RP's credentials, followed by the client data hash (WebAuthn Level 2, sections
--- 6.1 and 6.3.3). For a new credential: the authenticator data with the ID and public key of a key that the caller
--- supplied, followed by the client data hash (sections 6.3.2, 6.5.1 and 8.2). If UP is set, the user consented.
--- Nothing else is signed.
+-- The bytes to sign. For an assertion, they are the authenticator data with the RP ID hash, the requested UP flag and
+-- the signature counter of a credential of the RP, followed by the client data hash (WebAuthn Level 2, sections 6.1 and
+-- 6.3.3). For a new credential, they are the authenticator data with the ID and public key of a key that the caller
+-- supplied, followed by the client data hash (sections 6.3.2, 6.5.1 and 8.2). If UP is set, the user consented. No
+-- other bytes are signed.
 abbrev pub IsToSign : (aaguid : List ℕ) → LatestRequests → List Row → (id signed : List ℕ) → Option RequestParameters → Type 0
 IsToSign aaguid h rows id signed (Some (GetAssertion hash rp_id allow presence)) =
     (signed ≡ assertion_bytes (sha256 rp_id) presence (counter_of id rows) ++ hash)
@@ -65,14 +65,14 @@ IsToSign aaguid h rows id signed (Some (MakeCredential hash rp_id user_id user_n
     × (signed ≡ created_bytes (sha256 rp_id) aaguid key.id key.x key.y ++ hash) × (h.granted ≡ true)
 IsToSign aaguid h rows id signed asked = ⊥
 
--- If a signature is needed, the bytes to sign are those of the newest request.
+-- If a signature is needed, the bytes to sign belong to the newest request.
 abbrev pub IsNeeded : (aaguid : List ℕ) → LatestRequests → List Row → Needed → Type 0
 IsNeeded aaguid h rows (sign id signed) = IsToSign aaguid h rows id signed h.asked
 IsNeeded aaguid h rows n = Unit {0}
 
--- The response to a signature. For an assertion it has the credential ID, and authenticator data that, followed by
--- the client data hash, are exactly the bytes signed. For a new credential it has the authenticator data of the row
--- that is created, and these, followed by the client data hash, are exactly the bytes signed.
+-- The response to a signature. For an assertion, it contains the credential ID and the authenticator data; for a new
+-- credential, it contains the authenticator data of the created row. In both cases the authenticator data, followed by
+-- the client data hash, is exactly the bytes that were signed.
 abbrev pub IsSigned : (aaguid : List ℕ) → Option PendingTask → (id signed sig : List ℕ) → Answer → Option RequestParameters → Type 0
 IsSigned aaguid work id signed sig answer (Some (GetAssertion hash rp_id allow presence)) =
     (data_signed : List ℕ) × (user : Option (List ℕ)) × (number : Option ℕ)
@@ -85,13 +85,13 @@ IsSigned aaguid work id signed sig answer asked = ⊥
 
 -- ---- invariants between events
 
--- The parts of a request that an assertion depends on: RP ID hash, requested UP flag and client data hash.
+-- The parameters of a request on which an assertion depends: RP ID hash, requested UP flag and client data hash.
 pub record Claim : Type 0 where
   pub rp : List ℕ
   pub presence : Bool
   pub hash : List ℕ
 
--- The parts of a getAssertion, or None for other requests.
+-- The parameters of a getAssertion on which an assertion depends, or None for other requests.
 abbrev pub assertion_asked : Option RequestParameters → Option Claim
 assertion_asked (Some (GetAssertion hash rp_id allow presence)) =
     Some (record { rp = sha256 rp_id; presence = presence; hash = hash })
@@ -102,16 +102,16 @@ abbrev pub creation_asked : Option RequestParameters → Option (List ℕ × Lis
 creation_asked (Some (MakeCredential hash rp_id user_id user_name discoverable exclude)) = Some (sha256 rp_id, hash)
 creation_asked asked = None
 
--- The assertion is for the newest request.
+-- The assertion belongs to the newest request.
 abbrev pub IsAssertionFor : Option RequestParameters → List Row → AssertState → Type 0
 IsAssertionFor asked rows a = (assertion_asked asked ≡ Some (record { rp = a.rp; presence = a.presence; hash = a.hash }))
     × (rp_of a.id rows ≡ Some a.rp)
 
--- The new credential is for the newest request.
+-- The new credential belongs to the newest request.
 abbrev pub IsCreationFor : Option RequestParameters → MakeState → Type 0
 IsCreationFor asked m = creation_asked asked ≡ Some (m.rp, m.hash)
 
--- The bytes that the task signs are for the newest request.
+-- The bytes that the task signs belong to the newest request.
 abbrev pub TaskSignsFor : (aaguid : List ℕ) → LatestRequests → List Row → Task → Type 0
 TaskSignsFor aaguid h rows (AwaitMakePresence m excluded) = IsCreationFor h.asked m
 TaskSignsFor aaguid h rows (AwaitKeyPair m) = IsCreationFor h.asked m × (h.granted ≡ true)
@@ -122,38 +122,38 @@ TaskSignsFor aaguid h rows (AwaitAssertSignature a counter signed) = IsAssertion
     × (signed ≡ assertion_bytes a.rp a.presence counter ++ a.hash) × (a.presence ≡ true → h.granted ≡ true)
 TaskSignsFor aaguid h rows task = Unit {0}
 
--- The bytes that the pending task signs, if any, are for the newest request.
+-- The bytes that the pending task signs, if any, belong to the newest request.
 abbrev pub WorkSignsFor : (aaguid : List ℕ) → LatestRequests → List Row → Option PendingTask → Type 0
 WorkSignsFor aaguid h rows None = Unit {0}
 WorkSignsFor aaguid h rows (Some work) = TaskSignsFor aaguid h rows work.task
 
--- Each ID is that of a credential of the RP.
+-- Each ID belongs to a credential of the RP.
 abbrev pub AreRpCredentials : (rp : List ℕ) → List Row → List (List ℕ) → Type 0
 AreRpCredentials rp rows ids = AllByRecursion (λ id. rp_of id rows ≡ Some rp) ids
 
--- The pending assertions are for the newest request.
+-- The pending assertions belong to the newest request.
 abbrev pub PendingFor : Option RequestParameters → List Row → Option PendingAssertions → Type 0
 PendingFor asked rows None = Unit {0}
 PendingFor asked rows (Some w) = (rp : List ℕ)
     × (assertion_asked asked ≡ Some (record { rp = rp; presence = w.presence; hash = w.hash })) × AreRpCredentials rp rows w.ids
 
--- If the pending assertions have the UP flag, the user consented.
+-- If the pending assertions set the UP flag, the user consented.
 abbrev pub IsGranted : (granted : Bool) → Option PendingAssertions → Type 0
 IsGranted granted None = Unit {0}
 IsGranted granted (Some w) = w.presence ≡ true → granted ≡ true
 
--- If the pending assertions have the UP flag, the user consented, or the task asks for user presence.
+-- If the pending assertions set the UP flag, the user consented, or the task waits for user presence.
 abbrev pub TaskGranted : (granted : Bool) → Option PendingAssertions → Task → Type 0
 TaskGranted granted p (AwaitAssertPresence a) = Unit {0}
 TaskGranted granted p task = IsGranted granted p
 
--- If the pending assertions have the UP flag, the user consented, or the pending task, if any, asks for user presence.
+-- If the pending assertions set the UP flag, the user consented, or the pending task, if any, waits for user presence.
 abbrev pub WorkGranted : (granted : Bool) → Option PendingAssertions → Option PendingTask → Type 0
 WorkGranted granted p None = IsGranted granted p
 WorkGranted granted p (Some work) = TaskGranted granted p work.task
 
--- The pending request and the pending assertions are for the newest request, the user consented if UP is set, and the
--- bytes to sign are those of that request.
+-- The pending request, the pending assertions and the bytes to sign belong to the newest request, and the user
+-- consented if UP is set.
 pub record IsSigningFor (aaguid : List ℕ) (h : LatestRequests) (s : State) : Type 0 where
   pub pending : PendingFor h.asked s.rows s.pending
   pub granted : WorkGranted h.granted s.pending s.work

@@ -1,17 +1,17 @@
--- The authenticator's state between events, the events, and the answers (CTAP 2.1, section 6).
+-- The state of an authenticator between events, its events, and its answers (CTAP 2.1, section 6).
 use Rattle.std.specs.Prelude.{ℕ, ◌+◌, List, [], ◌∷◌, ◌++◌, Bool, Option, Some, None}
 use Rattle.cred_table.specs.{declared.row.Row.Row, Waiting.PendingAssertions, Rows.rows_incremented, Rows.counter_of}
 use Rattle.fido_authdata.specs.AuthData.{assertion_bytes}
 use Rattle.authn_core.specs.declared.{replies.Presence.Presence, replies.NewKey.NewKey, refusal.Refusal.Refusal}
 use Rattle.authn_core.specs.Refusals.{status_of}
 
--- The configuration, which never changes.
+-- The configuration, which never changes: AAGUID, time of power-up in milliseconds, and capacity.
 pub record Setup : Type 0 where
   pub aaguid : List ℕ
   pub began : ℕ
   pub capacity : ℕ
 
--- A credential to create: the client data hash, the RP ID hash, and the user.
+-- A credential to create: the client data hash, the RP ID hash, the user, and whether it is discoverable.
 pub record MakeState : Type 0 where
   pub hash : List ℕ
   pub rp : List ℕ
@@ -19,7 +19,7 @@ pub record MakeState : Type 0 where
   pub name : List ℕ
   pub discoverable : Bool
 
--- An assertion to sign. `number` is numberOfCredentials, if the response has it.
+-- An assertion to sign. `number` is the value of numberOfCredentials, if the response contains it.
 pub record AssertState : Type 0 where
   pub hash : List ℕ
   pub rp : List ℕ
@@ -27,7 +27,7 @@ pub record AssertState : Type 0 where
   pub presence : Bool
   pub number : Option ℕ
 
--- The step of a pending request: it waits for user presence, for a key pair, or for a signature.
+-- What a pending request waits for: user presence, a key pair, or a signature.
 pub data Task : Type 0 where
   AwaitResetPresence : Task
   AwaitSelectionPresence : Task
@@ -37,18 +37,19 @@ pub data Task : Type 0 where
   AwaitAssertPresence : AssertState → Task
   AwaitAssertSignature : AssertState → (counter : ℕ) → (signed : List ℕ) → Task
 
--- The pending request's task and channel.
+-- The task and the channel of the pending request.
 pub record PendingTask : Type 0 where
   pub cid : ℕ
   pub task : Task
 
--- The state that events change.
+-- The state that events change: the credentials, the pending assertions, and the pending request.
 pub record State : Type 0 where
   pub rows : List Row
   pub pending : Option PendingAssertions
   pub work : Option PendingTask
 
--- An event. For keys and signatures, None is a refusal by the caller. A drop has no response.
+-- An event. For a key or a signature, None is a refusal by the caller. A drop ends the pending request without a
+-- response.
 pub data Event : Type 0 where
   Request : (cid : ℕ) → (bytes : List ℕ) → Event
   PresenceIs : Presence → Event
@@ -57,20 +58,21 @@ pub data Event : Type 0 where
   Cancel : Event
   Drop : Event
 
--- The answer to an event: a response, a KEEPALIVE status while pending, or none.
+-- The answer to an event: a response, a KEEPALIVE status while the request is pending, or none.
 pub data Answer : Type 0 where
   Answered : (bytes : List ℕ) → Answer
   Waits : (status : ℕ) → Answer
   Ignored : Answer
   Nothing : Answer
 
--- The result of an event: the new state, the answer, and the error if any.
+-- The result of an event: the new state, the answer, and the error, if any.
 pub record TurnResult : Type 0 where
   pub state : State
   pub answer : Answer
   pub why : Option Refusal
 
--- The KEEPALIVE status: 1 while a key or signature is needed, 2 while user presence is (CTAP 2.1, section 11.2.9.1.7).
+-- The KEEPALIVE status of a task: 1 if it needs a key or a signature, 2 if it needs user presence (CTAP 2.1, section
+-- 11.2.9.1.7).
 abbrev pub status : Task → ℕ
 status (AwaitKeyPair m) = 1
 status (AwaitMakeSignature m key signed) = 1
@@ -79,12 +81,12 @@ status task = 2
 
 -- ---- results that several commands return
 
--- Responds with these bytes. A response ends the pending request.
+-- Responds with these bytes, which ends the pending request.
 abbrev pub respond : List Row → Option PendingAssertions → List ℕ → TurnResult
 respond rows pending bytes =
     record { state = record { rows = rows; pending = pending; work = None }; answer = Answered bytes; why = None }
 
--- Responds with the error's status.
+-- Responds with the status of this error, which ends the pending request.
 abbrev pub respond_refusal : List Row → Option PendingAssertions → Refusal → TurnResult
 respond_refusal rows pending why = record {
   state = record { rows = rows; pending = pending; work = None };
@@ -92,7 +94,7 @@ respond_refusal rows pending why = record {
   why = Some why;
 }
 
--- The request becomes or stays pending.
+-- Waits for the reply that the task needs: the request becomes or stays pending.
 abbrev pub await_reply : List Row → Option PendingAssertions → (cid : ℕ) → Task → TurnResult
 await_reply rows pending cid task =
     let work : PendingTask = record { cid = cid; task = task } in

@@ -1,4 +1,4 @@
--- The turns of an authenticator: the new state and the answer for each event (CTAP 2.1, section 6).
+-- The effect of each event on an authenticator: the new state and the answer (CTAP 2.1, section 6).
 use Rattle.std.specs.Prelude.{ℕ, List, [], ◌∷◌, map, Option, Some, None, option_map, Result, Ok, Err}
 use Rattle.cred_table.specs.{declared.row.Row.Row, Waiting.PendingAssertions}
 use Rattle.ctap_message.specs.Asked.{RequestParameters, MakeCredential, GetAssertion, GetInfo, Reset, GetNextAssertion, Selection}
@@ -13,7 +13,7 @@ use Rattle.authn_core.specs.Asking.{reset_turn, presence_turn}
 use Rattle.authn_core.specs.MakeCredential.{new_make_state, has_listed_credential, make_after_presence, make_after_key, make_after_signature}
 use Rattle.authn_core.specs.GetAssertion.{applicable_rows, assertion_turn, assertion_after_presence, assertion_after_signature, next_assertion_turn}
 
--- The result of a request. Each request clears the pending assertions, except a getNextAssertion that becomes pending.
+-- The result of a request. Each request removes the pending assertions, except a getNextAssertion that becomes pending.
 abbrev pub request_turn : Setup → List Row → Option PendingAssertions → (now cid : ℕ) → Result RequestParameters ℕ → TurnResult
 request_turn u rows pending now cid (Err code) = respond_refusal rows None (because.BadRequest code)
 request_turn u rows pending now cid (Ok GetInfo) = respond rows None (info_answer u.aaguid)
@@ -27,7 +27,7 @@ request_turn u rows pending now cid (Ok (GetAssertion hash rp_id allow presence)
     assertion_turn rows now cid hash rp presence given (map (λ row. row.id) (applicable_rows rows rp given (ids_of allow)))
 request_turn u rows pending now cid (Ok GetNextAssertion) = next_assertion_turn rows pending now cid
 
--- The result of a reply for a pending task. A reply that isn't needed is ignored.
+-- The result of a reply for the pending task. A reply that the task doesn't need is ignored.
 abbrev pub task_reply_turn : Setup → State → (now cid : ℕ) → Task → Event → TurnResult
 task_reply_turn u s now cid AwaitResetPresence (PresenceIs reply) = presence_turn (respond [] None (0x00 ∷ [])) s.rows s.pending reply
 task_reply_turn u s now cid AwaitSelectionPresence (PresenceIs reply) =
@@ -40,12 +40,12 @@ task_reply_turn u s now cid (AwaitAssertPresence a) (PresenceIs reply) = asserti
 task_reply_turn u s now cid (AwaitAssertSignature a counter signed) (SignatureIs sig) = assertion_after_signature s.rows s.pending now a counter sig
 task_reply_turn u s now cid task other = ignore_event s
 
--- The result of a reply. Without a pending task it is ignored.
+-- The result of a reply. Without a pending task, the reply is ignored.
 abbrev pub reply_turn : Setup → State → (now : ℕ) → Option PendingTask → Event → TurnResult
 reply_turn u s now None reply = ignore_event s
 reply_turn u s now (Some work) reply = task_reply_turn u s now work.cid work.task reply
 
--- The result of an event at a time.
+-- The result of an event at time `now`.
 unfoldable pub turn : Setup → State → (now : ℕ) → Event → TurnResult
 turn u s now (Request cid bytes) = request_turn u s.rows s.pending now cid (read_of bytes)
 turn u s now Cancel = respond_refusal s.rows None because.Cancelled
@@ -60,21 +60,21 @@ pub record CoreState : Type 0 where
   pub setup : Setup
   pub state : State
 
--- The start: AAGUID, time in milliseconds, capacity, and credentials in order of creation.
+-- The start of an authenticator: AAGUID, time in milliseconds, capacity, and credentials in order of creation.
 pub record Start : Type 0 where
   pub aaguid : List ℕ
   pub moment : ℕ
   pub capacity : ℕ
   pub rows : List Row
 
--- The authenticator at the start, with nothing pending.
+-- The authenticator at the start, without a pending request or pending assertions.
 abbrev pub first_state : Start → CoreState
 first_state start = record {
   setup = record { aaguid = start.aaguid; began = start.moment; capacity = start.capacity };
   state = record { rows = start.rows; pending = None; work = None };
 }
 
--- The authenticator after an event at this time.
+-- The authenticator after an event at time `now`.
 abbrev pub core_after : CoreState → (now : ℕ) → Event → CoreState
 core_after core now e = record { setup = core.setup; state = (turn core.setup core.state now e).state }
 
@@ -91,7 +91,7 @@ pub record Work : Type 0 where
   pub cid : ℕ
   pub status : ℕ
 
--- The pending request, if any.
+-- The channel and KEEPALIVE status of the pending request, if any.
 abbrev pub waiting : CoreState → Option Work
 waiting core = option_map (λ work. record { cid = work.cid; status = status work.task }) core.state.work
 
@@ -99,7 +99,8 @@ waiting core = option_map (λ work. record { cid = work.cid; status = status wor
 abbrev pub working_channel : CoreState → Option ℕ
 working_channel core = option_map (λ (w : Work). w.cid) (waiting core)
 
--- The code's authenticator: its state, the latest timestamp, and the steps of parsing the last request.
+-- The code's authenticator: its configuration and state, the latest timestamp, and the number of steps of parsing the
+-- last request.
 pub record CoreContents : Type 0 where
   pub core : CoreState
   pub latest : ℕ

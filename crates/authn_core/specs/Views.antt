@@ -1,4 +1,4 @@
--- The values of the code, converted to those of the definitions.
+-- Conversions of the code's values to those of the definitions.
 use Rattle.std.specs.Prelude.{◌≡◌, ℕ, max, min, List, Bool, true, false, Option, Some, None}
 use Rattle.authn_core.specs.declared.authenticator.Turn.{Turn}
 use Rattle.authn_core.specs.declared.authenticator.Turn.TheVariants as turns
@@ -48,7 +48,7 @@ to_task (kept.AwaitAssertSignature a counter signed) = AwaitAssertSignature (to_
 abbrev pub to_pending_task : ChannelTaskKept → PendingTask
 to_pending_task w = record { cid = w.cid; task = to_task w.task }
 
--- The channel and KEEPALIVE status of a pending task, which are all that the transport needs.
+-- The channel and KEEPALIVE status of a pending task. The transport needs nothing else.
 abbrev pub pending_work : PendingTask → Work
 pending_work work = record { cid = work.cid; status = status work.task }
 
@@ -69,7 +69,7 @@ abbrev pub refusal_of : Turn → Option Refusal
 refusal_of (turns.Refuses why) = Some why
 refusal_of turn = None
 
--- Converts the code's event to that of the definitions.
+-- Converts the code's event to an event of the definitions.
 abbrev pub to_event : Happening → Event
 to_event (happening.Request cid message) = Request cid message.now
 to_event (happening.Presence reply) = PresenceIs reply
@@ -78,12 +78,12 @@ to_event (happening.Signature signature) = SignatureIs signature.now
 to_event happening.Cancel = Cancel
 to_event happening.Drop = Drop
 
--- The steps of parsing the last request, after an event.
+-- The number of steps of parsing the last request, after an event.
 abbrev pub steps_after : ℕ → Event → ℕ
 steps_after steps (Request cid bytes) = min (steps_of bytes) MAX_STEPS
 steps_after steps e = steps
 
--- The code handled an event: its state and answer are those of `turn` at the latest timestamp.
+-- The code handled an event: the new state and the answer are those that `turn` defines at the latest timestamp.
 pub record IsTurn (old new : CoreContents) (said : Answer) (at : ℕ) (e : Event) : Type 0 where
   pub core : new.core ≡ core_after old.core (max old.latest at) e
   pub answer : said ≡ core_answer old.core (max old.latest at) e
@@ -98,7 +98,7 @@ first_contents start = record { core = first_state start; latest = start.moment;
 abbrev pub with_time_and_steps : CoreContents → (latest last_steps : ℕ) → CoreContents
 with_time_and_steps v latest last_steps = record { core = v.core; latest = latest; last_steps = last_steps }
 
--- The authenticator with another state.
+-- The authenticator with the state of this result.
 abbrev pub with_turn : CoreContents → TurnResult → CoreContents
 with_turn v t = record {
   core = record { setup = v.core.setup; state = t.state };
@@ -106,23 +106,23 @@ with_turn v t = record {
   last_steps = v.last_steps;
 }
 
--- The code's state and answer are those of this result, and all else is unchanged.
+-- The code's state, answer and error are those of this result. The rest of the authenticator is unchanged.
 abbrev pub TakesTurn : (old new : CoreContents) → Turn → List ℕ → TurnResult → Type 0
 TakesTurn old new result bytes t = (new ≡ with_turn old t) × (to_answer result bytes ≡ t.answer) × (refusal_of result ≡ t.why)
 
--- The code's state is that of this result, whose request is pending with this KEEPALIVE status.
+-- The code's state is that of this result, in which the request is pending with this KEEPALIVE status.
 abbrev pub TakesWork : (old new : CoreContents) → KeepaliveStatus → TurnResult → Type 0
 TakesWork old new result t = (new ≡ with_turn old t) × (Waits (status_number result) ≡ t.answer) × (None ≡ t.why)
 
--- What the pending request needs from the caller.
+-- What the pending request needs from the caller: nothing, user presence, a key pair, or a signature.
 pub data Needed : Type 0 where
   nothing : Needed
   presence : Needed
   key : Needed
-  -- A signature by the credential with this ID over these bytes.
+  -- A signature over the bytes `signed` by the credential `id`.
   sign : (id signed : List ℕ) → Needed
 
--- What the task needs.
+-- What the task needs from the caller.
 abbrev pub task_needs : Task → Needed
 task_needs AwaitResetPresence = presence
 task_needs AwaitSelectionPresence = presence
@@ -132,24 +132,24 @@ task_needs (AwaitKeyPair m) = key
 task_needs (AwaitMakeSignature m k signed) = sign k.id signed
 task_needs (AwaitAssertSignature a counter signed) = sign a.id signed
 
--- What the pending task, if any, needs.
+-- What the pending task, if any, needs from the caller.
 abbrev pub needs : Option PendingTask → Needed
 needs None = nothing
 needs (Some work) = task_needs work.task
 
--- Converts the code's need to that of the definitions.
+-- Converts what the code needs to the type of the definitions.
 abbrev pub to_needed : Need → Needed
 to_needed need.None = nothing
 to_needed need.Presence = presence
 to_needed need.Key = key
 to_needed (need.Sign id signed) = sign id.now signed.now
 
--- User presence is needed.
+-- Whether user presence is needed.
 abbrev pub is_presence : Needed → Bool
 is_presence presence = true
 is_presence n = false
 
--- A key pair is needed.
+-- Whether a key pair is needed.
 abbrev pub is_key : Needed → Bool
 is_key key = true
 is_key n = false
@@ -159,14 +159,14 @@ abbrev pub is_sign : Needed → Bool
 is_sign (sign id signed) = true
 is_sign n = false
 
--- The pending task needs user presence.
+-- Whether the pending task needs user presence.
 abbrev pub wants_presence : Option PendingTask → Bool
 wants_presence work = is_presence (needs work)
 
--- The pending task needs a key pair.
+-- Whether the pending task needs a key pair.
 abbrev pub wants_key : Option PendingTask → Bool
 wants_key work = is_key (needs work)
 
--- The pending task needs a signature.
+-- Whether the pending task needs a signature.
 abbrev pub wants_signature : Option PendingTask → Bool
 wants_signature work = is_sign (needs work)

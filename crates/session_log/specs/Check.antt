@@ -1,5 +1,5 @@
--- Comparing a log with the packets of the session: after each input line come the packets that the session sends for
--- it.
+-- Comparing the packets in a log with those that the session sends. In a log, the packets sent for an input follow the
+-- line of the input.
 use Rattle.std.specs.Prelude.{ℕ, ◌+◌, ◌==◌, List, [], ◌∷◌, Option, Some, None, if◌then◌else◌}
 use Rattle.std.specs.Cmp.Lexicographic.{pointwise}
 use Rattle.authn_core.specs.Turn.{Start}
@@ -10,8 +10,9 @@ use Rattle.session_log.specs.{declared.line.Line.Line, Text.same_line, World.Inp
 use Rattle.session_log.specs.declared.line.Line.TheVariants.{Input, Sent, Comment, Count}
 use Rattle.session_log.specs.Session.{session_semantics, history_course}
 
--- The state after the lines so far: the session's state; the number of lines; the line of the last input (0 before
--- any), how many of its packets were found, and its remaining packets; and how many inputs and packets matched.
+-- The state of a comparison after some lines: the session's state, the number of lines, the line number of the last
+-- input (0 before the first input), how many of its packets were found in the log, its remaining packets, and the total
+-- numbers of inputs and of equal packets.
 pub record Compared (S : Type 0) : Type 0 where
   pub session : S
   pub lines : ℕ
@@ -21,7 +22,7 @@ pub record Compared (S : Type 0) : Type 0 where
   pub inputs : ℕ
   pub packets : ℕ
 
--- The state of a comparison with these fields.
+-- A state of a comparison with these fields.
 abbrev pub log_comparison : {S : Type 0} → S → (lines input found : ℕ) → (due : List (List ℕ)) → (inputs packets : ℕ)
     → Compared S
 log_comparison s lines input found due inputs packets =
@@ -31,25 +32,25 @@ log_comparison s lines input found due inputs packets =
 abbrev pub first_comparison : {S : Type 0} → S → Compared S
 first_comparison s = log_comparison s 0 0 0 [] 0 0
 
--- The next packet differs, is missing, or is one too many.
+-- The error for the next packet of the last input: it differs, is missing, or is one too many.
 abbrev pub difference : {S : Type 0} → Compared S → LogFault
 difference c = Differs c.input (c.found + 1)
 
--- A packet still due is reported as missing.
+-- The error, if at least one expected packet remains.
 abbrev pub missing_of : List (List ℕ) → LogFault → Option LogFault
 missing_of [] fault = None
 missing_of (p ∷ due) fault = Some fault
 
--- The error for a missing packet, if a packet is still due.
+-- The error for a missing packet, if at least one expected packet remains.
 abbrev pub missing : {S : Type 0} → Compared S → Option LogFault
 missing c = missing_of c.due (difference c)
 
--- A packet of the log must be the next expected one.
+-- The error, unless the packet equals the next expected packet.
 abbrev pub differs_from : List (List ℕ) → List ℕ → LogFault → Option LogFault
 differs_from [] packet fault = Some fault
 differs_from (p ∷ due) packet fault = if pointwise ◌==◌ p packet then None else Some fault
 
--- A missing packet is detected at the next input.
+-- The error of a line, if any: a packet that differs, or an input before which a packet is missing.
 abbrev pub comparison_fault : {S : Type 0} → Compared S → Line → Option LogFault
 comparison_fault c (Input timed) = missing c
 comparison_fault c (Sent packet) = differs_from c.due packet.0 (difference c)
@@ -84,7 +85,7 @@ comparison_after course c (Sent packet) = record {
 comparison_after course c Comment = record c { lines = c.lines + 1 }
 comparison_after course c Count = record c { lines = c.lines + 1 }
 
--- The comparison as a world on which a log is played. Nothing is written before the end of the log.
+-- The semantics of `check`. Nothing is written before the end of the log.
 abbrev pub check_world : {S : Type 0} → InputSemantics S → LineSemantics (Compared S)
 check_world course = record {
   stops = comparison_fault;
@@ -96,15 +97,15 @@ check_world course = record {
   counts = λ c. course.counts c.session;
 }
 
--- Comparing a log with the packets of a session's state.
+-- Comparing a log with the packets sent from a session's state.
 abbrev pub check_machine : LineSemantics (Compared SessionState)
 check_machine = check_world session_semantics
 
--- Comparing a log with the packets of a history.
+-- Comparing a log with the packets that a history defines.
 abbrev pub check_history : Start → LineSemantics (Compared (List Timed))
 check_history start = check_world (history_course start)
 
--- The packets still due: the next one, if any, and those after it.
+-- The expected packets that remain: the next one, if any, and those after it.
 abbrev pub due_packets : Option Packet → List (List ℕ) → List (List ℕ)
 due_packets None rest = []
 due_packets (Some packet) rest = packet.0 ∷ rest

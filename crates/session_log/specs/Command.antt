@@ -11,8 +11,8 @@ use Rattle.session_log.specs.Ending.{ending_of, read_fails, write_fails}
 use Rattle.session_log.specs.Session.{history, live_history, quiet_history}
 use Rattle.session_log.specs.Streams.{Counts, IsAtEndOfInput, ReadsAndWrites}
 
--- The start of the program's session: an AAGUID of sixteen zero bytes, time 0, and capacity for 64 credentials,
--- without any.
+-- The start of the program's session: an AAGUID of sixteen zero bytes, time 0, capacity for 64 credentials, and no
+-- credentials.
 abbrev pub program_start : Start
 program_start = record { aaguid = replicate 16 0; moment = 0; capacity = 64; rows = [] }
 
@@ -20,22 +20,23 @@ program_start = record { aaguid = replicate 16 0; moment = 0; capacity = 64; row
 abbrev pub start_with : List Row → Start
 start_with rows = record program_start { rows = rows }
 
--- The exit status of the program: Ok for 0.
+-- The exit status of the program: Ok for status 0, or Err with another status.
 abbrev pub Status : Type 0
 Status = Result (Unit {0}) ℕ
 
--- The exit status: 1 for an error in the log.
+-- The exit status for a result: 1 for an error in the log.
 abbrev pub status_of : {A : Type 0} → Result A LogFault → Status
 status_of (Ok x) = Ok tt
 status_of (Err fault) = Err 1
 
--- A result without the meters.
+-- The result of playing a log, without the meters.
 abbrev pub without_meters : Result Meters LogFault → Result (Unit {0}) LogFault
 without_meters (Ok meters) = Ok tt
 without_meters (Err fault) = Err fault
 
--- A failure of the source or the target was counted if and only if the error is a failed read or write, and without an
--- error the whole source was read. A pair is a source or a target before and after the call.
+-- The source's count of failures increases by one if the error is a failed read, the target's if it is a failed write,
+-- and otherwise the counts stay the same. Without an error, the source is at its end. A pair is a source or a target
+-- before and after the call.
 abbrev pub IsCounted : {A I O : Type 0} → (left : I → Option (List ℕ)) → (unread : I → ℕ) → (ended : I → Bool)
     → (unwritten : O → ℕ) → Result A LogFault → (I × I) → (O × O) → Type 0
 IsCounted left unread ended unwritten answer input output =
@@ -43,8 +44,8 @@ IsCounted left unread ended unwritten answer input output =
     × Counts unwritten output (write_fails (ending_of answer))
     × OnOk answer (IsAtEndOfInput left ended input.1)
 
--- A log was played from state s, and `Says` holds for the bytes that were read and the text that was written. An error
--- doesn't depend on the bytes after the invalid line.
+-- Playing a log from state `s`: `Says` holds for the bytes that were read and the text that was written. The result
+-- doesn't depend on the bytes after an invalid line.
 abbrev pub PlaysThrough : {S A I O : Type 0} → LineSemantics S → S → (List ℕ → List ℕ → Type 0)
     → (left : I → Option (List ℕ)) → (unread : I → ℕ) → (ended : I → Bool) → (taken : O → Option (List ℕ))
     → (unwritten : O → ℕ) → Result A LogFault → (I × I) → (O × O) → Type 0
@@ -53,8 +54,8 @@ PlaysThrough world s Says left unread ended taken unwritten answer input output 
     × ReadsTo world s (left input.0) (left input.1) (IsAtEndOfInput left ended input.1) (ending_of answer)
     × IsCounted left unread ended unwritten answer input output
 
--- A log was played from state x, whose history of inputs is that of the session, and the session is now in state s. The
--- text is the one that the world defines for the log.
+-- Playing a log from state `x`, with a start and the history in `x`, leads to the session state `s`. The text is the
+-- one that `world` defines for the log.
 abbrev pub PlaysIn : {S A I O : Type 0} → LineSemantics S → (S → List Timed) → S → Start
     → (left : I → Option (List ℕ)) → (unread : I → ℕ) → (ended : I → Bool) → (taken : O → Option (List ℕ))
     → (unwritten : O → ℕ)
@@ -66,7 +67,8 @@ PlaysIn {S} world history_in x start left unread ended taken unwritten answer s 
     × ReadsTo world x (left input.0) (left input.1) (IsAtEndOfInput left ended input.1) (ending_of answer)
     × IsCounted left unread ended unwritten answer input output
 
--- A command (replay, live, check or quiet) played a log on a session with this start and history.
+-- Playing a log with a command (replay, live, check or quiet) on a session with this start and this history leads to
+-- the session state `s`.
 abbrev pub PlaysLog : {A I O : Type 0} → ReplayMode → Start → List Timed
     → (left : I → Option (List ℕ)) → (unread : I → ℕ) → (ended : I → Bool) → (taken : O → Option (List ℕ))
     → (unwritten : O → ℕ)

@@ -1,4 +1,4 @@
--- The grammar of log lines (docs/use/LOG_FORMAT.md): when a line is an input, a packet or a comment.
+-- The grammar of log lines (docs/use/LOG_FORMAT.md): the bytes of an input, a packet, the meters and a comment.
 use Rattle.std.specs.Prelude.{◌≡◌, ℕ, ◌<◌, ◌≤◌, ◌^◌, List, [], ◌++◌, length, codes, decimal, Some, None, Ok, ◌⊎◌}
 use Rattle.hex.specs.Hex.{decode_sized}
 use Rattle.token_session.specs.declared.input.Input.{Input as AnyInput}
@@ -6,12 +6,12 @@ use Rattle.token_session.specs.declared.input.Input.TheVariants.{Packet, Tick, P
 use Rattle.session_log.specs.{declared.line.Line.Line, Words.presence_word, Words.refusal_word}
 use Rattle.session_log.specs.declared.line.Line.TheVariants.{Input, Sent, Comment, Count}
 
--- Two hexadecimal digits per byte, in either case.
+-- The digits are `n` bytes in hexadecimal: two digits for each byte, in upper or lower case.
 abbrev pub IsHexOf : List ℕ → ℕ → List ℕ → Type 0
 IsHexOf digits n bytes = decode_sized digits n ≡ Ok bytes
 
--- The field after the timestamp: a packet of 64 bytes; the word of a user presence reply; a new key's ID and
--- coordinates X and Y, of 32 bytes each; a signature of 1 to 72 bytes; or `no`.
+-- The text is the field after an input's timestamp: a packet of 64 bytes; the word of a user presence reply; the ID and
+-- the coordinates X and Y of a new key, 32 bytes each; a signature of 1 to 72 bytes; or `no`.
 abbrev pub IsFieldText : List ℕ → AnyInput → Type 0
 IsFieldText field (Packet packet) = IsHexOf field 64 packet.0
 IsFieldText field Tick = ⊥
@@ -24,7 +24,7 @@ IsFieldText field (Signature None) = field ≡ refusal_word
 IsFieldText field (Signature (Some bytes)) = IsHexOf field (length bytes) bytes × (1 ≤ length bytes)
     × (length bytes ≤ 72)
 
--- The letter and the space before an input's timestamp.
+-- The letter of an input, and the space before the timestamp.
 abbrev pub letter_and_space : AnyInput → List ℕ
 letter_and_space (Packet packet) = codes "> "
 letter_and_space Tick = codes "t "
@@ -32,14 +32,15 @@ letter_and_space (Presence answer) = codes "p "
 letter_and_space (Key key) = codes "k "
 letter_and_space (Signature signature) = codes "s "
 
--- `t M` is a tick at time M, `> M P` a packet; `p M granted`, `k M ID X Y`, `s M S` and the other forms are replies
--- of the caller.
+-- The line is this input with timestamp `at`: `t M` is a tick at time M, `> M P` is a packet, and `p M granted`, `k M
+-- ID X Y`, `s M S` and the other forms are replies of the caller.
 abbrev pub IsInputText : List ℕ → ℕ → AnyInput → Type 0
 IsInputText line at Tick = line ≡ codes "t " ++ decimal at
 IsInputText line at input = (field : List ℕ) × (line ≡ letter_and_space input ++ (decimal at ++ (codes " " ++ field)))
     × IsFieldText field input
 
--- `< P` is a packet that was sent, `=..` the meters; `#..` and an empty line are comments.
+-- The bytes are this line: an input, a packet that was sent (`< P`), the meters (`=..`), or a comment (`#..` or an
+-- empty line).
 abbrev pub IsLogLineText : List ℕ → Line → Type 0
 IsLogLineText line (Input timed) = (timed.at < 2 ^ 64) × IsInputText line timed.at timed.input
 IsLogLineText line (Sent packet) = (digits : List ℕ) × (line ≡ codes "< " ++ digits) × IsHexOf digits 64 packet.0

@@ -4,7 +4,7 @@ use Rattle.token_session.specs.declared.input.Timed.{Timed}
 use Rattle.session_log.specs.{declared.line.Line.Line, Parsed.parsed}
 use Rattle.session_log.specs.declared.line.Line.TheVariants.{Input, Sent, Comment, Count}
 
--- The input of a parsed line, if it is one.
+-- The input of a parsed line, if the line is an input.
 abbrev pub line_inputs : Option Line → List Timed
 line_inputs None = []
 line_inputs (Some Count) = []

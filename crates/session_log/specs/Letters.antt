@@ -1,4 +1,4 @@
--- The first byte of a line gives its kind.
+-- The first byte of a log line, which determines the kind of the line.
 use Rattle.std.specs.Prelude.{ℕ}
 
 -- `>`: a packet from the host.
@@ -33,6 +33,6 @@ comment_letter = 35
 abbrev pub count_letter : ℕ
 count_letter = 61
 
--- The space between fields.
+-- The space between two fields.
 abbrev pub space : ℕ
 space = 32

@@ -2,11 +2,11 @@
 use Rattle.std.specs.Prelude.{ℕ, ◌==◌, Bool, List, [], ◌∷◌, length, if◌then◌else◌}
 use Rattle.std.specs.List.{slice_split}
 
--- The byte is a line feed.
+-- Whether the byte is a line feed.
 abbrev pub is_line_feed : ℕ → Bool
 is_line_feed b = b == 10
 
--- The pieces between line feeds; the last piece follows the last line feed.
+-- The pieces of the bytes between line feeds, including the piece after the last line feed.
 abbrev pub pieces : List ℕ → List (List ℕ)
 pieces bytes = slice_split is_line_feed bytes
 
@@ -16,7 +16,7 @@ all_but_last [] = []
 all_but_last (x ∷ []) = []
 all_but_last (x ∷ y ∷ more) = x ∷ all_but_last (y ∷ more)
 
--- The last piece, or no bytes.
+-- The last piece, or the empty list if there are no pieces.
 abbrev pub last_of : List (List ℕ) → List ℕ
 last_of [] = []
 last_of (x ∷ []) = x
@@ -30,12 +30,12 @@ whole_lines bytes = all_but_last (pieces bytes)
 abbrev pub last_piece : List ℕ → List ℕ
 last_piece bytes = last_of (pieces bytes)
 
--- The pieces without the last one if that is empty.
+-- The pieces, except the last one if it is empty.
 abbrev pub lines_of_pieces : List (List ℕ) → List (List ℕ)
 lines_of_pieces [] = []
 lines_of_pieces (x ∷ []) = if length x == 0 then [] else x ∷ []
 lines_of_pieces (x ∷ y ∷ more) = x ∷ lines_of_pieces (y ∷ more)
 
--- The lines: the last piece is one if it is not empty.
+-- The lines of the bytes. The bytes after the last line feed are a line if there are any.
 abbrev pub lines : List ℕ → List (List ℕ)
 lines bytes = lines_of_pieces (pieces bytes)

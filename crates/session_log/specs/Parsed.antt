@@ -1,4 +1,4 @@
--- Parsing a line, as a function. The law `parsing_follows_the_grammar` states that it agrees with the grammar.
+-- A function that parses a log line. The law `parsing_follows_the_grammar` states that it agrees with Grammar.antt.
 use Rattle.std.specs.Prelude.{◌≡◌, ◌<◌, slice_index, ℕ, ◌+◌, ◌/◌, ◌==◌, ◌&&◌, ◌^◌, nat_le, nat_lt, Bool, List, [], ◌∷◌, length, take, drop}
 use Rattle.std.specs.Prelude.{position, codes, decimal, Option, Some, None, if◌then◌else◌}
 use Rattle.std.specs.Option.{option_and_then, option_map}
@@ -15,35 +15,35 @@ use Rattle.session_log.specs.Letters.{host_letter, key_letter, tick_letter, pres
 use Rattle.session_log.specs.Letters.{signature_letter, comment_letter, count_letter, space}
 use Rattle.session_log.specs.Words.{refusal_word}
 
--- Applies the second function to the first value, if any.
+-- Applies the function to the value, if any.
 infixl 10 ◌>>=◌
 abbrev pub ◌>>=◌ : {A B : Type 0} → Option A → (A → Option B) → Option B
 o >>= f = option_and_then f o
 
--- The parts before and after the first space.
+-- The bytes before and after the first space, or None without a space.
 abbrev pub first_field : List ℕ → Option (List ℕ × List ℕ)
 first_field fields = option_map (λ end. (take end fields, drop (end + 1) fields)) (position (λ b. b == space) fields)
 
--- The number below 2^64 with this decimal text.
+-- The number below 2^64 with this decimal text, or None.
 unfoldable pub moment : List ℕ → Option ℕ
 moment digits =
     let n = digits_value 10 digits in
     if nat_lt n (2 ^ 64) && pointwise ◌==◌ (decimal n) digits then Some n else None
 
--- The bytes of n pairs of hexadecimal digits, in either case.
+-- The bytes in `n` pairs of hexadecimal digits, in upper or lower case, or None.
 abbrev pub decoded_bytes : ℕ → List ℕ → Option (List ℕ)
 decoded_bytes n digits = result_ok (decode_sized digits n)
 
--- The value of a digit, if it is below 16.
+-- The value of a hexadecimal digit, or None if it is 16 or more.
 abbrev pub value_below_16 : ℕ → Option ℕ
 value_below_16 v = if nat_lt v 16 then Some v else None
 
--- The values of hexadecimal digits. Bytes that are no digits have a value of at least 16.
+-- The values are those of the hexadecimal digits. For a byte that isn't a digit, the value is at least 16.
 abbrev pub AreValues : List ℕ → List ℕ → Type 0
 AreValues digits values = (i : ℕ) → i < length digits
     → hex_digit_value (slice_index digits i) ≡ value_below_16 (slice_index values i)
 
--- The field is this word.
+-- Whether the field is this word.
 abbrev pub is_word : List ℕ → List ℕ → Bool
 is_word word field = pointwise ◌==◌ field word
 
@@ -87,7 +87,7 @@ abbrev pub parsed_signature : List ℕ → Option AnyInput
 parsed_signature field = if is_word refusal_word field then Some (Signature None)
     else (parsed_signature_bytes field >>= (λ bytes. Some (Signature (Some bytes))))
 
--- An input other than a tick, by the line's letter.
+-- An input other than a tick, from the line's letter and its last field.
 abbrev pub parsed_input : ℕ → List ℕ → Option AnyInput
 parsed_input letter field =
     if letter == host_letter then parsed_packet field
@@ -116,15 +116,15 @@ sent_line fields = do
   packet ← decoded_bytes 64 fields
   Some (Sent (record { 0 = packet }))
 
--- An input and its timestamp, by the line's letter.
+-- An input and its timestamp, from the line's letter and its other fields.
 abbrev pub timed_line : ℕ → List ℕ → Option Line
 timed_line letter fields = if letter == tick_letter then tick_line fields else input_line letter fields
 
--- A line by its letter.
+-- A line other than a comment or the meters, from its letter and its other fields.
 abbrev pub parsed_by_letter : ℕ → List ℕ → Option Line
 parsed_by_letter letter fields = if letter == key_letter then sent_line fields else timed_line letter fields
 
--- The parsed line, if it is a log line.
+-- The parsed line, or None if the bytes are not a log line.
 abbrev pub parsed : List ℕ → Option Line
 parsed [] = Some Comment
 parsed (first ∷ []) = if first == comment_letter then Some Comment else if first == count_letter then Some Count else None
@@ -134,7 +134,7 @@ parsed (first ∷ second ∷ fields) =
     else if second == space then parsed_by_letter first fields
     else None
 
--- The parsed line of this kind, by its unparsed fields.
+-- The parsed line of this kind, from its unparsed fields.
 abbrev pub line_of_kind : LineKind → Option Line
 line_of_kind (kind.Input letter fields) = timed_line letter fields.now
 line_of_kind (kind.Sent field) = sent_line field.now

@@ -1,4 +1,4 @@
--- The states on which a log is played: a session's state, or a history.
+-- The semantics of log lines on a session's state, and on a history.
 use Rattle.std.specs.Prelude.{◌≡◌, ℕ, ◌<◌, ◌^◌, List, ◌∷◌, length, Option}
 use Rattle.std.specs.Io.KnownBytes.{Appends}
 use Rattle.authn_core.specs.{Turn.Start, Views.Needed, Views.needs}
@@ -8,11 +8,12 @@ use Rattle.token_session.specs.Meters.{SessionState, stepped, input_packets_of, 
 use Rattle.session_log.specs.{Lines.lines, Log.log}
 use Rattle.session_log.specs.World.{InputSemantics, LineSemantics, replay_world, quiet_world, live_world}
 
--- A session's state, changed by inputs.
+-- The effect of inputs on a session's state.
 abbrev pub session_semantics : InputSemantics SessionState
 session_semantics = record { turned = λ s x. stepped s x; sends = λ s x. input_packets_of s x; counts = λ s. s.meters }
 
--- A history: the inputs so far, newest first, with the packets and meters that it defines.
+-- The effect of inputs on a history, which is the list of all inputs, newest first. The packets and the meters are
+-- those that the history defines.
 abbrev pub history_course : Start → InputSemantics (List Timed)
 history_course start = record {
   turned = λ h x. x ∷ h;
@@ -28,7 +29,7 @@ machine = replay_world session_semantics
 abbrev pub history : Start → LineSemantics (List Timed)
 history start = replay_world (history_course start)
 
--- A history whose packets are defined without an authenticator's state.
+-- As `history_course`, with packets that are defined without an authenticator's state.
 abbrev pub exchange_histories : Start → InputSemantics (List Timed)
 exchange_histories start = record {
   turned = λ h x. x ∷ h;
@@ -36,36 +37,37 @@ exchange_histories start = record {
   counts = λ h. meters_of start (received start h);
 }
 
--- Replaying a log on a history whose packets are defined without an authenticator's state.
+-- Replaying a log on a history, with packets that are defined without an authenticator's state.
 abbrev pub exchange_history : Start → LineSemantics (List Timed)
 exchange_history start = replay_world (exchange_histories start)
 
--- Making a log quiet on a session's state.
+-- Replacing noise by ticks in a log, from a session's state.
 abbrev pub quiet_machine : LineSemantics SessionState
 quiet_machine = quiet_world session_semantics (λ s x. is_noise_at s.machine x)
 
--- Making a log quiet on a history.
+-- Replacing noise by ticks in a log, from a history.
 abbrev pub quiet_history : Start → LineSemantics (List Timed)
 quiet_history start = quiet_world (history_course start) (λ h x. is_noise_after start (receive start x (received start h))
     (received start h))
 
--- What the authenticator of a session needs.
+-- What the pending request of a session needs.
 abbrev pub session_needs : SessionState → Needed
 session_needs s = needs s.machine.core.state.work
 
--- What the authenticator needs after a history.
+-- What the pending request after a history needs.
 abbrev pub history_needs : Start → List Timed → Needed
 history_needs start h = needs (core start (received start h)).state.work
 
--- Replaying a log with the needs, as `live` does, on a session's state.
+-- Replaying a log as `live` does, with what the pending request needs, on a session's state.
 abbrev pub live_machine : LineSemantics SessionState
 live_machine = live_world session_semantics session_needs
 
--- Replaying a log with the needs on a history.
+-- Replaying a log as `live` does, with what the pending request needs, on a history.
 abbrev pub live_history : Start → LineSemantics (List Timed)
 live_history start = live_world (history_course start) (history_needs start)
 
--- Playing the output again from state s gives the same output, unless it has too many lines.
+-- The text that was written to the target is a log with the same output from state `s`, unless it has 2^32 or more
+-- lines.
 abbrev pub RepeatsIn : LineSemantics SessionState → Option (List ℕ) → Option (List ℕ) → SessionState → Type 0
 RepeatsIn world taken taken' s = (text : List ℕ) × Appends taken taken' text
     × (length (lines text) < 2 ^ 32 → log world s text ≡ text)

@@ -4,12 +4,12 @@ use Rattle.std.specs.Prelude.{Result, Ok, Err, MatchResult, if◌then◌else◌}
 use Rattle.std.specs.Io.KnownBytes.{Consumes, Appends, IsAtEnd}
 use Rattle.session_log.specs.declared.fault.LogFault.{LogFault, TheVariants.Write}
 
--- Whether a read into a buffer that is not empty returned 0.
+-- Whether a read returned 0 bytes although the buffer is not empty.
 abbrev pub is_empty_read : {E : Type 0} → Result ℕ E → ℕ → Bool
 is_empty_read (Ok n) space = (n == 0) && nat_lt 0 space
 is_empty_read (Err e) space = false
 
--- The source is at its end: it returned 0 for a buffer that is not empty, and no bytes are left.
+-- The source is at its end: no bytes are left, and a read into a non-empty buffer has returned 0.
 abbrev pub IsAtEndOfInput : {I : Type 0} → (I → Option (List ℕ)) → (I → Bool) → I → Type 0
 IsAtEndOfInput left ended source = (ended source ≡ true) × IsAtEnd (left source)
 
@@ -17,21 +17,21 @@ IsAtEndOfInput left ended source = (ended source ≡ true) × IsAtEnd (left sour
 abbrev pub Counts : {F : Type 0} → (F → ℕ) → (F × F) → Bool → Type 0
 Counts failed stream fails = failed stream.1 ≡ (if fails then failed stream.0 + 1 else failed stream.0)
 
--- The target took a beginning of the text, but not all of it.
+-- The target accepted a proper prefix of the text.
 abbrev pub WritesPrefixOnly : Option (List ℕ) → Option (List ℕ) → List ℕ → Type 0
 WritesPrefixOnly old new text = (front : List ℕ) × (rest : List ℕ) × (text ≡ front ++ rest) × (0 < length rest)
     × Appends old new front
 
--- The target took the whole text.
+-- The target accepted the whole text.
 abbrev pub WritesAll : {F : Type 0} → (F → Option (List ℕ)) → (F → ℕ) → (F × F) → List ℕ → Type 0
 WritesAll taken failed target text = Appends (taken target.0) (taken target.1) text × (failed target.1 ≡ failed target.0)
 
--- A call of the target failed, after it took only a beginning of the text.
+-- A call of the target failed after the target accepted a proper prefix of the text.
 abbrev pub WriteFails : {F : Type 0} → (F → Option (List ℕ)) → (F → ℕ) → (F × F) → List ℕ → Type 0
 WriteFails taken failed target text = WritesPrefixOnly (taken target.0) (taken target.1) text
     × (failed target.1 ≡ failed target.0 + 1)
 
--- Writing a text: on success all of it was taken, on an error only a beginning.
+-- The result of writing a text: on success the target accepted the whole text, on an error only a proper prefix.
 abbrev pub WritesText : {F A E : Type 0} → (F → Option (List ℕ)) → (F → ℕ) → (F × F) → List ℕ → Result A E → Type 0
 WritesText taken failed target text r = MatchResult r (λ x. WritesAll taken failed target text)
     (λ e. WriteFails taken failed target text)
@@ -41,12 +41,12 @@ abbrev pub WritesLogLine : {F A : Type 0} → (F → Option (List ℕ)) → (F �
 WritesLogLine taken failed target text r = MatchResult r (λ x. WritesAll taken failed target text)
     (λ e. (e ≡ Write) × WriteFails taken failed target text)
 
--- P holds for the bytes that were read from a source and the text that was appended to a target.
+-- `P` holds for the bytes that were read from a source and for the text that was appended to a target.
 abbrev pub ReadsAndWrites : Option (List ℕ) → Option (List ℕ) → Option (List ℕ) → Option (List ℕ) → (List ℕ → List ℕ → Type 0)
     → Type 0
 ReadsAndWrites left left' taken taken' P = (bytes : List ℕ) × (text : List ℕ) × Consumes left left' bytes
     × Appends taken taken' text × P bytes text
 
--- A text was appended to what the target had taken.
+-- A text was appended to the bytes that the target had accepted before.
 abbrev pub OnlyAppends : Option (List ℕ) → Option (List ℕ) → Type 0
 OnlyAppends old new = (text : List ℕ) × Appends old new text

@@ -1,5 +1,5 @@
--- The packets that a history of inputs sends, defined without an authenticator's state: the answer to each event is
--- defined by the events before it.
+-- The packets that are sent for a history of inputs, defined without an authenticator's state: the answer to each event
+-- depends on the events before it.
 use Rattle.std.specs.Prelude.{◌≡◌, ℕ, ◌+◌, max, List, [], ◌∷◌, ◌++◌, ◌&&◌, Option, Some, None, option_map, is_some, is_none}
 use Rattle.std.specs.{Prelude.if◌then◌else◌, List.list_any}
 use Rattle.hid_packet.specs.{Commands.KEEPALIVE, Packet.is_command}
@@ -16,11 +16,11 @@ use Rattle.token_session.specs.Replies.{response_channel, status_of, answer_pack
 abbrev pub channel_of : Option Work → Option ℕ
 channel_of work = option_map (λ (w : Work). w.cid) work
 
--- The pending request: its channel, and the status of its KEEPALIVEs.
+-- The pending request after a list of events: its channel and its KEEPALIVE status.
 abbrev pub pending_work_of : List Exchange → Option Work
 pending_work_of past = work_of_request (pending_request past)
 
--- The history with one more event, if any, and its answer.
+-- The history extended by an event, if any, and the answer to the event.
 abbrev pub with_event : Start → List Exchange → (at : ℕ) → Option Event → List Exchange
 with_event start past at None = past
 with_event start past at (Some e) = exchange start past at e ∷ past
@@ -34,7 +34,7 @@ exchanges_of start (e ∷ past) =
 
 -- ---- inputs
 
--- An input after a history, with its time and whether it is admitted, as in History.antt. The pending request is
+-- An input after a history, with its time and whether it is admitted, as in History.antt. Here the pending request is
 -- computed from the events and answers so far.
 unfoldable pub received_input : Start → Timed → List ReceivedInput → ReceivedInput
 received_input start x past =
@@ -49,14 +49,14 @@ received_inputs start (x ∷ past) = received_input start x (received_inputs sta
 
 -- ---- packets
 
--- The packets of the answer to an event.
+-- The packets with the answer to an event, if any.
 abbrev pub response_packets : Start → List Exchange → (at : ℕ) → Option Event → List (List ℕ)
 response_packets start past at None = []
 response_packets start past at (Some e) =
     answer_packets (response_channel (pending_work_of past) e) (status_of (pending_work_of past)) (answer_to start past at e)
 
--- The packets that are sent for an input: those of its row of the reply table, the response to a PING, and those of
--- the answer to its event.
+-- The packets that are sent for an input: those of the reply table, the response to a PING, and those with the answer
+-- to the input's event.
 abbrev pub input_packets : Start → ReceivedInput → List ReceivedInput → List (List ℕ)
 input_packets start e past =
     let o = open_at past e.at in
@@ -65,7 +65,8 @@ input_packets start e past =
     let m = completed_message o e.admitted e.input in
     table_packets (channels_allocated past) o on e.input ++ ping_packets m ++ response_packets start before e.at (event on m e.input)
 
--- The packets that are due by time: ERROR 0x05 for a message that timed out, or else a KEEPALIVE.
+-- The packets that are sent because time passed: ERROR 0x05 for a message that timed out, or else a KEEPALIVE, if one
+-- is due.
 abbrev pub timer_packets : Start → List ReceivedInput → (latest t : ℕ) → List (List ℕ)
 timer_packets start past latest t =
     let before = open_at past (latest_time start past) in
@@ -81,25 +82,25 @@ last_keepalive_at start (e ∷ past) =
     if list_any (is_command KEEPALIVE) (timer_packets start past latest e.at ++ input_packets start e past) then e.at
     else latest
 
--- The packets that are due by time, then those for the input.
+-- The packets that are sent because time passed, followed by those for the input.
 abbrev pub packets_sent_at : Start → ReceivedInput → List ReceivedInput → List (List ℕ)
 packets_sent_at start e past = timer_packets start past (last_keepalive_at start past) e.at ++ input_packets start e past
 
--- The packets that a history sends, in order.
+-- The packets that are sent for a history, in order.
 unfoldable pub packets_sent : Start → List ReceivedInput → List (List ℕ)
 packets_sent start [] = []
 packets_sent start (e ∷ past) = packets_sent start past ++ packets_sent_at start e past
 
--- The packets that input x sends after history h.
+-- The packets that are sent for input `x` after history `h`.
 unfoldable pub packets_sent_now : Start → List Timed → Timed → List (List ℕ)
 packets_sent_now start h x = let past = received_inputs start h in packets_sent_at start (received_input start x past) past
 
--- The packets that the inputs of a list send after a history, in order, each with the number of its input.
+-- The packets that are sent for a list of inputs after a history, in order, each with the number of its input.
 unfoldable pub packets_sent_from : ℕ → Start → List Timed → List Timed → List (ℕ × List ℕ)
 packets_sent_from n start h [] = []
 packets_sent_from n start h (x ∷ xs) = with_input_number n (packets_sent_now start h x) ++ packets_sent_from (n + 1) start (x ∷ h) xs
 
--- This definition agrees with History.antt: it admits the same inputs, the same packets are sent, and the credentials
+-- Answered.antt agrees with History.antt: the same inputs are admitted, the same packets are sent, and the credentials
 -- are those that were created and not removed.
 pub record AgreesWithExchanges (start : Start) (h : List Timed) : Type 0 where
   pub inputs : received start h ≡ received_inputs start h

@@ -1,5 +1,5 @@
--- A message of several packets that arrives among the packets of other hosts (CTAP 2.1, sections 11.2.4, 11.2.5.1 and
--- 11.2.5.2).
+-- The arrival of a message in several packets, among the packets of other hosts (CTAP 2.1, sections 11.2.4, 11.2.5.1
+-- and 11.2.5.2).
 use Rattle.std.specs.Prelude.{◌≡◌, ℕ, ◌+◌, ◌≤◌, ◌<◌, ◌⊎◌, List, [], ◌∷◌, ◌++◌, length, None}
 use Rattle.hid_packet.specs.{Carries.CarriesMessage, Limits.MESSAGE_TIMEOUT, Commands.PING, Commands.CBOR}
 use Rattle.authn_core.specs.Turn.{Start, working_channel}
@@ -12,14 +12,15 @@ abbrev pub received_after_all : Start → List Timed → List Timed → List Rec
 received_after_all start h [] = []
 received_after_all start h (x ∷ xs) = received_after start h x ∷ received_after_all start (x ∷ h) xs
 
--- Each input arrives less than 500 ms after the previous one, the first less than 500 ms after `since`.
+-- The first input arrives less than 500 ms after `since`, and each further input less than 500 ms after the previous
+-- one.
 abbrev pub ArriveInTime : ℕ → List ReceivedInput → Type 0
 ArriveInTime since [] = Unit {0}
 ArriveInTime since (e ∷ es) = (e.at < since + MESSAGE_TIMEOUT) × ArriveInTime e.at es
 
--- After a history with no open message and no pending request, an input brings the initialization packet of a message
--- on an allocated channel; any inputs follow, and then the message's last packet. The channel's own packets among
--- them are the message's, in order, each less than 500 ms after the one before.
+-- After a history without an open message or a pending request, input `x` has the initialization packet of a message on
+-- an allocated channel. The inputs `between` follow, and then `last` with the message's last packet. Among them, the
+-- packets on this channel are those of the message, in order, and each arrives less than 500 ms after the previous one.
 pub record MessageArrives (start : Start) (h : List Timed) (x : Timed) (between : List Timed) (last : ReceivedInput)
     (cid cmd : ℕ) (bytes : List ℕ) : Type 0 where
   pub low : 1 ≤ cid

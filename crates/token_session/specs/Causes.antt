@@ -1,4 +1,4 @@
--- The cause of an ERROR packet or of a status other than 0, by the state of the composed machine.
+-- Why an ERROR packet or a status other than 0 is sent, from the state of the transport and the authenticator.
 use Rattle.std.specs.Prelude.{ℕ, max, List, [], Option, Some, None, if◌then◌else◌}
 use Rattle.std.specs.Option.{option_or}
 use Rattle.hid_assemble.specs.{Table.Open, Assembly.Assembly, Assembly.is_overdue}
@@ -19,28 +19,28 @@ use Rattle.token_session.specs.{Machine.MachineState, Machine.time_passed, Law.s
 unfoldable pub time_cause : Option Open → ℕ → Option TransportRefusal
 time_cause current at = if is_overdue current at then Some (Overdue (last_packet_time current) at) else None
 
--- The cause of a verdict that refuses a packet.
+-- The cause of a verdict that rejects a packet, or None for other verdicts.
 abbrev pub verdict_cause : Verdict → Option Cause
 verdict_cause (Refuse cid why) = Some (Transport why)
 verdict_cause v = None
 
--- The first check that a request fails.
+-- The cause for the first check that a request fails, if any.
 abbrev pub request_cause : Option RequestFault → Option Cause
 request_cause None = None
 request_cause (Some fault) = Some (Request fault)
 
--- The cause of a request that fails a check is that check; otherwise it is the command's refusal.
+-- The cause for the refusal of an event, if any: the check that the request fails, or else the refusal itself.
 abbrev pub command_cause : Event → Option CommandRefusal → Option Cause
 command_cause e None = None
 command_cause (Asks cid bytes) (Some (BadRequest status)) = request_cause (fault_in bytes)
 command_cause e (Some why) = Some (Command why)
 
--- The cause of an event's refusal, if it is refused.
+-- The cause for which the authenticator refuses an event, or None.
 abbrev pub event_cause : CoreState → ℕ → Option Event → Option Cause
 event_cause core at None = None
 event_cause core at (Some e) = command_cause e (core_refusal core at e)
 
--- The cause of a refusal: the transport rejects the input, or the authenticator rejects its event.
+-- The cause for which the transport rejects an input, or the authenticator refuses its event.
 abbrev pub input_cause : MachineState → Input → Option Cause
 input_cause s i =
     let a : Assembly = record { given = s.given; current = s.current; finished = [] } in
@@ -48,13 +48,14 @@ input_cause s i =
     let after = assembly_after a s.now (working_channel s.core) i in
     option_or (verdict_cause v) (event_cause s.core s.now (input_event i v after.finished))
 
--- The causes for one input: that of a message that times out before the input, and that of the input.
+-- The causes for one input: why a message was dropped before the input because it timed out, and why the input is
+-- refused.
 unfoldable pub causes_of : MachineState → Timed → TwoCauses
 causes_of s x = let at = max s.now x.at in record {
   time = time_cause s.current at;
   input = input_cause (time_passed s at).state x.input;
 }
 
--- The causes that a history defines for the next input.
+-- The causes for the next input after a history.
 unfoldable pub causes_after : Start → List Timed → Timed → TwoCauses
 causes_after start h x = causes_of (state_of start (received start h)) x

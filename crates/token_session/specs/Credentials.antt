@@ -1,9 +1,9 @@
--- A history's events, as steps of the authenticator.
+-- The events for the authenticator in a history.
 use Rattle.std.specs.Prelude.{ℕ, List, [], ◌∷◌, ◌++◌, Option, Some, None}
 use Rattle.authn_core.specs.{State.Event, Turn.Start, Marks.TimedEvent}
 use Rattle.token_session.specs.{Inputs.ReceivedInput, Law.event_at}
 
--- The event at a time, if any.
+-- The event with its time, if any.
 abbrev pub timed_event : ℕ → Option Event → List TimedEvent
 timed_event at None = []
 timed_event at (Some e) = record { at = at; event = e } ∷ []

@@ -1,4 +1,4 @@
--- The theorem for every start and every list of inputs (`drive_new` in src/driver.rt).
+-- The properties of `drive_new` (src/driver.rt) for every start and every list of inputs.
 use Rattle.std.specs.Prelude.{◌≡◌, ℕ, ◌+◌, ◌-◌, ◌*◌, ◌≤◌, List, [], ◌∷◌, length, Some}
 use Rattle.std.specs.List.{AllByRecursion}
 use Rattle.hid_packet.specs.{Carries.CarriesMessage, Limits.MAX_MESSAGE_LEN}
@@ -15,21 +15,22 @@ use Rattle.token_session.specs.{History.received, History.held, History.core, Me
 abbrev pub start_of : (aaguid : List ℕ) → (moment capacity : ℕ) → List Row → Start
 start_of aaguid moment capacity rows = record { aaguid = aaguid; moment = moment; capacity = capacity; rows = rows }
 
--- Each message that an input completes was received in its channel's packets.
+-- The bytes of each completed message are those that its packets carry.
 abbrev pub AllReceivedInPackets : List ReceivedInput → Type 0
 AllReceivedInPackets [] = Unit {0}
 AllReceivedInPackets (e ∷ past) =
     ((m : Message) → message_completed_at e past ≡ Some m → CarriesMessage (completed_packets_at e past) m.cid m.cmd m.bytes)
     × AllReceivedInPackets past
 
--- Properties of a history, newest first, in which these packets were sent, stated without an authenticator's state.
+-- The packets that were sent in a history, newest first, and bounds on its data. These properties are stated without an
+-- authenticator's state.
 pub record IsAnswered (start : Start) (h : List Timed) (packets : List (List ℕ)) : Type 0 where
   pub sent : packets ≡ packets_sent start (received_inputs start h)
   pub held : held start (received_inputs start h) ≤ MAX_MESSAGE_LEN
   pub rows : length (rows_after start (exchanges_of start (received_inputs start h))) ≤ start.capacity
 
--- Properties of a history that its packets don't show: completed messages are those that their packets carry, and the
--- number of pending assertions and the steps of parsing are bounded.
+-- Properties of a history that are not visible in its packets: completed messages are those that their packets carry,
+-- and the number of pending assertions and of parsing steps are bounded.
 pub record IsBounded (start : Start) (h : List Timed) : Type 0 where
   pub carried : AllReceivedInPackets (received start h)
   pub pending : pending_count (core start (received start h)).state.pending ≤ start.capacity

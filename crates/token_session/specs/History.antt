@@ -1,6 +1,7 @@
--- The packets of a history, defined by its inputs alone (CTAP 2.1, section 11.2.5): for each input, whether it begins a
--- message, the authenticator's turn for its event, and the packets sent. The transport is defined on lists of inputs,
--- with positions and filters; the authenticator by its state after each turn.
+-- The packets that are sent for a history, defined by its inputs alone (CTAP 2.1, section 11.2.5). For each input:
+-- whether it begins a message, the authenticator's reaction to its event, and the packets sent. The transport is
+-- defined with positions in lists of inputs and with filters; the authenticator is defined by its state after each
+-- event.
 use Rattle.std.specs.Prelude.{ℕ, Bool, not, ◌&&◌, ◌||◌, ◌==◌, nat_le, List, [], ◌∷◌, ◌++◌, max, Option, Some, None}
 use Rattle.std.specs.Prelude.{option_map, is_some, is_none, if◌then◌else◌, length, unwrap_or}
 use Rattle.std.specs.List.{list_any}
@@ -16,20 +17,20 @@ use Rattle.token_session.specs.Messages.{MessageStart, open_at, completed_messag
 use Rattle.token_session.specs.Replies.{error, row_packets, ping_packets, request_event}
 use Rattle.token_session.specs.Events.{reply_event, event_core, event_packets, keepalive_packets, keepalive_due}
 
--- The event of a packet: CANCEL or INIT ends the pending request of its channel; the last packet of a CBOR message is
--- a request.
+-- The authenticator's event for a packet, if any. CANCEL or INIT ends the pending request of its channel; the last
+-- packet of a CBOR message is a request.
 unfoldable pub packet_event : Option ℕ → Option Message → List ℕ → Option Event
 packet_event work m p =
     if is_command CANCEL p && is_busy_here work (channel p) then Some Cancel
     else if is_command INIT p && (message_length p == 8) && is_busy_here work (channel p) then Some Drop
     else request_event m
 
--- The event of an input.
+-- The authenticator's event for an input, if any.
 unfoldable pub event : Option ℕ → Option Message → Input → Option Event
 event work m (Packet p) = packet_event work m p.0
 event work m other = reply_event other
 
--- The event of an input after a history.
+-- The authenticator's event for an input after a history, if any.
 abbrev pub event_after : CoreState → ReceivedInput → List ReceivedInput → Option Event
 event_after k e past = event (working_channel k) (message_completed_at e past) e.input
 
@@ -38,8 +39,8 @@ unfoldable pub core : Start → List ReceivedInput → CoreState
 core start [] = first_state start
 core start (e ∷ past) = let before = core start past in event_core before e.at (event_after before e past)
 
--- An initialization packet that begins a message: PING or CBOR on an allocated channel, while no message is open and
--- no request is pending.
+-- Whether a packet begins a message: an initialization packet of PING or CBOR on an allocated channel, while no message
+-- is open and no request is pending.
 unfoldable pub admits : ℕ → Option MessageStart → Option ℕ → List ℕ → Bool
 admits channels_allocated o work p =
     is_initialization p && is_allocated channels_allocated (channel p)
@@ -61,19 +62,19 @@ received start (x ∷ past) = receive start x (received start past) ∷ received
 abbrev pub received_after : Start → List Timed → Timed → ReceivedInput
 received_after start past x = receive start x (received start past)
 
--- ERROR 0x05 on the channel of a message that timed out.
+-- The packet ERROR 0x05 on the channel of a message that timed out.
 abbrev pub timeout_packets : Option MessageStart → List (List ℕ)
 timeout_packets None = []
 timeout_packets (Some b) = error (channel b.packet) 0x05
 
--- ERROR 0x04 if a continuation packet on the channel of the open message has another sequence number than the
--- expected one.
+-- The packet ERROR 0x04, if a continuation packet on the channel of the open message doesn't have the expected sequence
+-- number.
 abbrev pub continuation_error : Option MessageStart → List ℕ → List (List ℕ)
 continuation_error None p = []
 continuation_error (Some b) p =
     if (channel b.packet == channel p) && not (sequence p == length b.own) then error (channel p) 0x04 else []
 
--- The packets that are sent for a packet by its row of the reply table.
+-- The packets that the reply table sends for a packet.
 unfoldable pub table_packets : ℕ → Option MessageStart → Option ℕ → Input → List (List ℕ)
 table_packets g o work (Packet p) =
     let current = option_map (λ b. channel b.packet) o in
@@ -82,8 +83,8 @@ table_packets g o work (Packet p) =
     else continuation_error o p.0
 table_packets g o work other = []
 
--- The packets that are sent for an input: those of its row of the reply table, the response to a PING, and those of
--- the event.
+-- The packets that are sent for an input: those of the reply table, the response to a PING, and those of the
+-- authenticator's event.
 unfoldable pub service_packets : Start → ReceivedInput → List ReceivedInput → List (List ℕ)
 service_packets start e past =
     let o = open_at past e.at in
@@ -92,7 +93,8 @@ service_packets start e past =
     table_packets (channels_allocated past) o (working_channel k) e.input ++ ping_packets m
     ++ event_packets k e.at (event (working_channel k) m e.input)
 
--- The packets that are due by time: ERROR 0x05 for a message that timed out, or else a KEEPALIVE.
+-- The packets that are sent because time passed: ERROR 0x05 for a message that timed out, or else a KEEPALIVE, if one
+-- is due.
 unfoldable pub time_packets : Start → List ReceivedInput → (latest t : ℕ) → List (List ℕ)
 time_packets start past latest t =
     let before = open_at past (latest_time start past) in
@@ -108,15 +110,15 @@ last_keepalive start (e ∷ past) =
     let packets = time_packets start past latest e.at ++ service_packets start e past in
     if list_any (is_command KEEPALIVE) packets then e.at else latest
 
--- The packets that are due by time, then those for the input.
+-- The packets that are sent because time passed, followed by those for the input.
 unfoldable pub sent_at : Start → ReceivedInput → List ReceivedInput → List (List ℕ)
 sent_at start e past = time_packets start past (last_keepalive start past) e.at ++ service_packets start e past
 
--- The packets that a history sends, in order.
+-- The packets that are sent for a history, in order.
 unfoldable pub sent : Start → List ReceivedInput → List (List ℕ)
 sent start [] = []
 sent start (e ∷ past) = sent start past ++ sent_at start e past
 
--- The number of data bytes received of the open message.
+-- The number of data bytes of the open message that were received.
 unfoldable pub held : Start → List ReceivedInput → ℕ
 held start h = unwrap_or (option_map (λ b. data_capacity (length b.own)) (open_at h (latest_time start h))) 0

@@ -1,4 +1,4 @@
--- The composed machine's state after a history, and the packets that it sends.
+-- The state of the transport and the authenticator after a history, and the packets that are sent for it.
 use Rattle.std.specs.Prelude.{◌≡◌, Bool, ◌&&◌, is_some, is_none, ℕ, ◌+◌, List, [], ◌∷◌, ◌++◌, option_map, Option}
 use Rattle.std.specs.{Prelude.if◌then◌else◌, List.list_any}
 use Rattle.hid_packet.specs.{Commands.KEEPALIVE, Packet.is_command}
@@ -18,11 +18,11 @@ state_of start h = record {
   keepalive_at = last_keepalive start h;
 }
 
--- The state is the one that the history defines.
+-- The state is the one that the history defines, as `state_of` does.
 abbrev pub IsMachineAfter : MachineState → Start → List Timed → Type 0
 IsMachineAfter s start h = s ≡ state_of start (received start h)
 
--- The packets that input x sends after history h.
+-- The packets that are sent for input `x` after history `h`.
 unfoldable pub sent_now : Start → List Timed → Timed → List (List ℕ)
 sent_now start h x = sent_at start (received_after start h x) (received start h)
 
@@ -30,7 +30,7 @@ sent_now start h x = sent_at start (received_after start h x) (received start h)
 abbrev pub event_at : Start → ReceivedInput → List ReceivedInput → Option Event
 event_at start e past = event_after (core start past) e past
 
--- The inputs of a list after a history, in order, each with its time and whether it is admitted.
+-- The history after the inputs of a list were added to it, newest first.
 abbrev pub append_inputs : List Timed → List Timed → List Timed
 append_inputs [] h = h
 append_inputs (x ∷ xs) h = append_inputs xs (x ∷ h)
@@ -40,7 +40,7 @@ abbrev pub with_input_number : ℕ → List (List ℕ) → List (ℕ × List ℕ
 with_input_number n [] = []
 with_input_number n (p ∷ ps) = (n, p) ∷ with_input_number n ps
 
--- The packets that the inputs of a list send after a history, in order, each with the number of its input.
+-- The packets that are sent for a list of inputs after a history, in order, each with the number of its input.
 abbrev pub sent_from : ℕ → Start → List Timed → List Timed → List (ℕ × List ℕ)
 sent_from n start h [] = []
 sent_from n start h (x ∷ xs) = with_input_number n (sent_now start h x) ++ sent_from (n + 1) start (x ∷ h) xs
@@ -60,7 +60,7 @@ unfoldable pub turns_send : Start → List Timed → List (List ℕ)
 turns_send start [] = []
 turns_send start (x ∷ past) = turns_send start past ++ (turn (machine start past) x).packets
 
--- All initialization packets of a history whose messages are open at time t, newest first.
+-- The beginnings of all messages that are open at time `t`, newest first.
 unfoldable pub all_open : List ReceivedInput → List ReceivedInput → ℕ → List MessageStart
 all_open later [] t = []
 all_open later (e ∷ before) t =
@@ -70,6 +70,6 @@ all_open later (e ∷ before) t =
 abbrev pub has_keepalive : List (List ℕ) → Bool
 has_keepalive packets = list_any (is_command KEEPALIVE) packets
 
--- Whether a message was open at the end of a history, and has timed out since.
+-- Whether a message that was open before is no longer open because it timed out.
 abbrev pub is_timed_out : Option MessageStart → Option MessageStart → Bool
 is_timed_out before now = is_some before && is_none now

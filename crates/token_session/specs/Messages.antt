@@ -1,5 +1,5 @@
--- The open message after a list of inputs, and the message that an input completes, defined by their packets alone,
--- without a buffer (CTAP 2.1, sections 11.2.4 and 11.2.5). `later` is a list with the oldest input first.
+-- The open message after a list of inputs, and the message that an input completes, defined by packets alone, without a
+-- buffer (CTAP 2.1, sections 11.2.4 and 11.2.5). In these definitions, `later` is a list of inputs, oldest first.
 use Rattle.std.specs.Prelude.{ℕ, ◌+◌, Bool, not, ◌&&◌, ◌==◌, nat_le, nat_lt, List, [], ◌∷◌, ◌++◌, take, length, map}
 use Rattle.std.specs.Prelude.{Option, Some, None, if◌then◌else◌}
 use Rattle.hid_packet.specs.Carries.{joined_data}
@@ -9,26 +9,28 @@ use Rattle.hid_assemble.specs.{Assembly.Message, Table.Open}
 use Rattle.token_session.specs.declared.input.Input.{Input, TheVariants.Packet}
 use Rattle.token_session.specs.Inputs.{ReceivedInput, packet, is_packet, channel_inputs}
 
--- Whether an input is the continuation packet with sequence number `m` of a message of `len` bytes, and not the last
--- one.
+-- Whether an input is a continuation packet with sequence number `m` that is not the last packet of a message of `len`
+-- bytes.
 unfoldable pub is_next_packet : ℕ → ℕ → ReceivedInput → Bool
 is_next_packet len m e = is_packet (λ p. not (is_initialization p) && (sequence p == m)) e.input
     && nat_lt (data_capacity (m + 1)) len
 
--- Whether these inputs are the continuation packets of a message from sequence number `m` on, none of them the last,
--- with less than 500 ms from `since` to the first, from each to the next, and from the last to `t`.
+-- Whether these inputs are continuation packets of a message of `len` bytes, with sequence numbers from `m` on, and the
+-- message is open until `t`: none of them is the last packet, and there are less than 500 ms from `since` to the first,
+-- between any two of them, and from the last to `t`.
 unfoldable pub continues_until : ℕ → ℕ → ℕ → List ReceivedInput → ℕ → Bool
 continues_until len m since [] t = nat_lt t (since + MESSAGE_TIMEOUT)
 continues_until len m since (e ∷ es) t = is_next_packet len m e && nat_lt e.at (since + MESSAGE_TIMEOUT)
     && continues_until len (m + 1) e.at es t
 
--- An initialization packet, and its channel's own packets since then.
+-- The beginning of a message: an initialization packet, its time, and the inputs with packets on its channel since
+-- then.
 pub record MessageStart : Type 0 where
   pub packet : List ℕ
   pub at : ℕ
   pub own : List ReceivedInput
 
--- Whether the message is longer than one packet, but not longer than the maximum.
+-- Whether the message of an initialization packet is longer than one packet, but not longer than the maximum.
 unfoldable pub is_long : List ℕ → Bool
 is_long p = nat_lt INIT_PACKET_DATA (message_length p) && nat_le (message_length p) MAX_MESSAGE_LEN
 
@@ -36,20 +38,19 @@ is_long p = nat_lt INIT_PACKET_DATA (message_length p) && nat_le (message_length
 abbrev pub message_start : ReceivedInput → List ReceivedInput → MessageStart
 message_start e later = record { packet = packet e.input; at = e.at; own = channel_inputs (channel (packet e.input)) later }
 
--- Whether the message that an input begins is open at time `t`: it was admitted, is longer than one packet, and the
--- packets of its channel since then continue it.
+-- Whether the message that an input begins is open at time `t`: the input was admitted, the message is longer than one
+-- packet, and the later packets on its channel continue the message.
 unfoldable pub is_open : ReceivedInput → List ReceivedInput → ℕ → Bool
 is_open e later t =
     let b = message_start e later in
     e.admitted && is_long b.packet && continues_until (message_length b.packet) 0 b.at b.own t
 
--- The message that one of these inputs begins and that is open at time `t`, after the inputs `later` that follow
--- them.
+-- The message that begins with one of these inputs and is open at time `t`, if any. `later` are the inputs after them.
 unfoldable pub open_among : List ReceivedInput → List ReceivedInput → ℕ → Option MessageStart
 open_among later [] t = None
 open_among later (e ∷ before) t = if is_open e later t then Some (message_start e later) else open_among (e ∷ later) before t
 
--- The open message at time t after a history.
+-- The message that is open at time `t` after a history, if any.
 unfoldable pub open_at : List ReceivedInput → ℕ → Option MessageStart
 open_at h t = open_among [] h t
 
@@ -57,12 +58,12 @@ open_at h t = open_among [] h t
 abbrev pub packets_of : List ReceivedInput → List (List ℕ)
 packets_of es = map (λ e. packet e.input) es
 
--- The time of a message's last own packet.
+-- The time of the last packet of a message on its channel.
 abbrev pub time_of_last_packet : ℕ → List ReceivedInput → ℕ
 time_of_last_packet t [] = t
 time_of_last_packet t (e ∷ es) = time_of_last_packet e.at es
 
--- The open message with the data of its packets.
+-- Converts the open message to the type of message assembly, with the data of its packets.
 abbrev pub to_open : MessageStart → Open
 to_open b =
     let p = b.packet in
@@ -70,31 +71,31 @@ to_open b =
     let last = time_of_last_packet b.at b.own in
     record { cid = channel p; cmd = command p; len = message_length p; bytes = bytes; kept = length b.own; last = last }
 
--- The message in these packets.
+-- The message that these packets carry.
 abbrev pub message : List ℕ → List (List ℕ) → Message
 message first others =
     let bytes = take (message_length first) (joined_data first others) in
     record { cid = channel first; cmd = command first; bytes = bytes }
 
--- Whether the packet is the last one of the open message.
+-- Whether the packet is the last packet of the open message.
 unfoldable pub is_last_packet : MessageStart → List ℕ → Bool
 is_last_packet b p =
     not (is_initialization p) && (channel b.packet == channel p) && (sequence p == length b.own)
     && not (nat_lt (data_capacity (length b.own + 1)) (message_length b.packet))
 
--- The open message, if this packet is its last.
+-- The open message, if this packet is its last one.
 unfoldable pub completed_long_message : Option MessageStart → List ℕ → Option Message
 completed_long_message None p = None
 completed_long_message (Some b) p =
     if is_last_packet b p then Some (message b.packet (map (λ e. packet e.input) b.own ++ p ∷ [])) else None
 
--- The message that an input completes: an admitted message of one packet, or the open message whose last packet it
--- is.
+-- The message that an input completes, if any: an admitted message of one packet, or the open message if the packet is
+-- its last one.
 unfoldable pub completed_message : Option MessageStart → Bool → Input → Option Message
 completed_message o admitted (Packet p) =
     if admitted && nat_le (message_length p.0) INIT_PACKET_DATA then Some (message p.0 []) else completed_long_message o p.0
 completed_message o admitted other = None
 
--- The message that an input completes.
+-- The message that an input after a history completes, if any.
 abbrev pub message_completed_at : ReceivedInput → List ReceivedInput → Option Message
 message_completed_at e past = completed_message (open_at past e.at) e.admitted e.input

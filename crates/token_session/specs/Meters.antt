@@ -1,4 +1,4 @@
--- The meters of a session: those that a history defines, and what one turn adds.
+-- The meters of a session: as a history defines them, and as each input changes them.
 use Rattle.std.specs.Prelude.{◌≡◌, ◌≤◌, ℕ, ◌+◌, ◌-◌, ◌*◌, List, [], ◌∷◌, length, max, min, sum_by, Option, Some, None}
 use Rattle.std.specs.List.{cons_option}
 use Rattle.hid_assemble.specs.Assembly.{stored_len}
@@ -10,12 +10,12 @@ use Rattle.token_session.specs.{Effects.request_in, Inputs.ReceivedInput, Law.st
 use Rattle.token_session.specs.History.{received, held, core, event_after}
 use Rattle.token_session.specs.Machine.{MachineState, MachineTurn, turn}
 
--- The messages of the requests that a history completed, newest first.
+-- The messages of all requests in a history, newest first.
 unfoldable pub requests : Start → List ReceivedInput → List (List ℕ)
 requests start [] = []
 requests start (e ∷ past) = cons_option (request_in (event_after (core start past) e past)) (requests start past)
 
--- The maximum number of data bytes of an open message, at the start and after each input.
+-- The maximum number of data bytes of an open message that were stored, at the start and after each input.
 unfoldable pub peak_held : Start → List ReceivedInput → ℕ
 peak_held start [] = held start []
 peak_held start (e ∷ past) = max (peak_held start past) (held start (e ∷ past))
@@ -41,8 +41,8 @@ meters_of start h = record {
   steps = min (sum_by steps_of (requests start h)) MAX_STEPS;
 }
 
--- The totals after a completed request, if any: one more request, its bytes after the command byte, and the steps of
--- parsing it.
+-- The meters after an input that completed a request, if any: the number of requests, the number of bytes after the
+-- command bytes, and the number of parsing steps increase.
 unfoldable pub counted : Meters → Option (List ℕ) → Meters
 counted m None = m
 counted m (Some message) = record m {
@@ -51,13 +51,13 @@ counted m (Some message) = record m {
   steps = min (m.steps + steps_of message) MAX_STEPS;
 }
 
--- The meters after a turn, by the bytes, rows and pending assertions after it.
+-- The meters after an input, from the numbers of stored bytes, credentials and pending assertions then.
 unfoldable pub metered : Meters → (held rows pending : ℕ) → Option (List ℕ) → Meters
 metered m held rows pending request =
     let n = counted m request in
     record n { held = max n.held held; rows = max n.rows rows; pending = max n.pending pending }
 
--- Parsing takes at most four steps for each byte after a command byte, and two for each request.
+-- Parsing takes at most four steps for each byte after the command byte, and two more for each request.
 abbrev pub AreBounded : Meters → Type 0
 AreBounded m = m.steps ≤ 4 * m.bytes + 2 * m.requests
 
@@ -66,7 +66,7 @@ pub record SessionState : Type 0 where
   pub machine : MachineState
   pub meters : Meters
 
--- The meters after a turn of the composed machine.
+-- The meters after an input of the composed machine.
 abbrev pub with_turn_metered : Meters → MachineTurn → Meters
 with_turn_metered m t =
     metered m (stored_len t.state.current) (length t.state.core.state.rows) (pending_count t.state.core.state.pending)
@@ -79,7 +79,7 @@ stepped s x = record {
   meters = with_turn_metered s.meters (turn s.machine x);
 }
 
--- The packets that the input sends.
+-- The packets that are sent for the input.
 abbrev pub input_packets_of : SessionState → Timed → List (List ℕ)
 input_packets_of s x = (turn s.machine x).packets
 
@@ -87,11 +87,12 @@ input_packets_of s x = (turn s.machine x).packets
 unfoldable pub session_of : Start → List ReceivedInput → SessionState
 session_of start h = record { machine = state_of start h; meters = meters_of start h }
 
--- The session's state is the one after this history.
+-- The session's state is the one that the history defines.
 abbrev pub IsStateAfter : SessionState → Start → List Timed → Type 0
 IsStateAfter s start h = s ≡ session_of start (received start h)
 
--- The session's state is the one after this history, whose start has valid credentials, as every table has.
+-- The session's state is the one that the history defines, and the credentials at the start are valid, as in every
+-- table.
 pub record IsStateAfterValidStart (s : SessionState) (start : Start) (h : List Timed) : Type 0 where
   pub lawful : ValidRows start.capacity start.rows
   pub stands : IsStateAfter s start h

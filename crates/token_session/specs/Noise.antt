@@ -1,5 +1,5 @@
--- Noise: an input that changes nothing except the time, so that a tick could replace it. Whether it is noise depends on
--- the state once time has passed to its timestamp.
+-- Noise: inputs that change nothing except the time, so that a tick could replace them. Whether an input is noise
+-- depends on the state after time has passed to its timestamp.
 use Rattle.std.specs.Prelude.{◌≡◌, ℕ, ◌+◌, ◌⊎◌, Bool, true, false, not, List, [], ◌∷◌, ◌++◌, max, Option, option_map}
 use Rattle.std.specs.Prelude.{if◌then◌else◌}
 use Rattle.hid_packet.specs.Packet.{fields}
@@ -15,8 +15,8 @@ use Rattle.token_session.specs.{Machine.MachineState, Machine.time_passed, Input
 use Rattle.token_session.specs.Messages.{open_at, to_open}
 use Rattle.token_session.specs.History.{core, received_after, received, last_keepalive, sent_at, time_packets}
 
--- Whether an input is noise, by the allocated channels, the open message and the authenticator: a packet is noise by
--- its row of the reply table, a reply of the caller if it is not needed, and a tick never is.
+-- Whether an input is noise, given the allocated channels, the open message and the authenticator. For a packet, the
+-- reply table decides; a reply of the caller is noise if it is not needed; a tick is not noise.
 abbrev pub is_noise_among : ℕ → Option Open → CoreState → Input → Bool
 is_noise_among channels_allocated current core (Packet p) = table.is_noise (packet_class channels_allocated current (working_channel core) (fields p.0))
 is_noise_among channels_allocated current core (Presence reply) = not (wants_presence core.state.work)
@@ -28,7 +28,7 @@ is_noise_among channels_allocated current core Tick = false
 abbrev pub is_noise_in : MachineState → Input → Bool
 is_noise_in s i = is_noise_among s.given s.current s.core i
 
--- Whether an input is noise once time has passed to its timestamp.
+-- Whether an input is noise after time has passed to its timestamp.
 unfoldable pub is_noise_at : MachineState → Timed → Bool
 is_noise_at s x = is_noise_in (time_passed s (max s.now x.at)).state x.input
 
@@ -42,7 +42,7 @@ abbrev pub is_ignored : Answer → Bool
 is_ignored Ignored = true
 is_ignored answer = false
 
--- Noise, described by its result: whether an input is ignored, or refused because of its channel.
+-- Whether an input is ignored, or refused because of its channel. This describes noise by its result.
 abbrev pub is_turned_away_by : Assembly → CoreState → (now : ℕ) → Input → Bool
 is_turned_away_by a core now (Packet p) = is_noise_verdict (verdict a (working_channel core) (fields p.0))
 is_turned_away_by a core now (Presence reply) = is_ignored (core_answer core now (PresenceIs reply))
@@ -54,41 +54,43 @@ is_turned_away_by a core now Tick = false
 abbrev pub tick_at : ℕ → Timed
 tick_at at = record { at = at; input = Tick }
 
--- Input x after history h is kept, or replaced by a tick at its time if it is noise.
+-- `y` is the input `x` after history `h`, or `x` is noise and `y` is a tick at the same time.
 abbrev pub IsSameOrTick : Start → List Timed → (x y : Timed) → Type 0
 IsSameOrTick start h x y = (y ≡ x) ⊎ ((y ≡ tick_at x.at) ×
     (is_noise_after start (received_after start h x) (received start h) ≡ true))
 
--- The second history is the first with ticks in place of noise: all of it, some or none.
+-- The second history is the first one with some, all or none of its noise replaced by ticks.
 abbrev pub HasTicksForNoise : Start → (h g : List Timed) → Type 0
 HasTicksForNoise start [] [] = Unit {0}
 HasTicksForNoise start [] (y ∷ g) = ⊥
 HasTicksForNoise start (x ∷ h) [] = ⊥
 HasTicksForNoise start (x ∷ h) (y ∷ g) = HasTicksForNoise start h g × IsSameOrTick start h x y
 
--- Whether a tick replaces another input.
+-- Whether the second input is a tick that replaces another input.
 abbrev pub is_replaced : (i j : Input) → Bool
 is_replaced Tick j = false
 is_replaced i Tick = true
 is_replaced i j = false
 
--- The packets that x sends after h; only those that are due by time if a tick replaces it.
+-- The packets that are sent for an input after a history. If a tick replaces the input, only those that are sent
+-- because time passed.
 abbrev pub quiet_packets : Start → List ReceivedInput → ReceivedInput → Input → List (List ℕ)
 quiet_packets start past e j = if is_replaced e.input j then time_packets start past (last_keepalive start past) e.at
     else sent_at start e past
 
--- The packets that x sends after h, or only those due by time if the tick y replaces it.
+-- The packets that are sent for `x` after `h`. If the tick `y` replaces `x`, only those that are sent because time
+-- passed.
 unfoldable pub quiet_now : Start → List Timed → (x y : Timed) → List (List ℕ)
 quiet_now start h x y = quiet_packets start (received start h) (received_after start h x) y.input
 
--- The packets that a history sends, without those for inputs that the second history replaces by ticks.
+-- The packets that are sent for a history, except those for inputs that ticks replace in the second history.
 unfoldable pub quiet_sent : Start → (h g : List Timed) → List (List ℕ)
 quiet_sent start [] g = []
 quiet_sent start (x ∷ h) [] = []
 quiet_sent start (x ∷ h) (y ∷ g) = quiet_sent start h g ++ quiet_now start h x y
 
--- The packets that the inputs of a list send after a history, without those for inputs that the second list replaces by
--- ticks, in order, each with the number of its input.
+-- The packets that are sent for a list of inputs after a history, except those for inputs that ticks replace in the
+-- second list, in order, each with the number of its input.
 abbrev pub quiet_from : ℕ → Start → (h xs ys : List Timed) → List (ℕ × List ℕ)
 quiet_from n start h [] ys = []
 quiet_from n start h (x ∷ xs) [] = []

@@ -4,12 +4,12 @@ use Rattle.hid_packet.specs.{Commands.CBOR, Message.message_packets}
 use Rattle.authn_core.specs.{Signed.LatestRequests, Signed.requests_of, Signed.IsSigned, State.Answered, Turn.Start, Turn.working_channel}
 use Rattle.token_session.specs.{Credentials.steps, Inputs.ReceivedInput, History.core, History.service_packets}
 
--- The newest request of a history, and the keys that the caller provided.
+-- The newest request in a history, and the keys that the caller supplied.
 abbrev pub latest_requests : Start → List ReceivedInput → LatestRequests
 latest_requests start h = requests_of (steps start h)
 
--- The response goes to the request's channel; its authenticator data, followed by the request's clientDataHash, are
--- exactly the bytes that were to be signed.
+-- The response is sent on the channel of the request. The authenticator data in the response, followed by the request's
+-- clientDataHash, is exactly the bytes that were to be signed.
 pub record IsAnsweredBy (start : Start) (h : List ReceivedInput) (e : ReceivedInput) (id signed sig : List ℕ) : Type 0 where
   pub cid : ℕ
   pub bytes : List ℕ
