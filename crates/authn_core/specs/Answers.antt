@@ -21,7 +21,7 @@ use Rattle.authn_core.specs.Assertions.{assertion_for, may_continue_series, late
 abbrev pub status_response : ℕ → Answer
 status_response code = Answered (code ∷ [])
 
--- The answer to a request that waits for user presence: KEEPALIVE status 2 (CTAP 2.1, section 11.2.9.1.7).
+-- KEEPALIVE status 2: user presence needed (CTAP 2.1, section 11.2.9.1.7).
 abbrev pub presence_needed : Answer
 presence_needed = Waits 2
 
@@ -47,7 +47,7 @@ consent_answer TimedOut = status_response 0x2f  -- USER_ACTION_TIMEOUT
 abbrev pub is_excluded : List Row → (rp : List ℕ) → (exclude : List (List ℕ)) → Bool
 is_excluded rows rp exclude = list_any (λ r. bytes_eq r.rp rp && list_any (bytes_eq r.id) exclude) rows
 
--- Whether a new credential doesn't fit: the capacity is reached, and the new credential replaces none.
+-- Whether the table is full, and the new credential replaces no row.
 abbrev pub is_full : (capacity : ℕ) → List Row → (rp user : List ℕ) (discoverable : Bool) → Bool
 is_full capacity rows rp user discoverable =
     nat_le capacity (length rows) && not (list_any (replaces_credential rp user discoverable) rows)
@@ -57,7 +57,7 @@ abbrev pub is_granted : Presence → Bool
 is_granted Granted = true
 is_granted reply = false
 
--- The answer to user presence for a registration. An excluded credential is reported before a refusal by the user.
+-- The answer to user presence for a registration: an excluded credential is reported first.
 abbrev pub registration_presence_answer : (excluded full : Bool) → Presence → Answer
 registration_presence_answer excluded full reply =
     if excluded then status_response 0x19  -- CREDENTIAL_EXCLUDED
@@ -65,7 +65,7 @@ registration_presence_answer excluded full reply =
     else if full then status_response 0x28  -- KEY_STORE_FULL
     else still_processing
 
--- The answer to a new key for a registration: an error, or KEEPALIVE status 1 because a signature is needed.
+-- The answer to a new key: an error, or KEEPALIVE status 1.
 abbrev pub new_key_answer : List Row → Option NewKey → Answer
 new_key_answer rows None = status_response 0x7f  -- OTHER
 new_key_answer rows (Some key) =
@@ -85,7 +85,7 @@ abbrev pub sign_count : Option Row → ℕ
 sign_count None = 0
 sign_count (Some r) = r.counter
 
--- The answer when an assertion begins: an error if the signature counter is at its maximum, or else `waits`.
+-- The answer when an assertion begins: an error if the signature counter is at its maximum.
 abbrev pub begin_assertion_answer : List Row → (none waits : Answer) → Option AssertState → Answer
 begin_assertion_answer rows none waits None = none
 begin_assertion_answer rows none waits (Some a) =
@@ -97,7 +97,7 @@ abbrev pub user_handle : Option Row → Option (List ℕ)
 user_handle None = None
 user_handle (Some r) = if r.discoverable then Some r.user.items else None
 
--- The response to the signature for an assertion. The signature counter was incremented before.
+-- The response to an assertion's signature. The counter was incremented before.
 abbrev pub assertion_signature_answer : List Row → Option AssertState → Option (List ℕ) → Answer
 assertion_signature_answer rows None sig = Ignored
 assertion_signature_answer rows (Some a) None = status_response 0x7f  -- OTHER
@@ -125,8 +125,8 @@ request_answer start past now cid (Ok GetNextAssertion) =
     (assertion_for start past GetNextAssertion)
     else status_response 0x30  -- NOT_ALLOWED
 
--- The answer to a reply for the pending request. `took` are the earlier replies for this request, newest first. A reply
--- that isn't needed is ignored.
+-- The answer to a reply for the pending request, after its earlier replies `took`, newest first. A reply that isn't
+-- needed is ignored.
 abbrev pub reply_answer : Start → List Row → Option AssertState → RequestParameters → (took : List Event) → (reply : Event) → Answer
 reply_answer start rows a Reset [] (PresenceIs reply) = consent_answer reply
 reply_answer start rows a Selection [] (PresenceIs reply) = consent_answer reply
@@ -146,7 +146,7 @@ reply_answer start rows a (GetAssertion hash rp_id allow presence) took (Signatu
 reply_answer start rows a GetNextAssertion took (SignatureIs sig) = assertion_signature_answer rows a sig
 reply_answer start rows a asked took reply = Ignored
 
--- The answer to a reply. Without a pending request, the reply is ignored.
+-- The answer to a reply, which is ignored without a pending request.
 abbrev pub pending_reply_answer : Start → List Exchange → Option PendingRequest → (reply : Event) → Answer
 pending_reply_answer start past None reply = Ignored
 pending_reply_answer start past (Some u) reply =
@@ -166,7 +166,7 @@ abbrev pub assertion_id : Option AssertState → Option (List ℕ)
 assertion_id None = None
 assertion_id (Some a) = Some a.id
 
--- The credential that is created when this request is signed (CTAP 2.1, section 6.1.2).
+-- The credential that this request creates when signed (CTAP 2.1, section 6.1.2).
 abbrev pub new_credential : RequestParameters → (took : List Event) → Option Row
 new_credential (MakeCredential hash rp_id user_id user_name discoverable exclude) (KeyIs (Some key) ∷ took) = Some (record {
   rp = sha256 rp_id;
@@ -180,23 +180,23 @@ new_credential (MakeCredential hash rp_id user_id user_name discoverable exclude
 })
 new_credential asked took = None
 
--- The credential that an event creates, if any.
+-- The credential that an event creates.
 abbrev pub created_credential : Option PendingRequest → Event → Option Row
 created_credential (Some u) (SignatureIs (Some sig)) = new_credential u.asked u.took
 created_credential u event = None
 
--- The ID of the credential whose signature counter is incremented when its signature becomes pending (WebAuthn Level 2,
--- section 6.3.3).
+-- The credential whose signature counter is incremented when its signature becomes pending (WebAuthn Level 2, section
+-- 6.3.3).
 abbrev pub incremented_credential : Option AssertState → Answer → Option (List ℕ)
 incremented_credential a (Waits status) = if status == 1 then assertion_id a else None
 incremented_credential a answer = None
 
--- The assertion of the pending request, if any.
+-- The assertion of the pending request.
 abbrev pub requested_assertion : Start → Option PendingRequest → Option AssertState
 requested_assertion start None = None
 requested_assertion start (Some u) = assertion_for start u.before u.asked
 
--- Whether this reply grants a reset, which removes all credentials (CTAP 2.1, section 6.6).
+-- Whether the reply grants a reset (CTAP 2.1, section 6.6).
 abbrev pub is_reset_granted : RequestParameters → (reply : Event) → Bool
 is_reset_granted Reset (PresenceIs Granted) = true
 is_reset_granted asked reply = false
@@ -206,7 +206,7 @@ abbrev pub resets_credentials : Option PendingRequest → Event → Bool
 resets_credentials None event = false
 resets_credentials (Some u) event = is_reset_granted u.asked event
 
--- The request in the event, or else the pending request.
+-- The event's request, or else the pending one.
 abbrev pub request_of_event : List Exchange → Event → Option PendingRequest
 request_of_event past (Request cid bytes) = begin_pending_request cid 0 past (read_of bytes)
 request_of_event past event = pending_request past
@@ -219,7 +219,7 @@ credential_change start past event answer =
 
 -- ---- histories
 
--- An event with its answer and its effect on the credentials.
+-- An event with its answer.
 abbrev pub exchange : Start → List Exchange → (at : ℕ) → Event → Exchange
 exchange start past at event =
     let answer = answer_to start past at event in

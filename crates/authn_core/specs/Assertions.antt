@@ -9,21 +9,20 @@ use Rattle.sha2.specs.Sha256.{sha256}
 use Rattle.authn_core.specs.{Exchanges.Exchange, Exchanges.rows_after, Turn.Start}
 use Rattle.authn_core.specs.State.{AssertState, Event, Request, SignatureIs, Answer, Answered, Waits, Ignored}
 
--- The IDs of the applicable credentials: with an allow list, the first ID in the list that belongs to a credential of
--- the RP, or else all discoverable credentials of the RP, newest first (CTAP 2.1, section 6.2.2).
+-- The IDs of the applicable credentials: the first ID of the RP in the allow list, or else all discoverable ones,
+-- newest first (CTAP 2.1, section 6.2.2).
 abbrev pub applicable_ids : List Row → (rp : List ℕ) → (given : Bool) → (allow : List (List ℕ)) → List (List ℕ)
 applicable_ids rows rp given allow =
     if given then take 1 (filter (λ id. list_any (λ r. bytes_eq r.rp rp && bytes_eq r.id id) rows) allow)
     else map (λ r. r.id) (reverse (filter (λ r. r.discoverable && bytes_eq r.rp rp) rows))
 
--- The value of numberOfCredentials, if the response contains it (CTAP 2.1, section 6.2.2).
+-- The numberOfCredentials, if any (CTAP 2.1, section 6.2.2).
 abbrev pub number_of_applicable : (given : Bool) → ℕ → Option ℕ
 number_of_applicable given n = if given then None else if nat_le n 1 then None else Some n
 
 -- ---- the newest getAssertion, which getNextAssertion continues
 
--- A series of assertions: the newest getAssertion that became pending, the history before it, and the events since
--- then, newest first.
+-- The newest getAssertion that became pending, the history before it, and the events since, newest first.
 pub record AssertionSeries : Type 0 where
   pub cid : ℕ
   pub hash : List ℕ
@@ -34,7 +33,7 @@ pub record AssertionSeries : Type 0 where
   pub before : List Exchange
   pub since : List Exchange
 
--- The series of assertions that begins with a valid getAssertion.
+-- The series that begins with a valid getAssertion.
 abbrev pub new_series : (cid : ℕ) → List Exchange → Result RequestParameters ℕ → Option AssertionSeries
 new_series cid past (Ok (GetAssertion hash rp_id allow presence)) =
     Some (record {
@@ -49,7 +48,7 @@ new_series cid past (Ok (GetAssertion hash rp_id allow presence)) =
     })
 new_series cid past read = None
 
--- The series that begins with this event, if the event is a getAssertion that becomes pending.
+-- The series that an event begins, if it is a getAssertion that becomes pending.
 abbrev pub begins_series : Event → Answer → List Exchange → Option AssertionSeries
 begins_series (Request cid bytes) (Waits status) past = new_series cid past (read_of bytes)
 begins_series event answer past = None
@@ -66,8 +65,8 @@ abbrev pub is_get_next_assertion : Result RequestParameters ℕ → Bool
 is_get_next_assertion (Ok GetNextAssertion) = true
 is_get_next_assertion read = false
 
--- Whether the series continues after this event: it is a getNextAssertion that becomes pending, a reply that is
--- recorded or ignored, or a signature with a response.
+-- Whether the event continues the series: a pending getNextAssertion, a recorded or ignored reply, or a signature with
+-- a response.
 abbrev pub continues_series : Event → Answer → Bool
 continues_series (Request cid bytes) (Waits status) = is_get_next_assertion (read_of bytes)
 continues_series reply (Waits status) = true
@@ -89,7 +88,7 @@ abbrev pub is_in_time : (now : ℕ) → List Exchange → Bool
 is_in_time now [] = false
 is_in_time now (x ∷ older) = nat_le now (x.at + 30000)
 
--- Whether a getNextAssertion may continue the series: it is on the same channel and in time.
+-- Whether a getNextAssertion is on the same channel, and in time.
 abbrev pub may_continue_series : (now cid : ℕ) → Option AssertionSeries → Bool
 may_continue_series now cid None = false
 may_continue_series now cid (Some s) =
@@ -97,20 +96,20 @@ may_continue_series now cid (Some s) =
 
 -- ---- the assertion that a request begins
 
--- The assertion to sign with this credential, if any.
+-- The assertion with this credential, if any.
 abbrev pub assertion_by : (hash rp : List ℕ) (presence : Bool) → (number : Option ℕ) → Option (List ℕ) → Option AssertState
 assertion_by hash rp presence number None = None
 assertion_by hash rp presence number (Some id) =
     Some (record { hash = hash; rp = rp; id = id; presence = presence; number = number })
 
--- The next assertion to sign in a series, if any.
+-- The next assertion of a series, if any.
 abbrev pub next_assertion : Start → Option AssertionSeries → Option AssertState
 next_assertion start None = None
 next_assertion start (Some s) =
     assertion_by s.hash s.rp s.presence None
     (slice_get (applicable_ids (rows_after start s.before) s.rp s.given s.allow) (length (answered_assertions s)))
 
--- The assertion to sign that a request begins after this history, if any.
+-- The assertion that a request begins after this history, or None.
 abbrev pub assertion_for : Start → List Exchange → RequestParameters → Option AssertState
 assertion_for start past (GetAssertion hash rp_id allow presence) =
     let given = has_entries allow in let ids = applicable_ids (rows_after start past) (sha256 rp_id) given (ids_of allow) in

@@ -13,8 +13,7 @@ pub record Exchange : Type 0 where
   pub answer : Answer
   pub did : CredentialChange
 
--- The credentials after a history, in order of creation: those of the start and those created later, except those that
--- were reset or replaced.
+-- The credentials after a history, in order, except those that were reset or replaced.
 abbrev pub rows_after : Start → List Exchange → List Row
 rows_after start past = rows_after_changes start.rows (map (λ x. x.did) past)
 
@@ -33,7 +32,7 @@ begin_pending_request cid status past (Ok asked) =
 begin_pending_request cid status past (Err code) = None
 
 -- The pending request after an event. A request without an immediate response becomes pending, a reply that is needed
--- is recorded with the request, and a response or a drop ends the request.
+-- is recorded with it, and a response or a drop ends it.
 abbrev pub pending_after : Event → Answer → List Exchange → Option PendingRequest → Option PendingRequest
 pending_after (Request cid bytes) (Waits status) past older = begin_pending_request cid status past (read_of bytes)
 pending_after reply (Waits status) past older =

@@ -9,25 +9,25 @@ use Rattle.authn_core.specs.{declared.replies.Presence.TheVariants.Granted, Make
 use Rattle.authn_core.specs.State.{Task, AwaitResetPresence, AwaitMakeSignature, AwaitAssertSignature, PendingTask, Event, Request, PresenceIs}
 use Rattle.authn_core.specs.Turn.{CoreState, core_after}
 
--- The effect of an event on the credentials: the credential that it creates, the ID of the credential whose signature
--- counter it increments, and whether it removes all credentials.
+-- The credential that an event creates, the ID whose signature counter it increments, and whether it removes all
+-- credentials.
 pub record CredentialChange : Type 0 where
   pub made : Option Row
   pub raises : Option (List ℕ)
   pub resets : Bool
 
--- Whether a new credential with these properties replaces the row: both are discoverable, with the same RP and user
--- handle (CTAP 2.1, section 6.1.2).
+-- Whether a new credential replaces the row: both are discoverable, with the same RP and user (CTAP 2.1, section
+-- 6.1.2).
 abbrev pub replaces_credential : (rp user : List ℕ) (discoverable : Bool) → Row → Bool
 replaces_credential rp user discoverable r =
     discoverable && (r.discoverable && (bytes_eq r.rp rp && bytes_eq r.user.items user))
 
--- Whether the new credential, if any, replaces this row.
+-- Whether the new credential replaces this row.
 abbrev pub is_replaced_by : Option Row → Row → Bool
 is_replaced_by None r = false
 is_replaced_by (Some new) r = replaces_credential new.rp new.user.items new.discoverable r
 
--- Whether the signature counter of this row is incremented.
+-- Whether this row's counter is incremented.
 abbrev pub is_incremented : Option (List ℕ) → Row → Bool
 is_incremented None r = false
 is_incremented (Some id) r = bytes_eq r.id id
@@ -36,22 +36,21 @@ is_incremented (Some id) r = bytes_eq r.id id
 abbrev pub is_kept : List CredentialChange → Row → Bool
 is_kept later r = not (list_any (λ m. m.resets) later) && not (list_any (λ m. is_replaced_by m.made r) later)
 
--- The row with its signature counter incremented by the later changes.
+-- The row, with the later increments of its counter.
 abbrev pub with_increments : List CredentialChange → Row → Row
 with_increments later r = record r { counter = r.counter + length (filter (λ m. is_incremented m.raises r) later) }
 
--- The row with its later increments, or the empty list if it was removed.
+-- The row, unless it was removed.
 abbrev pub row_if_kept : List CredentialChange → Row → List Row
 row_if_kept later r = if is_kept later r then with_increments later r ∷ [] else []
 
--- The credentials after a history of changes, in order of creation. The history is newest first; `later` are the
--- changes after it.
+-- The credentials after a history of changes, newest first, and the later changes `later`.
 unfoldable pub rows_among : List Row → List CredentialChange → List CredentialChange → List Row
 rows_among start later [] = flat_map (row_if_kept later) start
 rows_among start later (m ∷ past) =
     rows_among start (m ∷ later) past ++ flat_map (row_if_kept later) (option_to_list m.made)
 
--- The credentials after a history of changes, newest first, in order of creation.
+-- The credentials after a history of changes, newest first.
 abbrev pub rows_after_changes : List Row → List CredentialChange → List Row
 rows_after_changes start h = rows_among start [] h
 

@@ -19,7 +19,7 @@ pub record MakeState : Type 0 where
   pub name : List ℕ
   pub discoverable : Bool
 
--- An assertion to sign. `number` is the value of numberOfCredentials, if the response contains it.
+-- An assertion to sign. `number` is numberOfCredentials, if any.
 pub record AssertState : Type 0 where
   pub hash : List ℕ
   pub rp : List ℕ
@@ -48,8 +48,7 @@ pub record State : Type 0 where
   pub pending : Option PendingAssertions
   pub work : Option PendingTask
 
--- An event. For a key or a signature, None is a refusal by the caller. A drop ends the pending request without a
--- response.
+-- An event. For a key or a signature, None is a refusal by the caller. A drop has no response.
 pub data Event : Type 0 where
   Request : (cid : ℕ) → (bytes : List ℕ) → Event
   PresenceIs : Presence → Event
@@ -58,7 +57,7 @@ pub data Event : Type 0 where
   Cancel : Event
   Drop : Event
 
--- The answer to an event: a response, a KEEPALIVE status while the request is pending, or none.
+-- The answer to an event: a response, a KEEPALIVE status while pending, or none.
 pub data Answer : Type 0 where
   Answered : (bytes : List ℕ) → Answer
   Waits : (status : ℕ) → Answer

@@ -54,8 +54,7 @@ pub record BytesDetermineTree : Type 0 where
   pub told : (b : List ℕ) → AreBytes b → IsOutcome b (outcome_of b)
   pub only : (b : List ℕ) (o : Outcome) → AreBytes b → IsOutcome b o → outcome_of b ≡ o
 
--- `canonical_tree` returns a tree if and only if the bytes are the canonical encoding of the tree (CTAP 2.1, section
--- 8).
+-- `canonical_tree` returns a tree if and only if the bytes are its canonical encoding (CTAP 2.1, section 8).
 abbrev pub TreesAreComputed : Type 0
 TreesAreComputed = (b : List ℕ) (t : Tree) → AreBytes b → (canonical_tree b ≡ Some t) ↔ IsCanonical t b
 

@@ -72,12 +72,12 @@ abbrev pub as_flag : Tree → Option Bool
 as_flag (Plain (Flag b)) = Some b
 as_flag _ = None
 
--- The number of items in a list.
+-- The number of items.
 abbrev pub count : Trees → ℕ
 count no_trees = 0
 count (tree t ts) = count ts + 1
 
--- The number of pairs in a list.
+-- The number of pairs.
 abbrev pub count_pairs : Pairs → ℕ
 count_pairs no_pairs = 0
 count_pairs (pair k v ps) = count_pairs ps + 1

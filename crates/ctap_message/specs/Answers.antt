@@ -7,7 +7,7 @@ use Rattle.ctap_cbor.specs.Grammar.{text}
 abbrev pub refusal : ℕ → List ℕ
 refusal status = status ∷ []
 
--- A success response: status byte 0x00, followed by a map.
+-- A success response: status 0x00 and a map.
 abbrev pub success : Tree → List ℕ
 success map = 0x00 ∷ text map
 
@@ -84,12 +84,12 @@ credential id =
     Map (pair (name (codes "id")) (byte_string id)
     (pair (name (codes "type")) (name (codes "public-key")) no_pairs))
 
--- The pair with the user entity, if a user handle is given, followed by the other pairs.
+-- The user entity with its ID, if any, followed by other pairs.
 abbrev pub with_user : Option (List ℕ) → Pairs → Pairs
 with_user None rest = rest
 with_user (Some id) rest = pair (number 0x04) (Map (pair (name (codes "id")) (byte_string id) no_pairs)) rest
 
--- The pair with numberOfCredentials, if any.
+-- The pair numberOfCredentials, if any.
 abbrev pub with_number : Option ℕ → Pairs
 with_number None = no_pairs
 with_number (Some n) = pair (number 0x05) (number n) no_pairs

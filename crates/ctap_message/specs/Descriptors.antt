@@ -10,7 +10,7 @@ use Rattle.ctap_message.specs.Members.{array_of}
 abbrev pub descriptor_types : List (MemberKey × (Tree → Bool))
 descriptor_types = (Name "id", is_bytes) ∷ (Name "type", is_text) ∷ (Name "transports", array_of is_text) ∷ []
 
--- The required types of the members of a credential parameter.
+-- The types of a credential parameter's members.
 abbrev pub parameter_types : List (MemberKey × (Tree → Bool))
 parameter_types = (Name "alg", is_int) ∷ (Name "type", is_text) ∷ []
 
@@ -39,7 +39,7 @@ abbrev pub ids_of : Trees → List (List ℕ)
 ids_of no_trees = []
 ids_of (tree t ts) = cons_option (id_of t) (ids_of ts)
 
--- The credential parameter has an algorithm and a type.
+-- The algorithm and the type are present.
 abbrev pub has_alg_and_type : Tree → Bool
 has_alg_and_type t = is_some (member_as as_int (Name "alg") (Some t)) && is_some (type_of t)
 

@@ -22,7 +22,7 @@ assertion_types =
     ∷ (Number 0x07, is_uint)  -- pinUvAuthProtocol
     ∷ []
 
--- The request with these parameters, or the status of the first check that fails.
+-- The request, or the status of the first check that fails.
 abbrev pub assertion_request : Option Tree → Result RequestParameters ℕ
 assertion_request t =
     let rp_id = member_as as_text (Number 0x01) t in

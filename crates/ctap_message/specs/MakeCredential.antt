@@ -34,7 +34,7 @@ make_types =
     ∷ (Number 0x0a, is_uint)  -- enterpriseAttestation
     ∷ []
 
--- The request with these parameters, or the status of the first check that fails.
+-- The request, or the status of the first check that fails.
 abbrev pub make_request : Option Tree → Result RequestParameters ℕ
 make_request t =
     let hash = member_as as_bytes (Number 0x01) t in

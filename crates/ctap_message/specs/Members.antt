@@ -8,12 +8,12 @@ use Rattle.ctap_cbor.specs.Tree.{is_map, is_array, as_bytes, as_text, as_int, as
 
 -- ---- members and entries
 
--- The pairs of a map, or none for any other item.
+-- The pairs of a map.
 abbrev pub pairs_of : Option Tree → Pairs
 pairs_of (Some (Map ps)) = ps
 pairs_of _ = no_pairs
 
--- The entries of an array, or none for any other item.
+-- The entries of an array.
 abbrev pub entries_of : Option Tree → Trees
 entries_of (Some (Array ts)) = ts
 entries_of _ = no_trees
@@ -23,23 +23,22 @@ pub data MemberKey : Type 0 where
   Number : ℕ → MemberKey
   Name : String → MemberKey
 
--- The tree is the encoding of this key.
+-- The tree is this key.
 abbrev pub is_key : MemberKey → Tree → Bool
 is_key (Number n) (Plain (Int (pos m))) = m == n
 is_key (Name name) (Plain (Text s)) = bytes_eq s (codes name)
 is_key key _ = false
 
--- The value of a key in a list of pairs, or None. If a key occurs twice, the last value counts; canonical maps have no
--- duplicate keys.
+-- The last value of a key. Canonical maps have no duplicate keys.
 unfoldable pub value_at : MemberKey → Pairs → Option Tree
 value_at key no_pairs = None
 value_at key (pair k v ps) = option_or (value_at key ps) (if is_key key k then Some v else None)
 
--- The value of the member with this key of a map.
+-- The value of a map's member.
 abbrev pub member : MemberKey → Option Tree → Option Tree
 member key map = value_at key (pairs_of map)
 
--- The value of the member with this key of a map, converted by a function.
+-- The value of a map's member, converted by `kind`.
 abbrev pub member_as : {A : Type 0} → (Tree → Option A) → MemberKey → Option Tree → Option A
 member_as kind key map = option_and_then kind (member key map)
 
@@ -48,7 +47,7 @@ unfoldable pub all_entries : (Tree → Bool) → Trees → Bool
 all_entries test no_trees = true
 all_entries test (tree t ts) = test t && all_entries test ts
 
--- At least one entry passes the test.
+-- Some entry passes the test.
 unfoldable pub some_entry : (Tree → Bool) → Trees → Bool
 some_entry test no_trees = false
 some_entry test (tree t ts) = test t || some_entry test ts
@@ -80,7 +79,7 @@ is_uint t = is_some (as_uint t)
 abbrev pub is_flag : Tree → Bool
 is_flag t = is_some (as_flag t)
 
--- The tree is an array, and each of its entries has this type.
+-- An array whose entries have this type.
 abbrev pub array_of : (Tree → Bool) → Tree → Bool
 array_of type t = is_array t && all_entries type (entries_of (Some t))
 
@@ -94,6 +93,6 @@ abbrev pub has_listed_type : List (MemberKey × (Tree → Bool)) → Tree → Tr
 has_listed_type [] k v = true
 has_listed_type (t ∷ ts) k v = if is_key t.0 k then t.1 v else has_listed_type ts k v
 
--- The tree is a map whose members have the listed types.
+-- A map whose members have the listed types.
 abbrev pub map_of : List (MemberKey × (Tree → Bool)) → Tree → Bool
 map_of types t = is_map t && all_pairs (has_listed_type types) (pairs_of (Some t))

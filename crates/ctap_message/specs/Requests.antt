@@ -5,8 +5,7 @@ use Rattle.ctap_cbor.specs.Telling.{canonical_tree, check_steps}
 use Rattle.ctap_message.specs.Asked.{RequestParameters, GetInfo, Reset, GetNextAssertion, Selection}
 use Rattle.ctap_message.specs.{MakeCredential.make_request, GetAssertion.assertion_request}
 
--- The request of a command without parameters, or an error if bytes follow the command byte (CTAP 2.1, sections 6.3,
--- 6.4, 6.6 and 6.9).
+-- The request of a command without parameters (CTAP 2.1, sections 6.3, 6.4, 6.6 and 6.9).
 abbrev pub without_parameters : List ℕ → RequestParameters → Result RequestParameters ℕ
 without_parameters parameters asked = if length parameters == 0 then Ok asked else Err 0x03  -- INVALID_LENGTH
 

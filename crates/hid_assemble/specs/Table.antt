@@ -27,16 +27,16 @@ pub record Open : Type 0 where
 abbrev pub MAX_CHANNEL : ℕ
 MAX_CHANNEL = 0xffff_fffe
 
--- Whether the channel is allocated. Channels 1 to `given` are.
+-- Whether a channel is allocated: those from 1 to `given` are.
 abbrev pub is_allocated : ℕ → ℕ → Bool
 is_allocated given cid = nat_le 1 cid && nat_le cid given
 
--- Whether this channel is busy. The first argument is the busy channel, if any.
+-- Whether this channel is the busy one.
 abbrev pub is_busy_here : Option ℕ → ℕ → Bool
 is_busy_here None cid = false
 is_busy_here (Some busy) cid = busy == cid
 
--- Whether another channel is busy. The first argument is the busy channel, if any.
+-- Whether another channel is the busy one.
 abbrev pub is_busy_elsewhere : Option ℕ → ℕ → Bool
 is_busy_elsewhere None cid = false
 is_busy_elsewhere (Some busy) cid = not (busy == cid)
@@ -46,8 +46,8 @@ abbrev pub first_row : List (Bool × ReplyRow) → ReplyRow → ReplyRow
 first_row [] else_row = else_row
 first_row (t ∷ ts) else_row = if t.0 then t.1 else first_row ts else_row
 
--- The row of the reply table for an initialization packet. `current` is the channel of the incomplete message, and
--- `work` is the channel of the pending request.
+-- The row of the reply table for an initialization packet. `current` is the channel of the incomplete message, `work`
+-- the channel of the pending request.
 unfoldable pub init_packet_row : ℕ → Option ℕ → Option ℕ → ℕ → ℕ → ℕ → ReplyRow
 init_packet_row given current work cid cmd len =
     let asks_for_channel = (cid == BROADCAST) && (cmd == INIT) in

@@ -16,7 +16,7 @@ abbrev pub IsLeast : (count len : ℕ) → Type 0
 IsLeast count len = ((len ≤ INIT_PACKET_DATA) × (count ≡ 0))
     ⊎ ((len ≤ data_capacity count) × (data_capacity count < len + CONT_PACKET_DATA))
 
--- The data of an initialization packet and of its continuation packets, concatenated.
+-- The data of a message's packets, concatenated.
 abbrev pub joined_data : List ℕ → List (List ℕ) → List ℕ
 joined_data first others = initialization_data first ++ flat_map continuation_data others
 

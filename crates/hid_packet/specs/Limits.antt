@@ -2,17 +2,15 @@
 -- state that their values are the same.
 use Rattle.std.specs.Prelude.{ℕ, ◌+◌, ◌*◌}
 
--- The number of data bytes in an initialization packet: 64 minus channel, command and length (CTAP 2.1, section
--- 11.2.4).
+-- The data bytes in an initialization packet: 64 minus channel, command and length (CTAP 2.1, section 11.2.4).
 abbrev pub INIT_PACKET_DATA : ℕ
 INIT_PACKET_DATA = 57
 
--- The number of data bytes in a continuation packet: 64 minus channel and sequence number (CTAP 2.1, section 11.2.4).
+-- The data bytes in a continuation packet: 64 minus channel and sequence number (CTAP 2.1, section 11.2.4).
 abbrev pub CONT_PACKET_DATA : ℕ
 CONT_PACKET_DATA = 59
 
--- The maximum length of a message in bytes: an initialization packet and 128 continuation packets (CTAP 2.1, section
--- 11.2.4).
+-- The maximum message length: an initialization packet and 128 continuation packets (CTAP 2.1, section 11.2.4).
 abbrev pub MAX_MESSAGE_LEN : ℕ
 MAX_MESSAGE_LEN = 7609
 
@@ -37,6 +35,6 @@ MESSAGE_TIMEOUT = 500
 abbrev pub KEEPALIVE_PERIOD : ℕ
 KEEPALIVE_PERIOD = 100
 
--- The number of data bytes in an initialization packet and `count` continuation packets.
+-- The data bytes in an initialization packet and `count` continuation packets.
 abbrev pub data_capacity : ℕ → ℕ
 data_capacity count = INIT_PACKET_DATA + CONT_PACKET_DATA * count

@@ -3,7 +3,7 @@ use Rattle.std.specs.Prelude.{ℕ, ◌+◌, ◌-◌, List, [], ◌∷◌, zero, 
 use Rattle.byteorder.specs.Endian.{big_bytes}
 use Rattle.hid_packet.specs.Limits.{CONT_PACKET_DATA, INIT_PACKET_DATA}
 
--- The bytes, padded with zeros to 64 bytes.
+-- The bytes, padded with zeros to 64.
 unfoldable pub padded_packet : List ℕ → List ℕ
 padded_packet bytes = bytes ++ replicate (64 - length bytes) 0
 
@@ -15,8 +15,7 @@ initialization_packet cid cmd len part = padded_packet (big_bytes 4 cid ++ (cmd 
 unfoldable pub continuation_packet : ℕ → ℕ → List ℕ → List ℕ
 continuation_packet cid number part = padded_packet (big_bytes 4 cid ++ number ∷ [] ++ part)
 
--- The continuation packets for the remaining data. Sequence numbers have 7 bits, so the first call passes 128 as
--- `most`.
+-- The continuation packets for the remaining data. Sequence numbers have 7 bits, so `most` begins at 128.
 unfoldable pub continuation_packets : (most : ℕ) → ℕ → ℕ → List ℕ → List (List ℕ)
 continuation_packets zero cid number bytes = []
 continuation_packets (suc most) cid number [] = []

@@ -10,7 +10,7 @@ use Rattle.hid_packet.specs.Limits.{CONT_PACKET_DATA, INIT_PACKET_DATA}
 unfoldable pub channel : List ℕ → ℕ
 channel packet = big_number 4 packet
 
--- Whether the packet is an initialization packet: bit 7 of byte 4 is set.
+-- Whether a packet is an initialization packet: bit 7 of byte 4 is set.
 unfoldable pub is_initialization : List ℕ → Bool
 is_initialization packet = nat_le 128 (slice_index packet 4)
 
@@ -34,7 +34,7 @@ sequence packet = slice_index packet 4
 unfoldable pub continuation_data : List ℕ → List ℕ
 continuation_data packet = take CONT_PACKET_DATA (drop 5 packet)
 
--- Whether the packet is an initialization packet with this command.
+-- Whether a packet is an initialization packet with this command.
 abbrev pub is_command : ℕ → List ℕ → Bool
 is_command asked packet = is_initialization packet && (command packet == asked)
 

@@ -16,11 +16,11 @@ use Rattle.token_session.specs.Replies.{response_channel, status_of, answer_pack
 abbrev pub channel_of : Option Work → Option ℕ
 channel_of work = option_map (λ (w : Work). w.cid) work
 
--- The pending request after a list of events: its channel and its KEEPALIVE status.
+-- The pending request: its channel and its KEEPALIVE status.
 abbrev pub pending_work_of : List Exchange → Option Work
 pending_work_of past = work_of_request (pending_request past)
 
--- The history extended by an event, if any, and the answer to the event.
+-- The history with one more event, if any, and its answer.
 abbrev pub with_event : Start → List Exchange → (at : ℕ) → Option Event → List Exchange
 with_event start past at None = past
 with_event start past at (Some e) = exchange start past at e ∷ past
@@ -49,7 +49,7 @@ received_inputs start (x ∷ past) = received_input start x (received_inputs sta
 
 -- ---- packets
 
--- The packets with the answer to an event, if any.
+-- The packets for the answer to an event.
 abbrev pub response_packets : Start → List Exchange → (at : ℕ) → Option Event → List (List ℕ)
 response_packets start past at None = []
 response_packets start past at (Some e) =
@@ -65,8 +65,7 @@ input_packets start e past =
     let m = completed_message o e.admitted e.input in
     table_packets (channels_allocated past) o on e.input ++ ping_packets m ++ response_packets start before e.at (event on m e.input)
 
--- The packets that are sent because time passed: ERROR 0x05 for a message that timed out, or else a KEEPALIVE, if one
--- is due.
+-- The packets that are sent because time passed: ERROR 0x05 for a message that timed out, or else a KEEPALIVE.
 abbrev pub timer_packets : Start → List ReceivedInput → (latest t : ℕ) → List (List ℕ)
 timer_packets start past latest t =
     let before = open_at past (latest_time start past) in
@@ -82,7 +81,7 @@ last_keepalive_at start (e ∷ past) =
     if list_any (is_command KEEPALIVE) (timer_packets start past latest e.at ++ input_packets start e past) then e.at
     else latest
 
--- The packets that are sent because time passed, followed by those for the input.
+-- The packets that are sent because time passed, then those for the input.
 abbrev pub packets_sent_at : Start → ReceivedInput → List ReceivedInput → List (List ℕ)
 packets_sent_at start e past = timer_packets start past (last_keepalive_at start past) e.at ++ input_packets start e past
 

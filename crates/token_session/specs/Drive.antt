@@ -34,7 +34,7 @@ drive_number (Full done) = 1
 abbrev pub both_number : BothFault → ℕ
 both_number (BothFull first second) = 1
 
--- How many of the `n` inputs were processed, from the result of a run.
+-- How many of the `n` inputs were processed.
 abbrev pub inputs_done : {A : Type 0} → ℕ → Result A DriveFault → ℕ
 inputs_done n (Ok x) = n
 inputs_done n (Err (Full done)) = done

@@ -8,7 +8,7 @@ use Rattle.token_session.specs.declared.input.Input.TheVariants.{Presence, Key, 
 use Rattle.token_session.specs.Replies.{keepalive, status_of, response_channel, answer_packets}
 use Rattle.hid_packet.specs.Limits.{KEEPALIVE_PERIOD}
 
--- The event for a reply of the caller, or None for other inputs.
+-- The event for a reply of the caller.
 abbrev pub reply_event : Input → Option Event
 reply_event (Presence reply) = Some (PresenceIs reply)
 reply_event (Key key) = Some (KeyIs key)
@@ -26,13 +26,13 @@ event_packets k at None = []
 event_packets k at (Some e) = answer_packets (response_channel (waiting k) e) (status_of (waiting k))
     (turn k.setup k.state at e).answer
 
--- Whether a KEEPALIVE is due: a request is pending, and at least `KEEPALIVE_PERIOD` passed since the last KEEPALIVE
--- (CTAP 2.1, section 11.2.9.1.7).
+-- Whether a KEEPALIVE is due: a request is pending, and `KEEPALIVE_PERIOD` passed since the last KEEPALIVE (CTAP 2.1,
+-- section 11.2.9.1.7).
 unfoldable pub keepalive_due : Option Work → ℕ → ℕ → Bool
 keepalive_due None keepalive_at at = false
 keepalive_due (Some w) keepalive_at at = nat_le (keepalive_at + KEEPALIVE_PERIOD) at
 
--- The KEEPALIVE packet of the pending request, if any.
+-- The KEEPALIVE of the pending request.
 abbrev pub keepalive_packets : Option Work → List (List ℕ)
 keepalive_packets None = []
 keepalive_packets (Some w) = keepalive w.cid w.status

@@ -22,8 +22,8 @@ AllReceivedInPackets (e ∷ past) =
     ((m : Message) → message_completed_at e past ≡ Some m → CarriesMessage (completed_packets_at e past) m.cid m.cmd m.bytes)
     × AllReceivedInPackets past
 
--- The packets that were sent in a history, newest first, and bounds on its data. These properties are stated without an
--- authenticator's state.
+-- The packets that were sent in a history, newest first, and bounds on its data, stated without an authenticator's
+-- state.
 pub record IsAnswered (start : Start) (h : List Timed) (packets : List (List ℕ)) : Type 0 where
   pub sent : packets ≡ packets_sent start (received_inputs start h)
   pub held : held start (received_inputs start h) ≤ MAX_MESSAGE_LEN

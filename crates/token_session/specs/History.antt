@@ -17,15 +17,15 @@ use Rattle.token_session.specs.Messages.{MessageStart, open_at, completed_messag
 use Rattle.token_session.specs.Replies.{error, row_packets, ping_packets, request_event}
 use Rattle.token_session.specs.Events.{reply_event, event_core, event_packets, keepalive_packets, keepalive_due}
 
--- The authenticator's event for a packet, if any. CANCEL or INIT ends the pending request of its channel; the last
--- packet of a CBOR message is a request.
+-- The event of a packet, if any: CANCEL or INIT ends the pending request of its channel; the last packet of a CBOR
+-- message is a request.
 unfoldable pub packet_event : Option ℕ → Option Message → List ℕ → Option Event
 packet_event work m p =
     if is_command CANCEL p && is_busy_here work (channel p) then Some Cancel
     else if is_command INIT p && (message_length p == 8) && is_busy_here work (channel p) then Some Drop
     else request_event m
 
--- The authenticator's event for an input, if any.
+-- The event of an input, if any.
 unfoldable pub event : Option ℕ → Option Message → Input → Option Event
 event work m (Packet p) = packet_event work m p.0
 event work m other = reply_event other
@@ -39,8 +39,8 @@ unfoldable pub core : Start → List ReceivedInput → CoreState
 core start [] = first_state start
 core start (e ∷ past) = let before = core start past in event_core before e.at (event_after before e past)
 
--- Whether a packet begins a message: an initialization packet of PING or CBOR on an allocated channel, while no message
--- is open and no request is pending.
+-- Whether an initialization packet begins a message: PING or CBOR on an allocated channel, while no message is open and
+-- no request is pending.
 unfoldable pub admits : ℕ → Option MessageStart → Option ℕ → List ℕ → Bool
 admits channels_allocated o work p =
     is_initialization p && is_allocated channels_allocated (channel p)
@@ -62,7 +62,7 @@ received start (x ∷ past) = receive start x (received start past) ∷ received
 abbrev pub received_after : Start → List Timed → Timed → ReceivedInput
 received_after start past x = receive start x (received start past)
 
--- The packet ERROR 0x05 on the channel of a message that timed out.
+-- ERROR 0x05 on the channel of a message that timed out.
 abbrev pub timeout_packets : Option MessageStart → List (List ℕ)
 timeout_packets None = []
 timeout_packets (Some b) = error (channel b.packet) 0x05
@@ -93,8 +93,7 @@ service_packets start e past =
     table_packets (channels_allocated past) o (working_channel k) e.input ++ ping_packets m
     ++ event_packets k e.at (event (working_channel k) m e.input)
 
--- The packets that are sent because time passed: ERROR 0x05 for a message that timed out, or else a KEEPALIVE, if one
--- is due.
+-- The packets that are sent because time passed: ERROR 0x05 for a message that timed out, or else a KEEPALIVE.
 unfoldable pub time_packets : Start → List ReceivedInput → (latest t : ℕ) → List (List ℕ)
 time_packets start past latest t =
     let before = open_at past (latest_time start past) in
@@ -110,7 +109,7 @@ last_keepalive start (e ∷ past) =
     let packets = time_packets start past latest e.at ++ service_packets start e past in
     if list_any (is_command KEEPALIVE) packets then e.at else latest
 
--- The packets that are sent because time passed, followed by those for the input.
+-- The packets that are sent because time passed, then those for the input.
 unfoldable pub sent_at : Start → ReceivedInput → List ReceivedInput → List (List ℕ)
 sent_at start e past = time_packets start past (last_keepalive start past) e.at ++ service_packets start e past
 

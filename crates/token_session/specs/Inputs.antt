@@ -8,8 +8,8 @@ use Rattle.hid_assemble.specs.Table.{MAX_CHANNEL}
 use Rattle.authn_core.specs.Turn.{Start}
 use Rattle.token_session.specs.declared.input.Input.{Input, TheVariants.Packet}
 
--- An input, its time, which is not earlier than that of the previous input, and whether it is admitted: its packet is
--- an initialization packet that begins a message.
+-- An input; its time, no earlier than that of the previous input; and whether it is `admitted`: an initialization
+-- packet that begins a message.
 pub record ReceivedInput : Type 0 where
   pub at : ℕ
   pub input : Input
@@ -20,17 +20,17 @@ abbrev pub latest_time : Start → List ReceivedInput → ℕ
 latest_time start [] = start.moment
 latest_time start (e ∷ past) = e.at
 
--- The bytes of an input's packet, or the empty list for other inputs.
+-- The bytes of an input's packet.
 abbrev pub packet : Input → List ℕ
 packet (Packet p) = p.0
 packet other = []
 
--- Whether the input is a packet that passes the test.
+-- Whether an input is a packet with this property.
 abbrev pub is_packet : (List ℕ → Bool) → Input → Bool
 is_packet test (Packet p) = test p.0
 is_packet test other = false
 
--- Whether the packet is an INIT packet that allocates a channel (CTAP 2.1, section 11.2.9.1.3).
+-- Whether an INIT packet allocates a channel (CTAP 2.1, section 11.2.9.1.3).
 unfoldable pub requests_channel : List ℕ → Bool
 requests_channel p = is_command INIT p && (message_length p == 8) && (channel p == BROADCAST)
 
@@ -38,10 +38,10 @@ requests_channel p = is_command INIT p && (message_length p == 8) && (channel p 
 unfoldable pub channels_allocated : List ReceivedInput → ℕ
 channels_allocated h = min (count_by (λ e. is_packet requests_channel e.input) h) MAX_CHANNEL
 
--- Whether the input is a packet on the channel, other than CANCEL.
+-- Whether an input is a packet on the channel, except CANCEL.
 unfoldable pub is_channel_input : ℕ → ReceivedInput → Bool
 is_channel_input cid e = is_packet (λ p. (cid == channel p) && not (is_command CANCEL p)) e.input
 
--- The inputs with packets on the channel, other than CANCEL.
+-- The packets on the channel among these inputs, except CANCEL.
 unfoldable pub channel_inputs : ℕ → List ReceivedInput → List ReceivedInput
 channel_inputs cid later = filter (is_channel_input cid) later

@@ -15,22 +15,21 @@ unfoldable pub is_next_packet : ℕ → ℕ → ReceivedInput → Bool
 is_next_packet len m e = is_packet (λ p. not (is_initialization p) && (sequence p == m)) e.input
     && nat_lt (data_capacity (m + 1)) len
 
--- Whether these inputs are continuation packets of a message of `len` bytes, with sequence numbers from `m` on, and the
--- message is open until `t`: none of them is the last packet, and there are less than 500 ms from `since` to the first,
--- between any two of them, and from the last to `t`.
+-- Whether these inputs are continuation packets of a message of `len` bytes, from sequence number `m` on, none of them
+-- the last; the first less than 500 ms after `since`, each other less than 500 ms after the previous one, and the last
+-- less than 500 ms before `t`.
 unfoldable pub continues_until : ℕ → ℕ → ℕ → List ReceivedInput → ℕ → Bool
 continues_until len m since [] t = nat_lt t (since + MESSAGE_TIMEOUT)
 continues_until len m since (e ∷ es) t = is_next_packet len m e && nat_lt e.at (since + MESSAGE_TIMEOUT)
     && continues_until len (m + 1) e.at es t
 
--- The beginning of a message: an initialization packet, its time, and the inputs with packets on its channel since
--- then.
+-- An initialization packet, its time, and the packets on its channel since then.
 pub record MessageStart : Type 0 where
   pub packet : List ℕ
   pub at : ℕ
   pub own : List ReceivedInput
 
--- Whether the message of an initialization packet is longer than one packet, but not longer than the maximum.
+-- Whether the message is longer than one packet, but not longer than the maximum.
 unfoldable pub is_long : List ℕ → Bool
 is_long p = nat_lt INIT_PACKET_DATA (message_length p) && nat_le (message_length p) MAX_MESSAGE_LEN
 
@@ -38,8 +37,8 @@ is_long p = nat_lt INIT_PACKET_DATA (message_length p) && nat_le (message_length
 abbrev pub message_start : ReceivedInput → List ReceivedInput → MessageStart
 message_start e later = record { packet = packet e.input; at = e.at; own = channel_inputs (channel (packet e.input)) later }
 
--- Whether the message that an input begins is open at time `t`: the input was admitted, the message is longer than one
--- packet, and the later packets on its channel continue the message.
+-- Whether the message that an input begins is open at time `t`: it was admitted, is longer than one packet, and the
+-- packets on its channel since then continue it.
 unfoldable pub is_open : ReceivedInput → List ReceivedInput → ℕ → Bool
 is_open e later t =
     let b = message_start e later in
@@ -50,7 +49,7 @@ unfoldable pub open_among : List ReceivedInput → List ReceivedInput → ℕ �
 open_among later [] t = None
 open_among later (e ∷ before) t = if is_open e later t then Some (message_start e later) else open_among (e ∷ later) before t
 
--- The message that is open at time `t` after a history, if any.
+-- The open message at time `t` after a history.
 unfoldable pub open_at : List ReceivedInput → ℕ → Option MessageStart
 open_at h t = open_among [] h t
 
@@ -89,13 +88,13 @@ completed_long_message None p = None
 completed_long_message (Some b) p =
     if is_last_packet b p then Some (message b.packet (map (λ e. packet e.input) b.own ++ p ∷ [])) else None
 
--- The message that an input completes, if any: an admitted message of one packet, or the open message if the packet is
--- its last one.
+-- The message that an input completes, if any: an admitted message of one packet, or the open message with its last
+-- packet.
 unfoldable pub completed_message : Option MessageStart → Bool → Input → Option Message
 completed_message o admitted (Packet p) =
     if admitted && nat_le (message_length p.0) INIT_PACKET_DATA then Some (message p.0 []) else completed_long_message o p.0
 completed_message o admitted other = None
 
--- The message that an input after a history completes, if any.
+-- The message that an input completes, if any.
 abbrev pub message_completed_at : ReceivedInput → List ReceivedInput → Option Message
 message_completed_at e past = completed_message (open_at past e.at) e.admitted e.input

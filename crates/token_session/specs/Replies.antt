@@ -9,8 +9,8 @@ use Rattle.hid_assemble.specs.declared.table.ReplyRow.TheVariants.{NoSuchChannel
 use Rattle.hid_assemble.specs.declared.table.ReplyRow.TheVariants.{InitAgain, BusyElsewhere, BusyHere, BrokenOff}
 use Rattle.authn_core.specs.{State.Event, State.Request, State.Answer, State.Answered, State.Waits, Turn.Work}
 
--- The packets of the response to INIT: nonce, channel, protocol version 2, device version 1.0.0, capabilities CBOR and
--- NMSG (CTAP 2.1, section 11.2.9.1.3).
+-- The response to INIT: nonce, channel, protocol version 2, device version 1.0.0, capabilities CBOR and NMSG (CTAP 2.1,
+-- section 11.2.9.1.3).
 unfoldable pub init_response : (on cid : ℕ) → (nonce : List ℕ) → List (List ℕ)
 init_response on cid nonce = message_packets on INIT (nonce ++ big_bytes 4 cid ++ 2 ∷ 1 ∷ 0 ∷ 0 ∷ 0x0c ∷ [])
 
@@ -36,26 +36,26 @@ row_packets given p NoSuchCommand = error (channel p) 0x01
 row_packets given p BadLength = error (channel p) 0x03
 row_packets given p _ = []
 
--- The packets of the response to a PING, which is the same message (CTAP 2.1, section 11.2.9.1.4).
+-- The response to a PING: the same message (CTAP 2.1, section 11.2.9.1.4).
 abbrev pub ping_packets : Option Message → List (List ℕ)
 ping_packets None = []
 ping_packets (Some m) = if m.cmd == PING then message_packets m.cid PING m.bytes else []
 
--- The request in a CBOR message, or None for other messages.
+-- The request in a CBOR message, if any.
 abbrev pub request_event : Option Message → Option Event
 request_event None = None
 request_event (Some m) = if m.cmd == CBOR then Some (Request m.cid m.bytes) else None
 
--- The KEEPALIVE status of the pending request, if any.
+-- The KEEPALIVE status of the pending request.
 abbrev pub status_of : Option Work → Option ℕ
 status_of work = option_map (λ w. w.status) work
 
--- The channel of the response to an event: that of the request.
+-- The channel of the response to an event.
 abbrev pub response_channel : Option Work → Event → Option ℕ
 response_channel work (Request cid bytes) = Some cid
 response_channel work e = option_map (λ w. w.cid) work
 
--- The packets with an answer: a response, or a KEEPALIVE for a request that becomes pending or changes its status.
+-- The packets for an answer: a response, or a KEEPALIVE if the status is new.
 unfoldable pub answer_packets : Option ℕ → Option ℕ → Answer → List (List ℕ)
 answer_packets (Some cid) before (Answered bytes) = message_packets cid CBOR bytes
 answer_packets (Some cid) before (Waits status) = if is_busy_here before status then [] else keepalive cid status
