@@ -38,7 +38,6 @@ from hidlog_conformance.transactions import Entry, Transaction
 # Milliseconds within which no credential is deleted outside the log (on the key, or through NFC).
 MIN_DELETION_MS = 1000
 SETTINGS = (BIO, CONFIG)
-PIN_INVALID = 0x31
 EXPECTED = {MAKE: "made", GET: "asserted", NEXT: "asserted", INFO: "info"}
 
 
@@ -199,11 +198,15 @@ class AnswerJudge:
         self.follow(entry, transaction, data)
 
     def check_pin_response(self, request: bytes, data: bytes) -> None:
-        """Checks a response to authenticatorClientPIN. A PIN that must be changed may count as a wrong one."""
+        """Checks a response to authenticatorClientPIN."""
         asked = decode_parameters(request) or {}
         self.settings.check_issued(asked, data[0])
-        if not self.settings.is_forced or data[0] != PIN_INVALID:
-            self.pins.judge(request, data)
+        self.pins.judge(request, data, self.may_be_forced())
+
+    def may_be_forced(self) -> bool:
+        """Returns whether forcePINChange may be true, so that the key issues no token until the PIN is changed: unless
+        getInfo or the version shows that it is not."""
+        return self.settings.is_forced or (self.settings.is_forced is None and not self.facts.old)
 
     def check_settings(self, request: bytes, data: bytes) -> None:
         """Checks a response to authenticatorConfig or authenticatorBioEnrollment, after which getInfo may differ."""

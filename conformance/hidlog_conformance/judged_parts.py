@@ -15,7 +15,7 @@ GET_RETRIES, GET_AGREEMENT, SET_PIN, CHANGE_PIN, GET_TOKEN, TOKENS = 1, 2, 3, 4,
 USER_TOKEN, GET_USER_RETRIES = 6, 7
 # The number of consecutive wrong PINs after which a power cycle is needed (6.5.5.7).
 WRONG_IN_A_ROW = 3
-USER_INVALID, POLICY = 0x3F, 0x37
+PIN_INVALID, USER_INVALID, POLICY = 0x31, 0x3F, 0x37
 # Why a credential may be missing.
 OTHERWISE = "unless it was deleted on the key"
 
@@ -203,13 +203,17 @@ class Pins:
     permissions: Optional[int] = None
     rp: Optional[str] = None
 
-    def judge(self, request: bytes, data: bytes) -> None:
-        """Checks a response to authenticatorClientPIN."""
+    def judge(self, request: bytes, data: bytes, may_be_forced: bool) -> None:
+        """Checks a response to authenticatorClientPIN. With `may_be_forced` the PIN may have to be changed before the key
+        issues a token (forcePINChange)."""
         asked = decode_parameters(request)
         if asked is None or not isinstance(asked.get(2), int):
             return
         kind, status = asked[2], data[0]
-        if status == 0x31:
+        if status == PIN_INVALID and may_be_forced and kind in TOKENS:
+            # The PIN may be wrong, or right and to be changed: then the retries are at their maximum again.
+            self.retries, self.wrong = None, 0
+        elif status == PIN_INVALID:
             self.wrong += 1
             self.is_stale = True
             self.retries = None if self.retries is None else self.retries - 1

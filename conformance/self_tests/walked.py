@@ -5,17 +5,22 @@ from __future__ import annotations
 import os
 import sys
 import tempfile
-from typing import Dict
+from typing import Callable, Dict
 
 from trying import HERE, Test, check_detected, run_command
 
 sys.path.insert(0, os.path.join(HERE, "..", "mutants"))
 
 from hidlog_conformance import live_judge, run, walk, walk_command  # noqa: E402
+from hidlog_conformance.answers import MAX_RETRIES  # noqa: E402
 from hidlog_conformance.device_info import DeviceInfo  # noqa: E402
-from hidlog_conformance.known_answers import KnownAnswers, Secrets  # noqa: E402
+from hidlog_conformance.judged_parts import PIN_INVALID, Pins  # noqa: E402
+from hidlog_conformance.judged_settings import FORCE_CHANGE, MAY_CONFIGURE, SET_MIN_PIN_LENGTH  # noqa: E402
+from hidlog_conformance.known_answers import MAKES, KnownAnswers, Secrets  # noqa: E402
 from hidlog_conformance.reference.device import ReferenceDevice  # noqa: E402
 from hidlog_conformance.reference.traits import DeviceTraits  # noqa: E402
+from hidlog_conformance.walk_settings import SettingSteps  # noqa: E402
+from hidlog_conformance.walk_steps import RPS  # noqa: E402
 from run_mutant import STATEFUL, walk_mutant  # noqa: E402
 
 # Faults, and the number of steps within which the walk with the first seed finds each.
@@ -38,6 +43,32 @@ def test_conforming() -> None:
     assert outcome is None, f"{outcome.expected}; actual: {outcome.actual}"
     status, text, _ = run_command(["walk", "--steps", "200", "--seed", "5"])
     assert (status, text) == (0, "no violation in 200 steps with the seed 5\n"), text
+
+
+def test_wrong_pin_while_forced() -> None:
+    """A wrong PIN decrements the retries, also while the PIN must be changed (6.5.5.7, 6.11.4)."""
+    device = ReferenceDevice(DeviceTraits(config=True))
+    device_info = DeviceInfo.ask(device, True)
+    steps, player = SettingSteps(1, device_info), walk.WalkPlayer(device, device_info)
+    player.begin()
+    try:
+        assert player.play_block(steps.reset()) is None
+        for make_block in (
+            steps.set_or_change,
+            lambda: steps.add_config(steps.with_permission(MAY_CONFIGURE), SET_MIN_PIN_LENGTH, {FORCE_CHANGE: True}),
+            steps.retries,
+            lambda: steps.asks_token(steps.block(), b"0" + (steps.secrets.pin or b""), MAKES, RPS[0]),
+            steps.retries,
+            lambda: steps.asks_token(steps.block(), steps.secrets.pin or b"", MAKES, RPS[0]),
+            steps.retries,
+        ):
+            steps.secrets = player.live.answers.secrets
+            outcome = player.play_block(make_block())
+            assert outcome is None, f"{outcome.expected}; actual: {outcome.actual}"
+    finally:
+        device.close()
+    settings, left = player.live.answers.settings, player.live.answers.pins.retries
+    assert settings.is_forced and left == MAX_RETRIES, (settings.is_forced, left)
 
 
 def test_repeats() -> None:
@@ -82,6 +113,16 @@ def test_refused() -> None:
         assert status == 2 and text == "" and reason in heard, (more, text, heard)
 
 
+def skip_forced(judge: Callable[[Pins, bytes, bytes, bool], None]) -> Callable[[Pins, bytes, bytes, bool], None]:
+    """Returns `Pins.judge` without the check of wrong PINs while the PIN must be changed."""
+
+    def judge_others(pins: Pins, request: bytes, data: bytes, may_be_forced: bool) -> None:
+        if not may_be_forced or data[0] != PIN_INVALID:
+            judge(pins, request, data, may_be_forced)
+
+    return judge_others
+
+
 TESTS: Dict[str, Test] = {
     "walked/found": check_detected(
         test_found,
@@ -95,6 +136,7 @@ TESTS: Dict[str, Test] = {
         test_conforming,
         (KnownAnswers, "follow_use", lambda *words: None),
     ),
+    "walked/forced": check_detected(test_wrong_pin_while_forced, (Pins, "judge", skip_forced(Pins.judge))),
     "walked/repeats": test_repeats,
     "walked/written": check_detected(test_written, (walk, "MAX_REPLAYS", 0)),
     "walked/refused": test_refused,

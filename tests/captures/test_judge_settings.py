@@ -85,6 +85,17 @@ def test_no_token_before_a_forced_change(status: bytes, answer: Any, wanted: Bro
     assert sorted(set(log.find_must_violations())) == wanted
 
 
+@pytest.mark.parametrize("is_forced, kind, left, wanted", [
+    (True, 9, 7, []), (True, 9, 8, []), (True, 5, 7, []), (True, 5, 8, []),
+    (True, 4, 7, []), (True, 4, 8, [("key", "6.5")]), (False, 9, 7, []), (False, 9, 8, [("key", "6.5")]),
+])  # fmt: skip
+def test_a_wrong_pin_costs_a_retry(is_forced: bool, kind: int, left: int, wanted: Broken) -> None:
+    """Status 31 to a request for a token does not say that the PIN is wrong if it must be changed (6.5.5.7)."""
+    log = begin(options={"clientPin": True}, _12=is_forced)
+    log.add_cbor(100, PIN, {1: 2, 2: 1}, OK, {3: 8}).add_cbor(200, PIN, {1: 2, 2: kind, 3: {}, 6: bytes(32)}, b"\x31")
+    assert log.add_cbor(300, PIN, {1: 2, 2: 1}, OK, {3: left}).find_must_violations() == wanted
+
+
 @pytest.mark.parametrize("at, wanted", [(300, [("key", "6.6")]), (5000, [])])
 def test_a_reset_disables_enterprise_attestation(at: int, wanted: Broken) -> None:
     """After a second another program may have enabled it again."""
