@@ -1,9 +1,9 @@
 #!/usr/bin/env bash
-# Counts the instructions of `ctap_cbor::check` for a message of about 450 bytes, by callgrind, over 1,000 varied
-# makeCredential and getAssertion requests. Needs rt, valgrind and Python 3.
+# Counts the instructions of `ctap_cbor::check` with callgrind: the mean over 1,000 varied makeCredential and
+# getAssertion requests of about 450 bytes. Needs rt, valgrind and Python 3.
 #
-# The count is that of ten rounds over all messages minus that of none, so startup and reading are excluded. The program
-# is built in a separate directory, with a copy of the crate.
+# The count of a run without rounds is subtracted from that of ten rounds over all messages, so startup and reading are
+# excluded. The program is built in a separate directory, with a copy of the crate.
 set -eu
 here=$(cd "$(dirname "$0")" && pwd)
 work=${1:-$(mktemp -d)}

@@ -1,9 +1,9 @@
 #!/usr/bin/env bash
-# Lists the library functions that crates/hello_key runs in the core for a PING and a registration: built without
-# inlining, under callgrind, from Session::step to the last packet. Functions of `derive`, closures and ghost laws are
-# excluded, and so are the start of the session and the host's part of the program. Then prints their number, and the
-# arguments that they only pass on (pass_through_args.py). hello_key is proved first, which takes a minute, or half an
-# hour if no library was proved yet. Needs rt and valgrind.
+# Lists the library functions that crates/hello_key calls in the core for a PING and a registration. The program is
+# built without inlining and run under callgrind, from Session::step to the last packet. Functions of `derive`, closures
+# and ghost laws are excluded, and so are the start of the session and the host's part of the program. Then prints the
+# number of functions, and the parameters that a function only passes on to others (pass_through_args.py). hello_key is
+# proved first, which takes a minute, or half an hour if the libraries have not been proved yet. Needs rt and valgrind.
 #
 #     bench/functions.sh [DIR]
 set -euo pipefail

@@ -1,7 +1,8 @@
 #!/usr/bin/env bash
-# Counts the instructions of an outbox's calls, by callgrind: a message of maximum length put and its 129 packets
-# popped, and a message of one byte. Needs rt and valgrind. A count is that of 200 rounds minus that of none, over 200.
-# The first argument may name a directory with the crates to measure, such as a checkout of an earlier commit.
+# Counts the instructions of an outbox's calls with callgrind: putting a message of maximum length and popping its 129
+# packets, and the same for a message of one byte. Needs rt and valgrind. Each count is the difference between a run of
+# 200 rounds and a run without rounds, divided by 200. The first argument may name a directory with the crates to
+# measure, such as a checkout of an earlier commit.
 set -eu
 here=$(cd "$(dirname "$0")/.." && pwd)
 from=${1:-$here}

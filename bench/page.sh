@@ -1,7 +1,7 @@
 #!/usr/bin/env bash
-# Measures bindings/web/index.html with long logs in each installed browser, on an otherwise idle machine: the time to
-# the first and to the last row, the longest time the page was blocked, a keystroke in the search field, and memory.
-# Fails if the page is slower than it should be (tests/web/long_tests.js).
+# Measures bindings/web/index.html with long logs in each installed browser: the time to the first and to the last row,
+# the longest time for which the page was blocked, the time of a keystroke in the search field, and memory. Needs an
+# otherwise idle machine. Fails if a limit of tests/web/long_tests.js is exceeded.
 #
 #     bench/page.sh [chromium | firefox]
 #     sudo chrt -r 1 bench/page.sh chromium      on a busy machine: before all other processes, for half a minute

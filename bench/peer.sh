@@ -1,7 +1,8 @@
 #!/usr/bin/env bash
 # Compares the instructions of `hidlog replay` for a PING, a getInfo, a registration and a sign-in (flows.py) with those
-# of a C program with the same behavior for these (see peer/peer.h). First checks that both write the same output for
-# the flows and for the worked logs that the C program supports. Needs gcc, libssl-dev, valgrind and Python 3.
+# of a C program that has the same output for these flows (peer/peer.h). First checks that both programs write the same
+# output for the flows, and for the worked logs that the C program supports. Needs gcc, libssl-dev, valgrind and Python
+# 3.
 #
 #     bench/peer.sh [PROGRAM]        [default: release/hidlog]
 set -euo pipefail
@@ -12,7 +13,7 @@ trap 'rm -rf "$work"' EXIT
 gcc -std=c11 -D_GNU_SOURCE -O3 -march=x86-64-v2 -flto -Wall -Wextra -Werror -Wno-deprecated-declarations -o "$work/peer" \
     bench/peer/*.c -lcrypto
 
-# Tests whether both programs write the same output for a log: is_same_output LOG
+# Checks whether both programs write the same output for a log: is_same_output LOG
 is_same_output() {
     "$program" replay <"$1" >"$work/wanted" 2>"$work/fault" && "$work/peer" <"$1" >"$work/written" &&
         cmp -s "$work/wanted" "$work/written"
@@ -27,7 +28,8 @@ for log in crates/hidlog/data/capacity_64/*.log; do
     ! is_same_output "$log" || count=$((count + 1))
 done
 echo "same output for each flow, and for $count worked logs"
-# The columns: hidlog, the peer with a scalar SHA-256 and the ratio, the peer with OpenSSL's choice and the ratio.
+# Columns: hidlog; the C program with a scalar SHA-256, and the ratio; the C program with the SHA-256 that OpenSSL
+# selects, and the ratio.
 paste <(python3 bench/flows.py "$program") <(OPENSSL_ia32cap=0:0 python3 bench/flows.py "$work/peer") \
     <(python3 bench/flows.py "$work/peer") |
     awk '{ printf "%-12s %8d  %8d %6.2f  %8d %6.2f\n", $1, $2, $4, $2 / $4, $6, $2 / $6 }'

@@ -1,8 +1,9 @@
 #!/usr/bin/env bash
-# Measures the cost per line of `hidlog replay`: instructions (callgrind), system calls (strace) and processor time, for
-# logs of 1,000 and 100,000 PINGs of 5 and of 57 bytes, authenticatorGetInfo, ticks and comments, from a file to a file;
-# compared with bench/peer, a C program with the same behavior for these lines. Needs gcc, libssl-dev, valgrind, strace
-# and Python 3. The cost of an empty log is subtracted, so startup is excluded.
+# Measures the cost per line of `hidlog replay` from a file to a file: instructions (callgrind), system calls (strace)
+# and processor time. The logs have 1,000 and 100,000 lines of one kind: PINGs of 5 and of 57 bytes,
+# authenticatorGetInfo, ticks and comments. Compares the costs with those of bench/peer, a C program with the same
+# output for these lines. Needs gcc, libssl-dev, valgrind, strace and Python 3. The cost of an empty log is subtracted,
+# so startup is excluded.
 #
 #     bench/replay.sh [DIR]
 set -euo pipefail
@@ -12,7 +13,7 @@ mkdir -p "$work"
 program=$here/../release/hidlog
 gcc -std=c11 -D_GNU_SOURCE -O3 -march=x86-64-v2 -flto -Wno-deprecated-declarations -o "$work/peer" "$here"/peer/*.c -lcrypto
 
-# Prints a log with an INIT, for channel 1, and then lines of one kind: print_log KIND COUNT
+# Prints a log with an INIT, which allocates channel 1, and then lines of one kind: print_log KIND COUNT
 print_log() {
     python3 - "$1" "$2" <<'PYTHON'
 import sys
@@ -35,8 +36,8 @@ count_calls() {
     awk '$NF == "total" { print $4 }' "$work/calls"
 }
 
-# Processor time per line in nanoseconds, of both programs: medians of 25 alternating runs, because a machine's speed
-# changes. Not measured for short logs, where startup dominates.
+# Measures the processor time per line of both programs in nanoseconds: medians of 25 alternating runs, because a
+# machine's speed varies. Short logs are not measured, since the startup time dominates.
 measure_nanoseconds() {
     python3 - "$work" "$1" "$2" "$program" <<'PYTHON'
 import resource, statistics, subprocess, sys

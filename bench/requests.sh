@@ -1,11 +1,11 @@
 #!/usr/bin/env bash
-# Counts the instructions of `ctap_message::read_request` and, on the bytes after the command byte alone, of
-# `ctap_cbor::check`, by callgrind: for a makeCredential of 91 bytes, a getAssertion of 50 and one with an allowList
-# of 64 descriptors. Goal: at most three times `check`, because a request is checked and then parsed. Needs rt, valgrind
-# and Python 3.
+# Counts, with callgrind, the instructions of `ctap_message::read_request`, and of `ctap_cbor::check` on the bytes after
+# the command byte. The requests are a makeCredential of 91 bytes, a getAssertion of 50 bytes, and a getAssertion with
+# an allowList of 64 descriptors. The goal is that `read_request` needs at most three times the instructions of `check`,
+# since a request is checked and then parsed. Needs rt, valgrind and Python 3.
 #
-# Each count is that of 250 rounds minus that of none, so startup is excluded. The program is built in a separate
-# directory, with copies of the crates.
+# Each count is the difference between a run of 250 rounds and a run without rounds, so startup is excluded. The program
+# is built in a separate directory, with copies of the crates.
 set -eu
 here=$(cd "$(dirname "$0")" && pwd)
 work=${1:-$(mktemp -d)}

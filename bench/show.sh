@@ -1,7 +1,7 @@
 #!/usr/bin/env bash
 # Prints the throughput of `hidlog show`, in MB of log per second of processor time: bench/show.sh [PROGRAM], by default
-# release/hidlog. Each of the three logs has 24 MB: the worked logs, repeated; requests with one long byte string; and
-# requests with one long text string of control characters, each of which is escaped in six characters.
+# release/hidlog. There are three logs of 24 MB: the worked logs, repeated; requests with a long byte string; and
+# requests with a long text string of control characters, which are escaped with six characters each.
 set -euo pipefail
 top=$(cd "$(dirname "$0")/.." && pwd)
 program=${1:-$top/release/hidlog}

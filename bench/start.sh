@@ -1,11 +1,11 @@
 #!/usr/bin/env bash
-# Measures the program's startup cost and stack: instructions (callgrind) of each command on a log with one INIT, and
-# the smallest stack, in kB, with which each can run a whole session; then the stack of each call of the C library
-# (bench/stack.c). Needs valgrind, gcc and Python 3.
+# Measures the program's startup cost and stack use: the instructions (callgrind) of each command for a log with one
+# INIT, and the smallest stack, in kB, with which each command can run a whole session. Then measures the stack use of
+# each function of the C library (bench/stack.c). Needs valgrind, gcc and Python 3.
 #
-# Valgrind counts each byte of `rep stos` and `rep movs`, with which glibc clears and copies more than a few kB, as an
-# instruction: 140,000 of 221,000 for an INIT. A processor takes ten bytes or more per cycle, so glibc is told to use
-# its loops; the count without that is in parentheses.
+# glibc clears and copies more than a few kB with `rep stos` and `rep movs`, and Valgrind counts each byte of these as
+# an instruction: 140,000 of 221,000 for an INIT. Since a processor handles ten bytes or more per cycle, a glibc tunable
+# selects loops instead. The count without the tunable is in parentheses.
 #
 #     bench/start.sh [PROGRAM [LIBRARY]]        [default: release/hidlog and release/libhidlog.a]
 set -euo pipefail
@@ -17,7 +17,7 @@ trap 'rm -rf "$work"' EXIT
 printf '> 0 ffffffff8600080001020304050607%098d\n' 0 >"$work/init"
 "$program" replay <"$work/init" >"$work/log"
 
-# Instructions with glibc's settings: count_instructions TUNABLES WORD ..
+# Counts the instructions of a command with these glibc tunables: count_instructions TUNABLES WORD ..
 count_instructions() {
     GLIBC_TUNABLES=$1 valgrind --tool=callgrind --callgrind-out-file=/dev/null "$program" "${@:2}" <"$work/log" 2>&1 >/dev/null |
         sed -n 's/.*Collected : \([0-9]*\).*/\1/p'
@@ -36,7 +36,7 @@ import resource
 import subprocess
 import sys
 
-# Otherwise the stack starts at a random offset in its last 8 kB.
+# Without setarch -R, the stack would start at a random offset within 8 kB.
 ADDR_NO_RANDOMIZE = 0x0040000
 SYSTEM = ctypes.CDLL(None)
 SNAPSHOT = ["--load", "examples/example_com.snapshot"]

@@ -1,11 +1,11 @@
 #!/usr/bin/env bash
-# Counts the instructions of a credential table's calls, by callgrind, for both tables: with 1, 64 and 256 rows, in
-# tables for 256. Needs rt and valgrind.
+# Counts, with callgrind, the instructions of the calls of both credential tables, with 1, 64 and 256 rows in tables
+# with capacity for 256. Needs rt and valgrind.
 #
-# A count is that of 1,020 rounds minus that of none, over 1,020. A round is one call, with those that its precondition
-# needs: `put` and `raise` with a `find`, `replace` with a `find` and a `same_user`. The count of `put` is that of
-# filling a table minus that of clearing it, per row. The program is built in a separate directory, with copies of the
-# crates.
+# Each count is the difference between a run of 1,020 rounds and a run without rounds, divided by 1,020. A round is one
+# call, together with the calls that its precondition needs: `put` and `raise` need a `find`, and `replace` needs a
+# `find` and a `same_user`. The count of `put` is the difference between filling and clearing a table, divided by the
+# number of rows. The program is built in a separate directory, with copies of the crates.
 set -eu
 here=$(cd "$(dirname "$0")" && pwd)
 work=${1:-$(mktemp -d)}

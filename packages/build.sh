@@ -16,9 +16,9 @@
 #     hidlog-VERSION.spdx.json              contents of the packages, in SPDX 2.3
 #     hidlog-VERSION.provenance.json        sources and build commands, in in-toto and SLSA
 #
-# Builds are reproducible. Needs tar, gzip, dpkg-deb, Python 3.11 and hatchling; for hidlog-uhid gcc and libssl-dev; for
-# aarch64 a linker (lld, or binutils-aarch64-linux-gnu); for the portable library wabt, and for Windows
-# gcc-mingw-w64-x86-64. If one of the latter is missing, prints which packages are skipped.
+# Builds are reproducible. Needs tar, gzip, dpkg-deb, Python 3.11 and hatchling. Some packages need more: hidlog-uhid
+# needs gcc and libssl-dev, aarch64 needs a linker (lld, or binutils-aarch64-linux-gnu), the portable library needs
+# wabt, and Windows needs gcc-mingw-w64-x86-64. If one of these is missing, prints which packages are skipped.
 set -euo pipefail
 [ $# = 1 ] || { echo "usage: packages/build.sh DIR" >&2; exit 2; }
 top=$(cd "$(dirname "${BASH_SOURCE[0]}")/.." && pwd)
@@ -29,7 +29,7 @@ for tool in dpkg-deb python3 gzip tar; do
 done
 (cd "$top/release" && sha256sum --quiet --check SHA256SUMS) || { echo "packages: release/ does not match SHA256SUMS" >&2; exit 1; }
 version=$(sed -n 's/^version: //p' "$top/release/BUILD")
-# One timestamp for all files, for reproducible builds: the man page's date.
+# All files get one timestamp, the date of the man page, for reproducible builds.
 SOURCE_DATE_EPOCH=$(date -u -d "$(sed -n 's/^\.Dd //p' "$top/docs/use/hidlog.1")" +%s)
 export SOURCE_DATE_EPOCH
 # shellcheck disable=SC2034 # debian.sh reads it
@@ -49,7 +49,7 @@ install_completions() {
     install -D -m 644 "$work/completions/hidlog.fish" "$1/fish/vendor_completions.d/hidlog.fish"
 }
 
-# Installs the documents, at the paths in the man page: install_documents ROOT
+# Installs the documents at the paths that the man page names: install_documents ROOT
 install_documents() {
     local name
     "$top/packages/documents.py" "$1" LOG_FORMAT EXPLAINED PROFILE TESTING_YOUR_SERVICE WEBDRIVER TOUR TROUBLESHOOTING \
@@ -80,14 +80,14 @@ compile_uhid() {
         examples/c/{virtual_key,private_file,software_keys,snapshot}.c release/libhidlog.a -lcrypto)
 }
 
-# Installs a library's file for pkg-config into a tarball: install_pkg_config DIR NAME
+# Installs a library's file for pkg-config into a tarball's directory: install_pkg_config DIR NAME
 install_pkg_config() {
     mkdir -p "$1/lib/pkgconfig"
     sed -e "s|^prefix=.*|prefix=\${pcfiledir}/../..|" -e "s|^Cflags: -I[^ ]*|Cflags: -I\${prefix}/include|" \
         -e "s|^Libs:.*|Libs: -L\${prefix}/lib -l$2|" "$top/release/$2.pc" >"$1/lib/pkgconfig/$2.pc"
 }
 
-# Builds a tarball with everything in one directory: build_tarball PROCESSOR PROGRAM SHARED STATIC
+# Builds a tarball with the program, the library and the documents: build_tarball PROCESSOR PROGRAM SHARED STATIC
 build_tarball() {
     local folder=hidlog-$version name
     local root=$work/tarball_$1/$folder
@@ -139,7 +139,7 @@ print_readme() {
 # shellcheck disable=SC1091 # it is beside this file
 source "$top/packages/debian.sh"
 
-# Builds the npm package, whose files are in a directory named package.
+# Builds the npm package. Its files are in a directory named package.
 build_npm_package() {
     local folder=$work/npm/package name
     for name in security_key.js security_key.mjs security_key.d.ts security_key.d.mts; do
@@ -172,7 +172,7 @@ install_portable_sources() {
     done
 }
 
-# Builds the Go module's zip for a module proxy, with paths that start with the module and its version.
+# Builds the Go module's zip for a module proxy. All paths start with the module's path and version.
 build_go_module() {
     local folder=$work/go/cogtzil.example/hidlog@v$version
     mkdir -p "$folder/lib"

@@ -1,17 +1,18 @@
 #!/usr/bin/env bash
-# Makes the files of release/ from what the gate has proved and built in crates/*/out: the program, the C library for
-# two processors and as a WebAssembly module, their header, their sums, and BUILD, which says what they were made from.
+# Builds the files of release/ from the crates that `rt ci` has proved and built in crates/*/out: the program, the C
+# library for two processors and as a WebAssembly module, the headers, SHA256SUMS, and BUILD, which lists the hashes of
+# the sources and the versions of the tools.
 #
-#     packages/build_release.sh                writes release/ anew; run it after `rt ci`, and commit what it changed
-#     packages/build_release.sh --check        compares release/ with what is made now, byte for byte; status 1 if it
-#                                              differs
-#     packages/build_release.sh --check all    also makes anew what has to be proved once more for it: the program for
-#                                              aarch64, and the C library with capacity for 256 credentials. Without
-#                                              `all` their sums are read
+#     packages/build_release.sh                writes release/; run it after `rt ci`, and commit the changed files
+#     packages/build_release.sh --check        builds the files again and compares them with release/, byte
+#                                              for byte; exits with 1 if a file differs
+#     packages/build_release.sh --check all    also builds the files that need a further proof: the program for
+#                                              aarch64, and the C library with capacity for 256 credentials.
+#                                              Without `all` only their hashes are checked
 #
-# The same sources and tools give the same bytes, in any folder. It needs the toolchain (rt), gcc, libc6-dev,
-# gcc-aarch64-linux-gnu with libc6-dev-arm64-cross, and wasm-opt (binaryen); without the last, --check compares the
-# module as it is before wasm-opt lowers it.
+# Builds are reproducible, in any folder. Needs the toolchain (rt), gcc, libc6-dev, gcc-aarch64-linux-gnu with
+# libc6-dev-arm64-cross, and wasm-opt (binaryen). Without wasm-opt, --check compares the module before its conversion to
+# 32-bit memory.
 set -euo pipefail
 cd "$(dirname "${BASH_SOURCE[0]}")/.."
 top=$PWD
@@ -21,17 +22,17 @@ trap 'rm -rf "$work"' EXIT
 made=$work/made
 mkdir -p "$made/aarch64"
 
-stop() {
+fail() {
     echo "release: $*" >&2
     exit 1
 }
 
-sum_of() {
+hash_file() {
     sha256sum <"$1" | cut -c1-64
 }
 
-# Proves a crate in a folder and builds it for a target, over the libraries below it as they were built: build CRATE
-# FOLDER ROOT TARGET FILE WORD.. What is the same for all targets is proved once.
+# Proves a crate in a folder, and builds it for a target with the crates that it depends on: build CRATE FOLDER ROOT
+# TARGET FILE WORD.. Proofs that do not depend on the target are checked once.
 build() {
     local crate=$1 folder=$2 root=$3 target=$4 file=$5 name libraries words
     words=(--crate-name "$crate" "$root" --extern "std=$kit/rlibs/std.rlib" -L "dependency=$kit/rlibs"
@@ -52,7 +53,7 @@ build() {
     (cd "$folder" && "$kit/bin/rattle" build "${words[@]}" --incremental "$work/proved${folder//\//_}" --target "$target" \
         --toolchain "$kit/toolchain" --backend llvm -o "$file") >"$work/log" 2>&1 || {
         tail -20 "$work/log" >&2
-        stop "$crate could not be built for $target"
+        fail "$crate could not be built for $target"
     }
 }
 
@@ -61,59 +62,61 @@ build_library() {
     build hidlog_c "$1" src/lib.rt "$2" "$3" --crate-type staticlib
 }
 
-# The program that the gate linked, linked again with no shared library. Of a program that an earlier run on this
-# machine proved, rt keeps what it linked, and not the object file: then --check compares the sum of that with
-# release/LINKED.
+# Links the object file of `rt ci` into a static program. If `rt ci` reused the program of an earlier run, rt has
+# kept the linked program without its object file. Then --check compares the program's hash with release/LINKED.
 build_program() {
-    [ -e crates/hidlog/out/hidlog ] || stop "crates/hidlog/out has no program: run rt ci first"
-    sum_of crates/hidlog/out/hidlog >"$made/LINKED"
+    [ -e crates/hidlog/out/hidlog ] || fail "crates/hidlog/out/hidlog is missing: run rt ci first"
+    hash_file crates/hidlog/out/hidlog >"$made/LINKED"
     if [ ! -e crates/hidlog/out/hidlog.o ]; then
-        [ "$mode" = --check ] || stop "rt kept the program without its object file: run rt ci --anew first"
-        cmp -s release/LINKED "$made/LINKED" || stop "release/ was made from another program than the gate's"
-        echo "same  release/hidlog, by the sum of the kept program that it was made from"
+        [ "$mode" = --check ] || fail "crates/hidlog/out/hidlog.o is missing: run rt ci --anew first"
+        cmp -s release/LINKED "$made/LINKED" ||
+            fail "release/LINKED differs from the hash of crates/hidlog/out/hidlog: run packages/build_release.sh"
+        echo "same  release/hidlog, by the hash in release/LINKED, since rt kept no object file"
         cp release/hidlog "$made/hidlog"
         return
     fi
-    # Position-independent, with what is relocated read-only once it is: gcc and Debian's libc.a have it so.
+    # gcc and Debian's libc.a support a static position-independent program with read-only relocations.
     gcc -static-pie -Wl,--build-id=none -Wl,-z,relro,-z,now -s -o "$made/hidlog" crates/hidlog/out/hidlog.o \
         "$kit/c/libos_c.a" "$kit/c/liblibc_c.a"
     [[ $(readelf -dW "$made/hidlog") == *"Flags: NOW PIE"* && $(readelf -lW "$made/hidlog") == *GNU_RELRO* ]] ||
-        stop "the linker made no position-independent program with read-only relocations"
+        fail "$made/hidlog is not position-independent with read-only relocations"
 }
 
-# Returns the sum of the object file; of a kept program, that with which release/ was made.
-object_sum() {
+# Prints the hash of the object file. If rt has kept no object file, prints the hash in release/BUILD.
+print_object_hash() {
     if [ -e crates/hidlog/out/hidlog.o ]; then
-        sum_of crates/hidlog/out/hidlog.o
+        hash_file crates/hidlog/out/hidlog.o
     else
         sed -n 's/^object: //p' release/BUILD
     fi
 }
 
-# Links the shared library of a static one, which has its name: build_shared NAME
+# Links a shared library from the static library of the same name: build_shared NAME
 build_shared() {
     "$kit/toolchain/bin/ld.lld" -shared -soname "$1.so.1" -z relro -z now --strip-all -o "$made/$1.so.1" \
         --whole-archive "$made/$1.a"
 }
 
-# The program for aarch64. No gate made its object file, so the program is proved once more.
+# Builds the program for aarch64. The program is proved again, since `rt ci` builds no object file for aarch64.
 build_program_for_aarch64() {
     build hidlog crates/hidlog src/main.rt aarch64-unknown-linux-gnu "$work/hidlog_aarch64.o"
     packages/arm64/link.sh "$work/hidlog_aarch64.o" "$made/aarch64/hidlog"
 }
 
-# The C library with capacity for 256 credentials, of the same sources but for the line that says how many.
+# Builds the C library with capacity for 256 credentials. The sources differ in one line, the constant CAPACITY.
 build_large_library() {
     local large=$work/hidlog_c_256
     mkdir "$large"
     cp -r crates/hidlog_c/src crates/hidlog_c/specs crates/hidlog_c/proofs "$large"
     sed -i 's/^pub const CAPACITY: usize = 64;$/pub const CAPACITY: usize = 256;/' "$large/src/capacity.rt"
-    grep -q '^pub const CAPACITY: usize = 256;$' "$large/src/capacity.rt" || stop "capacity.rt doesn't say how many"
+    grep -q '^pub const CAPACITY: usize = 256;$' "$large/src/capacity.rt" ||
+        fail "hidlog_c/src/capacity.rt: expected the line 'pub const CAPACITY: usize = 64;'"
     build_library "$large" x86_64-unknown-linux-gnu "$made/libhidlog-256.a"
     build_shared libhidlog-256
 }
 
-# Links the module, and lowers it to 32-bit memory, since node 20 and many browsers have no other. Its memory grows.
+# Links the WebAssembly module, and converts it to 32-bit memory, since node 20 and many browsers do not support 64-bit
+# memory.
 build_module() {
     build_library crates/hidlog_c wasm64-unknown-unknown "$work/module.a"
     "$kit/bin/rattle-link" --target wasm64-unknown-unknown --toolchain "$kit/toolchain" --stack 524288 \
@@ -124,12 +127,12 @@ build_module() {
     elif [ "$mode" = --check ]; then
         cp release/hidlog.wasm "$made/hidlog.wasm"
     else
-        stop "wasm-opt is missing (apt-get install binaryen)"
+        fail "wasm-opt is missing (apt-get install binaryen)"
     fi
 }
 
-# Prints the version of wasm-opt; if it is not installed, the one in release/BUILD.
-wasm_opt_version() {
+# Prints the version of wasm-opt. If wasm-opt is not installed, prints the version in release/BUILD.
+print_wasm_opt_version() {
     if command -v wasm-opt >/dev/null; then
         wasm-opt --version
     else
@@ -137,45 +140,46 @@ wasm_opt_version() {
     fi
 }
 
-# Returns the version of a compiler, and which C library it links.
+# Prints the version of a compiler, and the hash of the C library that it links.
 describe_linker() {
     echo "gcc $("$1" -dumpfullversion), $(sha256sum <"$("$1" -print-file-name=libc.a)" | cut -c1-16) libc.a"
 }
 
-# Returns what linked the program for aarch64 of release/.
-linker_for_aarch64() {
+# Prints the linker for aarch64 that release/BUILD names.
+print_linker_for_aarch64() {
     sed -n 's/^linker for aarch64: //p' release/BUILD
 }
 
-# Writes the version, the sums of the sources and the tools that made the files, each as a line `NAME: VALUE`.
+# Writes BUILD: the version, the hashes of the sources and the versions of the tools, each as a line `NAME: VALUE`.
 write_build() {
     {
         echo "version: $(sed -n 's/^const VERSION: &str = "\(.*\)";/\1/p' crates/hidlog/src/cli.rt)"
         echo "kit: $(rt version)"
         echo "sources: $(packages/release_sources.sh --hash)"
         echo "processor: x86-64-v2"
-        echo "object: $(object_sum)"
+        echo "object: $(print_object_hash)"
         echo "module: $(sha256sum <"$work/module.wasm" | cut -c1-64)"
-        echo "lowered by: $(wasm_opt_version)"
+        echo "lowered by: $(print_wasm_opt_version)"
         echo "linker: $(describe_linker gcc)"
-        echo "linker for aarch64: $(if [ "$mode" = "" ]; then describe_linker aarch64-linux-gnu-gcc; else linker_for_aarch64; fi)"
+        echo "linker for aarch64: $(if [ "$mode" = "" ]; then describe_linker aarch64-linux-gnu-gcc; else print_linker_for_aarch64; fi)"
     } >"$made/BUILD"
 }
 
-# Compares release/ with what was made. With another linker or C library the program is compared by its object file, and
-# with another wasm-opt the module as it was before. Of the toolchain the sum of its logic decides, and not its name.
+# Compares release/ with the files that were built. If this machine has another linker or C library, compares the
+# program's object file; if it has another wasm-opt, compares the module before wasm-opt. The toolchain must have the
+# same logic, but may have another name.
 compare() {
     local name differ=0
     for name in "${names[@]}"; do
         if cmp -s "release/$name" "$made/$name"; then
             echo "same  release/$name"
-        elif [ "$name" = hidlog ] && is_made_otherwise linker; then
-            echo "same  release/hidlog, by its object file: this machine's gcc or C library is another"
-        elif [ "$name" = aarch64/hidlog ] && is_made_otherwise "linker for aarch64"; then
-            echo "same  release/aarch64/hidlog, but for its link: this machine's gcc or C library is another"
-        elif [ "$name" = hidlog.wasm ] && is_made_otherwise "lowered by"; then
-            echo "same  release/hidlog.wasm, as it was before wasm-opt: this machine's is another"
-        elif [ "$name" = BUILD ] && is_same_but_tools; then
+        elif [ "$name" = hidlog ] && differs_in_tool linker; then
+            echo "same  release/hidlog, by its object file: this machine has another gcc or C library"
+        elif [ "$name" = aarch64/hidlog ] && differs_in_tool "linker for aarch64"; then
+            echo "same  release/aarch64/hidlog, not compared: this machine has another gcc or C library"
+        elif [ "$name" = hidlog.wasm ] && differs_in_tool "lowered by"; then
+            echo "same  release/hidlog.wasm, compared before wasm-opt: this machine has another wasm-opt"
+        elif [ "$name" = BUILD ] && differs_only_in_tools; then
             echo "same  release/BUILD, except for the toolchain's name, the linker or wasm-opt"
         else
             echo "DIFFERS  release/$name"
@@ -183,25 +187,26 @@ compare() {
         fi
     done
     (cd release && sha256sum --quiet --check SHA256SUMS) || differ=1
-    [ "$differ" = 0 ] || stop "release/ is not what was made now: packages/build_release.sh writes it anew"
+    [ "$differ" = 0 ] || fail "release/ is out of date: run packages/build_release.sh"
 }
 
-# Prints what a BUILD file says except for the linker, wasm-opt and the toolchain's name: its logic's sum stays.
-without_tools() {
+# Prints a BUILD file without the lines for the linkers and wasm-opt, and without the toolchain's name. The hash of the
+# toolchain's logic is kept.
+print_without_tools() {
     grep -v '^linker\(:\| for\)\|^lowered by:' "$1" | sed 's/^kit: .* logic /kit: logic /'
 }
 
-# Whether all that BUILD says except for the tools is the same: the sums of what they are handed, too.
-is_same_but_tools() {
-    diff <(without_tools release/BUILD) <(without_tools "$made/BUILD") >/dev/null
+# Checks whether the BUILD files differ only in the tools. The files include the hashes of the tools' inputs.
+differs_only_in_tools() {
+    diff <(print_without_tools release/BUILD) <(print_without_tools "$made/BUILD") >/dev/null
 }
 
-# Whether BUILD differs in one tool, and in nothing but tools: is_made_otherwise WORD
-is_made_otherwise() {
-    ! diff <(grep "^$1:" release/BUILD) <(grep "^$1:" "$made/BUILD") >/dev/null && is_same_but_tools
+# Checks whether the BUILD files differ in this tool, and only in tools: differs_in_tool TOOL
+differs_in_tool() {
+    ! diff <(grep "^$1:" release/BUILD) <(grep "^$1:" "$made/BUILD") >/dev/null && differs_only_in_tools
 }
 
-# Writes how a C compiler finds the header and a shared library in this folder: write_pkg_config NAME [WORD]
+# Writes a shared library's file for pkg-config: write_pkg_config NAME [CFLAG]
 write_pkg_config() {
     {
         echo "prefix=\${pcfiledir}"
@@ -213,8 +218,8 @@ write_pkg_config() {
     } >"$made/$1.pc"
 }
 
-# What --check makes anew only where it is asked to.
-make_slow() {
+# Builds the files that need a further proof. Skipped by --check without `all`.
+build_slow_files() {
     build_program_for_aarch64
     build_large_library
 }
@@ -224,7 +229,7 @@ names=(BUILD hidlog hidlog.h hidlog_recording.h hidlog_standard.h hidlog.pc hidl
 slow=(aarch64/hidlog libhidlog-256.a libhidlog-256.so.1)
 case "$*" in
 "" | --check | "--check all") ;;
-*) stop "usage: packages/build_release.sh [--check [all]]" ;;
+*) fail "usage: packages/build_release.sh [--check [all]]" ;;
 esac
 mode=${1-}
 build_program
@@ -237,12 +242,12 @@ write_pkg_config hidlog
 write_pkg_config hidlog-256 -DHIDLOG_CAPACITY=256
 cp crates/hidlog_c/hidlog.h crates/hidlog_c/hidlog_recording.h crates/hidlog_c/hidlog_standard.h "$made"
 if [ "$*" != --check ]; then
-    make_slow
+    build_slow_files
     names+=("${slow[@]}")
 fi
 if [ "$mode" = --check ]; then
     compare
-    [ $# = 2 ] || echo "not made anew, but the sums are right: ${slow[*]}"
+    [ $# = 2 ] || echo "not built again, but the hashes match: ${slow[*]}"
 else
     (cd "$made" && sha256sum "${names[@]}" >SHA256SUMS)
     cp -a "$made/." release/

@@ -3,9 +3,9 @@
 # commands. Sourced by ./hidlog, and copied by packages/debian.sh into /usr/bin/hidlog.
 #
 # Both set $program, the path of the verified program, and run_python, a function that runs the Python package's
-# command. Only python3, in a clone, is searched on PATH. tests/one_command.py compares the list with the other
-# packages'.
-# shellcheck disable=SC2154  # $program is set by the sourcing script
+# command. No program is searched on PATH, except python3 in a clone. tests/one_command.py compares this list of
+# commands with those of the other packages.
+# shellcheck disable=SC2154 # $program is set by the sourcing script
 case ${1-} in
 webdriver | browser | import | export | judge | shrink | check-many | mermaid) run_python "$@" ;;
 help)

@@ -2,7 +2,7 @@
 # The Debian packages of packages/build.sh, which sources this file.
 # shellcheck disable=SC2154 # top, work, to, version and maintainer are set by build.sh
 
-# Whether a package has the static program, which includes parts of the C library.
+# Checks whether a package contains the static program, which includes parts of the C library.
 has_program() {
     [ "$1" = hidlog ]
 }
@@ -83,7 +83,8 @@ build_package() {
     dpkg-deb --root-owner-group -Zxz --build "$root" "$to/$1_${version}_$2.deb" >/dev/null
 }
 
-# Prints the script /usr/bin/hidlog, which runs the program of its package, or the command of python3-hidlog.
+# Prints the script /usr/bin/hidlog, which runs the program of the package hidlog, or a command of the package
+# python3-hidlog.
 print_command() {
     cat <<'END'
 #!/bin/sh
@@ -115,7 +116,7 @@ build_program_package() {
     install_completions "$root/usr/share"
     install_documents "$root/usr/share/doc/hidlog"
     install_file 644 packages/readme/hidlog.md "$root/usr/share/doc/hidlog/README.md"
-    # lintian takes a static position-independent program (ELF type 3) for a library without dependencies.
+    # lintian classifies a static position-independent program (ELF type 3) as a library without dependencies.
     local tag=statically-linked-binary
     [ "$(od -An -t u1 -j 16 -N 1 "$top/$2" | tr -d ' ')" != 3 ] || tag=shared-library-lacks-prerequisites
     add_lintian_override hidlog "$root" "It runs on any Linux, with any C library." "$tag [usr/lib/hidlog/hidlog]"
@@ -171,8 +172,8 @@ build_uhid_package() {
     install_file 644 packages/uhid/hidlog-uhid@.service "$root/lib/systemd/system/hidlog-uhid@.service"
     install_file 644 packages/uhid/hidlog-uhid.conf "$root/usr/lib/sysusers.d/hidlog-uhid.conf"
     install_file 644 packages/readme/hidlog-uhid.md "$root/usr/share/doc/hidlog-uhid/README.md"
-    # Creates the unit's user. Without systemd there is no unit, and the user isn't needed. udev may have read the rule
-    # before its group existed.
+    # Creates the unit's user, which is not needed without systemd. Reloads udev's rules, since udev may have read them
+    # before the group existed.
     install_maintainer_script "$root" postinst <<'END'
 #!/bin/sh
 set -e
@@ -190,8 +191,7 @@ END
         "Creates a software security key with /dev/uhid, for browsers, OpenSSH and PAM."
 }
 
-# Builds the Python package from the wheel for x86-64, with its command, which /usr/bin/hidlog of the package hidlog
-# runs.
+# Builds the Python package from the wheel for x86-64, with the command that /usr/bin/hidlog of the package hidlog runs.
 build_python_package() {
     local root=$work/amd64/python3-hidlog place name
     place=$root/usr/lib/python3/dist-packages

@@ -1,6 +1,6 @@
 #!/bin/sh
-# Prints what release/ is made from, a path a line: crates.txt, HANDLES, and of the program, the C library and each
-# crate below them the folders of its sources, definitions and proofs.
+# Prints the paths of the files from which release/ is built, one per line: crates.txt, HANDLES, and the folders of
+# sources, definitions and proofs of the program, of the C library and of each crate on which they depend.
 #
 #     packages/release_sources.sh            prints the paths
 #     packages/release_sources.sh --hash     prints the hash of all these files

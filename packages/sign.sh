@@ -4,7 +4,7 @@
 # DIR is the output of packages/build.sh. SHA256SUMS and the provenance each get a signature file, FILE.sig. KEY is an
 # OpenSSH private key, possibly on a security key, or a public key whose private key is in ssh-agent. SIGNERS has the
 # public keys that may sign [default: packages/signers]. Nothing is signed if a file does not match SHA256SUMS and the
-# provenance, or if the sources were not those of a commit. README explains how to verify a signature.
+# provenance, or if the packages were built from uncommitted changes. The README explains how to verify a signature.
 set -euo pipefail
 [ $# = 2 ] || [ $# = 3 ] || { sed -n 's/^# \{0,1\}//; 2,8p' "$0" >&2; exit 2; }
 here=$(cd "$(dirname "${BASH_SOURCE[0]}")" && pwd)
@@ -18,7 +18,7 @@ fail() {
     exit 1
 }
 
-# Whether a file has a signature by one of the signers: is_signed FILE
+# Checks whether a file has a signature by one of the signers: is_signed FILE
 is_signed() {
     ssh-keygen -Y verify -f "$signers" -I "$signer" -n "$namespace" -s "$1.sig" <"$1"
 }
@@ -52,7 +52,7 @@ provenance=(hidlog-*.provenance.json)
     fail "$2 must have SHA256SUMS and one provenance: use the directory of packages/build.sh"
 sha256sum --quiet --strict --check SHA256SUMS || fail "a file does not match SHA256SUMS: run packages/build.sh again"
 check_provenance "${provenance[0]}"
-# Signatures are kept only if all are valid.
+# The signatures are kept only if all of them are valid.
 remove_partial_signatures() {
     [ -n "${is_done-}" ] || rm -f SHA256SUMS.sig "${provenance[0]}.sig"
 }

@@ -1,14 +1,15 @@
 #!/usr/bin/env bash
-# Runs the fuzzers and some conformance tests with a Dask cluster on this machine, one of whose workers is killed, and
-# with processes, and compares the results. Exits with 3 if Debian's python3-distributed is missing.
+# Runs the fuzzers and some conformance tests on a local Dask cluster, of which a worker is killed, and with local
+# processes, and compares the results. Exits with 3 if Debian's python3-distributed is missing.
 set -euo pipefail
 top=$(cd "$(dirname "${BASH_SOURCE[0]}")/.." && pwd)
 python=/usr/bin/python3
 "$python" -c 'import distributed, cryptography' 2>/dev/null ||
-    { echo "distributed or cryptography is missing (apt-get install python3-distributed python3-cryptography)" >&2 && exit 3; }
+    { echo "tests/executors.sh: distributed or cryptography is missing (apt-get install python3-distributed python3-cryptography)" >&2 && exit 3; }
 work=$(mktemp -d)
 started=()
-# SIGKILL, because the scheduler and the workers have no state, and may wait for each other forever on SIGTERM.
+# Uses SIGKILL, because on SIGTERM the scheduler and the workers may wait for each other forever. They have no state to
+# save.
 stop_cluster() {
     kill -KILL "${started[@]}" 2>/dev/null || true
     wait 2>/dev/null || true # the shell reports the kills
@@ -16,7 +17,7 @@ stop_cluster() {
 }
 trap stop_cluster EXIT
 cd "$work" # workers write temporary files here
-# A newer scheduler deserializes tasks, so it needs the modules, too.
+# A newer scheduler deserializes tasks, so the scheduler needs the modules as well.
 PYTHONPATH=$top/conformance:$top/tests/fuzz "$python" -m distributed.cli.dask_scheduler --host 127.0.0.1 --port 0 --no-dashboard \
     --scheduler-file "$work/scheduler.json" >"$work/scheduler" 2>&1 &
 started+=($!)

@@ -10,7 +10,7 @@ copy="$work/a copy"
 mkdir -p "$copy/crates" "$work/bin"
 cp -a "$top"/{hidlog,crates.txt,HANDLES,release,packages,bindings} "$copy/"
 (cd "$top" && packages/release_sources.sh | grep ^crates/ | xargs cp -a --parents -t "$copy")
-# All files get the same time, so that release/BUILD is not older than the sources, as in a new clone.
+# All files get the same modification time, as in a new clone, so that release/BUILD is not older than the sources.
 find "$copy" -exec touch -h -d 2010-01-01 {} +
 touch -d 2010-01-01 "$copy/release/BUILD"
 every_path=$PATH
@@ -27,7 +27,8 @@ fail() {
     exit 1
 }
 
-# Runs a command that must exit with STATUS; its output is in $work/out and $work/said: expect_status STATUS COMMAND ARGUMENT ..
+# Runs a command that must exit with STATUS. Its output is written to $work/out, and its messages to $work/said:
+# expect_status STATUS COMMAND ARGUMENT ..
 expect_status() {
     local wanted=$1 status=0
     shift
@@ -35,14 +36,14 @@ expect_status() {
     [ "$status" = "$wanted" ] || fail "$*: exit status $status, expected $wanted: $(<"$work/said")"
 }
 
-# Checks that a command replays the log without messages: check_replay COMMAND
+# Checks that a command replays the log and prints no message: check_replay COMMAND
 check_replay() {
     expect_status 0 "$@" replay
     [ "$(<"$work/out")" = "$(<"$log")" ] || fail "$* does not replay"
     [ ! -s "$work/said" ] || fail "$* printed: $(<"$work/said")"
 }
 
-# Checks that the log is replayed, with a message that the program must be built again: check_stale_message CAUSE
+# Checks that the log is replayed, and that a message asks to build the program again: check_stale_message CAUSE
 check_stale_message() {
     expect_status 0 "$copy/hidlog" replay
     [ "$(<"$work/out")" = "$(<"$log")" ] || fail "$1: it does not replay"
@@ -57,7 +58,7 @@ check_replay "$work/link"
 (cd "$copy" && check_replay ./hidlog && check_replay sh hidlog)
 expect_status 2 "$copy/hidlog" frobnicate
 
-# A changed source, definition or proof is detected even if its modification time is old; so is a new file.
+# A new file is detected, and so is a changed source, definition or proof, even if its modification time is old.
 PATH=$every_path
 changed=("$copy/crates/session_log/src/lib.rt")
 for kind in specs proofs; do
@@ -76,8 +77,8 @@ PATH=$work/bin check_stale_message "a new file"
 rm "$copy/crates/session_log/src/new.rt"
 [ ! -e "$work/proved" ] || fail "the launcher started a proof"
 
-# Commands of the Python package run from the clone, not from modules in the current folder. Without Python, a message
-# says so.
+# Commands of the Python package are run from the clone, not from modules in the current folder. Without Python, a
+# message is printed.
 if command -v python3 >/dev/null; then
     ln -s "$(python3 -c 'import sys; print(sys.executable)')" "$work/bin/python3"
     mkdir -p "$work/here/hidlog"

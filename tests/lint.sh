@@ -1,6 +1,6 @@
 #!/usr/bin/env bash
-# Checks names against docs/change/STYLE.md, and runs shellcheck, black, mypy --strict and tsc --strict. Python without
-# types yet is listed in `untyped`, and folders with old names in `renaming`; both only get shorter.
+# Checks names against docs/change/STYLE.md, and runs shellcheck, black, mypy --strict and tsc --strict. `untyped` lists
+# Python files that have no types yet, and `renaming` lists folders with old names. Both lists may only get shorter.
 set -euo pipefail
 cd "$(dirname "${BASH_SOURCE[0]}")/.."
 # Other versions of black format differently, and other versions of mypy report other errors.
@@ -8,7 +8,8 @@ for tool in "black 23" "mypy 1.0"; do
     [[ $(${tool% *} --version) = ${tool% *}*\ ${tool#* }.* ]] ||
         { echo "tests/lint.sh: ${tool% *} ${tool#* } of Debian 12 is missing; nothing was run" >&2 && exit 3; }
 done
-# Variables called `it`, exception classes without Error (except those that are not errors), and constants called _MOST.
+# Finds variables called `it`, exception classes whose name does not end in Error (except those that are not errors),
+# and constants called _MOST.
 renaming='^tests/mutants/'
 sources=('*.py' '*.js' '*.mjs' '*.go' '*.rs' '*.c' '*.h' ':!bindings/web/dist' ':!release')
 pronoun='\bfor \(?(const )?it (in|of)\b|\blambda it\b|^\s*(const |let )?it :?= |\(it[,)]( =>|\.)|, it\) =>|func \(it\b'
@@ -24,25 +25,25 @@ named=$(grep -Ev "$renaming" <<<"$named" || true)
 mapfile -t shell < <(git ls-files -z -co --exclude-standard |
     xargs -0 awk 'FNR == 1 { if ($0 ~ /^#!.*[\/ ](ba)?sh$/) print FILENAME; nextfile }')
 shellcheck --severity=warning "${shell[@]}"
-# A reader that exits early can kill its writer by SIGPIPE, which pipefail turns into a failure.
+# A command that stops reading early can end the writing command with SIGPIPE, which pipefail turns into a failure.
 early=$(grep -l pipefail "${shell[@]}" | xargs grep -nE '[^|][|] *(head|grep -[a-zA-Z]*[qm])' || true)
 [ -z "$early" ] || { echo "FAILED: read all of it, as sed -n 1p does:"; echo "$early"; exit 1; }
 mapfile -t python < <(git ls-files -co --exclude-standard '*.py')
 black --quiet --check --line-length 120 "${python[@]}"
 untyped='^(bench|examples|bindings/python/src|tests/(failing|fuzz|python|web))/'
 mapfile -t typed < <(printf '%s\n' "${python[@]}" | grep -Ev "$untyped")
-# One call per folder, since files in different folders may have the same name.
+# mypy is called once per folder, since files in different folders may have the same name.
 printf '%s\n' "${typed[@]}" |
     awk '{ folder = $0; sub("[^/]*$", "", folder); files[folder] = files[folder] " " $0 }
         END { for (folder in files) print files[folder] }' |
     xargs -L 1 -P "$(nproc)" mypy --strict --no-error-summary --ignore-missing-imports \
     --follow-imports=silent --allow-untyped-calls --allow-subclassing-any
-# Whole packages, since their modules import one another.
+# These packages are checked as a whole, since their modules import one another.
 strict=(mypy --strict --no-error-summary --ignore-missing-imports --allow-untyped-calls --allow-subclassing-any)
 "${strict[@]}" bindings/python/src/hidlog
 MYPYPATH=bindings/python/src:tests/python "${strict[@]}" tests/python/*.py
 if command -v tsc >/dev/null; then
     tsc -p bindings/web/tsconfig.json
 else
-    echo "tests/lint.sh: tsc is missing, types of bindings/web/ are not checked (apt-get install node-typescript)" >&2
+    echo "tests/lint.sh: tsc is missing; the types of bindings/web/ are not checked (apt-get install node-typescript)" >&2
 fi

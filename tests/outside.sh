@@ -1,8 +1,8 @@
 #!/usr/bin/env bash
-# Tests the Dockerfile without Docker: copies the image's files to a folder, and plays a log there with chroot. Tests the
-# action without GitHub: runs the commands of action.yml in a new environment, with a failing test whose recording must be
-# kept. Checks that action.yml and the workflows use no other GitHub action. Exits with 3 if nothing could
-# be run.
+# Tests the Dockerfile without Docker: copies the image's files to a folder, and replays a log there with chroot. Tests
+# the GitHub action without GitHub: runs the commands of action.yml in a new environment, with a failing test whose
+# recording must be saved. Checks that action.yml and the workflows use no other GitHub action. Exits with 3 if nothing
+# could be run.
 set -euo pipefail
 top=$(cd "$(dirname "${BASH_SOURCE[0]}")/.." && pwd)
 work=$(mktemp -d)
@@ -15,7 +15,7 @@ fail() {
     exit 1
 }
 
-# Copies the image's files as the COPY lines say.
+# Copies the image's files as the COPY lines of the Dockerfile specify.
 make_image() {
     local word words target
     mkdir "$work/image"
@@ -45,13 +45,13 @@ if [ "$(id -u)" = 0 ]; then
 fi
 
 ! grep -E '^ *(- )?uses: ' "$top/action.yml" "$top"/.github/workflows/*.yml || fail "action.yml or a workflow uses another action"
-# apt-get is used only in jobs that run in a Debian container.
+# Only jobs that run in a Debian container may use apt-get.
 ! grep -q 'apt-get' "$top/action.yml" || fail "action.yml uses apt-get, but runs on any system"
 for workflow in "$top"/.github/workflows/*.yml; do
     ! grep -q 'apt-get' "$workflow" || grep -q 'container: debian:' "$workflow" || fail "$workflow uses apt-get outside a Debian container"
 done
 
-# Runs the action's last step, with a summary of at most MAX_BYTES: write_summary MAX_BYTES
+# Runs the action's last step, which writes a summary, and limits the summary to MAX_BYTES: write_summary MAX_BYTES
 write_summary() {
     printf 'a snapshot' >"$HIDLOG_LOG_DIR/x.snapshot"
     : >"$work/summary"
@@ -67,7 +67,8 @@ steps = yaml.safe_load(open(sys.argv[1]))['runs']['steps']
 print(next(step['run'] for step in steps if $1))" "$top/action.yml"
 }
 
-# Runs the action's first step, with pip limited to the wheels built here: install_by_action VENV [REQUIREMENTS]
+# Runs the action's first step, which installs packages. pip may use only the wheels that were built here:
+# install_by_action VENV [REQUIREMENTS]
 install_by_action() {
     rm -rf "$work/temp"
     mkdir -p "$work/temp"

@@ -1,9 +1,9 @@
 #!/usr/bin/env bash
-# Builds the packages twice, compares them byte for byte, and uses each as its user would: runs the program's cases with
-# the command of the tarball, the Debian packages, the wheel and the npm package; builds a C program with the tarball and
-# with the development package; loads the npm package in node; and runs lintian. Tools other than dpkg-deb and Python are
-# optional. packages_hold.py checks the contents; clients/languages.sh tests the Go and Rust packages. Exits with 3 if
-# dpkg-deb is missing.
+# Builds the packages twice, compares them byte for byte, and tests each package as it is used: runs the cases of
+# tests/program with the command of the tarball, the Debian packages, the wheel and the npm package; builds a C program
+# with the tarball and with the development package; loads the npm package in node; and runs lintian. Tools other than
+# dpkg-deb and Python are optional. packages_hold.py checks the contents; clients/languages.sh tests the Go and Rust
+# packages. Exits with 3 if dpkg-deb is missing.
 set -euo pipefail
 top=$(cd "$(dirname "${BASH_SOURCE[0]}")/.." && pwd)
 for tool in dpkg-deb python3; do
@@ -39,7 +39,7 @@ run_cases() {
     waiting+=("$! $1")
 }
 
-# Checks that a program is release/hidlog and replays the log: check_program PROGRAM
+# Checks that a program has the same bytes as release/hidlog, and replays the log: check_program PROGRAM
 check_program() {
     cmp "$1" "$top/release/hidlog" || fail "$1 is another program"
     check_replay "$1"
@@ -49,7 +49,7 @@ tar -C "$work" -xzf "$work"/first/hidlog-*-linux-x86_64.tar.gz
 tarball=$(echo "$work"/hidlog-*)
 check_program "$tarball/bin/hidlog"
 run_cases tarball "$tarball/bin/hidlog"
-# Installs packages like dpkg, except that the command uses the path of ROOT: install_packages ROOT PACKAGE ..
+# Unpacks Debian packages into ROOT, and changes the path in /usr/bin/hidlog to ROOT: install_packages ROOT PACKAGE ..
 install_packages() {
     local package
     for package in "${@:2}"; do
@@ -93,12 +93,13 @@ if command -v gcc >/dev/null; then
     LD_LIBRARY_PATH=$work/root/usr/lib/x86_64-linux-gnu "$work/key" mistakes || fail "a program with the library fails"
     echo "tests/packages.sh: a C program was built with the development package"
 fi
-# Prints a program's summary of the log on a terminal with 40 columns: print_summary_at_terminal PROGRAM
+# Prints the summary of the log that a program shows on a terminal with 40 columns: print_summary_at_terminal PROGRAM
 print_summary_at_terminal() {
     COLUMNS=40 python3 -c 'import pty, sys; sys.exit(pty.spawn(sys.argv[1:]))' "$1" show --summary "$log" </dev/null
 }
 
-# The packages for arm64, with its compiler and qemu: a C program built with the development package plays a session.
+# Tests the packages for arm64 with a cross compiler and qemu: a C program that is built with the development package
+# replays a session.
 if command -v aarch64-linux-gnu-gcc >/dev/null && command -v qemu-aarch64-static >/dev/null; then
     for package in "$work"/first/*_arm64.deb; do
         dpkg-deb -x "$package" "$work/arm64"
@@ -123,7 +124,7 @@ if command -v aarch64-linux-gnu-gcc >/dev/null && command -v qemu-aarch64-static
         echo "tests/packages.sh: the program for arm64 plays the worked logs, by qemu"
     fi
 fi
-# The npm package is imported by name in a module, by `require`, and in TypeScript.
+# Imports the npm package by name in a module, with `require`, and in TypeScript.
 if command -v node >/dev/null; then
     mkdir -p "$work/npm/node_modules/hidlog"
     tar -C "$work/npm/node_modules/hidlog" --strip-components=1 -xzf "$work"/first/hidlog-*.tgz
@@ -143,14 +144,14 @@ if command -v node >/dev/null; then
     HIDLOG_PROGRAM=$top/release/hidlog node "$top/tests/web/npm_package.mjs" "$work/npm" || fail "the npm package's command or README"
     echo "tests/packages.sh: the npm package is loaded"
 fi
-# All packages have the same commands and help.
+# The commands and the help must be the same in all packages.
 commands=("$work/plain/usr/bin/hidlog" "$work/python3-hidlog")
 [ ! -x "$work/venv/bin/hidlog" ] || commands+=("$work/venv/bin/hidlog")
 [ ! -d "$work/npm" ] || commands+=("$work/npm/node_modules/hidlog/cli.mjs")
 python3 "$top/tests/one_command.py" "${commands[@]}" || fail "the packages have different commands"
 python3 "$top/tests/packages_hold.py" "$work/first"
 "$top/tests/packages_signed.sh" "$work/first" || [ $? = 3 ] || fail "signing a release fails"
-# systemd's exposure score of the unit, from 0 to 100; as root and without a system call filter it was 44.
+# Checks systemd's exposure score of the unit, from 0 to 100. It would be 44 as root and without a system call filter.
 if command -v systemd-analyze >/dev/null; then
     systemd-analyze security --no-pager --offline=yes --threshold=19 "$work/root/lib/systemd/system/hidlog-uhid@.service" \
         >"$work/said" || fail "the unit of hidlog-uhid is too exposed: $(tail -1 "$work/said")"
@@ -163,8 +164,8 @@ for run in "${waiting[@]}"; do
     echo "tests/packages.sh: the command of ${run#* }: $(tail -1 "$work/cases.${run#* }")"
 done
 if command -v lintian >/dev/null; then
-    # The packages are not Debian's own, so they close no Debian bug. They are for Debian 12, whose lintian expects rules and
-    # units in /lib; Debian 13's expects /usr/lib.
+    # Ignored tags: the packages are not part of Debian, so they close no bug of Debian. They are built for Debian 12,
+    # whose lintian expects rules and units in /lib; Debian 13's lintian expects /usr/lib.
     tags=initial-upload-closes-no-bugs
     ! lintian-explain-tags aliased-location >/dev/null 2>&1 || tags+=,aliased-location
     lintian --fail-on error,warning --suppress-tags "$tags" "$work"/first/*.deb || fail "lintian found problems"

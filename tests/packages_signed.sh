@@ -1,10 +1,10 @@
 #!/usr/bin/env bash
-# Signs packages with new keys, verifies them with README's commands, and checks that each change is rejected:
-# tests/packages_signed.sh FOLDER. FOLDER is the output of packages/build.sh, and is not changed. Exits with 3 if ssh-keygen
-# is missing.
+# Signs packages with new keys, verifies them with the commands of the README, and checks that changed packages are
+# rejected: tests/packages_signed.sh FOLDER. FOLDER is the output of packages/build.sh, and is not changed. Exits with 3
+# if ssh-keygen is missing.
 set -euo pipefail
 top=$(cd "$(dirname "${BASH_SOURCE[0]}")/.." && pwd)
-command -v ssh-keygen >/dev/null || { echo "ssh-keygen is missing (apt-get install openssh-client); nothing was run" >&2; exit 3; }
+command -v ssh-keygen >/dev/null || { echo "tests/packages_signed.sh: ssh-keygen is missing (apt-get install openssh-client); nothing was run" >&2; exit 3; }
 work=$(mktemp -d)
 trap 'rm -rf "$work"' EXIT
 made=$work/made
@@ -14,13 +14,14 @@ fail() {
     exit 1
 }
 
-# Copies the packages, marked as built from a commit without changes, since others are not signed: copy_packages FOLDER
+# Copies the packages, and marks them as built from a commit without changes, since no other packages are signed:
+# copy_packages FOLDER
 copy_packages() {
     rm -rf "$made"
     cp -r "$1" "$made"
     provenance=$(cd "$made" && echo hidlog-*.provenance.json)
     sed -i 's/"changed": true/"changed": false/' "$made/$provenance"
-    grep -q '"gitCommit"' "$made/$provenance" || { echo "this is not a git repository; nothing was run" >&2; exit 3; }
+    grep -q '"gitCommit"' "$made/$provenance" || { echo "tests/packages_signed.sh: $PWD is not a git repository; nothing was run" >&2; exit 3; }
     (cd "$made" && sha256sum ./hidlog* ./*.deb 2>/dev/null | sort -u -k2 >SHA256SUMS)
 }
 
@@ -34,7 +35,7 @@ expect_signing_refused() {
     [ ! -e "$made/SHA256SUMS.sig" ] && [ ! -e "$made/$provenance.sig" ] || fail "signature files remain after signing $2"
 }
 
-# Verifies the packages with README's commands.
+# Verifies the packages with the commands of the README.
 verify_packages() {
     (cd "$made" && ssh-keygen -Y verify -f "$work/signers" -I cogtzil -n hidlog-release -s SHA256SUMS.sig <SHA256SUMS &&
         ssh-keygen -Y verify -f "$work/signers" -I cogtzil -n hidlog-release -s "$provenance.sig" <"$provenance" &&
@@ -53,7 +54,7 @@ for name in maintainer other; do
 done
 echo "cogtzil namespaces=\"hidlog-release\" $(cat "$work/maintainer.pub")" >"$work/signers"
 
-# Packages that must not be signed.
+# Packages that packages/sign.sh must not sign.
 copy_packages "$packages"
 expect_signing_refused other "with a key that isn't listed" "is not a key in signers"
 expect_signing_refused missing "without a key" "cannot sign"
@@ -74,7 +75,7 @@ expect_signing_refused maintainer "packages of changed sources" "were not built 
 rm "$made/$provenance"
 ! sign maintainer || fail "sign.sh signs without a provenance"
 
-# Signed packages, and changes after signing.
+# Signed packages that are changed after signing.
 copy_packages "$packages"
 sign maintainer || fail "$(cat "$work/said")"
 verify_packages || fail "the signatures are not valid: $(cat "$work/said")"

@@ -1,20 +1,20 @@
 #!/usr/bin/env bash
-# Follows each section of README.md as a new user would: in a Debian 12 installed by debootstrap, as a user with sudo and a
-# clone, pastes the ```sh blocks of "Get the packages" and of the section, and compares their output with the ```text block
-# after them. Prints the seconds of each, including the download of Debian's packages.
+# Follows each section of README.md as a new user would: in a Debian 12 that debootstrap installs, as a user with sudo
+# and a clone, runs the ```sh blocks of "Get the packages" and of the section, and compares their output with the
+# ```text block after each. Prints the time of each section in seconds, including the download of Debian's packages.
 #
 #     tests/readme_ways.sh FOLDER [WAY ..]     FOLDER is created by debootstrap or reused; WAY is part of a heading
 #
-# Needs root, debootstrap and its mirror. Exits with 3 if one is missing, and with 1 if a section fails or takes more than
-# ten minutes.
+# Needs root, debootstrap and a Debian mirror. Exits with 3 if one of these is missing, and with 1 if a section fails or
+# takes more than ten minutes.
 set -euo pipefail
 top=$(cd "$(dirname "${BASH_SOURCE[0]}")/.." && pwd)
 folder=${1:?usage: tests/readme_ways.sh FOLDER [WAY ..]}
 shift
-[ "$(id -u)" = 0 ] || { echo "root is needed for a folder of debootstrap; nothing was run" >&2 && exit 3; }
+[ "$(id -u)" = 0 ] || { echo "tests/readme_ways.sh: debootstrap needs root; nothing was run" >&2 && exit 3; }
 [ -d "$folder/usr" ] || debootstrap --variant=minbase bookworm "$folder" >"${folder%/}.log" || exit 3
 work=$(mktemp -d)
-# Unmounts, even if a program still uses the mount, and removes only files of this file system.
+# Unmounts the file systems, even if a program still uses them, and removes only files of this file system.
 clean_up() {
     umount -l "$work/system/proc" "$work/system/dev/shm" "$work/system/dev" 2>/dev/null || true
     rm -rf --one-file-system "$work"
@@ -22,7 +22,7 @@ clean_up() {
 trap clean_up EXIT
 failed=0
 
-# Installs what README assumes: sudo, /etc/hosts, a clone, and a user: prepare_system SYSTEM
+# Installs what the README assumes: sudo, /etc/hosts, a clone of the repository, and a user: prepare_system SYSTEM
 prepare_system() {
     local system=$1
     cp -a "$folder" "$system"
@@ -40,7 +40,7 @@ prepare_system() {
     chroot "$system" chown -R tester:tester /home/tester
 }
 
-# Writes the blocks of a section to files, with their expected output: extract_blocks HEADING FOLDER
+# Writes the ```sh blocks of a section, and their expected outputs, to files: extract_blocks HEADING FOLDER
 extract_blocks() {
     awk -v heading="## $1" -v folder="$2" '
         /^## / { is_on = ($0 == heading) }
@@ -55,7 +55,7 @@ run_blocks() {
     local system=$1 block text
     for block in "$2"/*.sh; do
         cp "$block" "$system/home/tester/block.sh"
-        # Processes that a block leaves running are killed with it.
+        # Processes that a block leaves running are killed when the block ends.
         unshare --pid --fork --kill-child --mount-proc="$system/proc" \
             chroot --userspec=tester --groups=tester "$system" /usr/bin/env -i PATH=/usr/bin:/bin HOME=/home/tester \
             LANG=C.UTF-8 DEBIAN_FRONTEND=noninteractive bash -c 'cd ~/cogtzil && set -e && source ~/block.sh' \
@@ -85,7 +85,7 @@ follow_section() {
     rm -rf --one-file-system "$system" "$work/way" "$work/get"
 }
 
-# The sections are those from the first test to the table of browsers.
+# Select the sections from the first test to the table of browsers.
 while read -r heading; do
     wanted=
     [ $# != 0 ] || wanted=yes

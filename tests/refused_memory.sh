@@ -1,9 +1,9 @@
 #!/usr/bin/env bash
-# Runs the libraries' tests once for each of the first COUNT allocations, which fails in that run (decode_value,
-# encode_value and save allocate): tests/refused_memory.sh [COUNT], by default 12. Needs rt and Python 3.
+# Runs the libraries' tests COUNT times, and lets the Nth allocation of each test fail in the Nth run (decode_value,
+# encode_value and save allocate): tests/refused_memory.sh [COUNT] [default: 12]. Needs rt and Python 3.
 #
-# Exit status: 0 if a failed allocation changes nothing but the result, otherwise 1. A test whose allocation fails may only
-# fail with the allocation error. Tests named `.._after_refused_memory` repeat the call and must pass.
+# Exits with 0 if a failed allocation changes only the result, and with 1 otherwise. A test whose allocation fails may
+# fail only with the allocation error. Tests named `*_after_refused_memory` repeat the call and must pass.
 set -u
 cd "$(dirname "$0")/.." || exit 2
 work=$(mktemp -d)

@@ -1,7 +1,7 @@
 #!/usr/bin/env bash
-# Tests `hidlog shrink`: on a log with one wrong digit in a response, whose minimized log must differ at the same packet; on
-# a log of 10,000 lines, in under a minute; --match; on the sign-in of docs/use/TOUR.md; with a command that prints its
-# findings to standard output; SIGINT; and invalid arguments.
+# Tests `hidlog shrink`: with a log that has a wrong digit in a response, where the minimized log must differ at the
+# same packet; with a log of 10,000 lines, in less than a minute; with --match; with the sign-in of docs/use/TOUR.md;
+# with a command that prints findings to standard output; with SIGINT; and with invalid arguments.
 set -euo pipefail
 cd "$(dirname "${BASH_SOURCE[0]}")/.."
 export PYTHONPATH=bindings/python/src
@@ -13,7 +13,7 @@ fail() {
     exit 1
 }
 
-# Minimizes a log: run_shrink ARGUMENT ..
+# Runs `hidlog shrink`, which minimizes a log: run_shrink ARGUMENT ..
 run_shrink() {
     python3 -m hidlog shrink "$@" >"$work/smaller" 2>"$work/said"
 }
@@ -30,21 +30,21 @@ write_changed_log() {
     return 0
 }
 
-# Checks that the minimized log differs at packet K of an input's response: check_differs K
+# Checks that `hidlog check` reports a difference at packet K of a response in the minimized log: check_differs K
 check_differs() {
     if release/hidlog check <"$work/smaller" 2>"$work/fault" || ! grep -q "differs at packet $1\$" "$work/fault"; then
         fail "the shorter log: $(cat "$work/fault")"
     fi
 }
 
-# The fourth packet after the signature of the first sign-in.
+# Changes the fourth packet after the signature of the first sign-in.
 write_changed_log "$(awk '/^s 320 /{ print NR + 4 }' examples/sign_in.log)" sign_in.log
 run_shrink "$work/changed" release/hidlog check
 check_differs 4
 release/hidlog show <"$work/smaller" 2>"$work/said" | grep 'request 02 {1: "example.com"' >/dev/null
 [ "$(wc -l <"$work/smaller")" -lt "$(wc -l <"$work/changed")" ]
 
-# 10,000 lines around the registration and the sign-in that differs.
+# A log of 10,000 lines, which include the registration and the sign-in whose response is changed.
 {
     awk '!/^=/' "$work/changed"
     awk 'BEGIN { for (i = 0; i < 10000; i++) print i % 3 ? "t 2000" : "# a comment" }'
@@ -62,7 +62,7 @@ for log in long longer; do
     [ "$(wc -l <"$work/smaller")" -lt 40 ] || fail "$(wc -l <"$work/smaller") lines are left"
 done
 
-# A changed response to getInfo, after a registration: only INIT and getInfo remain.
+# A changed response to getInfo after a registration: only INIT and getInfo must remain.
 begins=$(release/hidlog show --json examples/service_sign_in.log |
     awk -F '[:,]' '/"from":"key"/ && /"name":"CBOR"/ { begins = $2 } /"kind":"answer"/ && /GetInfo/ { last = begins }
         END { print last }')
@@ -80,8 +80,8 @@ if sh -c "$asks" <"$work/smaller" >"$work/fault"; then
 fi
 [ "$(count_inputs)" -lt 6 ] || fail "$(cat "$work/smaller")"
 
-# The log of TOUR.md: the denied sign-in remains, with the registration that it needs. These are eight inputs: INIT, five
-# of the registration (two packets, presence, key pair, signature), the sign-in and the denial.
+# The log of TOUR.md: the denied sign-in and the registration before it must remain. These are eight inputs: INIT, five
+# inputs of the registration (two packets, presence, key pair, signature), the sign-in and the denial.
 sed '22s/granted/denied/' examples/sign_in.log | release/hidlog replay >"$work/right"
 denied="! release/hidlog replay | release/hidlog show --summary | grep 'GetAssertion .*OPERATION_DENIED' >/dev/null"
 run_shrink "$work/right" sh -c "$denied"
@@ -89,7 +89,8 @@ sh -c "$denied" <"$work/smaller" && fail "what is left has no denied sign-in"
 [ "$(count_inputs)" = 8 ] || fail "$(count_inputs) inputs remain of TOUR.md's log: $(cat "$work/smaller")"
 [ "$(grep -c '^p .* denied$' "$work/smaller")" = 1 ] || fail "a denial is missing"
 
-# A finding of `hidlog judge` on standard output: a signature counter that does not increase needs two sign-ins.
+# A finding that `hidlog judge` prints to standard output. A signature counter that does not increase needs two
+# sign-ins.
 run_shrink examples/failing/stale_sign_count.log python3 -m hidlog judge
 python3 -m hidlog judge "$work/smaller" >"$work/found" && fail "no finding in the shorter log"
 grep -q 'expected: a counter above 1' "$work/found" || fail "$(cat "$work/found")"
@@ -99,8 +100,8 @@ finds="awk '{ print \"seen\" } / (granted|denied)\$/ { print \"line \" NR \": \"
 run_shrink "$work/right" sh -c "$finds"
 [ "$(count_inputs) $(head -n 1 "$work/smaller")" = "1 p 200 granted" ] || fail "expected only the first line: $(cat "$work/smaller")"
 
-# SIGINT writes the shortest log so far, which fails in the same way. The command sends it at the run after one that failed
-# on a shorter log.
+# On SIGINT, `hidlog shrink` must write the shortest failing log so far. The command sends SIGINT in the run after one
+# that failed on a shorter log.
 cat >"$work/stops" <<'STOPS'
 cat >"$0.log"
 [ ! -e "$0.shorter" ] || kill -INT "$PPID"
@@ -118,7 +119,7 @@ grep -q '^hidlog shrink: interrupted$' "$work/said" || fail "SIGINT: $(cat "$wor
 check_differs 4
 [ "$(wc -l <"$work/smaller")" -lt "$(wc -l <"$work/changed")" ] || fail "SIGINT: nothing was kept"
 
-# Invalid arguments give exit status 2, no output, and this message: expect_usage_error TEXT ARGUMENT ..
+# Expects exit status 2, no output, and a message for invalid arguments: expect_usage_error TEXT ARGUMENT ..
 expect_usage_error() {
     local text=$1 status=0
     shift

@@ -1,20 +1,20 @@
 #!/usr/bin/env bash
-# Validates the packages' SPDX document with SPDX's tools-golang, which is in Debian since trixie. It must also reject five
-# invalid documents: tests/spdx.sh CACHE
+# Validates the packages' SPDX document with SPDX's tools-golang, which is in Debian since trixie. The validator must
+# also reject five invalid documents: tests/spdx.sh CACHE
 #
 # The packages of trixie are downloaded and unpacked in CACHE, but not installed. HIDLOG_OFFLINE=1 prevents downloads.
-# Exits with 3 if something is missing.
+# Exits with 3 if a dependency is missing.
 set -euo pipefail
 top=$(cd "$(dirname "${BASH_SOURCE[0]}")/.." && pwd)
 mkdir -p "${1:?usage: tests/spdx.sh CACHE}"
 cache=$(cd "$1" && pwd)
 work=$(mktemp -d)
 trap 'rm -rf "$work"' EXIT
-command -v go >/dev/null || { echo "go is missing (apt-get install golang-go); nothing was run" >&2 && exit 3; }
+command -v go >/dev/null || { echo "tests/spdx.sh: go is missing (apt-get install golang-go); nothing was run" >&2 && exit 3; }
 packages=(golang-github-spdx-tools-golang-dev golang-github-spdx-gordf-dev golang-github-anchore-go-struct-converter-dev
     golang-k8s-sigs-yaml-dev golang-github-google-go-cmp-dev)
 
-# Downloads the packages of trixie by apt-get, with its directories in CACHE.
+# Downloads packages of trixie with apt-get, whose directories are in CACHE.
 download() {
     local options=(-o "Dir::Etc::sourcelist=$cache/sources.list" -o Dir::Etc::sourceparts=/dev/null
         -o "Dir::State::lists=$cache/lists" -o "Dir::Cache=$cache" -o APT::Sandbox::User=root)
@@ -26,7 +26,7 @@ download() {
 
 if [ ! -e "$cache/root/.whole" ]; then
     [ -z "${HIDLOG_OFFLINE-}" ] && download >"$work/said" 2>&1 ||
-        { echo "Debian's mirror is unreachable, or HIDLOG_OFFLINE is set; nothing was run" >&2 && exit 3; }
+        { echo "tests/spdx.sh: Debian's mirror is unreachable, or HIDLOG_OFFLINE is set; nothing was run" >&2 && exit 3; }
     for package in "$cache"/debs/*.deb; do
         dpkg-deb -x "$package" "$cache/root"
     done
@@ -65,7 +65,7 @@ GO111MODULE=off GOPATH=$cache/root/usr/share/gocode GOCACHE=$work/go go build -o
 list=$(echo "$work"/made/*.spdx.json)
 "$work/judge" <"$list"
 
-# Checks that the tool rejects a document changed by a sed expression: expect_rejected SED
+# Checks that the validator rejects the document after a change by a sed expression: expect_rejected SED
 expect_rejected() {
     sed "$1" "$list" >"$work/wrong"
     ! cmp -s "$list" "$work/wrong" || { echo "$1 changes nothing" && exit 1; }

@@ -1,7 +1,8 @@
 #!/usr/bin/env bash
-# Tests the libraries: results that no clause specifies, and calls at their limits. The tests in tests/unit/ run as a
-# separate crate in a copy of the libraries, without proofs (rt try), so that they do not slow down the gate. Each test may
-# take fifteen minutes, since other programs may be running. Exits with 3 if rt is missing.
+# Tests the libraries: results that no clause of a contract specifies, and calls at their limits. The tests in
+# tests/unit/ run as a separate crate in a copy of the libraries, without proofs (rt try), so that they do not slow down
+# `rt ci`. The time limit of each test is fifteen minutes, since other programs may be running. Exits with 3 if rt is
+# missing.
 #
 #     tests/unit.sh                   runs all tests
 #     tests/unit.sh --fail-alloc N    fails the Nth allocation of each test, and prints the results
@@ -32,6 +33,6 @@ if [ $# -gt 0 ]; then
 fi
 rt try --test --seconds 900 >"$work/said" 2>&1 || { cat "$work/said" && exit 1; }
 cat "$work/said"
-# All tests in the sources must have run.
+# Check that every test in the sources has run.
 count=$(grep -rhc '#\[test\]' src | awk '{ sum += $1 } END { print sum }')
 grep -q "ok. $count passed; 0 failed" "$work/said" || { echo "not every test ran" && exit 1; }

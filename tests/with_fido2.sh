@@ -1,11 +1,11 @@
 #!/usr/bin/env bash
 # Runs a Python script with an interpreter that has python-fido2 and cryptography: tests/with_fido2.sh SCRIPT ARG ..
-# Exits with 3 if there is none. Debian's packages are for /usr/bin/python3.
+# Exits with 3 if there is no such interpreter. Debian's packages are for /usr/bin/python3.
 set -euo pipefail
 for python in python3 /usr/bin/python3; do
     if command -v "$python" >/dev/null && "$python" -c 'import cryptography, fido2.server' 2>/dev/null; then
         exec "$python" "$@"
     fi
 done
-echo "python-fido2 is missing (apt-get install python3-fido2 python3-cryptography); nothing was run" >&2
+echo "tests/with_fido2.sh: python-fido2 is missing (apt-get install python3-fido2 python3-cryptography); nothing was run" >&2
 exit 3

@@ -1,7 +1,7 @@
 #!/usr/bin/env bash
-# Plays the worked logs with a program: tests/worked_logs.sh PROGRAM. Each must equal its own replay, `check` must find no
-# difference, and the output of `live` must equal its own replay. The gate compares them too. mutate_worked_logs.py, called
-# at the end, changes the logs: `check` must find each changed packet.
+# Tests a program with the worked logs: tests/worked_logs.sh PROGRAM. Each log must equal its own replay and pass
+# `check`, and the output of `live` must equal its own replay. At the end, mutate_worked_logs.py changes packets of the
+# logs, and `check` must find each change.
 set -euo pipefail
 program=$(realpath "$1")
 cd "$(dirname "${BASH_SOURCE[0]}")/.."
@@ -9,7 +9,7 @@ work=$(mktemp -d)
 trap 'rm -rf "$work"' EXIT
 count=0
 
-# Plays one log: check_log LOG OPTION ..
+# Tests the program with a log: check_log LOG OPTION ..
 check_log() {
     local log=$1
     shift

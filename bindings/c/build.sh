@@ -4,8 +4,9 @@
 #     hidlog-portable-VERSION.tar.gz        its sources, for every system
 #     hidlog-VERSION-windows-x86_64.zip     hidlog.exe and hidlog.dll
 #
-# Builds are reproducible. Needs wabt (ends with 3 if it is missing), and for Windows gcc-mingw-w64-x86-64; without
-# that, the zip is skipped. FOLDER gets the sources, and hidlog.dll beside them, for the packages of the languages.
+# Builds are reproducible. Needs wabt (exits with 3 if it is missing), and gcc-mingw-w64-x86-64 for Windows; without the
+# latter, the zip is skipped. If FOLDER is set, the sources and hidlog.dll are also copied there, for the Python, Go and
+# Rust packages.
 set -euo pipefail
 [ $# = 1 ] || [ $# = 2 ] || { echo "usage: bindings/c/build.sh DIR [FOLDER]" >&2; exit 2; }
 top=$(cd "$(dirname "${BASH_SOURCE[0]}")/../.." && pwd)
@@ -23,14 +24,14 @@ name=hidlog-portable-$version
 tar -C "$work" --sort=name --owner=0 --group=0 --numeric-owner --mtime="@$SOURCE_DATE_EPOCH" -cf - "$name" |
     gzip -9n >"$to/$name.tar.gz"
 
-# Builds the program and the library for Windows, with the documents beside them.
+# Builds the program and the library for Windows, and copies the documents to the same directory.
 build_windows() {
     local folder=$work/windows/hidlog-$version file
     local flags=(-std=c11 -O2 -s "-Wl,--no-insert-timestamp")
     mkdir -p "$folder"
     cd "$work/$name"
     x86_64-w64-mingw32-gcc -std=c11 -O2 -c hidlog.c
-    # Without a base the linker would choose one by a hash of the DLL's path.
+    # Without this option, the linker would derive the image base from a hash of the DLL's path.
     x86_64-w64-mingw32-gcc "${flags[@]}" -Wl,--image-base=0x180000000 -shared -o "$folder/hidlog.dll" hidlog.o hidlog.def
     x86_64-w64-mingw32-gcc "${flags[@]}" -o "$folder/hidlog.exe" program.c hidlog.o
     for file in README.md LICENSE-{APACHE,MIT} hidlog.def hidlog{,_recording,_standard}.h sign_in.log; do

@@ -2,7 +2,8 @@
 # Writes the files of the portable C library to a directory, generated from release/hidlog.wasm: bindings/c/sources.sh
 # DIR
 #
-# The same release and wabt give the same bytes. Needs wabt and Python 3; ends with 3 if wasm2c is missing.
+# The output depends only on release/ and the version of wabt. Needs wabt and Python 3; exits with 3 if wasm2c is
+# missing.
 set -euo pipefail
 [ $# = 1 ] || { echo "usage: bindings/c/sources.sh DIR" >&2; exit 2; }
 top=$(cd "$(dirname "${BASH_SOURCE[0]}")/../.." && pwd)

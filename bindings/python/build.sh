@@ -1,9 +1,9 @@
 #!/usr/bin/env bash
 # Builds the wheels and the sdist of the package hidlog from src/ and release/: bindings/python/build.sh DIR
 #
-# Builds are reproducible. Needs hatchling (apt-get install python3-hatchling), for the aarch64 wheel lld or
-# binutils-aarch64-linux-gnu, and for the one for Windows HIDLOG_PORTABLE, a folder with the portable library's sources
-# and hidlog.dll (bindings/c/build.sh); without these, that wheel is skipped.
+# Builds are reproducible. Needs hatchling (apt-get install python3-hatchling). The wheel for aarch64 needs lld or
+# binutils-aarch64-linux-gnu. The wheel for Windows needs HIDLOG_PORTABLE, a folder with the portable library's sources
+# and hidlog.dll (bindings/c/build.sh). A wheel whose dependencies are missing is skipped.
 set -euo pipefail
 [ $# = 1 ] || { echo "usage: bindings/python/build.sh DIR" >&2; exit 2; }
 mkdir -p "$1"

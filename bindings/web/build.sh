@@ -1,13 +1,13 @@
 #!/usr/bin/env bash
-# Generates the scripts of this folder: wasm.js, since a page opened from a file cannot fetch anything, and those of
-# dist/: the key, the code it shares with the viewer, and the sources of the page and its worker with the rules of
-# `judge`, each as one script.
+# Generates the scripts of this folder: wasm.js with the WebAssembly module, since a page opened from a file cannot
+# fetch it, and the bundles of dist/: the key, the code that the key shares with the viewer, and the code of the page
+# and of its worker, with the rules of `judge`.
 #
 #     bindings/web/build.sh            writes them
-#     bindings/web/build.sh --check    ends with 1 if one of them is out of date
+#     bindings/web/build.sh --check exits with 1 if one of them is out of date
 #
-# esbuild bundles and minifies. Each version of it writes other bytes, so that of Debian 12 is needed; it ends with 3
-# without it.
+# esbuild bundles and minifies the sources. The output differs between versions of esbuild, so Debian 12's version is
+# required. Exits with 3 if esbuild is missing.
 set -euo pipefail
 export PYTHONDONTWRITEBYTECODE=1
 cd "$(dirname "${BASH_SOURCE[0]}")/../.."
@@ -30,11 +30,11 @@ else
     cat "$work/version.js" >bindings/web/key/version.js
 fi
 python3 bindings/web/embed.py example examples/service_registration.log >"$work/wasm.js"
-# The modules of the key import release/hidlog.wasm, which is a module with its packed bytes here.
+# The modules of the key import release/hidlog.wasm. Here the import is replaced by a module with the compressed bytes.
 cp -r bindings/web/key "$work/bindings/web"
 python3 bindings/web/pack.py release/hidlog.wasm bindings/web/dist/security_key.js >"$work/release/hidlog.wasm"
 
-# Bundles modules into one classic script, which sets a global unless it is set: bundle GLOBAL MODULE..
+# Bundles modules into one classic script, which sets a global variable unless it exists: bundle GLOBAL MODULE..
 bundle() {
     local global=$1
     shift
@@ -47,7 +47,7 @@ globalThis.$global ??= (() => { \"use strict\";" --footer:js="return $global; })
 bundle hidlogBytes bytes.js standard.js inflate.js >"$work/dist/bytes.js"
 bundle hidlogWasmKey wasm_key.js play_line.js >"$work/dist/wasm_key.js"
 bundle hidlogKey index.js >"$work/dist/security_key.js"
-# The rules of `judge`, translated from Python, after their runtime.
+# The rules of `judge`, translated from Python, are appended to their runtime.
 rules=(quantity hid_packets ctap_cbor curve sanitize skipped certificates answers init_response sections rules
     requests transactions check_credential_management judged_log judged_parts judged_stored judged_settings judged_u2f
     judged_statuses judged_answers judged_host judged_errors judged_key judged_report)
@@ -55,7 +55,8 @@ rules=(quantity hid_packets ctap_cbor curve sanitize skipped certificates answer
     cat bindings/web/rules/python.js bindings/web/rules/python_calls.js bindings/web/rules/keys.js
     python3 bindings/web/rules/translate.py conformance/hidlog_conformance "${rules[@]}"
 } >"$work/dist/judge.js"
-# The sources of the page, minified, for saving it and for its worker. The rules show the names of classes.
+# The code of the page, minified, which is needed to save the page and to start its worker. Names of classes are kept,
+# since the rules print them.
 sources=(
     index.html viewer.css dist/bytes.js captures.js file_kinds.js pasted_text.js file_input.js core.js log.js
     transactions.js session.js explain.js show_text.js difference.js cbor_spans.js fields.js field_tree.js hex_pane.js

@@ -1,13 +1,14 @@
 #!/usr/bin/env bash
 # Load-tests service.py with Locust: examples/load/run.sh [SECONDS [USERS [WORKERS]]]
 #
-# The users are in SQLite, or in PostgreSQL if PGHOST is set, as by pg_virtualenv (of postgresql-common), which creates a
-# temporary database: `pg_virtualenv examples/load/run.sh`. HIDLOG_PROCESSES is the number of server processes [default: 1].
+# The users are stored in SQLite, or in PostgreSQL if PGHOST is set. pg_virtualenv (of postgresql-common) creates a
+# temporary database and sets PGHOST: `pg_virtualenv examples/load/run.sh`. HIDLOG_PROCESSES is the number of server
+# processes [default: 1].
 #
 # The service, a master and the workers run on this machine, with this clone's package. There are two runs of SECONDS
-# (default: 10; 20 users, 2 workers), repeated with more time if that is too short on a busy machine; the second signs in
-# with the users of the first. If HIDLOG_KILL is set, a worker is killed in between. Exits with 3 if a Debian package is
-# missing, and with 1 if a ceremony failed or the users of the first run do not sign in.
+# [default: 10, with 20 users and 2 workers]. A run that is too short on a busy machine is repeated with more time. The
+# second run signs in with the users of the first. If HIDLOG_KILL is set, a worker is killed between the runs. Exits
+# with 3 if a Debian package is missing, and with 1 if a ceremony fails or the users of the first run cannot sign in.
 set -euo pipefail
 here=$(cd "$(dirname "${BASH_SOURCE[0]}")" && pwd)
 seconds=${1:-10}
@@ -15,10 +16,10 @@ users=${2:-20}
 workers=${3:-2}
 python=/usr/bin/python3
 "$python" -c 'import flask, fido2, locust' 2>/dev/null ||
-    { echo "locust, flask or fido2 is missing (apt-get install python3-locust python3-flask python3-fido2)" >&2 && exit 3; }
+    { echo "examples/load/run.sh: locust, flask or fido2 is missing (apt-get install python3-locust python3-flask python3-fido2)" >&2 && exit 3; }
 work=$(mktemp -d)
 started=()
-# Waits up to two minutes for processes, and then kills those that are left, which may be stopped.
+# Waits up to two minutes for processes, and then kills the remaining ones, which may be suspended.
 wait_for_processes() {
     local tenths
     for ((tenths = 0; tenths < 1200; tenths++)); do
@@ -62,8 +63,8 @@ until "$python" -c "import socket; socket.create_connection(('127.0.0.1', $port)
     sleep 0.1
 done
 
-# Runs Locust once, and measure.py with the same arguments: run_locust NAME USERS [BEFORE] AFTER. BEFORE and AFTER are
-# the databases of the security keys.
+# Runs Locust once, and then measure.py with the same arguments: run_locust NAME USERS [BEFORE] AFTER. BEFORE and AFTER
+# are databases of the security keys: the initial one, and the one to write.
 run_locust() {
     local words=("$python" -W ignore -m locust -f "$here/locustfile.py" --loglevel WARNING --security-keys "$work/keys.db"
         --failed-logs "$work/failed") each ran=() master
@@ -79,15 +80,15 @@ run_locust() {
     "${words[@]}" --master --master-bind-port "$master" --headless --expect-workers "$workers" --host "http://localhost:$port" \
         --users "$users" --spawn-rate "$users" --run-time "${seconds}s" --only-summary --csv "$work/$1" >"$work/output" 2>&1 ||
         { [ -n "${HIDLOG_KILL-}" ] || { cat "$work/output" "$work"/worker* && return 1; }; }
-    # Workers end with their master.
+    # The workers exit when their master exits.
     wait_for_processes "${ran[@]}"
     wait "${ran[@]}" 2>/dev/null || true
     echo "$1: the service has used $(ps -o cputimes= -p "$service" --ppid "$service" | awk '{ sum += $1 } END { print sum }') s of processor time so far"
     "$python" "$here/measure.py" "$1" "$work/$1_stats.csv" "${@:2}"
 }
 
-# Runs Locust, with double the time as often as a run was too short for measure.py: run_locust_until_long_enough NAME
-# USERS [BEFORE] AFTER
+# Runs Locust, and repeats the run with twice the time while measure.py reports that it was too short:
+# run_locust_until_long_enough NAME USERS [BEFORE] AFTER
 run_locust_until_long_enough() {
     local status seconds=$seconds tries
     for tries in 1 2 3 4 5 6 7 8; do

@@ -1,6 +1,6 @@
 #!/usr/bin/env bash
-# Installs the package hidlog into a new virtual environment, as in README, and runs the example and its tests. Then
-# hidlog checks the recorded logs in examples/.
+# Installs the package hidlog into a new virtual environment, as the README does, and runs the example and its tests.
+# Then checks the recorded logs in examples/ with hidlog.
 #
 #     examples/python/run.sh [DIR]        save the recordings of failed tests in DIR [default: nowhere]
 #
@@ -27,7 +27,7 @@ if [ $# -gt 0 ]; then
 fi
 env -u HIDLOG_PROGRAM "$work/venv/bin/python" -m pytest -q -p no:cacheprovider "${keep[@]}" "$here"
 
-# Each recorded log matches what the key sends, and equals its own replay and live session.
+# Each recorded log must pass `hidlog check`, and equal the output of `hidlog replay` and `hidlog live`.
 for log in "$here"/../service_*.log; do
     load=()
     if [ "${log##*/}" = service_after_restart.log ]; then

@@ -1,6 +1,7 @@
 #!/usr/bin/env bash
-# Links the program for aarch64, static and position-independent like that for x86-64, from the object file of the
-# verified code: link.sh OBJECT PROGRAM. Needs gcc-aarch64-linux-gnu and libc6-dev-arm64-cross.
+# Links the program for aarch64 from the object file of the verified code. The program is static and
+# position-independent, as for x86-64. Usage: link.sh OBJECT PROGRAM. Needs gcc-aarch64-linux-gnu and
+# libc6-dev-arm64-cross.
 set -euo pipefail
 [ $# = 2 ] || { echo "usage: packages/arm64/link.sh OBJECT PROGRAM" >&2; exit 2; }
 here=$(cd "$(dirname "${BASH_SOURCE[0]}")" && pwd)

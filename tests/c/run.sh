@@ -1,13 +1,15 @@
 #!/usr/bin/env bash
 # Tests the C library with C programs: commands on logs (commands.c), showing logs (show.c), an in-memory key (key.c),
-# why it rejects inputs (causes.c, cause_codes.c), its credentials (credentials.c), its capacity (capacity.c) and recording
-# it (recording.c). For each worked log their output must equal the program's. Uses the static and the shared library of
-# release/, gcc's sanitizers, and if installed musl and aarch64 with qemu. Also checks that the libraries call nothing but
-# memcpy, memmove and memset, and that C++ accepts the header. Ends with 3 if gcc is missing.
+# the causes of rejected inputs (causes.c, cause_codes.c), the key's credentials (credentials.c) and capacity
+# (capacity.c), and recordings (recording.c). For each worked log, the output must equal that of the program hidlog.
+# Uses the static and the shared library of release/, gcc's sanitizers, and if installed musl and aarch64 with qemu.
+# Also checks that the libraries call only memcpy, memmove and memset, and that a C++ compiler accepts the header. Exits
+# with 3 if gcc is missing.
 #
 #     tests/c/run.sh                                      the libraries of release/
-#     tests/c/run.sh LIBRARY COMPILER LINKED [WORD ..]    another library: the compiler and the options for linking, each
-#                                                         with its words in one argument, and what runs a program
+#     tests/c/run.sh LIBRARY COMPILER LINKED [WORD ..]    another library. COMPILER and LINKED are the compiler and the
+#                                                         options for linking, and may have several words. WORD .. is the
+#                                                         command that runs a program
 set -euo pipefail
 top=$(cd "$(dirname "${BASH_SOURCE[0]}")/../.." && pwd)
 command -v gcc >/dev/null ||
@@ -24,7 +26,8 @@ fail() {
 # Complete logs of sessions without initial credentials.
 logs=("$top"/examples/*.log "$top"/crates/hidlog/data/capacity_64/*.log)
 
-# Plays a log on an in-memory key, in each way, and compares with the program: compare_replay LOG [WORD ..]
+# Replays a log on an in-memory key in each of three ways, and compares the outputs with the program's: compare_replay
+# LOG [WORD ..]
 compare_replay() {
     "$top/release/hidlog" replay <"$1" >"$work/replayed" 2>/dev/null || return 0
     "${@:2}" "$work/key" <"$1" >"$work/held" || fail "the in-memory key fails for $1"
@@ -65,9 +68,9 @@ compare_transactions() {
     cmp -s "$work/shown" "$work/held" || fail "the transactions of lines differ for $1"
 }
 
-# Compares the message of each packet with the log's packets, if none is out of place: an initialization packet starts a
-# message on its channel and in its direction, and continuation packets belong to the last one there:
-# show_messages LOG [WORD ..]
+# Compares the message that is shown for each packet with the log's packets, if all packets are in order. An
+# initialization packet starts a message on a channel in one direction, and continuation packets belong to the last
+# message of the same channel and direction: show_messages LOG [WORD ..]
 compare_messages() {
     awk '
         { packet = $1 == ">" ? $3 : $2; at = $1 substr(packet, 1, 8) }
@@ -78,14 +81,14 @@ compare_messages() {
     cmp -s "$work/shown" "$work/held" || fail "the messages of packets differ for $1"
 }
 
-# Shows a log in both forms, and its transactions: compare_show LOG [WORD ..]
+# Compares both forms in which a log is shown, and the transactions: compare_show LOG [WORD ..]
 compare_show() {
     compare_show_form "$1" --plain "" "${@:2}"
     compare_show_form "$1" --explain explain "${@:2}"
     compare_transactions "$@"
 }
 
-# Writes malformed logs, those of the fuzzer's seed 1.
+# Writes the malformed logs that the fuzzer generates from seed 1.
 write_malformed_logs() {
     mkdir "$work/hostile"
     python3 - "$top/tests/fuzz" "$work/hostile" <<'PYTHON'
@@ -100,8 +103,8 @@ for number in range(40):
 PYTHON
 }
 
-# Compares how the library and the program show each worked log (hand-written from the standard), each malformed log, and
-# the first 700 bytes of each: compare_shows [WORD ..]
+# Compares how the library and the program show each worked log, each malformed log, and the first 700 bytes of each
+# log: compare_shows [WORD ..]
 compare_shows() {
     shown=0
     for log in "${logs[@]}" "$work"/hostile/*.log; do

@@ -1,13 +1,13 @@
 #!/usr/bin/env bash
-# Tests captures: import, export, the Wireshark dissector, judge, recorded keys as fixtures. Exits with 3 if a Debian
-# package is missing.
+# Tests the import and export of captures, the Wireshark dissector, the command `judge`, and recorded sessions as pytest
+# fixtures. Exits with 3 if a Debian package is missing.
 #
 #     tests/captures/run.sh [ARGUMENT ..]      arguments of pytest
 set -euo pipefail
 cd "$(dirname "${BASH_SOURCE[0]}")"
 python=/usr/bin/python3
 if ! "$python" -c 'import cryptography, fido2.server, pytest' 2>/dev/null || ! command -v tshark >/dev/null; then
-    echo "python-fido2, pytest or tshark is missing (tests/run --install); nothing was run" >&2
+    echo "tests/captures/run.sh: python-fido2, pytest or tshark is missing (tests/run --install); nothing was run" >&2
     exit 3
 fi
 export PYTHONPATH=$PWD/../../bindings/python/src:$PWD/../../conformance PYTHONDONTWRITEBYTECODE=1

@@ -1,6 +1,6 @@
 #!/usr/bin/env bash
-# Tests the bridges of bridges/uhid and bridges/ssh with bad files, system call failures and floods, and a replacement
-# of the kernel's device. Exits with 3 if something is missing.
+# Tests the bridges of bridges/uhid and bridges/ssh with invalid files, failing system calls and floods of packets. A
+# substitute replaces the kernel's device. Exits with 3 if a dependency is missing.
 #
 #     tests/clients/bridges.sh          bridge_cases.py, bridge_recordings.py, and failures of each call that accesses files
 #     tests/clients/bridges.sh --all    failures of each system call

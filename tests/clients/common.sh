@@ -6,7 +6,7 @@ library=$(cd "${HIDLOG_LIBRARY:-$top/release}" && pwd)
 name=tests/clients/$(basename "$0" .sh)
 export LC_ALL=C
 
-# Exits with 3 and a message: nothing was run.
+# Prints a message that nothing was run, and exits with 3: exit_skipped MESSAGE
 exit_skipped() {
     echo "$name: $1; nothing was run" >&2
     exit 3
@@ -27,12 +27,12 @@ require_header() {
 
 # Requires a library with an in-memory key (hidlog_key_init).
 require_in_memory_key() {
-    # Not `grep -q`: it ends early, and nm's SIGPIPE would fail the pipe.
+    # grep -q would exit at the first match, and nm would then fail with SIGPIPE.
     nm "$library/libhidlog.a" 2>/dev/null | grep ' T hidlog_key_init$' >/dev/null ||
         exit_skipped "the library in ${HIDLOG_LIBRARY:-release/} is missing or too old: it has no hidlog_key_init"
 }
 
-# Compiles C of examples/ as the examples say: compile OPTIONS .. FILES ..
+# Compiles C programs with the options that the comments in examples/ give: compile OPTIONS .. FILES ..
 compile() {
     gcc -std=c11 -O2 -Wall -Wextra -Werror -I "$library" -I "$top/examples/c" "$@"
 }

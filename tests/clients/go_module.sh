@@ -1,14 +1,14 @@
 #!/usr/bin/env bash
-# Tests the Go module as in bindings/go/README.md: installs its file from a folder as a proxy into a new module, with
-# the README's test; then runs the module's tests and vet. Downloads nothing.
+# Tests the Go module as bindings/go/README.md describes: creates a new module with the README's test, and installs the
+# package from a folder that serves as module proxy. Then runs the package's own tests and `go vet`. Downloads nothing.
 #
-#     tests/clients/go_module.sh PACKAGES FOLDER [arm64]      with arm64, also built for arm64 and run in qemu
+#     tests/clients/go_module.sh PACKAGES FOLDER [arm64]      arm64: also build the tests for arm64 and run them in qemu
 set -euo pipefail
 top=$(cd "$(dirname "${BASH_SOURCE[0]}")/../.." && pwd)
 packages=$(cd "$1" && pwd)
 mkdir -p "$2"
 work=$(cd "$2" && pwd)
-# The README's commands, without a checksum server.
+# The README's commands; GONOSUMDB prevents queries to the checksum database.
 export GOCACHE=$work/cache GOPATH=$work/path GOFLAGS="-p=2 -modcacherw" GONOSUMDB=cogtzil.example GOTOOLCHAIN=local CGO_ENABLED=1 GO111MODULE=on
 HIDLOG_PROGRAM=$top/release/hidlog
 HIDLOG_CASES=$top/tests/python
@@ -16,7 +16,7 @@ export HIDLOG_PROGRAM HIDLOG_CASES
 cd "$work"
 cp "$packages"/hidlog-go-*.zip .
 file=$(basename hidlog-go-*.zip .zip)
-# The README's lines below "Install", up to the version, which is that of the file.
+# Run the README's lines below "Install", with the version of the file.
 sed -n '/^## Install/,/^## A test/s/^    //p' "$top/bindings/go/README.md" | grep -v '^go get' |
     sed "s/0\.2\.0/${file#hidlog-go-}/g" >install.sh
 # shellcheck disable=SC1091 # it is made here

@@ -1,6 +1,6 @@
 #!/bin/sh
-# The init program of the virtual machine of hidraw.sh: plugs the key in, runs the conformance tests, unplugs and plugs in
-# when asked, powers off. Lines for hidraw.sh begin with "@@ ".
+# The init program of the virtual machine of hidraw.sh: plugs the key in, runs the conformance tests, unplugs and plugs
+# in the key when the tests request it, and powers off. Lines for hidraw.sh begin with "@@ ".
 /bin/busybox --install -s /bin
 export PATH=/bin:/usr/bin HOME=/root PYTHONDONTWRITEBYTECODE=1
 mount -t proc proc /proc
@@ -22,8 +22,8 @@ is_gone() {
     [ ! -e /dev/hidraw0 ]
 }
 
-# The user takes more than a second, since sessions check what happens before the touch. The kernel queues 64 packets of a
-# hidraw device and drops others, so the runner has priority over the bridge.
+# The simulated user touches the key after more than a second, since the cases check what happens before the touch. The
+# kernel queues 64 packets of a hidraw device and drops others, so the runner has priority over the bridge.
 plug_in() {
     /usr/bin/nice -n 19 uhid -t 1500 key.state 2>>bridge.err &
     bridge=$!

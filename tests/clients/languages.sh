@@ -8,11 +8,12 @@ require_commands gcc "gcc libc6-dev" nm binutils
 require_in_memory_key
 work=$(mktemp -d)
 trap 'rm -rf "$work"' EXIT
-# The nonce, channel 1, protocol version 2, device version 1.0.0, capabilities CBOR and NMSG; and zeros.
+# The expected data: the nonce, channel 1, protocol version 2, device version 1.0.0, capabilities CBOR and NMSG, and
+# zeros.
 expected=$(printf '%-128s' ffffffff860011010203040506070800000001020100000c | tr ' ' 0)
 ran=0
 
-# Tests whether a language is installed: is_installed LANGUAGE COMMAND PACKAGE
+# Checks whether a language is installed; if not, lists the language as skipped: is_installed LANGUAGE COMMAND PACKAGE
 is_installed() {
     command -v "$2" >/dev/null || { echo "$name: not run from $1 (apt-get install $3)" && false; }
 }
@@ -44,7 +45,7 @@ if is_installed C++ g++ g++; then
     run_and_compare C++ "g++ $(g++ -dumpfullversion)" ./cpp_init
 fi
 
-# Tests the packages with each language's tools.
+# Tests the Go module and the Rust crates with their languages' tools.
 if command -v dpkg-deb >/dev/null && /usr/bin/python3 -c 'import hatchling' 2>/dev/null; then
     "$top/packages/build.sh" "$work/packages" >/dev/null
     if is_installed "the Go module" go golang-go; then

@@ -1,6 +1,6 @@
 #!/usr/bin/env bash
-# Registers and signs in with libfido2, over its I/O callbacks, with an in-memory key in C; and checks the format of the C
-# examples if clang-format is installed. Exits with 3 if something is missing.
+# Registers and signs in with libfido2, whose I/O callbacks access an in-memory key in C. If clang-format is installed,
+# also checks the format of the C examples. Exits with 3 if a dependency is missing.
 # shellcheck disable=SC1091,SC2154 # top, name and library are set by common.sh
 set -euo pipefail
 source "$(dirname "${BASH_SOURCE[0]}")/common.sh"

@@ -1,6 +1,6 @@
 # shellcheck shell=bash
-# A virtual machine (software emulation, a Debian kernel, an initramfs made here) in which the bridge of bridges/uhid
-# provides the key as a kernel device. Source it after common.sh.
+# A virtual machine in which the bridge of bridges/uhid provides the key as a kernel device: software emulation, a
+# Debian kernel, and an initramfs that is built here. Source this file after common.sh.
 #
 #     HIDLOG_KERNEL=FOLDER    an unpacked linux-image (default: the installed one, or the one that tests/run --install
 #                             unpacked in /var/cache/hidlog/kernel or ~/.cache/hidlog/kernel, or else downloaded by
@@ -19,7 +19,7 @@ work=$(mktemp -d)
 trap 'rm -rf "$work"' EXIT
 root=$work/root
 
-# Finds vmlinuz and uhid.ko in a folder: has_kernel FOLDER
+# Checks whether a folder has vmlinuz and uhid.ko: has_kernel FOLDER
 has_kernel() {
     image=$(find "$1/boot" -name 'vmlinuz-*' 2>/dev/null | sort -V | tail -1)
     modules=$1/lib/modules/${image##*/vmlinuz-}/kernel/drivers/hid
@@ -41,7 +41,7 @@ find_kernel() {
     fi
 }
 
-# Copies programs and libraries into the machine, with the libraries that they need, to the same paths.
+# Copies programs and libraries, with the libraries on which they depend, to the same paths in the virtual machine.
 copy_programs() {
     local file needed
     for file in "$@"; do
@@ -51,8 +51,8 @@ copy_programs() {
     done
 }
 
-# Copies Debian's Python with the modules that a script on standard input imports, except from conformance/, and the OpenSSL
-# module that python3-cryptography loads: copy_python FOLDER .. (the module search path)
+# Copies Debian's Python, the modules that a script on standard input imports (except from conformance/), and the
+# OpenSSL module that python3-cryptography loads. Each FOLDER is added to the module search path: copy_python FOLDER ..
 copy_python() {
     local files
     mapfile -t files < <(
@@ -73,7 +73,7 @@ build_initramfs() {
     parts=("$top"/bridges/uhid/{uhid,packet_queue,user,options}.c "$top/bridges/ssh/state.c"
         "$top"/examples/c/{virtual_key,private_file,software_keys,snapshot}.c)
     mkdir -p "$root"/{bin,dev,etc/pam.d,modules,proc,root,sys,tmp}
-    # The sanitizers of addresses and undefined behaviour end the bridge at the first error, with a status other than 0.
+    # AddressSanitizer and UndefinedBehaviorSanitizer end the bridge at the first error, with a status other than 0.
     compile -g -fsanitize=address,undefined -fno-sanitize-recover=all -I "$top/bridges/ssh" -o "$root/bin/uhid" \
         "${parts[@]}" "$library/libhidlog.a" -lcrypto
     cp "$(command -v busybox)" "$root/bin/busybox"
@@ -90,9 +90,10 @@ build_initramfs() {
     chmod 1777 "$root/tmp"
 }
 
-# Starts the machine and prints its lines that begin with "@@ ": boot_machine SECONDS
+# Boots the virtual machine, and prints the lines of its console that begin with "@@ ": boot_machine SECONDS
 boot_machine() {
-    # TCG, since KVM isn't everywhere. The machine switches itself off; a kernel that stops ends it too.
+    # Uses TCG, since KVM is not always available. The virtual machine powers itself off, and exits if the kernel
+    # panics.
     local machine=(-accel tcg -cpu max -m 512 -nic none -display none -monitor none -serial stdio -no-reboot)
     (cd "$root" && find . | cpio -o -H newc --quiet -R 0:0 | gzip -1) >"$work/initramfs"
     timeout "$1" qemu-system-x86_64 "${machine[@]}" -kernel "$image" -initrd "$work/initramfs" \

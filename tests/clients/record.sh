@@ -1,9 +1,10 @@
 #!/usr/bin/env bash
-# Records clients with a kernel device, in a virtual machine, for the conformance tests: libfido2's tools, python-fido2,
-# OpenSSH and pam-u2f. Each recording is a log of the bridge of bridges/uhid, with a key without credentials. Exits with
-# 3 if something is missing. The virtual machine and its variables are in machine.sh.
+# Records how clients use a kernel device in a virtual machine, for the conformance tests: libfido2's tools,
+# python-fido2, OpenSSH and pam-u2f. Each recording is a log of the bridge of bridges/uhid, and starts with a key
+# without credentials. Exits with 3 if a dependency is missing. machine.sh starts the virtual machine, and documents its
+# environment variables.
 #
-#     tests/clients/record.sh FOLDER    write FOLDER/NAME.log, trimmed; conformance/recorded has those of the tests
+#     tests/clients/record.sh FOLDER    write trimmed recordings FOLDER/NAME.log, as in conformance/recorded
 # shellcheck disable=SC1091,SC2154 # top, name, root, work and image are set by common.sh and machine.sh
 set -euo pipefail
 source "$(dirname "${BASH_SOURCE[0]}")/common.sh"

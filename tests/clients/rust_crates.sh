@@ -1,6 +1,7 @@
 #!/usr/bin/env bash
-# Tests the Rust crates as in bindings/rust/hidlog/README.md: unpacks their files beside a new crate, with the README's
-# test; then runs the crate's tests, with and without OpenSSL, and clippy and rustfmt if installed. Downloads nothing.
+# Tests the Rust crates as bindings/rust/hidlog/README.md describes: creates a new crate with the README's test, and
+# unpacks the packages beside it. Then runs the tests of the crate hidlog, with and without OpenSSL, and clippy and
+# rustfmt if they are installed. Downloads nothing.
 #
 #     tests/clients/rust_crates.sh PACKAGES FOLDER
 set -euo pipefail
@@ -26,7 +27,7 @@ for words in "" --no-default-features; do
     echo "Rust crate${words:+, $words}: $(grep -c '^test .* ok$' "$work/said") tests passed"
 done
 if cargo clippy --version >/dev/null 2>&1; then
-    # Debian 13's clippy warns of format! in an iterator; newer versions do not.
+    # Debian 13's clippy warns about format! in an iterator; newer versions do not.
     cargo clippy --quiet --offline --all-targets -- -D warnings -A unknown-lints -A clippy::format-collect
 fi
 if cargo fmt --version >/dev/null 2>&1; then

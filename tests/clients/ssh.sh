@@ -1,6 +1,6 @@
 #!/usr/bin/env bash
-# Tests OpenSSH with a software key: builds libhidlog_sk.so of bridges/ssh, makes keys with ssh-keygen, signs in to an
-# sshd on the loopback address, lists resident keys. Exits with 3 if something is missing.
+# Tests OpenSSH with a software key: builds libhidlog_sk.so of bridges/ssh, generates keys with ssh-keygen, signs in to
+# an sshd on the loopback address, and lists resident keys. Exits with 3 if a dependency is missing.
 # shellcheck disable=SC1091,SC2154 # top, name and library are set by common.sh
 set -euo pipefail
 source "$(dirname "${BASH_SOURCE[0]}")/common.sh"
@@ -11,7 +11,7 @@ require_header fido.h libfido2-dev
 require_header openssl/evp.h libssl-dev
 require_in_memory_key
 work=$(mktemp -d)
-# OpenSSH looks up its user by name. A user without a passwd entry, as in a container, gets one for these programs only.
+# OpenSSH looks up its user by name. If the user has no passwd entry, as in a container, nss_wrapper provides one.
 if ! id -un >/dev/null 2>&1; then
     wrapper=$(ls /usr/lib/*/libnss_wrapper.so 2>/dev/null) ||
         exit_skipped "libnss-wrapper is missing, for a user without a name (apt-get install libnss-wrapper)"
@@ -57,7 +57,7 @@ expect_failure() {
     echo "$name: $1: $(grep "$2" said | tail -1)"
 }
 
-# Makes a key: generate_key FILE OPTIONS ..
+# Generates a key with ssh-keygen: generate_key FILE OPTIONS ..
 generate_key() {
     ssh-keygen -q -N '' -C hidlog -f "$1" "${@:2}" && ssh-keygen -lf "$1.pub"
 }
@@ -69,7 +69,7 @@ sign_in() {
         -o "SecurityKeyProvider=$SSH_SK_PROVIDER" "$(id -un)@127.0.0.1" whatever
 }
 
-# Starts the server on a free port.
+# Starts sshd on a free port.
 start_server() {
     local tries=0
     if [ "$(id -u)" = 0 ] && [ ! -d /run/sshd ]; then

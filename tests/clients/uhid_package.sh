@@ -1,11 +1,11 @@
 #!/usr/bin/env bash
-# Installs the Debian package hidlog-uhid in a new Debian system, and boots it in a virtual machine with systemd and udev, for
-# libfido2's tools, OpenSSH and unmodified browsers; the cases are in uhid_package_vm.sh. Takes 15 minutes with software
-# emulation. Needs root, debootstrap and its mirror, e2fsprogs, qemu-system-x86 and busybox-static. Exits with 3 if something
-# is missing.
+# Installs the Debian package hidlog-uhid in a new Debian system, and boots the system in a virtual machine with systemd
+# and udev. There libfido2's tools, OpenSSH and unmodified browsers use the key; the cases are in uhid_package_vm.sh.
+# Takes 15 minutes with software emulation. Needs root, debootstrap and its mirror, e2fsprogs, qemu-system-x86 and
+# busybox-static. Exits with 3 if a dependency is missing.
 #
 #     tests/clients/uhid_package.sh FOLDER [PACKAGES]    FOLDER is reused; PACKAGES: default: built here
-#     HIDLOG_CASES="package firefox chromium"            the cases (default: all but chromium, which is too slow)
+#     HIDLOG_CASES="package firefox chromium"            the cases [default: all except chromium, which is too slow]
 # shellcheck disable=SC1091,SC2154 # top, name, work and image are set by common.sh and machine.sh
 set -euo pipefail
 source "$(dirname "${BASH_SOURCE[0]}")/common.sh"
@@ -23,7 +23,7 @@ if [ -z "$packages" ]; then
 fi
 system=$folder/root
 
-# Runs a command in the system: run_in_system COMMANDS
+# Runs commands in the new system by chroot: run_in_system COMMANDS
 run_in_system() {
     chroot "$system" /usr/bin/env -i PATH=/usr/sbin:/usr/bin:/sbin:/bin LANG=C.UTF-8 DEBIAN_FRONTEND=noninteractive \
         bash -euc "$1" >"$folder/inside.log" 2>&1 || { tail -20 "$folder/inside.log" && fail "in the system: $1"; }
@@ -38,7 +38,7 @@ if [ ! -e "$system/.whole" ]; then
     touch "$system/.whole"
 fi
 find_kernel
-# With apt-get, and again after it was removed.
+# Installs the package with apt-get, removes it, and installs it again.
 rm -rf "$system/packages"
 mkdir "$system/packages"
 cp "$packages"/hidlog_*_amd64.deb "$packages"/hidlog-uhid_*_amd64.deb "$system/packages"

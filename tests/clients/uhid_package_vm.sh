@@ -42,7 +42,7 @@ stop_service() {
     systemctl stop "hidlog-uhid@$1" && ! systemctl is-failed "hidlog-uhid@$1" && wait_until test ! -e /dev/hidraw0
 }
 
-# Tests whether the udev rule has given the device to the group plugdev.
+# Checks whether the udev rule has given the device to the group plugdev.
 is_owned_by_plugdev() {
     udevadm settle && stat -c '%a %G' /dev/hidraw0 && [ "$(stat -c '%a %G' /dev/hidraw0)" = "660 plugdev" ]
 }
@@ -73,7 +73,8 @@ sign_with_ssh() {
         ssh-keygen -Y verify -f signers -I hidlog -n file -s text.sig <text
 }
 
-# Tests the user, capabilities and system call filter of the service, and that only its user may open /dev/uhid.
+# Checks the user, capabilities and system call filter of the service, and that only the service's user may open
+# /dev/uhid.
 is_confined() {
     start_service alice && pid=$(systemctl show -P MainPID hidlog-uhid@alice) && cat "/proc/$pid/status" || return
     [ "$(stat -c %U "/proc/$pid")" = hidlog-uhid ] && [ "$(stat -c '%a %G' /dev/uhid)" = "660 hidlog-uhid" ] &&
@@ -86,7 +87,7 @@ start_with_root_files() {
     chown -R root:root /var/lib/hidlog-uhid /var/log/hidlog-uhid && start_service alice && sign_in && stop_service alice
 }
 
-# Runs the service with a script that denies the first touch and grants the others.
+# Runs the service with a script that denies the first touch and grants all others.
 run_presence_script() {
     printf 'denied\ngranted\n' >/etc/hidlog-script
     echo 'HIDLOG_UHID_OPTIONS="--presence script:/etc/hidlog-script --touch 50"' >/etc/default/hidlog-uhid
@@ -107,7 +108,7 @@ touch_on_terminal() {
     register && kill "$bridge" && wait "$bridge"
 }
 
-# An unmodified browser, with a page that registers and signs in; the service verifies the responses.
+# Opens a page that registers and signs in with an unmodified browser. The service verifies the responses.
 run_browser() {
     timeout 900 python3 /usr/local/lib/hidlog-browser.py "$@"
 }
@@ -120,7 +121,7 @@ check_recording() {
 
 rm -f /home/tester/out
 touch out && chown tester /home/tester /home/tester/*
-# The cases without a browser.
+# Runs the cases that need no browser.
 run_package_cases() {
     expect_success "systemctl start hidlog-uhid@alice, of the package" start_service alice
     expect_success "udev hands the device to the group plugdev" is_owned_by_plugdev

@@ -1,6 +1,6 @@
 #!/bin/sh
-# The init program of the virtual machine of uhid.sh: plugs the key in, runs the cases, powers off. Lines for uhid.sh begin
-# with "@@ ": ok or FAILED, and the case.
+# The init program of the virtual machine of uhid.sh: plugs the key in, runs the cases, and powers off. Lines for
+# uhid.sh begin with "@@ ", followed by ok or FAILED and the case.
 /bin/busybox --install -s /bin
 export PATH=/bin:/usr/bin HOME=/root
 mount -t proc proc /proc
@@ -8,7 +8,7 @@ mount -t sysfs sys /sys
 mount -t devtmpfs dev /dev
 cd /root || exit
 bridge=
-# The bridge's terminal input: y is a touch.
+# A pipe for the bridge's standard input, where a line with y is a touch.
 mkfifo typed
 exec 4<>typed
 
@@ -77,7 +77,7 @@ unplug() {
     wait "$bridge" && wait_until is_gone
 }
 
-# Prints 32 random bytes in base64, as libfido2's tools read a client data hash or a user handle.
+# Prints 32 random bytes in base64, the format in which libfido2's tools read a client data hash or a user handle.
 print_random() {
     head -c 32 /dev/urandom | base64
 }
@@ -101,7 +101,7 @@ print_counter() {
     echo $((0x$(sed -n 3p "$1.answer" | base64 -d | tail -c 4 | hexdump -ve '1/1 "%02x"')))
 }
 
-# Signs in, and checks that the counter is one above the last known one.
+# Signs in as alice, and checks that the signature counter has increased by one since the last sign-in.
 sign_in_and_check_counter() {
     last=$(print_counter alice) && sign_in alice && [ "$(print_counter alice)" = $((last + 1)) ]
 }
@@ -118,8 +118,8 @@ create_ssh_key() {
     ssh-keygen -q -t ecdsa-sk -N '' -C hidlog -f id && echo "hidlog $(cat id.pub)" >signers && echo a text >text
 }
 
-# Writes pam-u2f's authfile, with root's credential ID of one credential and the public key of another, and a PAM service
-# that uses it: write_pam_file ID_OF KEY_OF
+# Writes pam-u2f's authfile for root, with the ID of one credential and the public key of another, and a PAM service
+# that uses the authfile: write_pam_file ID_OF KEY_OF
 write_pam_file() {
     printf 'root:%s,%s,es256,+presence\n' "$(head -1 "$1.public")" \
         "$(grep -v -- ---- "$2.pem" | base64 -d | tail -c 64 | base64 -w 0)" >authfile
@@ -127,12 +127,12 @@ write_pam_file() {
         >/etc/pam.d/hidlog
 }
 
-# Tests whether the key waits for a touch, according to its second recording.
+# Checks in the recording second.log whether the key is waiting for a touch.
 is_waiting() {
     [ "$(tail -1 second.log)" = "# need presence" ]
 }
 
-# Begins a sign-in, which waits for a touch until touch_key is called.
+# Starts a sign-in as alice, which waits for a touch until touch_key is called.
 begin_sign_in() {
     sign_in alice >first.out 2>&1 &
     first=$!
@@ -150,12 +150,13 @@ run_with_touch() {
     wait_until is_waiting && touch_key && wait "$first"
 }
 
-# Tests whether the last request for a touch timed out (30 s), as on a busy machine.
+# Checks whether the last request for a touch timed out after 30 s, as may happen on a busy machine.
 has_timed_out() {
     grep '^p ' second.log | tail -1 | grep -q 'timeout$'
 }
 
-# Runs a command while a sign-in waits for a touch, and all of it again if the touch came too late: run_before_touch COMMAND
+# Runs a command while a sign-in waits for a touch, then touches the key. If the touch came too late, starts again, up
+# to five times: run_before_touch COMMAND
 run_before_touch() {
     for _ in 1 2 3 4 5; do
         begin_sign_in && "$1" && is_waiting && touch_key && wait "$first" && after_the_touch && return
@@ -165,14 +166,14 @@ run_before_touch() {
     return 1
 }
 
-# A second program sends getInfo. libfido2 locks the device, so the second waits for the first.
+# Sends getInfo from a second program, which has to wait for the first program, since libfido2 locks the device.
 request_info_concurrently() {
     fido2-token -I "$device" >second.out &
     second=$!
     after_the_touch() { wait "$second" && grep -q FIDO_2_0 second.out; }
 }
 
-# Tests whether a process has a file open: has_file_open PID FILE
+# Checks whether a process has a file open: has_file_open PID FILE
 has_file_open() {
     for open in "/proc/$1/fd/"*; do
         [ "$(readlink "$open")" != "$2" ] || return 0
@@ -180,17 +181,17 @@ has_file_open() {
     return 1
 }
 
-# Tests whether the device has sent a packet that matches: has_sent_packet PATTERN
+# Checks whether the device has sent a packet that matches a pattern: has_sent_packet PATTERN
 has_sent_packet() {
     hexdump -ve '64/1 "%02x" "\n"' packets >seen && grep -q "$1" seen
 }
 
-# Writes a packet, and reads packets until one matches: exchange_packet HEX PATTERN
+# Writes a packet, and reads packets until one matches a pattern: exchange_packet HEX PATTERN
 exchange_packet() {
     dd if="$device" bs=64 >packets 2>/dev/null &
     reader=$!
     wait_until has_file_open "$reader" "$device" || return
-    # Writes the report number and the packet, converting its hex digits to printf escapes.
+    # Write the report ID, 0, and the packet, whose hex digits are converted to printf escapes.
     # shellcheck disable=SC2059
     { printf "\\x00$(echo "$1" | sed 's/../\\x&/g')" && head -c 64 /dev/zero; } | head -c 65 >written
     dd if=written of="$device" bs=65 count=1 2>/dev/null && wait_until has_sent_packet "$2"
@@ -200,8 +201,8 @@ exchange_packet() {
     return "$status"
 }
 
-# A second program, which doesn't lock the device, gets a channel (INIT) and sends on it (PING): the key is busy
-# (ERR_CHANNEL_BUSY), and continues with the first.
+# Allocates a channel (INIT) and sends a PING on it, as a program that does not lock the device. The key responds with
+# ERR_CHANNEL_BUSY, and continues with the first program's request.
 send_without_lock() {
     after_the_touch() { :; }
     exchange_packet ffffffff8600080102030405060708 ^ffffffff8600110102030405060708 || return
@@ -222,7 +223,7 @@ request_info_from_two_programs() {
     request_info_repeatedly && wait "$first"
 }
 
-# Kills a program whose registration waits for a touch: no credential is created, and the next program works.
+# Kills a program whose registration waits for a touch. No credential may be created, and the next program must work.
 kill_waiting_client() {
     { print_random && echo relying.example && echo mallory && print_random; } >mallory.in
     fido2-cred -M -r -i mallory.in "$device" >mallory.cred 2>&1 &
@@ -232,7 +233,8 @@ kill_waiting_client() {
         has_timed_out
 }
 
-# Starts the bridge as another user, with /dev/uhid open: it creates the device, responds, and ends at a signal.
+# Runs the bridge as another user with an open descriptor of /dev/uhid. The bridge must create the device, respond, and
+# exit at a signal.
 run_without_root() {
     (exec 3<>/dev/uhid && run_as_nobody uhid -f 3 /tmp/other.state) 2>bridge.err &
     bridge=$!
@@ -240,7 +242,7 @@ run_without_root() {
     pid=$(pidof uhid) && kill -TERM "$pid" && wait "$bridge" && wait_until is_gone && [ -s /tmp/other.state ]
 }
 
-# pamu2fcfg of Debian 12 needs a certificate; that of Debian 13 accepts self attestation.
+# Runs pamu2fcfg. Debian 12's version requires an attestation certificate; Debian 13's version accepts self attestation.
 configure_pam() {
     pamu2fcfg -n >configured 2>&1
     grep -q 'es256,+presence$' configured || grep -q FIDO_ERR_INVALID_ARGUMENT configured
@@ -250,7 +252,8 @@ has_pamtester() {
     command -v pamtester >/dev/null
 }
 
-# Runs a command as the user nobody, with the real setpriv, since busybox's cannot change the user: run_as_nobody COMMAND ..
+# Runs a command as the user nobody, with the setpriv of util-linux, since busybox's cannot change the user:
+# run_as_nobody COMMAND ..
 run_as_nobody() {
     /usr/bin/setpriv --reuid=65534 --regid=65534 --clear-groups "$@"
 }

@@ -1,16 +1,16 @@
 #!/usr/bin/env bash
 # Runs the coverage-guided fuzzers, for SECONDS each: tests/fuzz/guided.sh SECONDS [NAME ..]
 #
-#     key      the functions on an in-memory key, compared with `hidlog_replay` of the same inputs (key_fuzz.c)
+#     key      the functions on an in-memory key, compared with `hidlog_replay` for the same inputs (key_fuzz.c)
 #     log      the commands on a whole log (log_fuzz.c)
 #     state    the state files of the bridges (state_fuzz.c)
 #     readers  the Python decoders of the package and of the conformance runner (readers.py)
 #     page     the state of the key in a page (page_state.mjs)
 #
-# The core is release/hidlog.wasm, translated to C by wasm2c and compiled with the fuzzer. HIDLOG_CORPUS=FOLDER keeps inputs
-# that reached new code, for the next run, and for tests/fuzz/seeds.py --keep, which adds them to corpus.tsv. The seeds are
-# corpus.tsv and the logs of this repository.
-# Exits with 1 at the first finding, which is saved in FOLDER, or here; with 3 if something is missing.
+# The core is release/hidlog.wasm, translated to C by wasm2c and compiled with the fuzzer. HIDLOG_CORPUS=FOLDER is a
+# folder for inputs that reached new code. The next run starts with these inputs, and tests/fuzz/seeds.py --keep adds
+# them to corpus.tsv. The seeds are corpus.tsv and the logs of this repository. Exits with 1 at the first finding, which
+# is saved in FOLDER [default: the current folder], and with 3 if a dependency is missing.
 set -euo pipefail
 top=$(cd "$(dirname "${BASH_SOURCE[0]}")/../.." && pwd)
 print_usage() {
@@ -56,7 +56,7 @@ require_tools() {
     done
 }
 
-# Translates the core to C, and compiles it with instrumentation. wasm2c's code checks each memory access.
+# Translates the core to C, and compiles it with instrumentation. The code of wasm2c checks each memory access.
 build_core() {
     [ ! -e "$work/core.o" ] || return 0
     "$top/tests/fuzz/seeds.py" "$work/seeds"

@@ -1,17 +1,18 @@
 #!/usr/bin/env bash
-# Installs each package with its own tool in a clean Debian, and runs the commands of its README, up to a registration and
-# a sign-in: Python, node, C, Go, Rust, Ruby and Java. Prints the seconds of each, including the download of Debian's
-# packages. Needs root, debootstrap and its mirror; exits with 3 if one is missing.
+# Installs each package with its language's tool in a clean Debian system, and runs the commands of the package's
+# README, including a registration and a sign-in: Python, node, C, Go, Rust, Ruby and Java. Prints the time of each in
+# seconds, including the download of Debian's packages. Needs root, debootstrap and a Debian mirror; exits with 3 if one
+# of these is missing.
 #
 #     tests/packages/clean.sh FOLDER [PACKAGES]    FOLDER is created by debootstrap or reused; PACKAGES [default: built]
 #     HIDLOG_CASES=node                            only the cases whose name contains this
 set -euo pipefail
 top=$(cd "$(dirname "${BASH_SOURCE[0]}")/../.." && pwd)
 folder=${1:?usage: tests/packages/clean.sh FOLDER [PACKAGES]}
-[ "$(id -u)" = 0 ] || { echo "debootstrap needs root; nothing was run" >&2 && exit 3; }
+[ "$(id -u)" = 0 ] || { echo "tests/packages/clean.sh: debootstrap needs root; nothing was run" >&2 && exit 3; }
 [ -d "$folder/usr" ] || debootstrap --variant=minbase bookworm "$folder" >"${folder%/}.log" || exit 3
 scratch=$(mktemp -d)
-# Unmounts, even if a program still uses the mount, and removes only files of this file system.
+# Unmounts the file systems, even if a program still uses them, and removes only files of this file system.
 clean_up() {
     umount -l "$scratch/system/proc" "$scratch/system/dev" 2>/dev/null || true
     rm -rf --one-file-system "$scratch"
@@ -47,7 +48,8 @@ $2" >"$scratch/said" 2>&1 </dev/null && status=ok || status=FAILED
     fi
 }
 
-# Defines sudo, which READMEs use, and updates the package lists. readme FILE [HEADING] runs a README's commands.
+# Defines sudo, which the READMEs use, and updates the package lists. run_readme FILE [HEADING] runs the commands of a
+# README.
 # shellcheck disable=SC2016 # the shell in the system expands it
 start='
 sudo() { "$@"; }

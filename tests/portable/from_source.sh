@@ -1,14 +1,14 @@
 #!/usr/bin/env bash
-# Installs the Python package from its sdist into an empty environment, as on a system without a wheel: the portable C
-# library is compiled. The package then checks a log and signs in. The last line has the processor time of pip, which is
-# that on one core.
+# Installs the Python package from its sdist into an empty environment, as on a system without a wheel, so that the
+# portable C library is compiled. Then checks a log and signs in with the package. Last, prints the processor time of pip
+# on one core.
 #
-# Needs python3-hatchling, python3-venv, python3-cryptography, gcc and wabt; ends with 3 if something is missing.
+# Needs python3-hatchling, python3-venv, python3-cryptography, gcc and wabt; exits with 3 if one is missing.
 set -euo pipefail
 top=$(cd "$(dirname "${BASH_SOURCE[0]}")/../.." && pwd)
 python=/usr/bin/python3
 if ! "$python" -c 'import hatchling, venv, cryptography' 2>/dev/null || ! command -v wasm2c gcc >/dev/null; then
-    echo "hatchling, venv, cryptography, wabt or gcc is missing (tests/run --install); nothing was run" >&2
+    echo "tests/portable/from_source.sh: hatchling, venv, cryptography, wabt or gcc is missing (tests/run --install); nothing was run" >&2
     exit 3
 fi
 work=$(mktemp -d)

@@ -1,7 +1,7 @@
 #!/usr/bin/env bash
-# Runs the tests of the Python package with the portable C library in place of the proved one: tests/portable/python.sh
-# [ARG ..]. The arguments are those of pytest. Needs what tests/python/run.sh needs, gcc, make and wabt; ends with 3 if
-# something is missing.
+# Runs the tests of the Python package with the portable C library instead of the proved library:
+# tests/portable/python.sh [ARG ..]. The arguments are passed to pytest. Needs the dependencies of tests/python/run.sh,
+# gcc, make and wabt; exits with 3 if one is missing.
 set -euo pipefail
 top=$(cd "$(dirname "${BASH_SOURCE[0]}")/../.." && pwd)
 work=$(mktemp -d)

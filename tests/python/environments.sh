@@ -1,6 +1,5 @@
 #!/usr/bin/env bash
-# Tests the package in the environments of its users: tests/python/environments.sh [CACHE [PART ..]], by default all
-# parts
+# Tests the Python package in other environments: tests/python/environments.sh [CACHE [PART ..]] [default: all parts]
 #
 #     fido2          without python-fido2, and with versions 0.9, 1.2 and 2.2 (Debian's bookworm, trixie and sid): the
 #                    tests of ceremonies, and examples/python, with warnings as errors
@@ -9,9 +8,9 @@
 #     musl           a C client with the wheel's library, loaded by musl's loader, replays a sign-in
 #     aarch64        pip installs the wheel for aarch64 under qemu, where a test registers and signs in
 #
-# Missing packages are downloaded from Debian into CACHE and unpacked there, not installed; with HIDLOG_OFFLINE=1
-# nothing is downloaded. Parts with missing dependencies are skipped by name. The last line is `N passed, N failed, N
-# skipped`. HIDLOG_PYTHONS lists the interpreters [default: those in PATH and of pyenv].
+# Missing packages are downloaded from Debian to CACHE and unpacked there, but not installed. With HIDLOG_OFFLINE=1
+# nothing is downloaded. Parts with missing dependencies are skipped, and their names are printed. The last line is `N
+# passed, N failed, N skipped`. HIDLOG_PYTHONS lists the interpreters [default: those in PATH and of pyenv].
 set -uo pipefail
 here=$(cd "$(dirname "${BASH_SOURCE[0]}")" && pwd)
 top=$(cd "$here/../.." && pwd)
@@ -62,7 +61,7 @@ run_apt_get() {
         -o "APT::Architectures=$2" -o APT::Sandbox::User=root "${@:3}" >/dev/null 2>&1
 }
 
-# Unpacks packages into a directory of CACHE, once: unpack_packages DIR SUITE PROCESSOR PACKAGE ..
+# Unpacks packages into a directory of CACHE, unless it exists: unpack_packages DIR SUITE PROCESSOR PACKAGE ..
 unpack_packages() {
     local to=$cache/$1 name
     [ ! -e "$to/.complete" ] || return 0
@@ -84,7 +83,7 @@ link_packages() {
     done
 }
 
-# Prints the path of the pip wheel that comes with an interpreter: in the module ensurepip, or Debian's own.
+# Prints the path of the pip wheel for an interpreter: the wheel in the module ensurepip, or Debian's.
 find_pip_wheel() {
     "$1" -c 'import ensurepip, glob, os
 own = os.path.join(os.path.dirname(ensurepip.__file__), "_bundled", "pip-*.whl")
@@ -154,7 +153,8 @@ list_interpreters() {
     done
 }
 
-# Provides the module that cryptography's bindings need for an interpreter: Debian's, or compiled from Debian's source.
+# Provides the extension module that cryptography's bindings need for an interpreter: Debian's module, or a module that
+# is compiled from Debian's source.
 compile_cffi() {
     local source=$cache/cffi-source name
     name=_cffi_backend$("$1" -c 'import sysconfig; print(sysconfig.get_config_var("EXT_SUFFIX"))')
@@ -230,7 +230,7 @@ test_aarch64() {
 }
 
 "$system" -c 'import cryptography, hatchling, pytest, venv' 2>/dev/null ||
-    { echo "hatchling, cryptography, pytest or venv is missing (tests/run --install); nothing was run" >&2; exit 3; }
+    { echo "tests/python/environments.sh: hatchling, cryptography, pytest or venv is missing (tests/run --install); nothing was run" >&2; exit 3; }
 "$top/bindings/python/build.sh" "$work/dist" >/dev/null || exit 1
 mkdir -p "$work/tests"
 cp "$here"/*.py "$here"/*.json "$work/tests"

@@ -2,7 +2,7 @@
 # Tests the installed package hidlog: builds the wheel, installs it into a new virtual environment, and runs the tests
 # in this directory. Exits with 3 if a Debian package is missing.
 #
-#     tests/python/run.sh [--library FILE] [ARG ..]     another C library; arguments for pytest, such as -k notes
+#     tests/python/run.sh [--library FILE] [ARG ..]     with another C library; ARG .. is for pytest
 set -euo pipefail
 tests=$(cd "$(dirname "${BASH_SOURCE[0]}")" && pwd)
 top=$tests/../..
@@ -13,7 +13,7 @@ if [ "${1-}" = --library ]; then
 fi
 python=/usr/bin/python3
 if ! "$python" -c 'import cryptography, fido2.server, hatchling, pytest, venv' 2>/dev/null; then
-    echo "python-fido2, hatchling, pytest or venv is missing (tests/run --install); nothing was run" >&2
+    echo "tests/python/run.sh: python-fido2, hatchling, pytest or venv is missing (tests/run --install); nothing was run" >&2
     exit 3
 fi
 work=$(mktemp -d)

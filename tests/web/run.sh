@@ -1,7 +1,7 @@
 #!/usr/bin/env bash
 # Runs the tests of bindings/web/ in each installed browser: the page that shows sessions, and the key in a page, whose
-# recordings must pass `hidlog check`. HIDLOG_PROGRAM names the program `hidlog` (default ./hidlog). Reports what is
-# missing. The argument `chromium` or `firefox` runs only that browser.
+# recordings must pass `hidlog check`. HIDLOG_PROGRAM is the path of the program hidlog [default: ./hidlog]. Prints
+# which dependencies are missing. With the argument `chromium` or `firefox`, runs only this browser.
 set -euo pipefail
 top=$(cd "$(dirname "${BASH_SOURCE[0]}")/../.." && pwd)
 here=$top/tests/web
@@ -34,7 +34,7 @@ run_pages() {
     check_logs "$work/$browser"
 }
 
-# The examples, with Debian's Selenium and with node.
+# Runs the examples with Debian's Selenium and with node.
 run_examples() {
     local example
     if /usr/bin/python3 -c 'import selenium' 2>/dev/null && command -v chromedriver >/dev/null; then
@@ -56,7 +56,7 @@ run_examples() {
     fi
 }
 
-# The recordings must be logs that replay exactly.
+# Checks that each recording equals its own replay.
 check_logs() {
     local log snapshot
     for log in "$1"/*.log; do
@@ -78,7 +78,7 @@ if command -v tsc >/dev/null; then
         tsc -p "$project" && echo "ok  types of ${project#"$top"/}" || failed=1
     done
 else
-    echo "tests/web: tsc is missing, types are not checked (apt-get install node-typescript)" >&2
+    echo "tests/web: tsc is missing; the types are not checked (apt-get install node-typescript)" >&2
 fi
 wanted=${1:-all}
 if [ "$wanted" != firefox ]; then
