@@ -24,11 +24,11 @@ use std::marker::Model;
 pub enum Turn {
     /// The response was written.
     Answer,
-    /// The command is refused: the response with its status was written.
+    /// The command was refused: the response with the status of the error was written.
     Refuses(Refusal),
-    /// The request is pending with this status.
+    /// The request is pending with this KEEPALIVE status.
     Waits(KeepaliveStatus),
-    /// The reply wasn't needed, and is ignored.
+    /// The reply is ignored, because no pending request needs it.
     Ignored,
     /// The pending request was dropped without a response.
     Nothing,
@@ -75,7 +75,7 @@ impl Need<'_> {
     }
 }
 
-/// Returns the need for a signature of these bytes by the credential's key.
+/// Returns the need for a signature over these bytes with the credential's private key.
 fn signature_need<'a>(id: &'a [u8; 32], signed: &'a ArrayVec<u8, 196>) -> Need<'a>
     ensures value { to_needed result ≡ needs_sign id.now signed.now.items }
     ensures sized { IsValidNeed (to_needed result) }
@@ -93,8 +93,8 @@ pub struct Config {
     pub aaguid: [u8; 16],
 }
 
-/// The authenticator over a table of at most `C` credentials. The time of an event, in milliseconds, is the latest of
-/// the start and all timestamps so far. No call allocates.
+/// The authenticator, with a table of at most `C` credentials. The time of an event, in milliseconds, is the latest of
+/// all timestamps so far, including that of the start. No call allocates.
 #[derive(Drop)]
 pub struct Core<T: Table<C>, const C: usize> {
     pub(crate) config: Config,
@@ -104,12 +104,12 @@ pub struct Core<T: Table<C>, const C: usize> {
     pub(crate) table: T,
     pub(crate) pending: Pending<C>,
     pub(crate) work: Option<PendingTask>,
-    /// The IDs of the credentials that may sign the last getAssertion. Stored here because a new list would be zeroed
-    /// each time.
+    /// The IDs of the credentials that may sign for the last getAssertion. They are stored here because a new list
+    /// would be filled with zeros each time.
     pub(crate) applicable: ArrayVec<[u8; 32], C>,
 }
 
-// In contracts, an authenticator is its state, and the steps of parsing the last request.
+// In contracts, an authenticator is its state and the number of steps of parsing the last request.
 impl<T: Table<C>, const C: usize> Model for Core<T, C> {
     ghost use Rattle.std.specs.Prelude.{◌≤◌, option_map};
     ghost use Rattle.authn_core.specs.Turn.{CoreContents};
@@ -149,8 +149,8 @@ impl<T: Table<C>, const C: usize> Core<T, C> {
         }
     }
 
-    /// Restarts with this configuration at time `start`, in milliseconds, with the credentials of a snapshot in place
-    /// of its own and no pending request. If the snapshot is rejected, nothing changes.
+    /// Restarts the authenticator with this configuration at time `start`, in milliseconds. The credentials of the
+    /// snapshot replace the previous ones, and no request is pending. If the snapshot is rejected, nothing changes.
     pub fn load(&mut self, config: Config, snapshot: &[u8], start: u64) -> Result<(), SnapshotFault>
         ensures { MatchResult result
             (λ _. (rows : List AnyRow) × Loads C snapshot.now (Ok tt) rows
@@ -167,8 +167,8 @@ impl<T: Table<C>, const C: usize> Core<T, C> {
         Ok(())
     }
 
-    /// Handles a request at time `at` on the channel `cid`: `message` is its command byte and parameters. A pending
-    /// request ends without a response.
+    /// Handles a request on the channel `cid` at time `at`. `message` consists of the command byte and the parameters.
+    /// A request that was pending ends without a response.
     pub fn request(&mut self, at: u64, cid: u32, message: &[u8], answer: &mut Answer) -> Turn
         ensures { IsTurn self.old self.new (to_answer result answer.new.items) at (Asks cid message.now) }
     {
@@ -196,7 +196,7 @@ impl<T: Table<C>, const C: usize> Core<T, C> {
         self.take(at, &Event::Signature(&signature), answer)
     }
 
-    /// Handles a CANCEL of the pending request.
+    /// Handles a CANCEL for the pending request.
     pub fn cancel(&mut self, answer: &mut Answer) -> Turn
         ensures { IsTurn self.old self.new (to_answer result answer.new.items) 0 Cancel }
     {
@@ -211,8 +211,8 @@ impl<T: Table<C>, const C: usize> Core<T, C> {
         self.take(0, &Event::Drop, &mut Answer::new());
     }
 
-    /// Handles an event at time `at`. For [`Turn::Answer`] and [`Turn::Refuses`] the response is in `answer`.
-    // Not inlined; otherwise the parser of requests isn't inlined into it.
+    /// Handles an event at time `at`. For [`Turn::Answer`] and [`Turn::Refuses`] the response is in `answer`. Not
+    /// inlined, because otherwise the compiler doesn't inline the parser of requests here.
     #[inline(never)]
     #[tactic(auto, unfolding(crate::specs::Turn::turn))]
     pub fn take(&mut self, at: u64, event: &Event<'_>, answer: &mut Answer) -> Turn
@@ -236,7 +236,7 @@ impl<T: Table<C>, const C: usize> Core<T, C> {
         }
     }
 
-    /// Returns what the pending request needs, or [`Need::None`]. A signature is over at most 196 bytes.
+    /// Returns what the pending request needs, or [`Need::None`]. For a signature, at most 196 bytes are to be signed.
     pub fn need(&self) -> Need<'_>
         ensures value { to_needed result ≡ needs self.now.core.state.work }
         ensures sized { IsValidNeed (to_needed result) }
@@ -291,7 +291,7 @@ impl<T: Table<C>, const C: usize> Core<T, C> {
         self.pending.len()
     }
 
-    /// Returns the number of steps that parsing the last request took, or 0 before the first request.
+    /// Returns the number of steps that parsing the last request took. Before the first request, it is 0.
     pub fn last_steps(&self) -> u64
         ensures { result ≡ self.now.last_steps }
     {

@@ -1,4 +1,4 @@
-//! The authenticator with its responses by value: each call returns the response, which copies its buffer of 262 bytes.
+//! The authenticator with responses by value: each call returns the response, which copies a buffer of 262 bytes.
 
 ghost use Rattle.std.specs.Prelude.{◌≡◌, ◌≤◌, List, ℕ, length};
 ghost use Rattle.cred_table.specs.Waiting.{pending_count};
@@ -18,14 +18,14 @@ use std::marker::Model;
 pub enum Turn {
     /// The response.
     Answer(Answer),
-    /// The request is pending with this KEEPALIVE status: 1 while it is processed, 2 while user presence is needed (CTAP
-    /// 2.1, section 11.2.9.1.7).
+    /// The request is pending with this KEEPALIVE status: 1 while the request is processed, 2 while user presence is
+    /// needed (CTAP 2.1, section 11.2.9.1.7).
     Waits(u8),
-    /// The reply wasn't needed, and is ignored.
+    /// The reply is ignored, because no pending request needs it.
     Ignored,
 }
 
-/// Returns a result with its response.
+/// Returns the result with its response.
 fn turn_by_value(turn: authenticator::Turn, answer: Answer) -> Turn
     ensures { valued_answer result ≡ without_drops (to_answer turn answer.items) }
 {
@@ -36,7 +36,7 @@ fn turn_by_value(turn: authenticator::Turn, answer: Answer) -> Turn
     }
 }
 
-/// The authenticator over a table of at most `C` credentials, as [`authenticator::Core`].
+/// The authenticator with a table of at most `C` credentials, like [`authenticator::Core`].
 #[derive(Drop)]
 pub struct Core<T: Table<C>, const C: usize> {
     inner: authenticator::Core<T, C>,
@@ -61,8 +61,8 @@ impl<T: Table<C>, const C: usize> Core<T, C> {
         }
     }
 
-    /// Handles a request at time `at` on the channel `cid`: `message` is its command byte and parameters. A pending
-    /// request ends without a response.
+    /// Handles a request on the channel `cid` at time `at`. `message` consists of the command byte and the parameters.
+    /// A request that was pending ends without a response.
     pub fn request(&mut self, at: u64, cid: u32, message: &[u8]) -> Turn
         ensures { TakesByValue self.old self.new result at (Asks cid message.now) }
     {
@@ -98,7 +98,7 @@ impl<T: Table<C>, const C: usize> Core<T, C> {
         turn_by_value(turn, answer)
     }
 
-    /// Handles a CANCEL of the pending request.
+    /// Handles a CANCEL for the pending request.
     pub fn cancel(&mut self) -> Turn
         ensures { TakesByValue self.old self.new result 0 Cancel }
     {
@@ -114,7 +114,7 @@ impl<T: Table<C>, const C: usize> Core<T, C> {
         self.inner.drop_work();
     }
 
-    /// Returns what the pending request needs, or [`Need::None`]. A signature is over at most 196 bytes.
+    /// Returns what the pending request needs, or [`Need::None`]. For a signature, at most 196 bytes are to be signed.
     pub fn need(&self) -> Need<'_>
         ensures value { to_needed result ≡ needs self.now.core.state.work }
         ensures sized { IsValidNeed (to_needed result) }
@@ -137,7 +137,7 @@ impl<T: Table<C>, const C: usize> Core<T, C> {
         self.inner.pending()
     }
 
-    /// Returns the number of steps that parsing the last request took, or 0 before the first request.
+    /// Returns the number of steps that parsing the last request took. Before the first request, it is 0.
     pub fn last_steps(&self) -> u64
         ensures { result ≡ self.now.last_steps }
     {

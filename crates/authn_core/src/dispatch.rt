@@ -1,4 +1,4 @@
-//! Dispatches events by the pending request.
+//! Passes each event to the command that handles it.
 
 ghost use Rattle.std.specs.Prelude.{None};
 ghost use Rattle.ctap_message.specs.Shown.{parsed_result, IsFresh, HasLengths};
@@ -43,7 +43,7 @@ impl<T: Table<C>, const C: usize> Core<T, C> {
         }
     }
 
-    /// Ends the request with the status of a refusal.
+    /// Ends the request with the status of an error.
     pub(crate) fn refuse(&mut self, why: Refusal, answer: &mut Answer) -> Turn
         ensures { TakesTurn self.old self.new result answer.new.items
             (respond_refusal self.old.core.state.rows self.old.core.state.pending why) }
@@ -53,7 +53,7 @@ impl<T: Table<C>, const C: usize> Core<T, C> {
         Turn::Refuses(why)
     }
 
-    /// Ends the request with the status of a refusal, and clears the pending assertions.
+    /// Ends the request with the status of an error, and removes the pending assertions.
     pub(crate) fn refuse_and_clear(&mut self, why: Refusal, answer: &mut Answer) -> Turn
         ensures { TakesTurn self.old self.new result answer.new.items (respond_refusal self.old.core.state.rows None why) }
     {
@@ -61,7 +61,7 @@ impl<T: Table<C>, const C: usize> Core<T, C> {
         self.refuse(why, answer)
     }
 
-    /// Begins or continues a request, and returns its KEEPALIVE status.
+    /// Makes a request pending, or keeps it pending, with this task. Returns the KEEPALIVE status.
     pub(crate) fn wait(&mut self, cid: u32, task: Task) -> KeepaliveStatus
         requires ready { TaskReady self.old.core.setup.capacity self.old.core.state.rows (to_task task) }
         requires signs { SignsItsResponse self.old.core.setup.aaguid (to_task task) }
@@ -73,7 +73,7 @@ impl<T: Table<C>, const C: usize> Core<T, C> {
         status
     }
 
-    /// Continues the pending request with a reply of the caller, if it needs this reply.
+    /// Continues the pending request with a reply of the caller, if the request needs this reply.
     pub(crate) fn reply(&mut self, reply: &Event<'_>, answer: &mut Answer) -> Turn
         ensures { TakesTurn self.old self.new result answer.new.items
             (reply_turn self.old.core.setup self.old.core.state self.old.latest

@@ -5,13 +5,13 @@ use crate::replies::{NewKey, Presence, Signature};
 /// An event of an authenticator.
 #[derive(Clone, Copy)]
 pub enum Event<'a> {
-    /// A request on the channel `cid`: its command byte and parameters.
+    /// A request on the channel `cid`. The message consists of the command byte and the parameters.
     Request { cid: u32, message: &'a [u8] },
     /// A user presence reply.
     Presence(Presence),
-    /// A new key pair, or `None` if the caller refuses.
+    /// A new key pair, or `None` if the caller refuses to create one.
     Key(&'a Option<NewKey>),
-    /// A signature, or `None` if the caller refuses.
+    /// A signature, or `None` if the caller refuses to sign.
     Signature(&'a Option<Signature>),
     /// The pending request is cancelled.
     Cancel,

@@ -1,4 +1,4 @@
-//! Laws about the definitions. Each function has an empty body: its contract is the law.
+//! Laws about the definitions. Each function has an empty body, and its contract is the law.
 
 ghost use Rattle.std.specs.Prelude.{◌≡◌, ◌≤◌, ℕ, List, ◌∷◌, length, true, Some, None};
 ghost use Rattle.ctap_cbor.specs.Head.{AreBytes};
@@ -17,15 +17,15 @@ ghost use Rattle.authn_core.specs.Exchanges.{rows_after, pending_request, work_o
 ghost use Rattle.authn_core.specs.Answers.{answer_to, exchanges};
 ghost use Rattle.authn_core.specs.Marks.{TimedEvent, MayFollow, Orderly, core_at, changes, rows_after_changes, signs_by, signed_assertions, all_differ, SignedAssertion};
 
-/// States that every event keeps the state valid: every pending ID has a credential, and the pending request can
-/// continue.
+/// States that every event preserves the invariant of the state: every pending ID belongs to a credential, and the
+/// pending request can be continued.
 pub fn turns_keep_the_invariant()
     ensures { (u : Setup) (s : State) (now : ℕ) (e : AnyEvent) → Ready u.capacity s → Ready u.capacity (turn u s now e).state }
 {}
 
-/// States which credentials exist after any history: those of the start and the created ones, in order, without those
-/// that a granted reset or a replacement removed. Each counter is its initial value plus the number of its increments.
-/// There are at most as many as the capacity, and no more pending assertions.
+/// States which credentials exist after any history: those of the start and those created later, in order, except the
+/// ones removed by a granted reset or a replacement. The signature counter of each is its initial value plus the number
+/// of its increments. The number of credentials and the number of pending assertions are at most the capacity.
 pub fn rows_follow_history()
     ensures rows { (start : CoreState) (h : List TimedEvent) → Orderly start h
         → (core_at start h).state.rows ≡ rows_after_changes start.state.rows (changes start h) }
@@ -38,8 +38,9 @@ pub fn rows_follow_history()
         → pending_count (core_at start h).state.pending ≤ start.setup.capacity }
 {}
 
-/// States that no two assertions signed with one credential have the same counter: the counters increase strictly. The
-/// bytes to sign have the credential's counter. While an assertion's signature is pending, its bytes are the newest.
+/// States that no two assertions signed by the same credential contain the same signature counter, because the counters
+/// increase strictly. The bytes to sign contain the counter of the credential. While the signature of an assertion is
+/// pending, its bytes to sign are the newest.
 pub fn signed_bytes_differ()
     ensures differ { (start : CoreState) (h : List TimedEvent) → Ready start.setup.capacity start.state
         → ValidRows start.setup.capacity start.state.rows
@@ -55,10 +56,10 @@ pub fn signed_bytes_differ()
         → signs_by id (core_at start h).state.work ≡ true → IsNewest (signed_assertions start h) (core_at start h).state }
 {}
 
-/// States that the signed bytes are the bytes in the response. For an assertion these are the authenticator data, with
-/// the RP ID hash, the requested UP flag and the credential's counter, and the client data hash of the newest request;
-/// for a registration they have the ID and public key that the caller supplied. If UP is set, the user consented since
-/// that request. The response to a signature has exactly the authenticator data that were signed.
+/// States that the signed bytes are those in the response. For an assertion, they consist of the authenticator data,
+/// with the RP ID hash, the requested UP flag and the signature counter of the credential, and the client data hash of
+/// the newest request. For a registration, they contain the ID and public key that the caller supplied. If UP is set,
+/// the user consented since that request. The response contains exactly the authenticator data that was signed.
 pub fn signed_bytes_are_in_the_response()
     ensures kept { (u : Setup) (s : State) (now : ℕ) (e : AnyEvent) (h : LatestRequests) → MayFollow s.work e
         → ValidRows u.capacity s.rows → SignsFor u.aaguid h s → SignsFor u.aaguid (with_event e h) (turn u s now e).state }
@@ -73,8 +74,8 @@ pub fn signed_bytes_are_in_the_response()
 {}
 
 /// States that each response is determined by the earlier events and their responses alone, without the authenticator's
-/// state, for any history in which a request arrives only if none is pending. So are the credentials, and the pending
-/// request with its channel and KEEPALIVE status.
+/// state, for any history in which a request arrives only if none is pending. The same is true for the credentials, and
+/// for the pending request with its channel and KEEPALIVE status.
 pub fn answers_follow_history()
     ensures answers { (start : Start) (h : List TimedEvent) (x : TimedEvent) → ValidRows start.capacity start.rows
         → Orderly (first_state start) (x ∷ h)
@@ -85,7 +86,7 @@ pub fn answers_follow_history()
         → waiting (core_at (first_state start) h) ≡ work_of_request (pending_request (exchanges start h)) }
 {}
 
-/// States that the bytes of a COSE key are the canonical CBOR encoding of its map `{1: 2, 3: -7, -1: 1, -2: x, -3: y}`
+/// States that the bytes of a COSE key are the canonical CBOR encoding of the map `{1: 2, 3: -7, -1: 1, -2: x, -3: y}`
 /// (RFC 8152, sections 7.1, 8.1 and 13.1.1; CTAP 2.1, section 8).
 pub fn cose_keys_are_canonical()
     ensures { (x y : List ℕ) → length x ≡ 32 → length y ≡ 32 → AreBytes x → AreBytes y

@@ -5,10 +5,10 @@ ghost use Rattle.authn_core.specs.Refusals.{status_of, presence_refusal};
 use crate::replies::Presence;
 use ctap_message::Status;
 
-/// An error of a command, with the values compared.
+/// An error of a command, with the values that were compared.
 #[derive(Clone, Copy, Debug, PartialEq, Eq)]
 pub enum Refusal {
-    /// The request fails a check; `status` is that of the first check that fails.
+    /// The request fails a check. `status` is that of the first check that fails.
     BadRequest { status: u8 },
     /// The host cancelled the command.
     Cancelled,
@@ -16,7 +16,7 @@ pub enum Refusal {
     Denied,
     /// The user didn't respond in time to a command that creates or uses a credential.
     NoConsentInTime,
-    /// The user didn't respond in time to a command that only asks for user presence.
+    /// The user didn't respond in time to a command that needs only user presence.
     TimedOut,
     /// A credential of the excludeList exists.
     Excluded,
@@ -24,21 +24,21 @@ pub enum Refusal {
     Full,
     /// The caller refused a key pair.
     KeyRefused,
-    /// The new credential ID exists already.
+    /// A credential with the new ID exists already.
     KeyIdTaken,
     /// The caller refused a signature.
     SignatureRefused,
-    /// No credential of the RP may sign; `listed` if an allowList was given.
+    /// No credential of the RP may sign. `listed` is whether an allowList was given.
     NoCredential { listed: bool },
-    /// The credential's counter has reached its maximum.
+    /// The signature counter of the credential has reached its maximum.
     CounterSpent,
     /// No assertion is pending.
     NothingPending,
     /// The pending assertions belong to another channel.
     PendingElsewhere { channel: u32 },
-    /// The time limit for the next assertion, counted from `since`, has passed at `at`.
+    /// At time `at`, the time limit for the next assertion, which begins at `since`, has passed.
     NextTooLate { since: u64, at: u64 },
-    /// The time limit for a reset, counted from `since`, has passed at `at`.
+    /// At time `at`, the time limit for a reset, which begins at `since`, has passed.
     ResetTooLate { since: u64, at: u64 },
 }
 

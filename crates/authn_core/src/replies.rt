@@ -1,4 +1,4 @@
-//! The replies of the caller.
+//! The replies of the caller: user presence, key pairs and signatures.
 
 ghost use Rattle.std.specs.Prelude.{◌≡◌, ◌≤◌, ◌++◌, ◌↔◌, drop, length, IsSome, IfSome};
 ghost use Rattle.authn_core.specs.Padded.{padded};
@@ -16,7 +16,7 @@ pub enum Presence {
     TimedOut,
 }
 
-/// The public key of a new key pair, by its coordinates, and the credential ID.
+/// A new key pair: the coordinates of the public key, and the credential ID.
 #[derive(Clone, Copy, Debug, PartialEq, Eq)]
 pub struct NewKey {
     pub id: [u8; 32],
@@ -24,7 +24,7 @@ pub struct NewKey {
     pub y: [u8; 32],
 }
 
-/// A signature of 1 to 72 bytes. In contracts it is the list of its bytes.
+/// A signature of 1 to 72 bytes. In contracts, it is the list of its bytes.
 #[derive(Clone, Copy, Debug, PartialEq, Eq)]
 pub struct Signature {
     bytes: [u8; 72],
@@ -59,7 +59,7 @@ fn copy_to_front(out: &mut [u8], bytes: &[u8])
 }
 
 impl Signature {
-    /// Returns the signature with these bytes, or `None` if there are none or more than 72.
+    /// Returns the signature with these bytes, or `None` if their number is 0 or more than 72.
     pub fn new(bytes: &[u8]) -> Option<Signature>
         ensures exactly { IsSome result ↔ ((1 ≤ length bytes.now) × (length bytes.now ≤ 72)) }
         ensures value { IfSome result (λ s. s ≡ bytes.now) }

@@ -1,4 +1,4 @@
-//! The state of a pending request.
+//! What a pending request waits for.
 
 ghost use Rattle.std.specs.Prelude.{◌≡◌};
 ghost use Rattle.authn_core.specs.State.{status};
@@ -8,7 +8,7 @@ use crate::work::KeepaliveStatus;
 use arrayvec::ArrayVec;
 use cred_table::Name;
 
-/// A credential that is being created.
+/// A credential that is to be created.
 #[derive(Drop)]
 pub(crate) struct MakeState {
     pub(crate) hash: [u8; 32],
@@ -28,7 +28,7 @@ pub(crate) struct AssertState {
     pub(crate) number: Option<u16>,
 }
 
-/// The state of a pending request. The last field of a state that waits for a signature is the bytes to sign.
+/// What a pending request waits for. If it waits for a signature, the last field is the bytes to sign.
 #[derive(Drop)]
 pub(crate) enum Task {
     AwaitResetPresence,
@@ -41,7 +41,7 @@ pub(crate) enum Task {
 }
 
 impl Task {
-    /// Returns the KEEPALIVE status of this state.
+    /// Returns the KEEPALIVE status of a request with this task.
     pub(crate) fn status(&self) -> KeepaliveStatus
         ensures { status_number result ≡ status (to_task self.now) }
     {
@@ -56,7 +56,7 @@ impl Task {
     }
 }
 
-/// A pending request with its channel.
+/// A pending request: its channel and what it waits for.
 #[derive(Drop)]
 pub(crate) struct PendingTask {
     pub(crate) cid: u32,

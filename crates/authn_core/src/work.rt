@@ -6,7 +6,7 @@ ghost use Rattle.authn_core.specs.Views.{status_number};
 /// The status of a pending request: the data byte of a KEEPALIVE (CTAP 2.1, section 11.2.9.1.7).
 #[derive(Clone, Copy, Debug, PartialEq, Eq)]
 pub enum KeepaliveStatus {
-    /// The authenticator is processing.
+    /// The authenticator is processing the request.
     Processing = 1,
     /// User presence is needed.
     PresenceNeeded = 2,
@@ -21,7 +21,7 @@ impl KeepaliveStatus {
     }
 }
 
-/// A pending request: its channel, and its status.
+/// A pending request: its channel and its KEEPALIVE status.
 #[derive(Clone, Copy, Debug, PartialEq, Eq)]
 pub struct Work {
     pub cid: u32,

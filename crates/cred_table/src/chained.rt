@@ -1,4 +1,4 @@
-//! A table with linked lists of rows by age and by ID.
+//! A credential table with linked lists of rows, by age and by ID.
 
 ghost use Rattle.std.specs.Prelude.{◌≡◌, ◌≤◌, [], length};
 ghost use Rattle.cred_table.specs.Rows.{ValidRows};
@@ -11,7 +11,7 @@ use crate::table::Table;
 use arrayvec::ArrayVec;
 use std::fmt;
 
-/// A table that stores its rows in slots, linked by age and by ID.
+/// A credential table that stores rows in slots, which are linked by age and by ID.
 #[derive(Drop)]
 pub struct Chained<const C: usize> {
     chains: Chains<C>,

@@ -65,7 +65,7 @@ impl<const C: usize> Chains<C> {
         &item.1.row
     }
 
-    /// Returns the slot of the row with an ID. The row must exist.
+    /// Returns the slot of the row with this ID. The row must exist.
     pub(crate) fn number(&self, id: &[u8; 32]) -> u16
         requires linked { Linked [] self.now }
         requires there { IsSome (find (has_id id.now) (rows_in self.now)) }
@@ -138,7 +138,7 @@ impl<const C: usize> Chains<C> {
         number
     }
 
-    /// Returns the predecessor of a slot in the chain of its ID.
+    /// Returns the predecessor of a slot in the chain of its ID, if any.
     fn before(&self, number: u16) -> Link
         requires linked { Linked [] self.now }
         requires there { is_among number (slots_by_age self.now) ≡ true }
@@ -185,7 +185,7 @@ impl<const C: usize> Chains<C> {
         );
     }
 
-    /// Stores a row in an unlinked slot, as the newest.
+    /// Stores a row in a slot that isn't linked, and links it as the newest row.
     pub(crate) fn fill(&mut self, number: u16, row: Row)
         requires { Linked (number ∷ []) self.old }
         ensures linked { Linked [] self.new }

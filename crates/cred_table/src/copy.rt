@@ -32,7 +32,7 @@ pub(crate) fn copy_row(row: &Row) -> Row
     }
 }
 
-/// Copies a table's rows to an empty one in order, except the row with this ID.
+/// Copies the rows of a table to an empty table in order, except the row with this ID.
 pub fn copy_without<T: Table<C>, U: Table<C>, const C: usize>(from: &T, id: &[u8; 32], to: &mut U)
     requires { U.rows to.old ≡ [] }
     ensures { U.rows to.new ≡ without id.now (T.rows from.now) }

@@ -5,7 +5,7 @@ ghost use Rattle.cred_table.specs.Numbers.{refusal_number};
 
 use thiserror::Error;
 
-/// A snapshot error. If several of the first three apply, the first is reported.
+/// An error of a snapshot. If several of the first three errors apply, the first of them is reported.
 #[derive(Clone, Copy, Debug, PartialEq, Eq, Error)]
 pub enum SnapshotFault {
     /// 1: the bytes aren't a snapshot in canonical CBOR.
@@ -14,7 +14,7 @@ pub enum SnapshotFault {
     /// 2: the snapshot has more rows than the table's capacity.
     #[error("too many rows")]
     TooMany,
-    /// 3: the row at this index, counted from 0, is the first that is invalid or conflicts with an earlier row.
+    /// 3: the row at this index, counted from 0, is the first one that is invalid or conflicts with an earlier row.
     #[error("row {0} is invalid")]
     RowBroken(usize),
     /// 4: an allocation failed.

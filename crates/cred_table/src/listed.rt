@@ -1,4 +1,4 @@
-//! A table backed by a list of rows.
+//! A credential table that is a list of rows.
 
 ghost use Rattle.std.specs.Prelude.{◌≡◌, ◌<◌, ◌≤◌, [], length, IsSome};
 ghost use Rattle.std.specs.List.{find, position, position_or_len};
@@ -9,7 +9,7 @@ use crate::rows::Rows;
 use crate::table::Table;
 use arrayvec::ArrayVec;
 
-/// A table backed by a list of rows, with linear search.
+/// A credential table that is a list of rows, with linear search.
 #[derive(Debug, Drop)]
 pub struct Listed<const C: usize> {
     pub(crate) list: ArrayVec<Row, C>,

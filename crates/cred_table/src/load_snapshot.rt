@@ -14,7 +14,7 @@ use crate::table::Table;
 use ctap_cbor::laws::{no_encoding_is_a_prefix, no_head_is_a_prefix};
 use ctap_cbor::{Cursor, check};
 
-/// Returns whether a row conflicts with one of a table: both have the same ID, or both are discoverable with the same
+/// Returns whether a row conflicts with a row of a table: both have the same ID, or both are discoverable with the same
 /// RP and user handle.
 fn clashes<T: Table<C>, const C: usize>(table: &T, row: &Row) -> bool
     ensures { result ≡ clashes row.now (T.rows table.now) }
@@ -28,8 +28,8 @@ fn clashes<T: Table<C>, const C: usize>(table: &T, row: &Row) -> bool
     table.same_user(&row.rp, &row.user).is_some()
 }
 
-/// Appends a row, unless it conflicts with one in the table: both have the same ID, or both are discoverable with the
-/// same RP and user handle. Returns whether it was appended.
+/// Appends a row, unless it conflicts with a row of the table: both have the same ID, or both are discoverable with the
+/// same RP and user handle. Returns whether the row was appended.
 pub fn put_new<T: Table<C>, const C: usize>(table: &mut T, row: Row) -> bool
     requires capacity { length (T.rows table.old) < C }
     ensures value { result ≡ not (clashes row (T.rows table.old)) }
@@ -43,7 +43,7 @@ pub fn put_new<T: Table<C>, const C: usize>(table: &mut T, row: Row) -> bool
     true
 }
 
-/// Reads an entry and appends it. Returns whether it was a valid row.
+/// Reads an entry, and appends it if it is a valid row. Returns whether it was appended.
 fn read_entry<const C: usize>(cursor: &mut Cursor, named: bool, rows: &mut Listed<C>) -> bool
     requires capacity { length rows.old.list.items < C }
     ensures { ReadsEntry named cursor.old cursor.new rows.old.list.items rows.new.list.items result }
@@ -55,7 +55,7 @@ fn read_entry<const C: usize>(cursor: &mut Cursor, named: bool, rows: &mut Liste
     }
 }
 
-/// Reads `count` entries into the empty rows, up to the first invalid one.
+/// Reads `count` entries into an empty list of rows, up to the first invalid entry.
 fn read_rows<const C: usize>(
     cursor: &mut Cursor,
     named: bool,
@@ -74,7 +74,7 @@ fn read_rows<const C: usize>(
     Ok(())
 }
 
-/// Reads a snapshot into the empty rows.
+/// Reads a snapshot into an empty list of rows.
 fn read_snapshot<const C: usize>(bytes: &[u8], rows: &mut Listed<C>) -> Result<(), SnapshotFault>
     requires { rows.old.list.items ≡ [] }
     ensures { Loads C bytes.now result rows.new.list.items }
@@ -92,7 +92,7 @@ fn read_snapshot<const C: usize>(bytes: &[u8], rows: &mut Listed<C>) -> Result<(
     }
 }
 
-/// Puts the rows into an empty table, copying each in place, so that the list isn't on the stack twice.
+/// Appends the rows to an empty table. Each row is copied in place, so that the list isn't on the stack twice.
 fn load_rows<T: Table<C>, const C: usize>(rows: &Listed<C>, table: &mut T)
     requires { T.rows table.old ≡ [] }
     ensures { T.rows table.new ≡ rows.now.list.items }
@@ -102,10 +102,9 @@ fn load_rows<T: Table<C>, const C: usize>(rows: &Listed<C>, table: &mut T)
     }
 }
 
-/// Loads a snapshot into a table, replacing its rows. Allocates nothing.
-///
-/// Rejects, checked in this order: bytes that aren't a snapshot, more entries than the table has capacity for, and an
-/// entry that isn't a row or conflicts with an earlier one. After an error the table is unchanged.
+/// Loads a snapshot into a table, whose previous rows are removed. Allocates nothing. The errors are, in the order of
+/// the checks: the bytes aren't a snapshot; there are more entries than the table has capacity for; an entry isn't a
+/// row or conflicts with an earlier one. After an error, the table is unchanged.
 #[inline(never)]
 pub fn load<T: Table<C>, const C: usize>(bytes: &[u8], table: &mut T) -> Result<(), SnapshotFault>
     ensures loads { Loads C bytes.now result (T.rows table.new) }

@@ -7,7 +7,7 @@ use crate::truncate::cut_name;
 use arrayvec::ArrayString;
 use std::marker::Model;
 
-/// A user name as stored in a row: at most 64 bytes of UTF-8. Names with the same text are equal.
+/// A user name as stored in a row: at most 64 bytes of UTF-8. Two names are equal if their texts are.
 #[derive(Clone, Debug, Default, Drop)]
 pub struct Name {
     text: ArrayString<64>,

@@ -14,7 +14,7 @@ use crate::row::Row;
 use arrayvec::ArrayVec;
 use ctap_cbor::{Cursor, Item};
 
-/// Reads an item: its head, and the content of a string.
+/// Reads an item: its head and, for a string, the content.
 fn take<'a>(cursor: &mut Cursor<'a>, level: u8) -> Option<Item<'a>>
     requires low { 1 ≤ level }
     requires high { level ≤ 5 }
@@ -44,7 +44,7 @@ fn read_key(cursor: &mut Cursor, level: u8, key: u8) -> Option<()>
     check_key(take(cursor, level), key)
 }
 
-/// Reads a member of a map: the key and the head of its value, or a whole string.
+/// Reads a member of a map: its key, and its value if that is a string, or else the head of its value.
 fn read_member<'a>(cursor: &mut Cursor<'a>, level: u8, key: u8) -> Option<Item<'a>>
     requires low { 1 ≤ level }
     requires high { level ≤ 5 }
@@ -54,7 +54,7 @@ fn read_member<'a>(cursor: &mut Cursor<'a>, level: u8, key: u8) -> Option<Item<'
     take(cursor, level)
 }
 
-/// Checks for the head of a map with this number of members.
+/// Checks that an item is the head of a map with this number of members.
 fn check_map(item: Option<Item>, count: u64) -> Option<()>
     ensures { result ≡ and_then (map_in count) (option_map to_part item.entry) }
 {
@@ -64,7 +64,7 @@ fn check_map(item: Option<Item>, count: u64) -> Option<()>
     }
 }
 
-/// Checks for this integer.
+/// Checks that an item is this integer.
 fn check_key(item: Option<Item>, key: u8) -> Option<()>
     ensures { result ≡ and_then (key_in key) (option_map to_part item.entry) }
 {
@@ -74,7 +74,7 @@ fn check_key(item: Option<Item>, key: u8) -> Option<()>
     }
 }
 
-/// Checks for a byte string of 32 bytes.
+/// Returns the content of an item that is a byte string of 32 bytes.
 fn check_hash(item: Option<Item>) -> Option<[u8; 32]>
     ensures { result ≡ and_then hash_in (option_map to_part item.entry) }
 {
@@ -84,7 +84,7 @@ fn check_hash(item: Option<Item>) -> Option<[u8; 32]>
     }
 }
 
-/// Checks for a byte string of at most 64 bytes.
+/// Returns the content of an item that is a byte string of at most 64 bytes.
 fn handle_of(item: Option<Item>) -> Option<ArrayVec<u8, 64>>
     ensures { option_map (λ v. v.items) result ≡ and_then handle_in (option_map to_part item.entry) }
 {
@@ -108,7 +108,7 @@ fn check_flag(item: Option<Item>) -> Option<bool>
     }
 }
 
-/// Checks for an integer from 0 to 2^32-1.
+/// Returns the value of an item that is an integer from 0 to 2^32-1.
 fn check_counter(item: Option<Item>) -> Option<u32>
     ensures { result ≡ and_then counter_in (option_map to_part item.entry) }
 {
@@ -118,7 +118,7 @@ fn check_counter(item: Option<Item>) -> Option<u32>
     }
 }
 
-/// Checks for a text string of at most 64 bytes.
+/// Returns the content of an item that is a text string of at most 64 bytes.
 fn check_name(item: Option<Item>) -> Option<Name>
     ensures { result ≡ and_then name_in (option_map to_part item.entry) }
 {
@@ -128,7 +128,7 @@ fn check_name(item: Option<Item>) -> Option<Name>
     }
 }
 
-/// Checks for an array, and returns the number of its items.
+/// Returns the number of items of an item that is an array.
 fn check_count(item: Option<Item>) -> Option<u64>
     ensures { result ≡ and_then count_in (option_map to_part item.entry) }
 {
@@ -138,7 +138,7 @@ fn check_count(item: Option<Item>) -> Option<u64>
     }
 }
 
-/// Checks for a version. Returns whether its rows have user names.
+/// Returns whether the rows of a version have user names, from an item that is a known version.
 fn check_version(item: Option<Item>) -> Option<bool>
     ensures { result ≡ and_then has_names_in (option_map to_part item.entry) }
 {
@@ -149,14 +149,14 @@ fn check_version(item: Option<Item>) -> Option<bool>
     }
 }
 
-/// Reads a member of 32 bytes.
+/// Reads a member that is a byte string of 32 bytes.
 fn read_hash(cursor: &mut Cursor, key: u8) -> Option<[u8; 32]>
     ensures { ReadsMember IsHash (λ s. One (Bytes s)) key cursor.old cursor.new result }
 {
     check_hash(read_member(cursor, 4, key))
 }
 
-/// Reads a member of at most 64 bytes.
+/// Reads a member that is a byte string of at most 64 bytes.
 fn read_handle(cursor: &mut Cursor, key: u8) -> Option<ArrayVec<u8, 64>>
     ensures { ReadsMember IsUserHandle (λ s. One (Bytes s)) key cursor.old cursor.new (option_map (λ v. v.items) result) }
 {
@@ -170,14 +170,14 @@ fn read_flag(cursor: &mut Cursor, key: u8) -> Option<bool>
     check_flag(read_member(cursor, 4, key))
 }
 
-/// Reads an integer member from 0 to 2^32-1.
+/// Reads a member that is an integer from 0 to 2^32-1.
 fn read_counter(cursor: &mut Cursor, key: u8) -> Option<u32>
     ensures { ReadsMember (λ n. n < 2 ^ 32) (λ n. One (Int (pos n))) key cursor.old cursor.new result }
 {
     check_counter(read_member(cursor, 4, key))
 }
 
-/// Reads the user name, or returns an empty one if the version has none.
+/// Reads the user name of a row. Returns an empty name if the version has no user names.
 fn read_name(cursor: &mut Cursor, named: bool) -> Option<Name>
     ensures { Reads (IsName named) (name_text named) cursor.old cursor.new result }
 {
@@ -187,14 +187,14 @@ fn read_name(cursor: &mut Cursor, named: bool) -> Option<Name>
     check_name(read_member(cursor, 4, 8))
 }
 
-/// Reads the version. Returns whether rows have user names.
+/// Reads the version of a snapshot. Returns whether the rows have user names.
 fn read_version(cursor: &mut Cursor) -> Option<bool>
     ensures { ReadsMember (λ _. ⊤) (λ named. One (Int (pos (version named)))) 1 cursor.old cursor.new result }
 {
     check_version(read_member(cursor, 2, 1))
 }
 
-/// Reads the head of the entries' array, and returns their number.
+/// Reads the head of the array of entries. Returns the number of entries.
 fn read_count(cursor: &mut Cursor) -> Option<u64>
     ensures { ReadsMember (λ n. n < 2 ^ 64) OpensArray 2 cursor.old cursor.new result }
 {

@@ -6,8 +6,8 @@ ghost use Rattle.cred_table.specs.Waiting.{new_pending, pending_count, with_time
 use arrayvec::ArrayVec;
 use std::marker::Model;
 
-/// The credentials, at most `C`, that a getAssertion found and getNextAssertion may still return (CTAP 2.1, section
-/// 6.3), with the parameters of the request. No call allocates.
+/// The pending assertions: at most `C` credentials found by a getAssertion, which getNextAssertion may still return
+/// (CTAP 2.1, section 6.3), and the parameters of the request. No call allocates.
 #[derive(Drop)]
 pub struct Pending<const C: usize> {
     cid: u32,
@@ -27,7 +27,7 @@ impl<const C: usize> Model for Pending<C> {
 }
 
 impl<const C: usize> Pending<C> {
-    /// Returns no pending assertions.
+    /// Returns an empty list of pending assertions.
     pub fn new() -> Self
         ensures { result ≡ None }
     {
@@ -40,7 +40,7 @@ impl<const C: usize> Pending<C> {
         }
     }
 
-    /// Stores these IDs, at most `C`, in place of the previous ones. Without IDs, no assertion is pending.
+    /// Stores these IDs, at most `C`, in place of the previous ones. If there are no IDs, no assertion is pending.
     pub fn fill(&mut self, cid: u32, hash: &[u8; 32], presence: bool, moment: u64, ids: &[[u8; 32]])
         requires { length ids.now ≤ C }
         ensures { self.new ≡ new_pending cid hash.now presence moment ids.now }
@@ -53,7 +53,7 @@ impl<const C: usize> Pending<C> {
         self.ids.try_extend_from_slice(ids).unwrap();
     }
 
-    /// Removes and returns the first ID.
+    /// Removes and returns the first ID, if any.
     pub fn next(&mut self) -> Option<[u8; 32]>
         ensures first { result ≡ first_of self.old }
         ensures rest { self.new ≡ rest_of self.old }
@@ -64,7 +64,7 @@ impl<const C: usize> Pending<C> {
         Some(self.ids.remove(0))
     }
 
-    /// Restarts the time limit for the next request at `at`, in milliseconds, if an assertion is pending.
+    /// If an assertion is pending, the time limit for the next request begins at time `at`, in milliseconds.
     pub fn stamp(&mut self, at: u64)
         ensures { self.new ≡ with_time at self.old }
     {
@@ -78,7 +78,7 @@ impl<const C: usize> Pending<C> {
         self.ids.clear();
     }
 
-    /// Returns the number of IDs.
+    /// Returns the number of pending assertions.
     pub fn len(&self) -> usize
         ensures value { result ≡ pending_count self.now }
         ensures few { result ≤ C }
@@ -111,7 +111,8 @@ impl<const C: usize> Pending<C> {
         self.presence
     }
 
-    /// Returns the time in milliseconds from which the limit for the next request counts. An assertion must be pending.
+    /// Returns the time in milliseconds at which the time limit for the next request begins. An assertion must be
+    /// pending.
     pub fn moment(&self) -> u64
         requires { IsSome self.now }
         ensures { result ≡ moment_of self.now }

@@ -5,8 +5,8 @@ ghost use Rattle.std.specs.Prelude.{◌≡◌};
 use crate::name::Name;
 use arrayvec::ArrayVec;
 
-/// A row of a credential table: a public key credential source (WebAuthn Level 2, section 4) with an ES256 key, without
-/// its private key.
+/// A row of a credential table: a public key credential source (WebAuthn Level 2, section 4) with an ES256 key pair,
+/// without the private key.
 #[derive(Clone, Debug, Default, Drop)]
 pub struct Row {
     /// The SHA-256 hash of the RP ID.
@@ -23,14 +23,14 @@ pub struct Row {
     pub discoverable: bool,
     /// The signature counter.
     pub counter: u32,
-    /// The user's name, truncated to 64 bytes; empty if none was given.
+    /// The user's name, truncated to 64 bytes; empty if the request contains no name.
     pub name: Name,
 }
 
 impl Row {
     ghost use Rattle.cred_table.specs.Rows.{is_named, is_listed, is_user};
 
-    /// Returns whether the credential belongs to the RP and has the ID.
+    /// Returns whether the credential belongs to the RP and has this ID.
     pub(crate) fn is_named(&self, rp: &[u8; 32], id: &[u8]) -> bool
         ensures { result ≡ is_named rp.now id.now self.now }
     {

@@ -8,13 +8,14 @@ use crate::slot::ChainWalk;
 use std::marker::Model;
 use std::{fmt, slice};
 
-/// The remaining rows of a table in order of creation, as [`Table::iter`](crate::Table::iter) yields them.
+/// The rows of a table that haven't been returned yet, in order of creation, as [`Table::iter`](crate::Table::iter)
+/// yields them.
 #[derive(Drop)]
 pub struct Rows<'a> {
     left: RowsLeft<'a>,
 }
 
-/// The remaining rows, for each implementation.
+/// The rows that haven't been returned yet, for each implementation of a table.
 #[derive(Drop)]
 enum RowsLeft<'a> {
     Listed(slice::Iter<'a, Row>),
@@ -32,7 +33,7 @@ impl<'a> Model for Rows<'a> {
 }
 
 impl<'a> Rows<'a> {
-    /// Returns the rows of a list.
+    /// Returns an iterator over the rows of a list.
     pub(crate) fn listed(list: &'a [Row]) -> Self
         ensures { result ≡ list.now }
     {
@@ -41,7 +42,7 @@ impl<'a> Rows<'a> {
         }
     }
 
-    /// Returns the rows in the slots of a walk.
+    /// Returns an iterator over the rows in the slots of a chain.
     pub(crate) fn chained(walk: ChainWalk<'a>) -> Self
         ensures { result ≡ map (λ item. item.1.row) walk.entry }
     {

@@ -25,7 +25,7 @@ const MAX_ROW_LEN: usize = 283;
 /// Maximum length of a snapshot without its rows, in bytes.
 const MAX_HEADER_LEN: usize = 13;
 
-/// The version that is written, whose rows have user names.
+/// The version of snapshots that are written. Its rows have user names.
 const VERSION: u64 = 2;
 
 impl From<AllocError> for SnapshotFault {
@@ -36,7 +36,7 @@ impl From<AllocError> for SnapshotFault {
     }
 }
 
-/// States the bounds that a row's type implies, for proofs. Has no effect.
+/// States for proofs the bounds that the type of a row implies. Has no effect when called.
 fn row_bounds(row: &Row)
     ensures { IsRow true row.now }
 {
@@ -49,21 +49,21 @@ fn row_bounds(row: &Row)
     let _counter = row.counter;
 }
 
-/// States that these are 32 bytes, for proofs. Has no effect.
+/// States for proofs that an array of 32 elements has 32 bytes. Has no effect when called.
 fn hash_bounds(hash: &[u8; 32])
     ensures { IsHash hash.now }
 {
     byte_bounds(hash);
 }
 
-/// States that these are at most 64 bytes, for proofs. Has no effect.
+/// States for proofs that a vector of capacity 64 has at most 64 bytes. Has no effect when called.
 fn handle_bounds(bytes: &ArrayVec<u8, 64>)
     ensures { IsUserHandle bytes.now.items }
 {
     byte_bounds(bytes.as_slice());
 }
 
-/// States that a name is at most 64 bytes of UTF-8, for proofs. Has no effect.
+/// States for proofs that a name has at most 64 bytes of UTF-8. Has no effect when called.
 fn name_bounds(name: &Name)
     ensures { IsName true name.now }
 {
@@ -79,7 +79,7 @@ fn put_hash(sink: &mut Sink<'_>, hash: &[u8; 32])
     sink.bytes(hash);
 }
 
-/// Writes at most 64 bytes.
+/// Writes a byte string of at most 64 bytes.
 fn put_handle(sink: &mut Sink<'_>, bytes: &[u8])
     requires short { length bytes.now ≤ 64 }
     requires space { 66 ≤ space_of sink.old }
@@ -90,7 +90,7 @@ fn put_handle(sink: &mut Sink<'_>, bytes: &[u8])
     sink.bytes(bytes);
 }
 
-/// Writes a text of at most 64 bytes.
+/// Writes a text string of at most 64 bytes.
 fn put_name(sink: &mut Sink<'_>, name: &str)
     requires short { length name.now ≤ 64 }
     requires space { 66 ≤ space_of sink.old }
@@ -111,7 +111,7 @@ fn put_counter(sink: &mut Sink<'_>, counter: u32)
     sink.uint(counter as u64);
 }
 
-/// Writes a row's map, its members in ascending order of their keys.
+/// Writes the map of a row, with the members in ascending order of their keys.
 fn put_row(sink: &mut Sink<'_>, row: &Row)
     requires { MAX_ROW_LEN ≤ space_of sink.old }
     ensures appends { AppendsUpTo sink.old sink.new (row_text true row.now) MAX_ROW_LEN }
@@ -136,7 +136,7 @@ fn put_row(sink: &mut Sink<'_>, row: &Row)
     put_name(sink, row.name.as_str());
 }
 
-/// Writes a row's map to the beginning of a buffer, and returns its length.
+/// Writes the map of a row to the beginning of a buffer, and returns its length.
 fn row_into(buffer: &mut [u8], row: &Row) -> usize
     requires { MAX_ROW_LEN ≤ length buffer.old }
     ensures within { result ≤ MAX_ROW_LEN }
@@ -171,7 +171,7 @@ fn header_into(buffer: &mut [u8], count: u64) -> usize
     sink.len()
 }
 
-/// Writes a snapshot of a table's rows.
+/// Writes a snapshot of the rows of a table.
 fn put_snapshot<T: Table<C>, const C: usize>(sink: &mut Sink<'_>, table: &T)
     requires { max_snapshot_len C ≤ space_of sink.old }
     ensures appends { AppendsUpTo sink.old sink.new (text (snapshot true (T.rows table.now))) (max_snapshot_len C) }
@@ -185,8 +185,8 @@ fn put_snapshot<T: Table<C>, const C: usize>(sink: &mut Sink<'_>, table: &T)
     }
 }
 
-/// Writes a snapshot of a table's rows to the beginning of a buffer that has space for the longest one, and returns its
-/// length.
+/// Writes a snapshot of the rows of a table to the beginning of a buffer with space for the longest snapshot, and
+/// returns the snapshot's length.
 fn snapshot_into<T: Table<C>, const C: usize>(buffer: &mut [u8], table: &T) -> usize
     requires { max_snapshot_len C ≤ length buffer.old }
     ensures front { take result buffer.new ≡ text (snapshot true (T.rows table.now)) }
@@ -199,10 +199,8 @@ fn snapshot_into<T: Table<C>, const C: usize>(buffer: &mut [u8], table: &T) -> u
     sink.len()
 }
 
-/// Writes a snapshot of a table's rows to the beginning of `out`, and returns its length.
-///
-/// Returns `None` and writes nothing if `out` is shorter than 13 bytes plus 283 bytes for each row of the table's
-/// capacity.
+/// Writes a snapshot of the rows of a table to the beginning of `out`, and returns the snapshot's length. If `out` is
+/// shorter than 13 bytes plus 283 bytes for each row of the capacity, returns `None` and writes nothing.
 pub fn save_into<T: Table<C>, const C: usize>(table: &T, out: &mut [u8]) -> Option<usize>
     ensures { SavesInto C (T.rows table.now) out.old out.new result }
 {
@@ -236,7 +234,7 @@ fn write_header(count: u64, out: &mut Vec<u8>) -> Result<(), AllocError>
     out.extend_from_slice(&buffer[..len])
 }
 
-/// Appends a snapshot: its beginning, and then its rows.
+/// Appends a snapshot: its beginning, followed by the rows.
 fn write_rows<T: Table<C>, const C: usize>(
     table: &T,
     out: &mut Vec<u8>,
@@ -254,9 +252,8 @@ fn write_rows<T: Table<C>, const C: usize>(
     Ok(())
 }
 
-/// Appends a snapshot of a table's rows, with the vector's own allocator.
-///
-/// Fails only if an allocation fails, and never if the vector has capacity for the snapshot. On failure, the vector is
+/// Appends a snapshot of the rows of a table to a vector, with the vector's own allocator. Fails only if an allocation
+/// fails. If the vector has capacity for the snapshot, no allocation is needed. After a failure, the vector is
 /// unchanged.
 pub fn save<T: Table<C>, const C: usize>(table: &T, out: &mut Vec<u8>) -> Result<(), SnapshotFault>
     ensures saved { OnOk result (Saves C (T.rows table.now) out.old.items out.new.items) }

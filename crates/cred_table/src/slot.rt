@@ -13,9 +13,9 @@ pub(crate) type Link = Option<u16>;
 /// A slot for a row.
 #[derive(Default, Drop)]
 pub(crate) struct Slot {
-    /// The row, unless the slot is free.
+    /// The row in the slot, unless the slot is free.
     pub(crate) row: Row,
-    /// The next slot of its ID chain, or of the free list.
+    /// The next slot in the ID chain, or in the free list.
     pub(crate) next: Link,
     /// The slot of the next newer row.
     pub(crate) newer: Link,
@@ -34,7 +34,7 @@ pub(crate) enum ChainKind {
 impl Slot {
     ghost use Rattle.cred_table.specs.Slots.{link_of};
 
-    /// Returns the link of this kind.
+    /// Returns the link of this kind in the slot.
     pub(crate) fn link(&self, along: ChainKind) -> Link
         ensures { result ≡ link_of along self.now }
     {
@@ -49,7 +49,7 @@ impl Slot {
 impl Slot {
     ghost use Rattle.cred_table.specs.Slots.{with_link};
 
-    /// Changes the link of this kind.
+    /// Changes the link of this kind in the slot.
     fn set_link(&mut self, along: ChainKind, to: Link)
         ensures { self.new ≡ with_link along to self.old }
     {
@@ -78,7 +78,7 @@ impl Slot {
 impl Slot {
     ghost use Rattle.cred_table.specs.Slots.{links_to};
 
-    /// Returns whether this slot's chain link points to the slot `number`.
+    /// Returns whether the `next` link of this slot points to the slot `number`.
     fn points_to(&self, number: u16) -> bool
         ensures { result ≡ links_to number self.now.next }
     {
@@ -89,7 +89,8 @@ impl Slot {
     }
 }
 
-/// Links the slot `before` to `next`, or makes `next` the first slot. Returns the first slot of the chain.
+/// Links the slot `before`, if any, to `next`. Without a slot before it, `next` becomes the first slot. Returns the
+/// first slot of the chain.
 pub(crate) fn link_after(
     slots: &mut [Slot],
     along: ChainKind,
@@ -120,7 +121,7 @@ pub(crate) fn raise(slots: &mut [Slot], number: u16) -> u32
     slots[usize::from(number)].raise()
 }
 
-/// Links all slots in order.
+/// Links all slots in order, as the free list.
 pub(crate) fn link_all(slots: &mut [Slot])
     requires { length slots.old ≤ 256 }
     ensures { EachIndex slots.new (λ k. (slot_at slots.new k).next ≡ next_free (length slots.new) k) }
@@ -136,7 +137,7 @@ pub(crate) fn link_all(slots: &mut [Slot])
     }
 }
 
-/// Returns the index of an ID's chain: the low five bits of its first byte.
+/// Returns the number of the chain for an ID: the low five bits of the ID's first byte.
 pub(crate) fn bucket(id: &[u8]) -> usize
     ensures value { result ≡ bucket id.now }
     ensures bound { result < 32 }
@@ -144,16 +145,16 @@ pub(crate) fn bucket(id: &[u8]) -> usize
     usize::from(id.first().map_or(0, |byte| byte % 32))
 }
 
-/// An iterator over the slots of a chain, with their indices.
+/// An iterator over the slots of a chain, which returns each slot with its index.
 #[derive(Drop)]
 pub(crate) struct ChainWalk<'a> {
     pub(crate) slots: &'a [Slot],
     pub(crate) along: ChainKind,
-    /// The index of the next slot.
+    /// The index of the slot that comes next.
     pub(crate) at: Link,
 }
 
-// In contracts, this is the list of the remaining slots.
+// In contracts, this is the list of the slots that haven't been returned yet.
 impl<'a> Model for ChainWalk<'a> {
     ghost use Rattle.std.specs.Prelude.{ℕ, List, ◌≡◌, true};
     ghost use Rattle.cred_table.specs.Slots.{links, chain, is_chain, numbered};
@@ -171,7 +172,7 @@ impl<'a> ChainWalk<'a> {
     ghost use Rattle.std.specs.List.{find};
     ghost use Rattle.cred_table.specs.Slots.{points_to};
 
-    /// Returns the first slot whose chain link points to the slot `number`.
+    /// Returns the first slot in the chain whose `next` link points to the slot `number`.
     pub(crate) fn find_predecessor(mut self, number: u16) -> Link
         ensures { result ≡ option_map (λ found. found.0) (find (points_to number) self.entry) }
     {

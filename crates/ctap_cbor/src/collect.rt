@@ -1,4 +1,4 @@
-//! Collects the members of maps and the entries of arrays.
+//! Collecting the members of maps and the entries of arrays.
 
 ghost use Rattle.std.specs.Prelude.{Bool, ◌-◌, ◌≤◌, MatchResult};
 ghost use Rattle.ctap_cbor.specs.Views.{to_part};
@@ -13,10 +13,11 @@ use crate::item::Item;
 pub trait Members<'a> {
     ghost use Rattle.ctap_cbor.specs.Tree.{Pairs as AllPairs};
 
-    /// Relates the collector, whether all pairs were accepted, and the pairs read so far.
+    /// A relation between the collector, whether all pairs were accepted, and the pairs that were read.
     ghost Holds: { Self → Bool → AllPairs → Type 0 };
 
-    /// Reads the value of a key, one whole item at this nesting level. Returns false if the value has the wrong type.
+    /// Reads the value of a key, which is one whole item at this nesting level. Returns false if the value has the
+    /// wrong type.
     fn member(&mut self, cursor: &mut Cursor<'a>, key: Item<'a>, level: u8) -> Result<bool, Fault>
         requires low { 1 ≤ level }
         requires high { level ≤ 5 }
@@ -29,10 +30,10 @@ pub trait Members<'a> {
 pub trait Entries<'a> {
     ghost use Rattle.ctap_cbor.specs.Tree.{Trees as AllTrees};
 
-    /// Relates the collector, whether all entries were accepted, and the entries read so far.
+    /// A relation between the collector, whether all entries were accepted, and the entries that were read.
     ghost HoldsAll: { Self → Bool → AllTrees → Type 0 };
 
-    /// Reads an entry, one whole item at this nesting level. Returns false if it has the wrong type.
+    /// Reads an entry, which is one whole item at this nesting level. Returns false if the entry has the wrong type.
     fn entry(&mut self, cursor: &mut Cursor<'a>, level: u8) -> Result<bool, Fault>
         requires low { 1 ≤ level }
         requires high { level ≤ 5 }
@@ -41,10 +42,9 @@ pub trait Entries<'a> {
             (λ f. Fails (5 - level) cursor.old cursor.new f.at f.kind) };
 }
 
-/// Reads a whole item at this nesting level (1 to 5), and passes the pairs of a map to `members`. Returns None if it
-/// isn't a map, or else whether all members were accepted.
-///
-/// Stops at the first error; the cursor is then where [`Cursor::skip`] leaves it.
+/// Reads a whole item at this nesting level (1 to 5), and passes the pairs of a map to `members`. Returns whether all
+/// members were accepted, or None if the item isn't a map. Stops at the first error; the cursor is then where
+/// [`Cursor::skip`] leaves it.
 pub fn read_map<'a, M: Members<'a>>(
     members: &mut M,
     cursor: &mut Cursor<'a>,
@@ -74,10 +74,9 @@ pub fn read_map<'a, M: Members<'a>>(
     Ok(Some(ok))
 }
 
-/// Reads a whole item at this nesting level (1 to 5), and passes the entries of an array to `entries`. Returns None if
-/// it isn't an array, or else whether all entries were accepted.
-///
-/// Stops at the first error; the cursor is then where [`Cursor::skip`] leaves it.
+/// Reads a whole item at this nesting level (1 to 5), and passes the entries of an array to `entries`. Returns whether
+/// all entries were accepted, or None if the item isn't an array. Stops at the first error; the cursor is then where
+/// [`Cursor::skip`] leaves it.
 pub fn read_array<'a, M: Entries<'a>>(
     entries: &mut M,
     cursor: &mut Cursor<'a>,

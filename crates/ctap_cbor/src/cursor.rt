@@ -1,4 +1,4 @@
-//! A cursor over an encoded message, which counts its steps.
+//! A cursor over an encoded message, which counts the steps of decoding.
 
 ghost use Rattle.std.specs.Prelude.{◌≡◌, ◌-◌, ◌+◌, ◌≤◌, length, take, drop, MatchResult, Ok, Err};
 ghost use Rattle.std.specs.Option.{option_copied};
@@ -41,7 +41,7 @@ impl<'a> Model for Cursor<'a> {
 }
 
 impl<'a> Cursor<'a> {
-    /// Creates a cursor at the message's first byte.
+    /// Creates a cursor at the first byte of a message.
     pub fn new(bytes: &'a [u8]) -> Self
         ensures { result ≡ record { bytes = bytes.now; place = 0; steps = 0 } }
     {
@@ -66,7 +66,7 @@ impl<'a> Cursor<'a> {
         self.steps
     }
 
-    /// Reads one item: its head, and the content of a string. The content of an array or map follows in the message.
+    /// Reads one item: its head and, for a string, the content. The content of an array or map follows in the message.
     pub fn item(&mut self, level: u8) -> Result<Item<'a>, Fault>
         requires low { 1 ≤ level }
         requires high { level ≤ 5 }
@@ -92,8 +92,8 @@ impl<'a> Cursor<'a> {
         }
     }
 
-    /// Reads a key of a map, and returns it with its encoding. `previous` is the encoding of the previous key of the
-    /// same map, or None for the first key. The key must be above it in lexical order.
+    /// Reads a key of a map, and returns the key with its encoding. `previous` is the encoding of the previous key of
+    /// the same map, or None for the first key. In lexicographic order, the key must be greater than the previous key.
     pub fn key(&mut self, previous: Option<&'a [u8]>) -> Result<Key<'a>, Fault>
         ensures gives { MatchResult result
             (λ k. GivesKey (option_copied previous.entry) self.old self.new (to_part k.item) k.bytes.now)
@@ -126,7 +126,7 @@ impl<'a> Cursor<'a> {
         }
     }
 
-    /// Skips a whole item with its content.
+    /// Skips an item with its content.
     #[cycle(skip)]
     pub fn skip(&mut self, level: u8) -> Result<(), Fault>
         requires low { 1 ≤ level }
@@ -140,7 +140,7 @@ impl<'a> Cursor<'a> {
         self.skip_content(item, level)
     }
 
-    /// Skips a whole item with its content, and returns its head.
+    /// Skips an item with its content, and returns the head of the item.
     pub fn read_whole_item(&mut self, level: u8) -> Result<Item<'a>, Fault>
         requires low { 1 ≤ level }
         requires high { level ≤ 5 }
@@ -153,7 +153,7 @@ impl<'a> Cursor<'a> {
         Ok(item)
     }
 
-    /// Skips the content of the item at this nesting level whose head was just read.
+    /// Skips the content of an item whose head was read just before. The item is at this nesting level.
     #[cycle(skip)]
     pub(crate) fn skip_content(&mut self, item: Item<'a>, level: u8) -> Result<(), Fault>
         requires low { 1 ≤ level }
@@ -173,7 +173,7 @@ impl<'a> Cursor<'a> {
         }
     }
 
-    /// Skips `count` whole items.
+    /// Skips `count` items with their content.
     #[cycle(skip)]
     fn skip_items(&mut self, level: u8, count: u64) -> Result<(), Fault>
         requires low { 1 ≤ level }
@@ -188,7 +188,7 @@ impl<'a> Cursor<'a> {
         Ok(())
     }
 
-    /// Skips `count` keys, each with its value.
+    /// Skips `count` keys, each followed by its value.
     #[cycle(skip)]
     fn skip_pairs(&mut self, level: u8, count: u64) -> Result<(), Fault>
         requires low { 1 ≤ level }
@@ -206,7 +206,7 @@ impl<'a> Cursor<'a> {
         Ok(())
     }
 
-    /// Checks that no byte is left. Otherwise fails with [`Kind::Trailing`], and leaves the cursor where it is.
+    /// Checks that no byte is left. If there is one, fails with [`Kind::Trailing`], and the cursor doesn't move.
     pub fn end(&mut self) -> Result<(), Fault>
         ensures { MatchResult result (λ _. HasNoByteLeft self.old self.new) (λ f. HasTrailingBytes self.old self.new f.at f.kind) }
     {
@@ -229,7 +229,8 @@ impl<'a> Cursor<'a> {
         self.place = 0;
     }
 
-    /// Returns the bytes from `place` to the cursor, such as the encoding of an array that was just read.
+    /// Returns the bytes from position `place` to the cursor, such as the encoding of an array that was read just
+    /// before.
     pub fn bytes_since(&self, place: usize) -> &'a [u8]
         requires { place ≤ self.now.place }
         ensures { result.now ≡ take (self.now.place - place) (drop place self.now.bytes) }
@@ -247,7 +248,7 @@ impl<'a> Cursor<'a> {
         rest
     }
 
-    /// Moves the cursor forward by this many bytes, and adds the steps.
+    /// Moves the cursor forward by `len` bytes, and adds `more` steps.
     fn pass(&mut self, len: usize, more: usize)
         requires { len ≤ length (rest_of self.old) }
         ensures { self.new ≡ advance self.old len (len + more) }
@@ -260,8 +261,8 @@ impl<'a> Cursor<'a> {
     }
 }
 
-/// Returns whether a key is above the previous one in lexical order, and the steps of the comparison: one for each byte
-/// of the key.
+/// Returns whether a key is greater than the previous one in lexicographic order, and the number of steps of the
+/// comparison: one for each byte of the key.
 fn compare_keys(previous: Option<&[u8]>, key: &[u8]) -> (bool, usize)
     ensures above { result.0 ≡ is_above (AKey (option_copied previous.entry)) key.now }
     ensures steps { result.1 ≡ log_comparison (option_copied previous.entry) (length key.now) }
@@ -272,7 +273,7 @@ fn compare_keys(previous: Option<&[u8]>, key: &[u8]) -> (bool, usize)
     }
 }
 
-/// Returns the steps that an error itself takes: 1 for the end of the input, or else 0.
+/// Returns the number of steps for detecting an error: 1 for the end of the input, or else 0.
 fn end_steps(kind: Kind) -> usize
     ensures { result ≡ end_steps_of kind }
 {

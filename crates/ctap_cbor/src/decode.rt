@@ -40,10 +40,9 @@ impl<T: Drop> From<AllocFailed<T>> for Fault {
     }
 }
 
-/// Decodes one data item in canonical encoding.
-///
-/// Fails with the error that [`check`](crate::check) returns, or with [`Kind::Memory`] at position 0 if an allocation
-/// fails. Allocates as items are read, never according to the counts in heads.
+/// Decodes one data item in canonical encoding. Fails with the error that [`check`](crate::check) returns. If an
+/// allocation fails, fails with [`Kind::Memory`] at position 0. Memory is allocated for items that were read, never
+/// according to the counts in heads.
 pub fn decode_value(alloc: Global, bytes: &[u8]) -> Result<Value, Fault>
     ensures ok { IfOk result (λ v. IsCanonical (to_tree v) bytes.now) }
     ensures err { IfErr result (λ f. UnlessMemory f ((o : Outcome) × IsOutcome bytes.now o
@@ -104,7 +103,7 @@ fn read_items(
     Ok(items)
 }
 
-/// Decodes `count` keys, each with its value.
+/// Decodes `count` keys, each followed by its value.
 #[cycle(value)]
 fn read_pairs(
     alloc: Global,

@@ -43,19 +43,17 @@ impl<T: Drop> From<AllocFailed<T>> for Kind {
     }
 }
 
-/// Appends the canonical encoding of a value.
-///
-/// Fails with the first error in the order of encoding: for a key its type (5), its range (8), and its order in the map
-/// (6), and then its value; for an array or map too deep nesting (4), and then its content; for another integer its
-/// range (8). Fails with 10 if an allocation fails, which happens only if the vector's capacity is too small. On
-/// failure, the vector is unchanged.
+/// Appends the canonical encoding of a value. Fails with the first error in the order of encoding. For a key, the order
+/// is: its type (5), its range (8), its order in the map (6), and then its value. For an array or map: nesting that is
+/// too deep (4), and then its content. For another integer: its range (8). Fails with 10 if an allocation fails, which
+/// is possible only if the capacity of the vector is too small. On failure, the vector is unchanged.
 pub fn encode_value(value: &Value, out: &mut Vec<u8>) -> Result<(), Kind>
     ensures ok { OnOk result (IsCanonical (to_tree value.now) (text (to_tree value.now))) }
     ensures appends { OnOk result (out.new.items ≡ out.old.items ++ text (to_tree value.now)) }
     ensures err { IfErr result (λ k. k ≢ Kind.Memory → refusal 4 (to_tree value.now) ≡ Some k) }
     ensures unchanged { OnErr result (out.new.items ≡ out.old.items) }
 
-    // Memory is only needed if the vector has to grow.
+    // An allocation fails only if the vector has to grow.
     ensures memory { result ≡ Err Kind.Memory → IsShort (vec_capacity out.old) out.old.items
         (text (to_tree value.now)) }
 {
@@ -67,7 +65,7 @@ pub fn encode_value(value: &Value, out: &mut Vec<u8>) -> Result<(), Kind>
     written
 }
 
-/// Encodes a value with at most this many levels of arrays and maps.
+/// Encodes a value that has at most this many levels of arrays and maps.
 #[cycle(write)]
 fn write_value(value: &Value, out: &mut Vec<u8>, levels: u8) -> Result<(), Kind>
     ensures writes { MatchResult result
@@ -88,7 +86,7 @@ fn write_value(value: &Value, out: &mut Vec<u8>, levels: u8) -> Result<(), Kind>
     }
 }
 
-/// Encodes an array: its head and its items.
+/// Encodes an array: its head, followed by its items.
 #[cycle(write)]
 fn write_array(items: &[Value], out: &mut Vec<u8>, levels: u8) -> Result<(), Kind>
     ensures writes { MatchResult result
@@ -105,7 +103,7 @@ fn write_array(items: &[Value], out: &mut Vec<u8>, levels: u8) -> Result<(), Kin
     write_items(items, out, levels - 1)
 }
 
-/// Encodes a map: its head and its pairs.
+/// Encodes a map: its head, followed by its pairs.
 #[cycle(write)]
 fn write_map(pairs: &[(Value, Value)], out: &mut Vec<u8>, levels: u8) -> Result<(), Kind>
     ensures writes { MatchResult result
@@ -164,7 +162,7 @@ fn write_pairs(pairs: &[(Value, Value)], out: &mut Vec<u8>, levels: u8) -> Resul
     Ok(())
 }
 
-/// Encodes a key of a map, without checking the order.
+/// Encodes a key of a map without checking its order.
 fn write_key(key: &Value, out: &mut Vec<u8>) -> Result<(), Kind>
     ensures writes { MatchResult result
         (λ _. WritesKey (to_tree key.now) out.old.items out.new.items)
@@ -181,7 +179,7 @@ fn write_key(key: &Value, out: &mut Vec<u8>) -> Result<(), Kind>
     }
 }
 
-/// Returns whether the key that was written from `start` on is above the previous key.
+/// Returns whether the key that was written from offset `start` on is greater than the previous key, if any.
 fn is_above_last(previous: Option<Span>, out: &[u8], start: usize) -> bool
     requires span { ForSome previous (λ s. (s.start ≤ s.end) × (s.end ≤ length out.now)) }
     requires start { start ≤ length out.now }
@@ -242,7 +240,7 @@ fn write_text(text: &str, out: &mut Vec<u8>) -> Result<(), Kind>
     Ok(())
 }
 
-/// Writes the shortest head of a major type with an argument.
+/// Writes the shortest head with this major type and argument.
 fn write_head(major: u8, argument: u64, out: &mut Vec<u8>) -> Result<(), AllocError>
     requires { major < 8 }
     ensures ok { OnOk result (out.new.items ≡ out.old.items ++ head major argument) }

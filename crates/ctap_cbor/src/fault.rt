@@ -1,4 +1,4 @@
-//! Decoding and encoding errors.
+//! Errors of decoding and encoding.
 
 ghost use Rattle.std.specs.Prelude.{◌≡◌};
 ghost use Rattle.ctap_cbor.specs.Faults.{number_of};
@@ -8,7 +8,7 @@ use thiserror::Error;
 /// An error kind. If several apply to an item, the first in the order of `specs/Faults.antt` is reported.
 #[derive(Clone, Copy, Debug, PartialEq, Eq, Error)]
 pub enum Kind {
-    /// The input ends before or within an item.
+    /// The input ends before an item, or inside one.
     #[error("the input ends early")]
     Truncated = 1,
     /// Additional information 28 to 31: reserved, or an indefinite length.
@@ -17,13 +17,13 @@ pub enum Kind {
     /// A head that isn't in its shortest form.
     #[error("head not in its shortest form")]
     NotShortest = 3,
-    /// An array or map inside four others.
+    /// An array or map that is inside four others.
     #[error("more than four levels deep")]
     TooDeep = 4,
     /// A map key that isn't an integer, a byte string or a text string.
     #[error("invalid type of a map key")]
     KeyType = 5,
-    /// A map key out of order, or a duplicate key.
+    /// A map key out of order, or a duplicate map key.
     #[error("map keys out of order")]
     KeyOrder = 6,
     /// A text string that isn't valid UTF-8.
@@ -35,7 +35,7 @@ pub enum Kind {
     /// Trailing bytes after the item.
     #[error("bytes after the item")]
     Trailing = 9,
-    /// An allocation failed. [`check`](crate::check) and [`Cursor`](crate::Cursor) never return this.
+    /// An allocation failed. [`check`](crate::check) and [`Cursor`](crate::Cursor) never return this error.
     #[error("no memory")]
     Memory = 10,
 }
@@ -49,11 +49,11 @@ impl Kind {
     }
 }
 
-/// An error and its position.
+/// An error, and the position at which it was found.
 #[derive(Clone, Copy, Debug, PartialEq, Eq, Error)]
 #[error("{kind} at byte {at}")]
 pub struct Fault {
-    /// Position of the invalid item's first byte, or of the first trailing byte, counted from 0.
+    /// Position of the first byte of the invalid item, or of the first trailing byte, counted from 0.
     pub at: usize,
     pub kind: Kind,
 }

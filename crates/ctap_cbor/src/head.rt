@@ -1,4 +1,4 @@
-//! Decodes one item: its head, and the content of a string (RFC 8949, section 3).
+//! Decoding of one item: its head and, for a string, the content (RFC 8949, section 3).
 
 ghost use Rattle.std.specs.Prelude.{◌≡◌, ◌≢◌, ◌<◌, ◌≤◌, length, MatchOption, true, false};
 ghost use Rattle.std.specs.Str.{is_utf8};
@@ -12,7 +12,7 @@ use crate::item::Item;
 use byteorder::{BigEndian, ByteOrder};
 
 /// Decodes the item or key at the beginning of the input, and returns it with its length. On failure, returns the error
-/// and the number of bytes that count as read. The order of keys isn't checked.
+/// and the number of bytes that count as read. Doesn't check the order of keys.
 #[inline(always)]
 pub(crate) fn find<'a>(
     bytes: &'a [u8],
@@ -30,7 +30,7 @@ pub(crate) fn find<'a>(
     }
 }
 
-/// Returns the first error that an initial byte alone determines, if any.
+/// Returns the first error that the initial byte determines, if any.
 #[tactic(auto, unfolding(crate::specs::Faults::first_faults))]
 fn first_fault(first: u8, levels: u8, is_key: bool) -> Option<Kind>
     ensures { result ≡ first_fault_of (first_faults levels (expected_of is_key) first) }
@@ -51,8 +51,8 @@ fn first_fault(first: u8, levels: u8, is_key: bool) -> Option<Kind>
     }
 }
 
-/// Returns the argument of the head with this initial byte, and the number of bytes after the initial byte that encode
-/// it. On failure, returns the error and the number of bytes that count as read.
+/// Returns the argument of the head with this initial byte, and the number of bytes that encode the argument after the
+/// initial byte. On failure, returns the error and the number of bytes that count as read.
 #[tactic(auto, unfolding(crate::specs::Faults::body_faults, crate::specs::Faults::passed, crate::specs::Head::argument, crate::specs::Head::argument_len, crate::specs::Head::least_argument))]
 #[inline(always)]
 fn find_argument(first: u8, rest: &[u8]) -> Result<(u64, usize), (Kind, usize)>
@@ -60,7 +60,7 @@ fn find_argument(first: u8, rest: &[u8]) -> Result<(u64, usize), (Kind, usize)>
     ensures { IsHeadArgument first rest.now result }
 {
     let info = first % 32;
-    // Most heads are one byte.
+    // Most heads consist of one byte.
     if info < 24 {
         return Ok((u64::from(info), 0));
     }
@@ -103,7 +103,7 @@ fn decode_item_rest<'a>(first: u8, rest: &'a [u8]) -> Result<(Item<'a>, usize), 
 }
 
 /// Returns the number of argument bytes after an initial byte with this additional information, and the smallest
-/// argument that needs so many.
+/// argument whose shortest encoding has so many bytes.
 #[tactic(auto, unfolding(crate::specs::Head::argument_len, crate::specs::Head::least_argument))]
 fn argument_form(info: u8) -> (usize, u64)
     requires { info < 28 }
@@ -136,7 +136,7 @@ fn read_argument(first: u8, rest: &[u8]) -> u64
     }
 }
 
-/// Returns the item of a head that isn't the head of a string.
+/// Returns the item with a head that doesn't belong to a string.
 fn non_string_item<'a>(major: u8, info: u8, argument: u64) -> Item<'a>
     requires { major ≢ 2 × major ≢ 3 }
     ensures { to_part result ≡ item_with_head major info argument }

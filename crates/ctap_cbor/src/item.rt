@@ -5,17 +5,17 @@ ghost use Rattle.std.specs.Option.{option_copied};
 ghost use Rattle.ctap_cbor.specs.Tree.{as_bytes, as_text, as_int, as_uint, as_flag};
 ghost use Rattle.ctap_cbor.specs.Views.{to_part, head_tree};
 
-/// The head of a data item, with the content of a string, borrowed from the message. The content of an array or map
-/// follows in the message.
+/// The head of a data item and, for a string, the content, which is borrowed from the message. The content of an array
+/// or map follows in the message.
 #[derive(Clone, Copy, Debug, PartialEq, Eq)]
 pub enum Item<'a> {
     /// From -2^64 to 2^64-1.
     Int(i128),
     Bytes(&'a [u8]),
     Text(&'a str),
-    /// An array, with the number of its items.
+    /// An array with this number of items.
     Array(u64),
-    /// A map, with the number of its pairs.
+    /// A map with this number of pairs.
     Map(u64),
     Bool(bool),
     Null,
@@ -42,7 +42,7 @@ impl<'a> Item<'a> {
         }
     }
 
-    /// Returns an integer, or None for other items.
+    /// Returns the value of an integer, or None for other items.
     pub fn as_int(&self) -> Option<i128>
         ensures { result ≡ as_int (head_tree (to_part self.now)) }
     {
@@ -52,7 +52,7 @@ impl<'a> Item<'a> {
         }
     }
 
-    /// Returns an unsigned integer, or None for other items.
+    /// Returns the value of an unsigned integer, or None for other items.
     pub fn as_uint(&self) -> Option<u64>
         ensures { result ≡ as_uint (head_tree (to_part self.now)) }
     {
@@ -62,7 +62,7 @@ impl<'a> Item<'a> {
         }
     }
 
-    /// Returns a Boolean, or None for other items.
+    /// Returns the value of a Boolean, or None for other items.
     pub fn as_bool(&self) -> Option<bool>
         ensures { result ≡ as_flag (head_tree (to_part self.now)) }
     {
@@ -73,7 +73,7 @@ impl<'a> Item<'a> {
     }
 }
 
-/// A map key and its encoding, with which the next key is compared.
+/// A map key, and its encoding, with which the next key is compared.
 #[derive(Clone, Copy, Debug, PartialEq, Eq)]
 pub struct Key<'a> {
     pub item: Item<'a>,

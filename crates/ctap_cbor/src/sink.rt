@@ -5,10 +5,9 @@ ghost use Rattle.ctap_cbor.specs.Head.{head, head_len};
 ghost use Rattle.ctap_cbor.specs.Tree.{Int, Bytes, Text, Flag, Null};
 ghost use Rattle.ctap_cbor.specs.Grammar.{scalar_text, Fits};
 
-/// Writes CBOR to a borrowed buffer, from its beginning.
-///
-/// Scalars are written whole. Of an array or map only the head is written; the caller then writes its items, or its
-/// keys and values in ascending order of the encoded keys. Each call requires enough space for its output.
+/// Writes CBOR to a borrowed buffer, from the beginning. Scalars are written whole. For an array or map, only the head
+/// is written. The caller then writes the items, or the keys and values in ascending order of the encoded keys. Each
+/// call requires enough space for its output.
 #[derive(Drop)]
 pub struct Sink<'a> {
     buffer: &'a mut [u8],
@@ -19,7 +18,7 @@ pub struct Sink<'a> {
 impl<'a> Sink<'a> {
     ghost use Rattle.ctap_cbor.specs.Writing.{contents, unwritten_rest, space_of, scalar_len, Appends, IsOver, SameBuffer};
 
-    /// Creates a sink for the whole buffer.
+    /// Creates a sink that writes to this buffer.
     pub fn new(buffer: &'a mut [u8]) -> Self
         ensures empty { contents result ≡ [] }
         ensures unwritten_rest { unwritten_rest result ≡ buffer.old }
@@ -36,7 +35,7 @@ impl<'a> Sink<'a> {
         self.len
     }
 
-    /// Returns whether nothing was written yet.
+    /// Returns whether no byte was written yet.
     pub fn is_empty(&self) -> bool
         ensures { IsTrue result ↔ (contents self.now ≡ []) }
     {
@@ -104,7 +103,7 @@ impl<'a> Sink<'a> {
         self.head(5, count);
     }
 
-    /// Writes false or true.
+    /// Writes a Boolean.
     pub fn flag(&mut self, value: bool)
         requires { 1 ≤ space_of self.old }
         ensures appends { Appends self.old self.new (scalar_text (Flag value)) 1 }
@@ -122,7 +121,7 @@ impl<'a> Sink<'a> {
         self.extend(&[0xf6]);
     }
 
-    /// Writes the shortest head of a major type with an argument.
+    /// Writes the shortest head with this major type and argument.
     fn head(&mut self, major: u8, argument: u64)
         requires low { major < 8 }
         requires space { head_len argument ≤ space_of self.old }
@@ -146,8 +145,8 @@ impl<'a> Sink<'a> {
     }
 }
 
-/// Writes the shortest head of a major type with an argument to the beginning of a buffer, and returns its length. The
-/// buffer must be large enough for any head.
+/// Writes the shortest head with this major type and argument to the beginning of a buffer, and returns the length of
+/// the head. The buffer must be large enough for any head.
 #[tactic(auto, unfolding(crate::specs::Head::head))]
 pub fn head_into(major: u8, argument: u64, out: &mut [u8]) -> usize
     requires low { major < 8 }

@@ -10,7 +10,7 @@ use crate::cursor::Cursor;
 use crate::fault::Fault;
 use crate::laws::byte_bounds;
 
-/// The result of [`check`], and the number of its steps.
+/// The result of [`check`], and the number of steps.
 #[derive(Clone, Copy, Debug, PartialEq, Eq)]
 pub struct Checked {
     pub result: Result<(), Fault>,
@@ -18,9 +18,9 @@ pub struct Checked {
     pub steps: u64,
 }
 
-/// Checks that the bytes are the canonical encoding of one data item. Returns the first error otherwise.
+/// Checks that the bytes are the canonical encoding of one data item. Otherwise, returns the first error.
 pub fn check(bytes: &[u8]) -> Checked
-    // The bytes have an outcome of decoding, and the result and the number of steps are those of this outcome.
+    // There is an outcome of decoding the bytes with this result and this number of steps.
     ensures found { (o : Outcome) × IsOutcome bytes.now o × IsCheckResult bytes.now o result.result result.steps }
 
     // Every outcome of decoding the bytes has this result and this number of steps.
@@ -36,10 +36,8 @@ pub fn check(bytes: &[u8]) -> Checked
     }
 }
 
-/// Skips one item at the first level, and checks for the end of the input.
-///
-/// After an error in the item the cursor is where [`Cursor::skip`] leaves it; trailing bytes leave it at the first of
-/// them.
+/// Skips one item at the first nesting level, and checks that the input ends after it. After an error in the item, the
+/// cursor is where [`Cursor::skip`] leaves it. If there are trailing bytes, the cursor is at the first of them.
 pub fn read_whole(cursor: &mut Cursor) -> Result<(), Fault>
     ensures { MatchResult result
         (λ _. (middle : Reading) × PassesOne 4 cursor.old middle × HasNoByteLeft middle cursor.new)

@@ -2,9 +2,8 @@
 
 ghost use Rattle.std.specs.Prelude.{◌≡◌, map, string_bytes};
 
-/// A data item with its content.
-///
-/// Any tree can be built; [`encode_value`](crate::encode_value) rejects those without a canonical encoding.
+/// A data item with its content. A value may be any tree; [`encode_value`](crate::encode_value) rejects trees without a
+/// canonical encoding.
 #[derive(Debug, PartialEq, Drop)]
 pub enum Value {
     Int(i128),
@@ -20,7 +19,8 @@ pub enum Value {
 ghost use Rattle.ctap_cbor.specs.Tree as tree;
 ghost use Rattle.ctap_cbor.specs.Values.{to_tree, to_trees, to_pairs};
 
-// One function for each variant, since in a larger function the prover doesn't evaluate `to_tree` of a constructor.
+// There is one function for each variant, because in a larger function the prover doesn't evaluate `to_tree` of a
+// constructor.
 
 /// Creates an integer.
 pub(crate) fn new_int(i: i128) -> Value

@@ -1,6 +1,5 @@
-//! Responses: a status alone, or status 0x00 and a map in canonical CBOR (CTAP 2.1, section 8, "Message Encoding").
-//!
-//! The constant parts of a response are byte literals.
+//! Responses: a status byte alone, or status 0x00 and a map in canonical CBOR (CTAP 2.1, section 8, "Message
+//! Encoding"). The constant parts of responses are byte literals.
 
 ghost use Rattle.std.specs.Prelude.{◌≡◌, ◌+◌, ◌<◌, ◌≤◌, ◌++◌, ◌∷◌, [], length};
 ghost use Rattle.std.specs.Option.{ForSome, option_copied};
@@ -13,7 +12,7 @@ use crate::status::Status;
 use arrayvec::ArrayVec;
 use ctap_cbor::head_into;
 
-/// A response: a status byte, and for success usually a map.
+/// A response: a status byte and, after status 0x00, usually a map.
 pub type Answer = ArrayVec<u8, 262>;
 
 /// Writes a response with only a status.
@@ -24,10 +23,9 @@ pub fn write_status(status: Status, answer: &mut Answer)
     answer.push(status.0);
 }
 
-/// Writes the response of authenticatorGetInfo (CTAP 2.1, section 6.4), 81 bytes: status 0x00 and the map `{1:
-/// ["FIDO_2_0"], 3: aaguid, 4: {"rk": true, "up": true, "plat": false}, 5: 7609, 9: ["usb"], 10: [{"alg": -7, "type":
-/// "public-key"}]}` in canonical CBOR.
-// Not inlined, so that its stack frame isn't part of its callers'.
+/// Writes the response of authenticatorGetInfo (CTAP 2.1, section 6.4), which has 81 bytes: status 0x00 and the map
+/// `{1: ["FIDO_2_0"], 3: aaguid, 4: {"rk": true, "up": true, "plat": false}, 5: 7609, 9: ["usb"], 10: [{"alg": -7,
+/// "type": "public-key"}]}` in canonical CBOR. Not inlined, so that its stack frame isn't part of its callers' frames.
 #[inline(never)]
 #[tactic(auto, unfolding(ctap_cbor::specs::Head::head, crate::specs::Answers::info_tree, crate::specs::Answers::info_answer))]
 pub fn write_info(aaguid: &[u8; 16], answer: &mut Answer)
@@ -65,7 +63,8 @@ pub fn write_created(auth: &[u8], sig: &[u8], answer: &mut Answer)
 }
 
 /// Writes the response of an assertion (CTAP 2.1, sections 6.2.2 and 6.3): status 0x00 and the map `{1: {"id": id,
-/// "type": "public-key"}, 2: auth, 3: sig, 4: {"id": user}, 5: number}` in canonical CBOR, 4 and 5 if given.
+/// "type": "public-key"}, 2: auth, 3: sig, 4: {"id": user}, 5: number}` in canonical CBOR. Members 4 and 5 are omitted
+/// if `user` or `number` is `None`.
 pub fn write_assertion(
     id: &[u8; 32],
     auth: &[u8],
@@ -96,7 +95,7 @@ pub fn write_assertion(
     put_number(answer, number);
 }
 
-/// Returns the head of the map, by its number of members.
+/// Returns the head of a map with this number of members.
 #[tactic(auto, unfolding(ctap_cbor::specs::Head::head))]
 fn map_head(user: Option<&[u8]>, number: Option<u16>) -> u8
     ensures { head 5 (count_pairs (spec.with_user (option_copied user.entry) (spec.with_number number)) + 1 + 1 + 1)
@@ -109,7 +108,7 @@ fn map_head(user: Option<&[u8]>, number: Option<u16>) -> u8
     }
 }
 
-/// Writes the user, if given.
+/// Writes the member with the user, if there is a user.
 fn put_user(answer: &mut Answer, user: Option<&[u8]>)
     requires capacity { length answer.old.items ≤ 191 }
     requires user { ForSome user (λ u. length u.now ≤ 64) }
@@ -123,7 +122,7 @@ fn put_user(answer: &mut Answer, user: Option<&[u8]>)
     }
 }
 
-/// Writes the number of credentials, if given.
+/// Writes the member with the number of credentials, if there is a number.
 fn put_number(answer: &mut Answer, number: Option<u16>)
     requires { length answer.old.items ≤ 258 }
     ensures { answer.new.items ≡ answer.old.items ++ pair_texts (spec.with_number number) }
@@ -136,7 +135,7 @@ fn put_number(answer: &mut Answer, number: Option<u16>)
     }
 }
 
-/// Writes a byte string, its head first.
+/// Writes a byte string: its head, followed by its content.
 fn put_bytes(answer: &mut Answer, bytes: &[u8])
     requires short { length bytes.now < 256 }
     requires capacity { length answer.old.items + 2 + length bytes.now ≤ 262 }

@@ -1,5 +1,5 @@
-//! The same calls with their results by value: a request's parameters are members of its variant, and a response is
-//! returned, which copies its buffer of 262 bytes.
+//! The calls of this crate with results by value: the parameters of a request are members of its variant, and a
+//! response is returned, which copies a buffer of 262 bytes.
 
 ghost use Rattle.std.specs.Prelude.{◌≡◌, ◌≤◌, length, min};
 ghost use Rattle.std.specs.Option.{ForSome, option_copied};
@@ -17,7 +17,7 @@ use crate::status::Status;
 pub enum Request<'a> {
     /// authenticatorMakeCredential (CTAP 2.1, section 6.1).
     Make {
-        /// clientDataHash, of 32 bytes.
+        /// The parameter clientDataHash, which has 32 bytes.
         hash: &'a [u8],
         rp_id: &'a str,
         /// At most 64 bytes.
@@ -30,12 +30,12 @@ pub enum Request<'a> {
     },
     /// authenticatorGetAssertion (CTAP 2.1, section 6.2).
     Assert {
-        /// clientDataHash, of 32 bytes.
+        /// The parameter clientDataHash, which has 32 bytes.
         hash: &'a [u8],
         rp_id: &'a str,
         /// allowList.
         allow: Descriptors<'a>,
-        /// Whether user presence is requested (option `up`).
+        /// The option `up`: whether user presence is requested.
         presence: bool,
     },
     /// authenticatorGetInfo (CTAP 2.1, section 6.4).
@@ -54,7 +54,7 @@ pub fn read_request<'a>(message: &'a [u8]) -> (Result<Request<'a>, Status>, u64)
     ensures steps { result.1 ≡ min (steps_of message.now) MAX_STEPS }
     // The number of steps is exact for messages that the transport delivers.
     ensures exact { length message.now ≤ MAX_REQUEST_LEN → result.1 ≡ steps_of message.now }
-    // Each iterator over a list is at its start.
+    // The iterator over the list of descriptors, if any, is at its start.
     ensures fresh { IsAtStart result.0 }
     ensures lens { HasChecked result.0 }
 {

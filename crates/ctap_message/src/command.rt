@@ -3,7 +3,7 @@
 ghost use Rattle.std.specs.Prelude.{◌≡◌};
 ghost use Rattle.ctap_message.specs.Commands.{named_command};
 
-/// A supported command, the first byte of its message (CTAP 2.1, section 8.1, "Commands").
+/// A supported command. The first byte of a message identifies its command (CTAP 2.1, section 8.1, "Commands").
 #[derive(Clone, Copy, Debug, PartialEq, Eq)]
 pub enum Command {
     /// 0x01, authenticatorMakeCredential.

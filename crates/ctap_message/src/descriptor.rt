@@ -1,4 +1,4 @@
-//! Credential descriptors (WebAuthn Level 2, section 5.8.3), and lists of them.
+//! Credential descriptors (WebAuthn Level 2, section 5.8.3), and lists of descriptors.
 
 ghost use Rattle.std.specs.Prelude.{◌≡◌, ◌-◌, ◌≤◌, MatchResult};
 ghost use Rattle.ctap_cbor.specs.Views.{to_part, head_tree};
@@ -38,7 +38,7 @@ fn read_texts(cursor: &mut Cursor<'_>, level: u8) -> Result<bool, Fault>
     Ok(read_array(&mut TextStrings, cursor, level)?.unwrap_or(false))
 }
 
-/// The members of a descriptor found so far.
+/// The members of a descriptor that were read so far.
 #[derive(Clone, Copy, Drop)]
 pub(crate) struct Descriptor<'a> {
     pub id: Option<&'a [u8]>,
@@ -46,7 +46,7 @@ pub(crate) struct Descriptor<'a> {
 }
 
 impl<'a> Descriptor<'a> {
-    /// Returns its ID, if its type is `public-key`.
+    /// Returns the ID of a descriptor of type `public-key`, or `None` for other types.
     pub fn public_key_id(&self) -> Option<&'a [u8]>
         ensures { option_copied result ≡ id_of_public_key (to_descriptor self.now) }
     {
@@ -57,14 +57,14 @@ impl<'a> Descriptor<'a> {
         }
     }
 
-    /// Returns whether ID and type are present.
+    /// Returns whether the descriptor has an ID and a type.
     fn is_whole(&self) -> bool
         ensures { result ≡ is_complete_descriptor (to_descriptor self.now) }
     {
         self.id.is_some() && self.kind.is_some()
     }
 
-    /// Stores the ID or the type. Returns false if the value has the wrong type.
+    /// Stores the member if it is the ID or the type. Returns false if the value has the wrong type.
     fn put(&mut self, key: Item<'a>, value: Item<'a>) -> bool
         requires plain { IsPlainName (head_tree (to_part key)) }
         ensures plain { IsPlainName (head_tree (to_part key.entry)) }
@@ -101,7 +101,7 @@ impl<'a> Members<'a> for Descriptor<'a> {
     }
 }
 
-/// Reads a descriptor, and whether it is a map whose members have the required types.
+/// Reads a descriptor. Returns whether it is a map whose members have the required types.
 pub(crate) fn read_descriptor<'a>(
     cursor: &mut Cursor<'a>,
     level: u8,
@@ -121,7 +121,7 @@ pub(crate) fn read_descriptor<'a>(
     Ok((typed, found))
 }
 
-/// The summary of the entries of a list of descriptors that were read so far.
+/// The summary of those entries of a list of descriptors that were read so far.
 #[derive(Clone, Copy, Drop)]
 struct ListSummary {
     is_whole: bool,
@@ -139,7 +139,7 @@ impl<'a> Entries<'a> for ListSummary {
     }
 }
 
-/// The summary of a list of descriptors, and an iterator over it.
+/// The summary of a list of descriptors, and an iterator over the list.
 #[derive(Drop)]
 pub(crate) struct DescriptorList<'a> {
     pub is_whole: bool,

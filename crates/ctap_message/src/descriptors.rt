@@ -1,4 +1,4 @@
-//! The credential IDs of a list of descriptors, as an iterator over the message's bytes.
+//! An iterator over the credential IDs in a list of descriptors, which reads the bytes of the message.
 
 ghost use Rattle.std.specs.Prelude.{◌≡◌, ◌<◌, ◌≤◌, MatchOption};
 ghost use Rattle.std.specs.Option.{option_copied};
@@ -16,7 +16,7 @@ use ctap_cbor::laws::{
 use ctap_cbor::{Cursor, Item};
 use std::marker::Model;
 
-/// The rest of a list: a cursor at its next entry, and the number of entries left.
+/// The rest of a list: a cursor at the next entry, and the number of entries that are left.
 #[derive(Drop)]
 pub(crate) struct ListEntry<'a> {
     cursor: Cursor<'a>,
@@ -24,7 +24,7 @@ pub(crate) struct ListEntry<'a> {
 }
 
 impl<'a> ListEntry<'a> {
-    /// Returns the ID of the next entry of type `public-key`.
+    /// Returns the ID of the next entry of type `public-key`, if any.
     fn next_id(&mut self) -> Option<&'a [u8]>
         requires { (ts : Trees) × HasEntriesLeft self.old.cursor self.old.left ts }
         ensures gives { YieldsId self.old.cursor self.old.left self.new.cursor self.new.left (option_copied result) }
@@ -46,17 +46,16 @@ impl<'a> ListEntry<'a> {
     }
 }
 
-/// The IDs of a list's entries of type `public-key`, in order, borrowed from the message.
-///
-/// Iterating reads the list's bytes a second time, and counts these steps separately: [`Descriptors::steps`]. An absent
-/// list has no entries.
+/// An iterator over the IDs of a list's entries of type `public-key`, in order. The IDs are borrowed from the message.
+/// Iterating reads the bytes of the list a second time; [`Descriptors::steps`] counts the steps of this second reading.
+/// A list that is absent from the request has no entries.
 #[derive(Drop)]
 pub struct Descriptors<'a> {
     entry: ListEntry<'a>,
     given: bool,
 }
 
-// In contracts, this is the list's entries, and the remaining ones.
+// In contracts, this is all entries of the list, and those that haven't been read yet.
 impl<'a> Model for Descriptors<'a> {
     ghost use Rattle.ctap_message.specs.DescriptorWalk.{DescriptorWalk, IsValidWalk};
 
@@ -68,7 +67,7 @@ impl<'a> Model for Descriptors<'a> {
 }
 
 impl<'a> Descriptors<'a> {
-    /// Returns the iterator of an absent list.
+    /// Returns an iterator for a list that is absent from the request.
     pub(crate) fn none() -> Self
         ensures { IsAtFirst result no_trees }
     {
@@ -81,7 +80,7 @@ impl<'a> Descriptors<'a> {
         }
     }
 
-    /// Returns the iterator of a list with entries.
+    /// Returns an iterator for a list with entries.
     pub(crate) fn from_entries(list: &'a [u8]) -> Self
         requires { (ts : Trees) × IsList list.now ts }
         ensures { (ts : Trees) → IsList list.now ts → IsAtFirst result ts }
@@ -102,15 +101,15 @@ impl<'a> Descriptors<'a> {
         }
     }
 
-    /// Returns whether the whole list has an entry, of any type, wherever the iterator is.
+    /// Returns whether the list has any entry, of any type. This doesn't depend on the position of the iterator.
     pub fn is_given(&self) -> bool
         ensures { result ≡ has_entries (list_of self.now) }
     {
         self.given
     }
 
-    /// Returns the number of steps so far. At the end of the list, it is one less than the steps of checking the list's
-    /// bytes, because the end of the input isn't checked.
+    /// Returns the number of steps so far. At the end of the list, it is one less than the number of steps of checking
+    /// the bytes of the list, because the end of the input isn't checked.
     pub fn steps(&self) -> u64
         ensures { result ≡ walked_steps self.now }
     {

@@ -1,4 +1,4 @@
-//! Errors of request parsing.
+//! The errors of parsing a request.
 
 ghost use Rattle.std.specs.Prelude.{◌≡◌};
 ghost use Rattle.ctap_message.specs.RequestFaults.{status_of};
@@ -6,31 +6,31 @@ ghost use Rattle.ctap_message.specs.RequestFaults.{status_of};
 use crate::status::Status;
 use ctap_cbor::Fault;
 
-/// A request parsing error: the first check that fails, with the values compared. A parameter is identified by its key
-/// (CTAP 2.1, sections 6.1 and 6.2).
+/// An error of parsing a request: the first check that fails, with the values that were compared. A parameter is
+/// identified by its key (CTAP 2.1, sections 6.1 and 6.2).
 #[derive(Clone, Copy, Debug, PartialEq, Eq)]
 pub enum RequestFault {
     /// The message has no command byte.
     Empty,
     /// The command isn't supported.
     NoSuchCommand { byte: u8 },
-    /// The command takes no parameters, and this many bytes follow it.
+    /// The command has no parameters, but this many bytes follow the command byte.
     Trailing { count: usize },
     /// The parameters aren't in canonical CBOR (section 8).
     NotCanonical(Fault),
-    /// A parameter, or a member inside, has the wrong type.
+    /// A parameter, or a member in a parameter, has the wrong type.
     WrongType,
-    /// A required parameter, or the ID inside of rp or user, is missing.
+    /// A required parameter is missing, or the ID in rp or user is.
     Missing { command: u8, parameter: u8 },
-    /// A list entry lacks its ID, type or algorithm.
+    /// An entry of a list has no ID, type or algorithm.
     EntryNotWhole { command: u8, parameter: u8 },
-    /// clientDataHash has this many bytes, not 32.
+    /// clientDataHash has this many bytes instead of 32.
     HashLength { len: usize },
-    /// The user's id has this many bytes, more than 64.
+    /// user.id has this many bytes, more than 64.
     UserIdLength { len: usize },
-    /// pinUvAuthParam is present, though no PIN is set.
+    /// The parameter pinUvAuthParam is present, although no PIN is set.
     PinUvAuthParam,
-    /// No entry of pubKeyCredParams is ES256.
+    /// No entry of pubKeyCredParams is for ES256.
     NoAlgorithm,
     /// The option uv is true.
     UvOption,
@@ -38,7 +38,7 @@ pub enum RequestFault {
     UpOption,
     /// The option rk is present in authenticatorGetAssertion.
     RkOption,
-    /// enterpriseAttestation is present.
+    /// The parameter enterpriseAttestation is present.
     EnterpriseAttestation,
 }
 

@@ -13,7 +13,7 @@ use crate::item::{expect_map, read_members};
 use crate::options::Options;
 use ctap_cbor::{Cursor, Fault, Item, Members};
 
-/// The parameters of authenticatorGetAssertion found so far.
+/// The parameters of authenticatorGetAssertion that were read so far.
 #[derive(Drop)]
 pub(crate) struct Assert<'a> {
     pub rp_id: Option<&'a str>,
@@ -57,7 +57,7 @@ impl<'a> Members<'a> for Assert<'a> {
     }
 }
 
-/// Reads all parameters. Returns whether they have the right types.
+/// Reads all parameters of a request. Returns whether the parameters have the required types.
 pub(crate) fn parse_get_assertion<'a>(cursor: &mut Cursor<'a>) -> Result<(bool, Assert<'a>), Fault>
     ensures { MatchResult result
         (λ r. (middle : Reading) × Reads (typed (map_of assertion_types) assertion_in) 4 (r.0, to_assertion_parameters r.1)

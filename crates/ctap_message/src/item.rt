@@ -1,4 +1,4 @@
-//! Helpers for items and maps.
+//! Helper functions for items and maps.
 
 ghost use Rattle.std.specs.Prelude.{◌≡◌, ◌&&◌, ◌||◌, ◌-◌, ◌≤◌, MatchResult};
 ghost use Rattle.std.specs.Option.{option_copied};
@@ -17,7 +17,7 @@ pub(crate) fn expect_map(item: Item<'_>) -> bool
     matches!(item, Item::Map(_))
 }
 
-/// Returns whether a credential type is `public-key`.
+/// Returns whether a credential type, if any, is `public-key`.
 pub(crate) fn is_public_key(kind: Option<&str>) -> bool
     ensures { result ≡ is_known_type (option_copied kind.entry) }
 {
@@ -27,7 +27,7 @@ pub(crate) fn is_public_key(kind: Option<&str>) -> bool
     }
 }
 
-/// Reads a map's members. Returns whether it is a map and all members were accepted.
+/// Reads the members of a map. Returns whether the item is a map all of whose members were accepted.
 pub(crate) fn read_members<'a, M: Members<'a>>(
     members: &mut M,
     cursor: &mut Cursor<'a>,

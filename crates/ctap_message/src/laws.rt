@@ -1,4 +1,4 @@
-//! Laws about the definitions. Each function only calls the laws that it needs: its contract is the law.
+//! Laws about the definitions. Each function only calls the laws that it needs, and its contract is the law.
 
 ghost use Rattle.std.specs.Prelude.{◌≡◌, ℕ, ◌+◌, ◌-◌, ◌*◌, ◌≤◌, List, length, drop, min, Option};
 ghost use Rattle.ctap_cbor.specs.Tree.{Array, Trees, no_trees};
@@ -11,7 +11,7 @@ ghost use Rattle.ctap_message.specs.Answers.{info_tree, info_answer, created_tre
 
 use ctap_cbor::laws as encoding;
 
-/// States that the response of authenticatorGetInfo has 81 bytes, and is a status followed by the canonical CBOR
+/// States that the response of authenticatorGetInfo has 81 bytes, and consists of a status byte and the canonical CBOR
 /// encoding of its map.
 pub fn info_is_canonical()
     ensures canonical { (aaguid : List ℕ) → length aaguid ≡ 16 → AreBytes aaguid
@@ -26,14 +26,14 @@ pub fn steps_are_bounded()
     encoding::check_steps_are_bounded();
 }
 
-/// States that the response of authenticatorMakeCredential is a status followed by the canonical CBOR encoding of its
-/// map.
+/// States that the response of authenticatorMakeCredential consists of a status byte and the canonical CBOR encoding of
+/// its map.
 pub fn created_is_canonical()
     ensures { (auth sig : List ℕ) → AreShort auth → AreShort sig
         → IsCanonical (created_tree auth sig) (drop 1 (created_answer auth sig)) }
 {}
 
-/// States that the response of an assertion is a status followed by the canonical CBOR encoding of its map.
+/// States that the response of an assertion consists of a status byte and the canonical CBOR encoding of its map.
 pub fn assertion_is_canonical()
     ensures { (id auth sig : List ℕ) (user : Option (List ℕ)) (credentials : Option ℕ) → AreShort id → AreShort auth
         → AreShort sig → UserIsShort user → NumberIsShort credentials
@@ -41,8 +41,8 @@ pub fn assertion_is_canonical()
         (drop 1 (assertion_answer id auth sig user credentials)) }
 {}
 
-/// States that iterating over a list of n bytes takes at most 2 * n steps, and that these are the steps so far at its
-/// end.
+/// States that iterating over a list of n bytes takes at most 2 * n steps, and that this is the step count of the
+/// iterator at the end of the list.
 pub fn list_steps_are_bounded()
     ensures bound { (ts : Trees) (l : List ℕ) → IsCanonical (Array ts) l → list_steps ts ≤ 2 * length l }
     ensures ended { (w : DescriptorWalk) → left_of w ≡ no_trees → walked_steps w ≡ min (list_steps (list_of w)) MAX_STEPS }

@@ -16,7 +16,7 @@ use crate::rp::Rp;
 use crate::user::User;
 use ctap_cbor::{Cursor, Fault, Item, Members, read_array};
 
-/// The parameters of authenticatorMakeCredential found so far.
+/// The parameters of authenticatorMakeCredential that were read so far.
 #[derive(Drop)]
 pub(crate) struct Make<'a> {
     pub hash: Option<&'a [u8]>,
@@ -80,7 +80,7 @@ impl<'a> Members<'a> for Make<'a> {
     }
 }
 
-/// Reads all parameters. Returns whether they have the right types.
+/// Reads all parameters of a request. Returns whether the parameters have the required types.
 pub(crate) fn parse_make_credential<'a>(cursor: &mut Cursor<'a>) -> Result<(bool, Make<'a>), Fault>
     ensures { MatchResult result
         (λ r. (middle : Reading) × Reads (typed (map_of make_types) make_in) 4 (r.0, to_make_parameters r.1) cursor.old middle

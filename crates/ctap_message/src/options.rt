@@ -1,4 +1,4 @@
-//! The parameter options: a credential's discoverability (rk), the user's presence (up) and verification (uv).
+//! The parameter `options`: whether a credential is discoverable (rk), user presence (up), and user verification (uv).
 
 ghost use Rattle.ctap_message.specs.Walks.{HasPairs};
 ghost use Rattle.ctap_message.specs.Descriptors.{option_types};
@@ -7,7 +7,7 @@ ghost use Rattle.ctap_message.specs.Collected.{to_options};
 
 use ctap_cbor::{Cursor, Fault, Item, Members};
 
-/// The options found so far.
+/// The options that were read so far.
 #[derive(Clone, Copy, Drop)]
 pub(crate) struct Options {
     pub rk: Option<bool>,

@@ -12,7 +12,7 @@ use ctap_cbor::{Cursor, Entries, Fault, Item, Members};
 /// ES256 as a COSE algorithm.
 const ES256: i128 = -7;
 
-/// The members of a credential parameter found so far.
+/// The members of a credential parameter that were read so far.
 #[derive(Clone, Copy, Drop)]
 struct Parameter<'a> {
     pub alg: Option<i128>,
@@ -39,7 +39,7 @@ impl<'a> Members<'a> for Parameter<'a> {
     }
 }
 
-/// The entries of pubKeyCredParams found so far.
+/// The summary of the entries of pubKeyCredParams that were read so far.
 #[derive(Clone, Copy, Drop)]
 pub(crate) struct Parameters {
     pub is_whole: bool,

@@ -22,7 +22,7 @@ use ctap_cbor::{Cursor, read_whole};
 /// The parameters of authenticatorMakeCredential.
 #[derive(Drop)]
 pub struct MakeRequest<'a> {
-    /// clientDataHash, of 32 bytes.
+    /// The parameter clientDataHash, which has 32 bytes.
     pub hash: &'a [u8],
     pub rp_id: &'a str,
     /// At most 64 bytes.
@@ -37,12 +37,12 @@ pub struct MakeRequest<'a> {
 /// The parameters of authenticatorGetAssertion.
 #[derive(Drop)]
 pub struct AssertRequest<'a> {
-    /// clientDataHash, of 32 bytes.
+    /// The parameter clientDataHash, which has 32 bytes.
     pub hash: &'a [u8],
     pub rp_id: &'a str,
     /// allowList.
     pub allow: Descriptors<'a>,
-    /// Whether user presence is requested (option `up`).
+    /// The option `up`: whether user presence is requested.
     pub presence: bool,
 }
 
@@ -79,7 +79,7 @@ pub fn read_request<'a>(message: &'a [u8]) -> (Result<Request<'a>, Status>, u64)
     ensures steps { result.1 ≡ min (steps_of message.now) MAX_STEPS }
     // The number of steps is exact for messages that the transport delivers.
     ensures exact { length message.now ≤ MAX_REQUEST_LEN → result.1 ≡ steps_of message.now }
-    // Each iterator over a list is at its start.
+    // The iterator over the list of descriptors, if any, is at its start.
     ensures fresh { IsFresh result.0 }
     ensures lens { HasLengths result.0 }
 {
@@ -90,10 +90,10 @@ pub fn read_request<'a>(message: &'a [u8]) -> (Result<Request<'a>, Status>, u64)
     }
 }
 
-/// Returns the first check that a message fails, with the values compared, or `None` for a supported request.
+/// Returns the first check that a message fails, with the values that were compared, or `None` for a supported request.
 pub fn request_fault(message: &[u8]) -> Option<RequestFault>
     ensures fault { result ≡ fault_in message.now }
-    // Its status is the one that [`read_request`] returns.
+    // The status of the error is the one that [`read_request`] returns.
     ensures status { option_map status_of result ≡ rejection_status (read_of message.now) }
 {
     match parse_request(message).0 {
@@ -102,8 +102,8 @@ pub fn request_fault(message: &[u8]) -> Option<RequestFault>
     }
 }
 
-/// Parses a message as [`read_request`] does. Returns the request, or the first check that it fails with the values
-/// compared; and the number of steps.
+/// Parses a message as [`read_request`] does. Returns the request, or the first check that it fails, with the values
+/// that were compared. Also returns the number of steps.
 #[tactic(auto, unfolding(crate::specs::Requests::read_of, crate::specs::Requests::steps_of, crate::specs::RequestFaults::fault_in))]
 #[inline(always)]
 pub fn parse_request<'a>(message: &'a [u8]) -> (Result<Request<'a>, RequestFault>, u64)
@@ -129,7 +129,7 @@ pub fn parse_request<'a>(message: &'a [u8]) -> (Result<Request<'a>, RequestFault
     }
 }
 
-/// Checks that a command without parameters has none.
+/// Checks that a command without parameters isn't followed by any byte.
 fn check_no_parameters<'a>(
     parameters: &[u8],
     request: Request<'a>,
@@ -150,8 +150,8 @@ fn check_no_parameters<'a>(
     }
 }
 
-/// Parses authenticatorMakeCredential: checks that the parameters are canonical CBOR, then reads them with the same
-/// cursor.
+/// Parses the parameters of authenticatorMakeCredential: checks that they are in canonical CBOR, and then reads them
+/// with the same cursor.
 fn read_make_credential<'a>(parameters: &'a [u8]) -> (Result<Request<'a>, RequestFault>, u64)
     ensures request { parsed_result result.0 ≡ make_request (canonical_tree parameters.now) }
     ensures fault { fault_of_result result.0 ≡ fault_of (outcome_of parameters.now) checked_make }
@@ -171,8 +171,8 @@ fn read_make_credential<'a>(parameters: &'a [u8]) -> (Result<Request<'a>, Reques
     }
 }
 
-/// Parses authenticatorGetAssertion: checks that the parameters are canonical CBOR, then reads them with the same
-/// cursor.
+/// Parses the parameters of authenticatorGetAssertion: checks that they are in canonical CBOR, and then reads them with
+/// the same cursor.
 fn read_get_assertion<'a>(parameters: &'a [u8]) -> (Result<Request<'a>, RequestFault>, u64)
     ensures request { parsed_result result.0 ≡ assertion_request (canonical_tree parameters.now) }
     ensures fault { fault_of_result result.0 ≡ fault_of (outcome_of parameters.now) checked_assertion }

@@ -1,4 +1,4 @@
-//! The parameter rp: the relying party (WebAuthn Level 2, section 5.4.2).
+//! The parameter `rp`: the relying party (WebAuthn Level 2, section 5.4.2).
 
 ghost use Rattle.ctap_message.specs.Walks.{HasPairs};
 ghost use Rattle.ctap_message.specs.MakeCredential.{rp_types};
@@ -7,7 +7,7 @@ ghost use Rattle.ctap_message.specs.Collected.{to_rp};
 
 use ctap_cbor::{Cursor, Fault, Item, Members};
 
-/// The members of rp found so far.
+/// The members of the parameter rp that were read so far.
 #[derive(Clone, Copy, Drop)]
 pub(crate) struct Rp<'a> {
     pub id: Option<&'a str>,

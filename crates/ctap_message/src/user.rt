@@ -1,4 +1,4 @@
-//! The parameter user: the account (WebAuthn Level 2, section 5.4.3).
+//! The parameter `user`: the user account (WebAuthn Level 2, section 5.4.3).
 
 ghost use Rattle.ctap_message.specs.Walks.{HasPairs};
 ghost use Rattle.ctap_message.specs.MakeCredential.{user_types};
@@ -7,7 +7,7 @@ ghost use Rattle.ctap_message.specs.Collected.{to_user};
 
 use ctap_cbor::{Cursor, Fault, Item, Members};
 
-/// The members of user found so far.
+/// The members of the parameter user that were read so far.
 #[derive(Clone, Copy, Drop)]
 pub(crate) struct User<'a> {
     pub id: Option<&'a [u8]>,

@@ -1,4 +1,4 @@
-//! The checks of a request's parameters, in order.
+//! The checks of the parameters of a request, in order.
 
 ghost use Rattle.std.specs.Prelude.{◌≡◌, true, Err};
 ghost use Rattle.ctap_message.specs.Judged.{validated_make};
@@ -19,22 +19,22 @@ const MAKE_CREDENTIAL: u8 = 0x01;
 /// The command byte of authenticatorGetAssertion.
 const GET_ASSERTION: u8 = 0x02;
 
-/// Returns the error of an incomplete list entry.
+/// Returns the error for an incomplete entry of a list.
 fn entry_not_whole(command: u8, parameter: u8) -> RequestFault
     ensures { result ≡ RequestFault.EntryNotWhole command parameter }
 {
     RequestFault::EntryNotWhole { command, parameter }
 }
 
-/// Returns the error of a missing required parameter.
+/// Returns the error for a missing required parameter.
 fn missing<'a>(command: u8, parameter: u8) -> Result<Request<'a>, RequestFault>
     ensures { result ≡ Err (RequestFault.Missing command parameter) }
 {
     Err(RequestFault::Missing { command, parameter })
 }
 
-/// Returns the first further check that an authenticatorMakeCredential request with clientDataHash, rp.id and user.id
-/// fails.
+/// Returns the first check that an authenticatorMakeCredential request fails, after the checks that clientDataHash,
+/// rp.id and user.id are present.
 fn fault_of_make(make: &Make, hash: &[u8], user_id: &[u8]) -> Option<RequestFault>
     ensures { result ≡ fault_of_make (to_make_parameters make.now).0 hash.now user_id.now }
 {

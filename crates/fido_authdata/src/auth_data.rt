@@ -1,4 +1,4 @@
-//! Authenticator data, and the bytes that are signed.
+//! Authenticator data, and the bytes that an authenticator signs.
 
 ghost use Rattle.std.specs.Prelude.{◌≡◌, ◌⊎◌, ◌+◌, ◌++◌, length};
 ghost use Rattle.fido_authdata.specs.AuthData.{assertion_bytes, created_bytes};
@@ -8,16 +8,16 @@ use arrayvec::ArrayVec;
 use byteorder::{BigEndian, ByteOrder};
 use std::marker::Model;
 
-/// Length of an assertion's authenticator data.
+/// Length of the authenticator data of an assertion, in bytes.
 pub const ASSERTION_LEN: usize = 37;
 
-/// Length of attested credential data: AAGUID, ID length, ID, COSE key.
+/// Length of attested credential data, in bytes: AAGUID, ID length, ID and COSE key.
 const ATTESTED_LEN: usize = 16 + 2 + 32 + COSE_KEY_LEN;
 
-/// Length of a new credential's authenticator data.
+/// Length of the authenticator data of a new credential, in bytes.
 pub const CREATED_LEN: usize = ASSERTION_LEN + ATTESTED_LEN;
 
-/// Maximum length of the signed bytes: authenticator data and a hash of 32 bytes.
+/// Maximum length of the signed bytes: authenticator data, followed by a hash of 32 bytes.
 pub const TO_SIGN_MAX: usize = CREATED_LEN + 32;
 
 /// Flag: the user was present (UP, bit 0).
@@ -35,7 +35,7 @@ struct AttestedCredential {
     y: [u8; 32],
 }
 
-/// Authenticator data (WebAuthn Level 2, section 6.1). In contracts it is its bytes.
+/// Authenticator data (WebAuthn Level 2, section 6.1). In contracts, it is the list of its bytes.
 #[derive(Clone, Debug, Drop)]
 pub struct AuthData {
     rp_hash: [u8; 32],
@@ -54,8 +54,8 @@ impl Model for AuthData {
 }
 
 impl AuthData {
-    /// Creates the authenticator data of an assertion from the SHA-256 hash of the RP ID, the UP flag, and the
-    /// incremented signature counter.
+    /// Creates the authenticator data of an assertion, from the SHA-256 hash of the RP ID, the UP flag and the
+    /// signature counter after its increment.
     pub fn assertion(rp_hash: &[u8; 32], up: bool, counter: u32) -> Self
         ensures value { result ≡ assertion_bytes rp_hash.now up counter }
         ensures len { length result ≡ ASSERTION_LEN }
@@ -68,8 +68,8 @@ impl AuthData {
         }
     }
 
-    /// Creates the authenticator data of a new credential from its ID, the coordinates of its public key, and the
-    /// AAGUID. The flags are UP and AT (0x41), and the counter is 0.
+    /// Creates the authenticator data of a new credential, from its ID, the coordinates of its public key, and the
+    /// AAGUID. The flags are UP and AT (0x41), and the signature counter is 0.
     pub fn created(
         rp_hash: &[u8; 32],
         aaguid: &[u8; 16],
@@ -93,7 +93,7 @@ impl AuthData {
         }
     }
 
-    /// Returns the encoded authenticator data: 37 bytes for an assertion, 164 for a new credential.
+    /// Returns the encoding of the authenticator data: 37 bytes for an assertion, or 164 bytes for a new credential.
     pub fn bytes(&self) -> ArrayVec<u8, CREATED_LEN>
         ensures value { result.items ≡ self.now }
         ensures len { (length result.items ≡ ASSERTION_LEN) ⊎ (length result.items ≡ CREATED_LEN) }
@@ -121,9 +121,9 @@ impl AuthData {
     }
 }
 
-/// Returns the bytes to sign: authenticator data followed by the SHA-256 hash of the client data, both for an assertion
-/// (WebAuthn Level 2, section 6.3.3) and for packed self attestation (section 8.2). 69 bytes for an assertion, 196 for
-/// a new credential.
+/// Returns the bytes to sign: the authenticator data, followed by the SHA-256 hash of the client data. They are the
+/// same for an assertion (WebAuthn Level 2, section 6.3.3) and for packed self attestation (section 8.2). There are 69
+/// bytes for an assertion, and 196 bytes for a new credential.
 pub fn to_sign(auth_data: &AuthData, hash: &[u8; 32]) -> ArrayVec<u8, TO_SIGN_MAX>
     ensures value { result.items ≡ auth_data.now ++ hash.now }
     ensures len { (length result.items ≡ ASSERTION_LEN + 32) ⊎ (length result.items ≡ TO_SIGN_MAX) }

@@ -5,10 +5,10 @@ ghost use Rattle.fido_authdata.specs.CoseKey.{cose_key_bytes};
 
 use arrayvec::ArrayVec;
 
-/// Length of an ES256 COSE key.
+/// Length of the COSE key of an ES256 credential, in bytes.
 pub const COSE_KEY_LEN: usize = 77;
 
-/// The map's head and its members, up to the head of the x coordinate.
+/// The head of the map and its members, up to the head of the x coordinate.
 const COSE_KEY_BEFORE_X: [u8; 10] = [
     0xA5, // a map of five pairs
     0x01, 0x02, // kty (1): EC2 (2)
@@ -17,7 +17,7 @@ const COSE_KEY_BEFORE_X: [u8; 10] = [
     0x21, 0x58, 0x20, // x (-2): a byte string of 32 bytes
 ];
 
-/// The label of the y coordinate, and the head of its byte string.
+/// The label of the y coordinate, and the head of the byte string with the y coordinate.
 const COSE_KEY_BEFORE_Y: [u8; 3] = [
     0x22, 0x58, 0x20, // y (-3): a byte string of 32 bytes
 ];

@@ -1,5 +1,5 @@
-//! A host allocates a channel of a security key with INIT, sends a PING, and registers; the packets that the key
-//! sends are printed.
+//! An example of a host: it allocates a channel of a security key with INIT, sends a PING, and registers a credential.
+//! The packets that the key sends are printed.
 #![tactic(auto)]
 
 use authn_core::{NewKey, Presence, Signature};
@@ -8,12 +8,13 @@ use hid_packet::{BROADCAST, Fragments, Outbox};
 use std::io;
 use token_session::{Input, Session};
 
-/// authenticatorMakeCredential for user 01 of `example.com`. The client data hash is 32 times the letter `h`.
+/// An authenticatorMakeCredential request for user 01 of `example.com`. The client data hash consists of 32 letters
+/// `h`.
 const REGISTRATION: &[u8] =
     b"\x01\xa4\x01\x58\x20hhhhhhhhhhhhhhhhhhhhhhhhhhhhhhhh\x02\xa1\x62id\x6bexample.com\
       \x03\xa1\x62id\x41\x01\x04\x81\xa2\x63alg\x26\x64type\x6apublic-key";
 
-/// Passes an input to the key, and prints the packets that it sends for it.
+/// Passes an input to the key, and prints the packets that the key sends.
 fn step(rt: &HostRuntime, key: &mut Session<8>, input: Input) -> io::Result<()> {
     let mut outbox = Outbox::new();
     key.step(0, input, &mut outbox);
@@ -23,7 +24,7 @@ fn step(rt: &HostRuntime, key: &mut Session<8>, input: Input) -> io::Result<()> 
     Ok(())
 }
 
-/// Passes the packets of a message to the key.
+/// Passes the packets of a message to the key, one at a time.
 fn send(rt: &HostRuntime, key: &mut Session<8>, message: Fragments) -> io::Result<()> {
     for packet in message {
         step(rt, key, Input::Packet(packet))?;

@@ -14,11 +14,11 @@ use crate::verdict::Verdict;
 use hid_packet::{BROADCAST, CONT_PACKET_DATA, INIT_PACKET_DATA, MAX_MESSAGE_LEN, Packet, View};
 use std::marker::Model;
 
-/// Milliseconds after its last packet at which an open message times out.
+/// The time in milliseconds after which an open message times out, counted from its last packet.
 pub const MESSAGE_TIMEOUT: u64 = 500;
 
-/// An open message: the fields of its initialization packet, the number of continuation packets received, and the
-/// timestamp of the last packet.
+/// An open message: the fields of its initialization packet, the number of its continuation packets so far, and the
+/// timestamp of its last packet.
 #[derive(Clone, Copy)]
 pub(crate) struct OpenMessage {
     pub(crate) cid: u32,
@@ -43,13 +43,13 @@ impl OpenMessage {
     }
 }
 
-/// The content of the buffer.
+/// What the buffer contains.
 #[derive(Clone, Copy)]
 enum Contents {
     Nothing,
-    /// The data bytes of an open message so far.
+    /// The data bytes of an open message that were received so far.
     Open(OpenMessage),
-    /// The complete message of the last packet, of this length.
+    /// The complete message of the last packet, which has this length.
     Finished(u16),
 }
 
@@ -61,8 +61,8 @@ fn put_data(message: &mut [u8], held: usize, part: &[u8])
     message[held..held + part.len()].copy_from_slice(part);
 }
 
-/// Returns the verdict for an INIT with this data on the channel `on`. If a request is pending there, it must be
-/// dropped.
+/// Returns the verdict on an INIT packet on the channel `on`, with these data bytes. If a request is pending on this
+/// channel, the request must be dropped.
 fn init_verdict(on: u32, channel: u32, part: &[u8], working: Option<u32>) -> Verdict
     requires { 8 ≤ length part.now }
     ensures { result ≡ (if is_busy_here working on then Verdict.GreetAndDrop on channel (take 8 part.now)
@@ -77,14 +77,14 @@ fn init_verdict(on: u32, channel: u32, part: &[u8], working: Option<u32>) -> Ver
     }
 }
 
-/// Returns the verdict that refuses a packet of this channel.
+/// Returns the verdict that rejects a packet on this channel.
 fn refuse(cid: u32, why: Refusal) -> Verdict
     ensures { result ≡ Verdict.Refuse cid why }
 {
     Verdict::Refuse { cid, why }
 }
 
-/// Returns the reason for refusing a packet of a channel while a channel is busy.
+/// Returns why a packet is rejected while its channel or another channel is busy.
 fn busy_refusal(current: Option<u32>, working: Option<u32>, cid: u32) -> Refusal
     ensures { result ≡ Refusal.BusyElsewhere (busy_channel current working cid) }
 {
@@ -95,8 +95,9 @@ fn busy_refusal(current: Option<u32>, working: Option<u32>, cid: u32) -> Refusal
     Refusal::BusyElsewhere { channel }
 }
 
-/// The allocated channels, and the one message that may be incomplete. [`accept`](Self::accept) handles a packet;
-/// before it, [`pass`](Self::pass) drops a message that timed out.
+/// The state of the transport: the number of allocated channels, and the incomplete message, if any.
+/// [`accept`](Self::accept) handles a packet. Before that, [`pass`](Self::pass) drops the incomplete message if it
+/// timed out.
 #[derive(Drop)]
 pub struct Assembler {
     given: u32,
@@ -104,8 +105,8 @@ pub struct Assembler {
     buffer: [u8; MAX_MESSAGE_LEN as usize],
 }
 
-// In contracts, an assembler is the number of allocated channels, the open message with its bytes, and the bytes of
-// the complete message.
+// In contracts, an assembler is the number of allocated channels, the open message with its bytes, and the bytes of the
+// complete message.
 impl Model for Assembler {
     ghost use Rattle.hid_assemble.specs.Assembly.{Assembly};
     ghost use Rattle.hid_assemble.specs.Kept.{assembly, IsValidState};
@@ -118,14 +119,14 @@ impl Model for Assembler {
 }
 
 impl Assembler {
-    /// Returns an assembler without an open message or an allocated channel.
+    /// Returns an assembler without allocated channels or an open message.
     pub fn new() -> Self
         ensures value { result ≡ record { given = 0; current = None; finished = [] } }
     {
         Self::with_given(0)
     }
 
-    /// Returns an assembler without an open message, with channels 1 to `given` allocated.
+    /// Returns an assembler with the channels 1 to `given` allocated, and without an open message.
     pub fn with_given(given: u32) -> Self
         requires { given ≤ MAX_CHANNEL }
         ensures { result ≡ record { given = given; current = None; finished = [] } }
@@ -137,7 +138,7 @@ impl Assembler {
         }
     }
 
-    /// Returns whether a message is open whose last packet arrived 500 ms or more before `at`.
+    /// Returns whether a message is open whose last packet arrived 500 ms or more before time `at`.
     pub fn overdue(&self, at: u64) -> bool
         ensures { result ≡ is_overdue self.now.current at }
     {
@@ -147,8 +148,8 @@ impl Assembler {
         }
     }
 
-    /// Drops an overdue message and returns its channel, on which ERROR 0x05 is due
-    /// (CTAP 2.1, section 11.2.5.2).
+    /// Drops the open message if it timed out, and returns its channel, on which ERROR 0x05 must be sent (CTAP 2.1,
+    /// section 11.2.5.2).
     pub fn pass(&mut self, at: u64) -> Option<u32>
         ensures dropped { result ≡ (if is_overdue self.old.current at then option_map (λ m. m.cid) self.old.current
             else None) }
@@ -164,8 +165,8 @@ impl Assembler {
     }
 
     /// Handles a packet at time `at`. `working` is the channel of the pending request, if any. Returns the verdict of
-    /// the first row of the reply table that applies, and stores or drops data accordingly. `CancelWork` and
-    /// `GreetAndDrop` only occur if a request is pending on the packet's channel.
+    /// the first row of the reply table that applies, and stores or drops data according to this row. The verdicts
+    /// `CancelWork` and `GreetAndDrop` occur only if a request is pending on the packet's channel.
     #[tactic(auto, unfolding(crate::specs::Assembly::accepted, crate::specs::Verdicts::verdict))]
     pub fn accept(&mut self, at: u64, packet: &Packet, working: Option<u32>) -> Verdict
         ensures verdict { result ≡ verdict self.old working (fields packet.now.0) }
@@ -184,9 +185,9 @@ impl Assembler {
         }
     }
 
-    /// Returns whether a packet at time `at` is ignored ("noise" in the theorem): after [`pass`](Self::pass) it would
-    /// change nothing, and only an ERROR or nothing would be sent for it. `working` is the channel of the pending
-    /// request, if any.
+    /// Returns whether a packet at time `at` is ignored ("noise" in the theorem): after [`pass`](Self::pass), the
+    /// packet would change nothing, and at most an ERROR packet would be sent for it. `working` is the channel of the
+    /// pending request, if any.
     pub fn is_noise(&self, at: u64, packet: &Packet, working: Option<u32>) -> bool
         ensures { result ≡ is_noise (packet_class self.now.given (still_open self.now.current at) working
             (fields packet.now.0)) }
@@ -201,7 +202,7 @@ impl Assembler {
         }
     }
 
-    /// Clears the complete message of the previous packet.
+    /// Removes the complete message of the previous packet.
     fn clear_finished(&mut self)
         ensures forgotten { self.new ≡ record self.old { finished = [] } }
         ensures lawful { IsValidAssembly self.new }
@@ -317,7 +318,7 @@ impl Assembler {
         }
     }
 
-    /// Returns the message that the last [`accept`](Self::accept) completed, or no bytes.
+    /// Returns the message that the last call of [`accept`](Self::accept) completed, or an empty slice.
     pub fn message(&self) -> &[u8]
         ensures bytes { result.now ≡ self.now.finished }
         ensures limit { length self.now.finished ≤ MAX_MESSAGE_LEN }
@@ -328,7 +329,7 @@ impl Assembler {
         }
     }
 
-    /// Returns the number of data bytes of the open message, or 0.
+    /// Returns the number of data bytes of the open message that were received, or 0 if no message is open.
     pub fn held(&self) -> u16
         ensures lawful { IsValidAssembly self.now }
         ensures bytes { result ≡ stored_len self.now.current }
@@ -352,7 +353,7 @@ impl Assembler {
         }
     }
 
-    /// Returns the sequence number that the open message expects, or 0.
+    /// Returns the sequence number that is expected next in the open message, or 0 if no message is open.
     fn expected_sequence(&self) -> u8
         ensures { result ≡ expected_sequence_of self.now.current }
     {
@@ -362,7 +363,7 @@ impl Assembler {
         }
     }
 
-    /// Returns the timestamp of the open message's last packet, or 0.
+    /// Returns the timestamp of the last packet of the open message, or 0 if no message is open.
     pub fn last(&self) -> u64
         ensures { result ≡ last_packet_time self.now.current }
     {

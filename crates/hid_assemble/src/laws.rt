@@ -1,4 +1,4 @@
-//! Laws about the definitions. Each function has an empty body: its contract is the law.
+//! Laws about the definitions. Each function has an empty body, and its contract is the law.
 
 ghost use Rattle.std.specs.Prelude.{◌≡◌, ℕ, ◌≤◌, true, [], List, Option, None, Some};
 ghost use Rattle.hid_packet.specs.Commands.{CANCEL};
@@ -10,8 +10,8 @@ ghost use Rattle.hid_assemble.specs.Assembly.{Assembly, accepted};
 ghost use Rattle.hid_assemble.specs.Receiving.{Arrival, packets_of, received, last_verdict, ArriveInTime, IsSupportedMessage};
 ghost use Rattle.hid_assemble.specs.declared.verdict.Verdict.TheVariants.{Finished};
 
-/// States that the packets of a supported message on an allocated channel, less than 500 ms apart, complete it with
-/// exactly the message's bytes, if no message was open before.
+/// States that the packets of a supported message on an allocated channel, if they arrive less than 500 ms apart and no
+/// message was open before, complete a message with exactly its bytes.
 pub fn packets_of_a_message_complete_it()
     ensures told { (a : Assembly) (arrivals : List Arrival) (cid cmd : ℕ) (bytes : List ℕ) → a.current ≡ None
         → 1 ≤ cid → cid ≤ a.given → IsSupportedMessage cmd bytes
@@ -23,8 +23,8 @@ pub fn packets_of_a_message_complete_it()
         → received a arrivals ≡ record { given = a.given; current = None; finished = bytes } }
 {}
 
-/// States that a packet is ignored ("noise") if and only if nothing is sent for it, or only an ERROR "invalid channel"
-/// or "channel busy". It leaves the channels and the open message unchanged.
+/// States that a packet is ignored ("noise") if and only if no packet or only an ERROR packet "invalid channel" or
+/// "channel busy" is sent for it. Such a packet leaves the channels and the open message unchanged.
 pub fn noise_is_turned_away()
     ensures answer { (a : Assembly) (work : Option ℕ) (f : Fields)
         → is_noise (packet_class a.given a.current work f) ≡ is_noise_verdict (verdict a work f) }
@@ -33,7 +33,7 @@ pub fn noise_is_turned_away()
         → accepted a at work f ≡ record { given = a.given; current = a.current; finished = [] } }
 {}
 
-/// States that no packet of another channel, and no CANCEL, changes an open message.
+/// States that an open message is changed neither by a packet on another channel nor by CANCEL.
 pub fn other_packets_keep_the_open_message()
     ensures foreign { (a : Assembly) (at : ℕ) (work : Option ℕ) (f : Fields) (m : Open) → a.current ≡ Some m
         → (channel_of f ≡ m.cid → ⊥)

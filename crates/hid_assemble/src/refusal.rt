@@ -1,27 +1,28 @@
-//! Why a packet is refused or a message dropped.
+//! Why a packet is rejected, or a message is dropped.
 ghost use Rattle.std.specs.Prelude.{◌≡◌};
 ghost use Rattle.hid_assemble.specs.Refusals.{code_number};
 
-/// Why a packet is refused or a message dropped, with the values compared.
+/// Why a packet is rejected, or a message is dropped, with the values that were compared.
 #[derive(Clone, Copy, Debug, PartialEq, Eq)]
 pub enum Refusal {
     /// The command isn't supported.
     NoSuchCommand { cmd: u8 },
-    /// An INIT whose length isn't 8.
+    /// The length of an INIT packet isn't 8.
     InitLength { len: u16 },
-    /// A message that is too long, or CBOR without a command byte.
+    /// The message is too long, or is a CBOR message without a command byte.
     MessageLength { cmd: u8, len: u16 },
-    /// A continuation packet with another sequence number than the expected one.
+    /// A continuation packet doesn't have the expected sequence number.
     WrongNumber { came: u8, due: u8 },
-    /// An initialization packet while a continuation packet with this sequence number is expected on its channel.
+    /// An initialization packet arrived while the continuation packet with this sequence number was expected on the
+    /// channel.
     BrokenOff { due: u8 },
-    /// The open message timed out: its last packet arrived at `last`, and the time is now `at`.
+    /// The open message timed out: its last packet arrived at time `last`, and the current time is `at`.
     Overdue { last: u64, at: u64 },
     /// Another channel has an open message or a pending request.
     BusyElsewhere { channel: u32 },
     /// A request is pending on this channel.
     BusyHere,
-    /// The channel isn't allocated; the allocated channels are 1 to `given`.
+    /// The channel isn't allocated. The allocated channels are 1 to `given`.
     NoSuchChannel { given: u32 },
     /// No channel is left to allocate.
     NoChannelLeft,

@@ -6,45 +6,45 @@ use crate::assembler::OpenMessage;
 use hid_packet::command::{CANCEL, CBOR, INIT, PING};
 use hid_packet::{BROADCAST, CONT_PACKET_DATA, INIT_PACKET_DATA, MAX_MESSAGE_LEN};
 
-/// The last channel to be allocated.
+/// The highest channel ID that can be allocated.
 pub const MAX_CHANNEL: u32 = 0xffff_fffe;
 
 /// The rows of the reply table for an initialization packet. The first row that applies determines the verdict.
 #[derive(Clone, Copy, Debug, PartialEq, Eq)]
 pub enum ReplyRow {
-    /// CANCEL with a pending request on its channel: the request ends.
+    /// CANCEL while a request is pending on its channel: the request is cancelled.
     CancelsWork,
-    /// Any other CANCEL: nothing changes or is sent.
+    /// Any other CANCEL: nothing changes, and no packet is sent.
     CancelsNothing,
-    /// The channel isn't allocated, and the packet isn't an INIT on the broadcast channel.
+    /// The channel isn't allocated, and the packet isn't INIT on the broadcast channel.
     NoSuchChannel,
-    /// INIT with a wrong length: its channel's open message is dropped.
+    /// INIT with a wrong length: the open message on its channel is dropped.
     InitLength,
-    /// No channel is left.
+    /// INIT on the broadcast channel, but no channel is left to allocate.
     InitFull,
-    /// The next channel is allocated.
+    /// INIT on the broadcast channel: the next channel is allocated.
     InitNew,
-    /// INIT on an allocated channel: its open message and its request are dropped.
+    /// INIT on an allocated channel: the open message and the pending request on this channel are dropped.
     InitAgain,
     /// Another channel has an open message or a pending request.
     BusyElsewhere,
     /// A request is pending on this channel.
     BusyHere,
-    /// A message is open on this channel: it is dropped.
+    /// A message is open on this channel, and is dropped.
     BrokenOff,
-    /// A command that isn't supported.
+    /// The command isn't supported.
     NoSuchCommand,
-    /// Too long, or CBOR without a command byte.
+    /// The message is too long, or is a CBOR message without a command byte.
     BadLength,
-    /// The message is complete in one packet.
+    /// The message consists of this one packet, and is complete.
     Short,
-    /// The message is open from now on.
+    /// The message needs further packets, and is open from now on.
     Long,
 }
 
 impl ReplyRow {
-    /// Returns whether a packet of this row is noise, which leaves the state unchanged. Packets of other rows may leave
-    /// it unchanged, too.
+    /// Returns whether packets of this row are noise, which leaves the state unchanged. Packets of other rows may leave
+    /// the state unchanged, too.
     pub(crate) fn is_noise(self) -> bool
         ensures { result ≡ spec.is_noise (Begins self) }
     {
@@ -61,17 +61,17 @@ impl ReplyRow {
 /// How a continuation packet relates to the open message.
 #[derive(Clone, Copy, Debug, PartialEq, Eq)]
 pub enum Continuation {
-    /// No message is open on its channel.
+    /// No message is open on the packet's channel.
     Stray,
-    /// Another sequence number than the expected one: the message is dropped.
+    /// The sequence number isn't the expected one: the message is dropped.
     WrongNumber,
-    /// The expected packet: its data is stored.
+    /// The expected packet: its data bytes are stored.
     Kept,
     /// The expected packet, which completes the message.
     Whole,
 }
 
-/// Returns the row of an initialization packet.
+/// Returns the row of the reply table for an initialization packet.
 #[tactic(auto, unfolding(crate::specs::Table::init_packet_row))]
 pub(crate) fn init_packet_row(
     given: u32,
@@ -118,7 +118,7 @@ pub(crate) fn init_packet_row(
     }
 }
 
-/// Returns how a continuation packet relates to this open message.
+/// Returns the kind of a continuation packet, for this open message.
 pub(crate) fn cont_packet_row(message: &OpenMessage, cid: u32, number: u8) -> Continuation
     ensures { result ≡ spec.continuation_kind message.now.cid message.now.len message.now.kept cid number }
 {

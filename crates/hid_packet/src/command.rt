@@ -1,4 +1,4 @@
-//! The command bytes of CTAPHID (CTAP 2.1, section 11.2.9), without bit 7, which marks an initialization packet.
+//! The command bytes of CTAPHID (CTAP 2.1, section 11.2.9), without bit 7, which is set in an initialization packet.
 
 pub const PING: u8 = 0x01;
 

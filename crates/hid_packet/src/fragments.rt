@@ -10,15 +10,15 @@ use crate::packet::Packet;
 use byteorder::{BigEndian, ByteOrder};
 use std::marker::Model;
 
-/// Returns the number of packets that carry a message of `len` bytes: 1 for at most 57, else 1 and the least number of
-/// continuation packets of 59 data bytes that hold the rest, so at most 129.
+/// Returns the number of packets for a message of `len` bytes: 1 for at most 57 bytes, or else 1 plus the least number
+/// of continuation packets of 59 data bytes for the other bytes. It is at most 129.
 pub fn packets_for(len: u16) -> u16
     requires { len ≤ MAX_MESSAGE_LEN }
     ensures some { 1 ≤ result }
     ensures least { IsLeast (result - 1) len }
     ensures written { (cid cmd : ℕ) (bytes : List ℕ) → length bytes ≡ len → length (message_packets cid cmd bytes) ≡ result }
 {
-    // Rounded up: one continuation packet for each 59 bytes after the first 57.
+    // This rounds up: one continuation packet for each 59 bytes after the first 57.
     1 + (len + 1) / 59
 }
 
@@ -30,7 +30,7 @@ pub(crate) fn write_at(out: &mut [u8], place: usize, bytes: &[u8])
     out[place..place + bytes.len()].copy_from_slice(bytes);
 }
 
-/// Writes an initialization packet with these data bytes. The bytes after them are unchanged.
+/// Writes an initialization packet with these data bytes. The bytes of the packet after them are unchanged.
 pub(crate) fn write_init_packet(out: &mut [u8], cid: u32, cmd: u8, len: u16, part: &[u8])
     requires command { cmd < 128 }
     requires space { 7 + length part.now ≤ length out.old }
@@ -43,7 +43,7 @@ pub(crate) fn write_init_packet(out: &mut [u8], cid: u32, cmd: u8, len: u16, par
     write_at(out, 7, part);
 }
 
-/// Writes a continuation packet with these data bytes. The bytes after them are unchanged.
+/// Writes a continuation packet with these data bytes. The bytes of the packet after them are unchanged.
 pub(crate) fn write_cont_packet(out: &mut [u8], cid: u32, number: u8, part: &[u8])
     requires { 5 + length part.now ≤ length out.old }
     ensures { out.new ≡ ((big_bytes 4 cid ++ number ∷ []) ++ part.now) ++ drop (5 + length part.now) out.old }
@@ -53,7 +53,7 @@ pub(crate) fn write_cont_packet(out: &mut [u8], cid: u32, number: u8, part: &[u8
     write_at(out, 5, part);
 }
 
-/// Returns the initialization packet with these data bytes, and zeros after them.
+/// Returns an initialization packet with these data bytes, padded with zeros.
 fn initialization(cid: u32, cmd: u8, len: u16, part: &[u8]) -> Packet
     requires command { cmd < 128 }
     requires fits { length part.now ≤ INIT_PACKET_DATA }
@@ -64,7 +64,7 @@ fn initialization(cid: u32, cmd: u8, len: u16, part: &[u8]) -> Packet
     Packet(packet)
 }
 
-/// Returns the continuation packet with these data bytes, and zeros after them.
+/// Returns a continuation packet with these data bytes, padded with zeros.
 fn continuation(cid: u32, number: u8, part: &[u8]) -> Packet
     requires { length part.now ≤ CONT_PACKET_DATA }
     ensures { result.0 ≡ continuation_packet cid number part.now }
@@ -74,17 +74,16 @@ fn continuation(cid: u32, number: u8, part: &[u8]) -> Packet
     Packet(packet)
 }
 
-/// The next packet of a message.
+/// The packet of a message that comes next.
 #[derive(Clone, Copy)]
 pub(crate) enum NextPacket {
-    /// The initialization packet, with this command.
+    /// The initialization packet, which has this command.
     Initialization(u8),
-    /// A continuation packet with this sequence number, if any byte is left.
+    /// A continuation packet with this sequence number, if any byte of the message is left.
     Continuation(u8),
 }
 
-/// The packets of a message, in order, as an iterator. Each packet's bytes after the message are
-/// zero.
+/// An iterator over the packets of a message, in order. The last packet is padded with zeros.
 #[derive(Drop)]
 pub struct Fragments<'a> {
     cid: u32,
@@ -92,7 +91,7 @@ pub struct Fragments<'a> {
     rest: &'a [u8],
 }
 
-// In contracts, this is the list of the remaining packets.
+// In contracts, this is the list of the packets that haven't been returned yet.
 impl<'a> Model for Fragments<'a> {
     ghost use Rattle.std.specs.Prelude.{ℕ, List};
     ghost use Rattle.hid_packet.specs.Remaining.{packets_left, CanCarry};
@@ -105,8 +104,8 @@ impl<'a> Model for Fragments<'a> {
 }
 
 impl<'a> Fragments<'a> {
-    /// Returns the packets of the message `bytes` with the command `cmd` on the channel `cid`. There are as many as
-    /// [`packets_for`] returns.
+    /// Returns the packets of the message `bytes` with the command `cmd` on the channel `cid`. Their number is the
+    /// result of [`packets_for`].
     pub fn new(cid: u32, cmd: u8, bytes: &'a [u8]) -> Self
         requires short { length bytes.now ≤ MAX_MESSAGE_LEN }
         requires command { cmd < 128 }

@@ -1,5 +1,5 @@
-//! Laws about the definitions: which packets carry a message, and which are written for it. Each function has an empty
-//! body: its contract is the law.
+//! Laws about the definitions: which packets carry a message, and which packets are written for it. Each function has
+//! an empty body, and its contract is the law.
 
 ghost use Rattle.std.specs.Prelude.{◌≡◌, ℕ, ◌-◌, ◌^◌, ◌<◌, ◌≤◌, List, length};
 ghost use Rattle.hid_packet.specs.Message.{message_packets};
@@ -13,8 +13,8 @@ pub fn written_packets_carry_their_message()
         → CarriesMessage (message_packets cid cmd bytes) cid cmd bytes }
 {}
 
-/// States that the packets written for a message are one initialization packet and the least possible number of
-/// continuation packets, at most 129 packets in all.
+/// States that the packets written for a message are one initialization packet and as few continuation packets as
+/// possible, in all at most 129 packets.
 pub fn written_packets_are_the_fewest()
     ensures least { (cid cmd : ℕ) (bytes : List ℕ) → length bytes ≤ MAX_MESSAGE_LEN
         → IsLeast (length (message_packets cid cmd bytes) - 1) (length bytes) }
@@ -22,14 +22,15 @@ pub fn written_packets_are_the_fewest()
     ensures one { (a b len : ℕ) → IsLeast a len → IsLeast b len → a ≡ b }
 {}
 
-/// States that the packets written for a message have 64 bytes, and are padded with zeros after the message.
+/// States that the packets written for a message have 64 bytes each, and that zeros follow the end of the message.
 pub fn written_packets_end_in_zeros()
     ensures packets { (cid cmd : ℕ) (bytes : List ℕ) → cmd < 128 → AreBytes bytes → ArePackets (message_packets cid cmd bytes) }
     ensures zeros { (cid cmd : ℕ) (bytes : List ℕ) → length bytes ≤ MAX_MESSAGE_LEN
         → PaddingIsZero bytes (message_packets cid cmd bytes) }
 {}
 
-/// States that no other packets of 64 bytes carry the message padded with zeros.
+/// States that only the packets written for a message carry the message in packets of 64 bytes with zeros after its
+/// end.
 pub fn written_packets_are_the_only_ones()
     ensures { (packets : List (List ℕ)) (cid cmd : ℕ) (bytes : List ℕ)
         → CarriesMessage packets cid cmd bytes → ArePackets packets → PaddingIsZero bytes packets

@@ -14,11 +14,11 @@ use crate::ring::RingBuffer;
 use arrayvec::ArrayVec;
 use std::marker::Model;
 
-/// The entries of an outbox, oldest first.
+/// The entries of an outbox, the oldest first.
 type Entries = ArrayVec<Queued, OUTBOX_CAPACITY>;
 
-/// A queue of packets to send, at most [`OUTBOX_CAPACITY`] of them. It stores messages, and creates their packets as
-/// they are taken. Allocates nothing.
+/// A queue of packets to send, with capacity for [`OUTBOX_CAPACITY`] packets. It stores messages, and creates a packet
+/// of a message when the packet is removed. Allocates nothing.
 #[derive(Drop)]
 pub struct Outbox {
     entries: Entries,
@@ -38,7 +38,7 @@ impl Model for Outbox {
     ghost invariant = { λ o. IsQueued o.entries.items o.ring o.len };
 }
 
-/// Removes the first entry, which is usually the only one.
+/// Removes the first entry, which usually is the only entry.
 fn drop_first(entries: &mut Entries)
     requires { 1 ≤ array_vec_len entries.old }
     ensures { entries.new.items ≡ remove entries.old.items 0 }
@@ -50,7 +50,7 @@ fn drop_first(entries: &mut Entries)
     }
 }
 
-/// Takes the next packet of the first entry, and removes the entry with its last packet.
+/// Removes and returns the next packet of the first entry. The entry is removed with its last packet.
 fn take_first(entry: Queued, entries: &mut Entries, ring: &mut RingBuffer) -> Packet
     requires first { (more : List Queued) × (entries.old.items ≡ entry ∷ more) }
     requires held { AreEntriesOf entries.old.items ring.old }
@@ -88,7 +88,7 @@ impl Outbox {
         }
     }
 
-    /// Returns the number of packets.
+    /// Returns the number of queued packets.
     pub fn len(&self) -> usize
         ensures count { result ≡ length self.now }
         ensures limit { length self.now ≤ OUTBOX_CAPACITY }
@@ -96,7 +96,7 @@ impl Outbox {
         self.len
     }
 
-    /// Returns whether it is empty.
+    /// Returns whether no packet is queued.
     pub fn is_empty(&self) -> bool
         ensures { IsTrue result ↔ (self.now ≡ []) }
     {
@@ -120,8 +120,8 @@ impl Outbox {
         self.len += 1;
     }
 
-    /// Appends the packets of the message `bytes`, with the command `cmd` on the channel `cid`. Bytes after the message
-    /// are zero.
+    /// Appends the packets of the message `bytes`, with the command `cmd` on the channel `cid`. The last packet is
+    /// padded with zeros.
     pub fn put_message(&mut self, cid: u32, cmd: u8, bytes: &[u8])
         requires short { length bytes.now ≤ MAX_MESSAGE_LEN }
         requires command { cmd < 128 }
@@ -130,7 +130,7 @@ impl Outbox {
     {
         let left = bytes.len() as u16;
         if bytes.len() <= INIT_PACKET_DATA {
-            // The packet of a short message is created now, because storing its bytes for later takes longer.
+            // The packet of a short message is created here, because storing the message for later takes longer.
             let mut packet = [0; 64];
             write_init_packet(&mut packet, cid, cmd, left, bytes);
             return self.put_packet(Packet(packet));
@@ -143,7 +143,7 @@ impl Outbox {
     }
 }
 
-/// Yields the packets in order, and removes them.
+/// Returns the packets in order, and removes each one.
 impl Iterator for Outbox {
     type Item = Packet;
 

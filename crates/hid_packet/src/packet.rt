@@ -6,21 +6,21 @@ use byteorder::{BigEndian, ByteOrder};
 /// The size of a packet, in bytes.
 pub const PACKET_SIZE: usize = 64;
 
-/// The broadcast channel, on which a host asks for a channel of its own.
+/// The broadcast channel, on which a host requests a channel ID.
 pub const BROADCAST: u32 = 0xffff_ffff;
 
-/// A CTAPHID packet, the unit that crosses USB in either direction: any 64 bytes.
+/// A CTAPHID packet, which is sent over USB in either direction. Any 64 bytes are a packet.
 #[derive(Clone, Copy, Debug, PartialEq, Eq)]
 pub struct Packet(pub [u8; 64]);
 
 impl Default for Packet {
-    /// Returns a packet of zeros.
+    /// Returns a packet that consists of zeros.
     fn default() -> Self {
         Packet([0; 64])
     }
 }
 
-/// The fields of a packet (CTAP 2.1, section 11.2.4). Its data bytes are borrowed from it.
+/// The fields of a packet (CTAP 2.1, section 11.2.4). The data bytes are borrowed from the packet.
 #[derive(Clone, Copy, Debug)]
 pub enum View<'a> {
     /// An initialization packet: the channel, the command without bit 7, the length of the whole
@@ -40,8 +40,8 @@ pub enum View<'a> {
 }
 
 impl Packet {
-    /// Reads the packet's fields. Any 64 bytes are valid: bit 7 of byte 4 distinguishes initialization packets from
-    /// continuation packets.
+    /// Returns the fields of the packet. Any 64 bytes are valid: bit 7 of byte 4 distinguishes initialization packets
+    /// from continuation packets.
     #[tactic(auto, unfolding(crate::specs::Packet::channel, crate::specs::Packet::is_initialization, crate::specs::Packet::command, crate::specs::Packet::message_length, crate::specs::Packet::initialization_data, crate::specs::Packet::sequence, crate::specs::Packet::continuation_data))]
     pub fn view(&self) -> View<'_>
         ensures fields { to_fields result ≡ fields self.now.0 }

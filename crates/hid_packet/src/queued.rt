@@ -1,4 +1,4 @@
-//! An entry of an outbox: a packet, or a message whose packets are created as they are taken.
+//! Entries of an outbox: a packet, or a message whose packets are created when they are removed.
 ghost use Rattle.std.specs.Prelude.{◌≡◌, ◌+◌, ◌<◌, ◌≤◌, ◌++◌, ◌∷◌, [], length, take, drop};
 ghost use Rattle.hid_packet.specs.Message.{continuation_packet, initialization_packet};
 ghost use Rattle.hid_packet.specs.Queue.{HasPacketLeft};
@@ -10,7 +10,7 @@ use crate::limits::{CONT_PACKET_DATA, INIT_PACKET_DATA};
 use crate::packet::Packet;
 use crate::ring::RingBuffer;
 
-/// The rest of a message: its next packet, and its number of bytes in the ring.
+/// The rest of a message: the next packet, and the number of bytes in the ring buffer.
 #[derive(Clone, Copy)]
 pub(crate) struct QueuedMessage {
     pub(crate) cid: u32,
@@ -21,9 +21,9 @@ pub(crate) struct QueuedMessage {
 /// An entry of an outbox.
 #[derive(Clone, Copy)]
 pub(crate) enum Queued {
-    /// A packet, whose 64 bytes are in the ring.
+    /// A packet, whose 64 bytes are in the ring buffer.
     Whole,
-    /// A message, or the rest of one.
+    /// A message, or the rest of a message.
     Part(QueuedMessage),
 }
 
@@ -34,7 +34,7 @@ impl Default for Queued {
 }
 
 impl QueuedMessage {
-    /// Creates the next packet.
+    /// Creates the next packet of the message.
     pub(crate) fn next_packet(&mut self, ring: &mut RingBuffer) -> Packet
         requires due { HasPacketLeft self.old.due self.old.left }
         requires there { self.old.left ≤ length ring.old }

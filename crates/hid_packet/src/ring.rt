@@ -1,4 +1,4 @@
-//! A ring buffer of bytes, used as a queue.
+//! A ring buffer, used as a queue of bytes.
 ghost use Rattle.std.specs.Prelude.{◌≡◌, ◌+◌, ◌-◌, ◌*◌, ◌%◌, ◌<◌, ◌≤◌, ◌++◌, [], length, min, take, drop};
 ghost use Rattle.hid_packet.specs.Limits.{RING_SIZE};
 
@@ -6,7 +6,7 @@ use crate::fragments::write_at;
 use crate::limits::OUTBOX_CAPACITY;
 use std::marker::Model;
 
-/// Capacity in bytes: 64 for each packet of a full outbox.
+/// Capacity in bytes: 64 for each packet in a full outbox.
 const RING_SIZE: usize = 64 * OUTBOX_CAPACITY;
 
 /// A queue of at most `RING_SIZE` bytes.
@@ -30,7 +30,7 @@ impl Model for RingBuffer {
     ghost invariant = { λ r. (r.first < RING_SIZE) × (r.len ≤ RING_SIZE) × (length r.bytes ≡ RING_SIZE) };
 }
 
-/// Reduces an index that may be past the ring's end to an index in the ring.
+/// Reduces an index that may be past the end of the ring buffer to an index in it.
 fn wrap_index(place: usize) -> usize
     requires { place < 2 * RING_SIZE }
     ensures { result ≡ place % RING_SIZE }
@@ -54,7 +54,7 @@ impl RingBuffer {
         }
     }
 
-    /// Appends bytes, wrapping around at the ring's end.
+    /// Appends bytes. Bytes past the end of the ring buffer are stored at its beginning.
     pub(crate) fn put(&mut self, bytes: &[u8])
         requires { length self.old + length bytes.now ≤ RING_SIZE }
         ensures { self.new ≡ self.old ++ bytes.now }
@@ -71,7 +71,7 @@ impl RingBuffer {
         write_at(&mut self.bytes, 0, back);
     }
 
-    /// Removes the first bytes, as many as `out` has, wrapping around at the ring's end.
+    /// Removes the first bytes, as many as fit into `out`, and copies them to `out`.
     pub(crate) fn take(&mut self, out: &mut [u8])
         requires { length out.old ≤ length self.old }
         ensures taken { out.new ≡ take (length out.old) self.old }

@@ -24,10 +24,11 @@ pub enum ShowFormat {
     JsonSummary,
 }
 
-/// The action, with the paths of snapshots and logs as given.
+/// The task that the arguments specify, with the paths of snapshots and logs.
 #[derive(Clone, Copy)]
 pub enum Action<'a> {
-    /// `hidlog replay [--load F] [--save F] [FILE]`, the same with `live`, and `hidlog quiet [--load F] [FILE]`
+    /// `hidlog replay [--load F] [--save F] [FILE]`, `hidlog live [--load F] [--save F] [FILE]`, or `hidlog quiet
+    /// [--load F] [FILE]`.
     Play(Play<'a>),
     /// `hidlog check [--load F] [--all] [--json] [FILE]..`
     Check {
@@ -43,14 +44,14 @@ pub enum Action<'a> {
     },
 }
 
-/// The level of detail of messages.
+/// The level of detail of the program's texts.
 #[derive(Clone, Copy)]
 pub enum Verbosity {
-    /// Explained: with names, members, reasons and notes.
+    /// Explained: texts with names, members, reasons and notes.
     Explained,
-    /// For programs: the fixed texts.
+    /// Fixed: texts without explanations, for programs.
     Fixed,
-    /// Explained if the output is a terminal, otherwise fixed.
+    /// Explained if the output is a terminal, or else fixed.
     ByTerminal,
 }
 
@@ -67,16 +68,16 @@ impl Verbosity {
     }
 }
 
-/// The action, the logs, and the level of detail.
+/// The parsed arguments: the task, the paths of all logs, and the level of detail.
 #[derive(Drop)]
 pub struct Invocation<'a> {
     pub task: Action<'a>,
-    /// The paths of all logs, for `check`.
+    /// The paths of all logs, used by `check`.
     pub logs: Vec<&'a str>,
     pub verbosity: Verbosity,
 }
 
-/// The arguments after a command's name, for any command.
+/// The options and paths after a command's name, of any command.
 #[derive(Clone, Copy)]
 struct CommandOptions<'a> {
     load: Option<&'a str>,
@@ -90,7 +91,7 @@ struct CommandOptions<'a> {
 }
 
 impl<'a> CommandOptions<'a> {
-    /// Returns the action of the command with this name.
+    /// Returns the task of the command with this name.
     fn task(&self, name: &str) -> Option<Action<'a>>
         ensures { (logs : List (List ℕ)) → option_map (λ task. to_task task logs) result ≡ task_for name.now self.now logs }
     {
@@ -127,7 +128,7 @@ impl<'a> CommandOptions<'a> {
     }
 }
 
-/// Returns whether a flag was given.
+/// Returns whether the arguments contain this flag.
 fn is_set(options: &ArgMatches<'_>, name: &str) -> bool
     ensures { result ≡ is_found name.now (rows_of (found_of options.now)) }
 {
@@ -137,7 +138,7 @@ fn is_set(options: &ArgMatches<'_>, name: &str) -> bool
     }
 }
 
-/// Returns the requested format.
+/// Returns the output format that the options select.
 fn parse_show_format(options: &ArgMatches<'_>) -> ShowFormat
     ensures { result ≡ show_format (rows_of (found_of options.now)) }
 {
@@ -175,7 +176,7 @@ fn parse_logs<'a>(alloc: Global, options: &ArgMatches<'a>) -> Result<Vec<&'a str
     }
 }
 
-/// Returns the arguments after a command's name.
+/// Returns the options and paths after a command's name.
 fn parse_options<'a>(options: &ArgMatches<'a>) -> CommandOptions<'a>
     ensures { AreParsedOptions result (rows_of (found_of options.now)) }
 {
@@ -191,7 +192,7 @@ fn parse_options<'a>(options: &ArgMatches<'a>) -> CommandOptions<'a>
     }
 }
 
-/// Returns the action of the command that was given.
+/// Returns the task of the command in the arguments.
 fn parse_action<'a>(
     alloc: Global,
     matches: &ArgMatches<'a>,
@@ -212,8 +213,8 @@ fn parse_action<'a>(
     }
 }
 
-/// Returns the action of a command without options. Doesn't use clap, whose parsing takes a fifth of the instructions
-/// up to the first line of a log.
+/// Returns the task of a command that has no options. Doesn't use clap, whose parsing takes a fifth of the instructions
+/// that are executed before the first line of a log.
 fn parse_without_options<'a>(alloc: Global, words: &[&str]) -> Option<Invocation<'a>>
     ensures { IfSome result (λ asked. parsed_command_line (to_texts words.now) ≡ Some (task_and_verbosity asked)) }
 {
@@ -240,7 +241,7 @@ fn parse_without_options<'a>(alloc: Global, words: &[&str]) -> Option<Invocation
     }
 }
 
-/// Returns the action, or clap's help or error. The first argument is the program's name.
+/// Returns the parsed arguments, or clap's help or error. The first argument is the program's name.
 #[inline(never)]
 pub fn parse_args<'a>(alloc: Global, words: &'a [&'a str]) -> Result<Invocation<'a>, Error>
     ensures task { IfOk result (λ asked. parsed_command_line (to_texts words.now) ≡ Some (task_and_verbosity asked)) }
@@ -254,7 +255,7 @@ pub fn parse_args<'a>(alloc: Global, words: &'a [&'a str]) -> Result<Invocation<
     drop(matches);
     match asked? {
         Some(asked) => Ok(asked),
-        // clap rejects arguments without a command.
+        // clap rejects arguments that contain no command.
         None => unreachable!(),
     }
 }

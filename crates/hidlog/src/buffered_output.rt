@@ -1,4 +1,4 @@
-//! Output that is buffered while there are complete lines that were read but not yet played.
+//! Output that is buffered as long as complete lines of the log were read but not played.
 ghost use Rattle.std.specs.Prelude.{◌≡◌, ◌<◌, ◌≤◌, ◌-◌, ◌^◌, ◌+◌, [], List, ℕ, length, drop, vec_len, is_ok, if◌then◌else◌, OnOk, OnErr};
 ghost use Rattle.std.specs.Io.KnownBytes.{Keeps, append_known};
 ghost use Rattle.hidlog.specs.Program.{FlushesPending};
@@ -9,28 +9,28 @@ use std::cell::Cell;
 /// Capacity of the buffer in bytes.
 const OUTPUT_BUFFER_LEN: usize = 8192;
 
-/// The last complete line that was read but not played, for which text may be written.
+/// The next complete line that was read but not played, by its kind.
 #[derive(Clone, Copy)]
 pub enum Lookahead {
     /// None.
     Nothing,
     /// A comment or an empty line.
     Comment,
-    /// Another line: an input, or an invalid line.
+    /// Any other line: an input, or an invalid line.
     Input,
 }
 
-/// Where the last complete lines begin for which text may be written, as distances from the end of the bytes read; 0 if
-/// there is no such line.
+/// Where the last complete input line or invalid line begins, and the last comment after it. Both are distances from
+/// the end of the bytes read, or 0 if there is no such line.
 #[derive(Clone, Copy)]
 pub struct LineBoundaries {
     input: usize,
-    /// The last comment or empty line after that input.
+    /// The last comment or empty line after that line.
     comment: usize,
 }
 
 impl LineBoundaries {
-    /// Returns the boundaries in these bytes. A line that began before them isn't included.
+    /// Returns the boundaries of the lines in these bytes, without a line that began before the first byte.
     pub fn of(bytes: &[u8]) -> Self {
         let mut last = LineBoundaries {
             input: 0,
@@ -40,7 +40,7 @@ impl LineBoundaries {
         for len in 0..bytes.len() {
             let byte = bytes[bytes.len() - 1 - len];
             if is_whole && byte == b'\n' {
-                // The first byte of a line, which may be its line feed, shows its kind.
+                // The first byte of a line determines its kind. In an empty line, the first byte is the line feed.
                 match first {
                     b'<' | b'=' => {}
                     b'#' | b'\n' if last.comment > 0 => {}
@@ -57,8 +57,8 @@ impl LineBoundaries {
         last
     }
 
-    /// Returns how many of the last `len` bytes precede the next of these lines, and the line's kind; all of the bytes
-    /// if there is none.
+    /// Returns how many of the last `len` bytes precede the next line for which there is a boundary, and the kind of
+    /// this line. Without such a line, returns `len`.
     pub fn next(&self, len: usize) -> (usize, Lookahead) {
         if 0 < self.input && self.input <= len {
             (len - self.input, Lookahead::Input)
@@ -70,14 +70,14 @@ impl LineBoundaries {
     }
 }
 
-/// Which output is buffered while there is a complete line that was read but not yet played.
+/// Which output is buffered while there is a complete line that was read but not played.
 #[derive(Clone, Copy)]
 pub enum FlushPolicy {
-    /// None: `live`, which responds line by line, and `check`.
+    /// No output is buffered: used by `live`, which responds line by line, and by `check`.
     Nothing,
-    /// All while another input was read but not yet processed: `show`.
+    /// Output is buffered as long as another input was read but not played: used by `show`.
     UntilNextInput,
-    /// All: commands that play a log.
+    /// All output is buffered: used by the other commands that play a log.
     All,
 }
 
@@ -99,7 +99,7 @@ pub trait Output: Target {
             ≡ (if is_ok result then Self.failed self.old else Self.failed self.old + 1) };
 }
 
-/// Flushes the buffer, ignoring failures, and returns `result`.
+/// Flushes the buffer, ignores failures, and returns `result`.
 pub fn flush_then<O: Output>(output: &mut O, answer: Result<(), LogFault>) -> Result<(), LogFault>
     ensures { FlushesPending O.taken O.failed O.waits answer (output.old, output.new) result }
 {
@@ -115,14 +115,14 @@ pub fn flush_then<O: Output>(output: &mut O, answer: Result<(), LogFault>) -> Re
     }
 }
 
-/// A target over another one, which buffers output while there is a line that was read but not yet played.
+/// A target that writes to another one, and buffers output while there is a complete line that was read but not played.
 #[derive(Drop)]
 pub struct BufferedOutput<'a, T> {
     pub inner: T,
     pub ahead: &'a Cell<Lookahead>,
     pub holding: FlushPolicy,
     pub bytes: Vec<u8>,
-    /// Number of bytes that were written.
+    /// Number of bytes of the buffer that were written to the other target.
     pub at: usize,
     ghost within: { at ≤ vec_len bytes },
 }

@@ -23,10 +23,10 @@ use crate::split::Pieces;
 use session_log::{LogFault, ReplayMode, Target, ToWrite};
 use session_show::{TextBuf, Written};
 
-/// Maximum length of a log that is read again to compare the signed bytes.
+/// Maximum length of a log that is read a second time to compare the bytes to sign.
 const MAX_REREAD_LEN: u64 = 1 << 26;
 
-/// The report that nothing differs, from its text: `same 14 inputs 22 packets`.
+/// The report of a log without differences, from its text: `same 14 inputs 22 packets`.
 #[derive(Clone, Copy)]
 struct SameLog<'a> {
     options: &'a ReportOptions<'a>,
@@ -55,7 +55,7 @@ impl Written for SameLog<'_> {
     }
 }
 
-/// Reports why a line isn't a log line, or why reading failed. `state` has the name of the log.
+/// Reports why a line isn't a log line, or why reading failed. `state` contains the name of the log.
 pub fn report_cause<E: Target>(
     state: &LogState<'_>,
     name: Option<&str>,
@@ -77,7 +77,7 @@ pub fn report_cause<E: Target>(
     }
 }
 
-/// Reports what may be wrong with a log without differences, if explained or in JSON.
+/// Reports what may be wrong with a log that has no differences, if texts are explained or written as JSON.
 pub fn report_note<D: Files, L: Logs, E: Target>(
     files: &D,
     options: &ReportOptions<'_>,
@@ -107,8 +107,8 @@ pub fn report_note<D: Files, L: Logs, E: Target>(
 }
 
 impl<D: Files, L: Logs, O: Output, E: Target> Host<D, L, O, E> {
-    /// Checks the log at a path on a session of its own, writes the text of a match to `same`, and returns how the log
-    /// ended.
+    /// Checks the log at a path on a new session, writes the text for a log without differences to `same`, and returns
+    /// how the log ended.
     #[inline(never)]
     fn compare<'a>(
         &mut self,
@@ -141,7 +141,7 @@ impl<D: Files, L: Logs, O: Output, E: Target> Host<D, L, O, E> {
         }
     }
 
-    /// Writes that nothing differs. The error is the exit status.
+    /// Reports a log without differences. The error is the exit status.
     fn report_equal(&mut self, options: &ReportOptions<'_>, text: &[u8]) -> Result<(), u8>
         requires { O.failed self.old.output < 2 ^ 64 - 1 }
         ensures status { IfErr result (λ code. code ≡ 1) }
@@ -155,12 +155,13 @@ impl<D: Files, L: Logs, O: Output, E: Target> Host<D, L, O, E> {
         Err(1)
     }
 
-    /// Reports a log's error, with details if explained, and the differences. Also as JSON, if requested.
+    /// Reports the error of a log, with details if texts are explained, and then the log's differences, as JSON if
+    /// requested.
     fn report_failure(&mut self, options: &ReportOptions<'_>, fault: &ProgramFault<'_>)
         requires { E.failed self.old.faults < 2 ^ 64 - 1 }
         ensures { self.new.files ≡ self.old.files }
     {
-        // The other errors have no line.
+        // Errors other than those in the log concern no line.
         if let ProgramFault::Log(told) = fault
             && !matches!(told, LogFault::Write | LogFault::TooManyLines)
         {
@@ -194,8 +195,8 @@ impl<D: Files, L: Logs, O: Output, E: Target> Host<D, L, O, E> {
         }
     }
 
-    /// Checks one of several logs, and reports the result with its path; as JSON if requested. The error is the exit
-    /// status.
+    /// Checks one of several logs, and reports the result with the log's path, as JSON if requested. The error is the
+    /// exit status.
     fn check_one<'a>(&mut self, options: &ReportOptions<'a>, path: &'a str) -> Result<(), u8>
         requires { CanFail ⟦<Self as Modeled>⟧.model self.old }
         ensures status { IfErr result (λ code. (code ≡ 1) ⊎ (code ≡ 2)) }

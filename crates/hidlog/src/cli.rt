@@ -1,4 +1,4 @@
-//! The command line for clap: commands, options and help texts.
+//! The commands, options and help texts of the command line, as clap needs them.
 ghost use Rattle.std.specs.Prelude.{◌≡◌, false, IfOk};
 ghost use Rattle.clap.specs.Words.{app_of, rule_of, shape_of};
 ghost use Rattle.clap.specs.declared.builder.command.Command.TheViews.{out-Command as fields_of};
@@ -31,7 +31,7 @@ enum ParameterForm {
 #[derive(Clone, Copy)]
 struct CommandParameter {
     form: ParameterForm,
-    /// The name under which clap stores its value.
+    /// The name under which clap stores the argument's value.
     word: &'static str,
     help: &'static str,
 }
@@ -107,7 +107,7 @@ const LOGS: CommandParameter = CommandParameter {
     help: "The log files [default: standard input, also `-`]",
 };
 
-/// Returns the argument for clap.
+/// Converts an argument to clap's type.
 fn argument<'a>(alloc: Global, parameter: &CommandParameter) -> Arg<'a>
     ensures rule { rule_of result ≡ rule_for parameter.now }
     ensures local { result.global ≡ false }
@@ -159,7 +159,7 @@ static COMMANDS: [CommandEntry; 5] = [
     },
 ];
 
-/// Returns a command with its arguments.
+/// Converts a command with its arguments to clap's type.
 fn command<'a>(alloc: Global, entry: &CommandEntry) -> Result<Command<'a>, AllocError>
     ensures shape { IfOk result (λ made. shape_of made ≡ command_for entry.now) }
     ensures local { IfOk result (λ made. (fields_of made).has_globals ≡ false) }
@@ -171,7 +171,7 @@ fn command<'a>(alloc: Global, entry: &CommandEntry) -> Result<Command<'a>, Alloc
     Ok(command)
 }
 
-/// Returns the command line for clap.
+/// Returns the whole command line in clap's type.
 pub fn program<'a>(alloc: Global) -> Result<Command<'a>, AllocError>
     ensures { IfOk result (λ program. app_of program ≡ grammar) }
 {

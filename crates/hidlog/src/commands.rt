@@ -19,7 +19,7 @@ use crate::snapshots::{check_writable, load, lock_snapshot, save_rows};
 use session_log::{CAPACITY, ReplayMode, Target};
 use token_session::Session;
 
-/// A command that plays a log, with the paths of snapshots and log.
+/// A command that plays a log, with the paths of the snapshots and the log.
 #[derive(Clone, Copy)]
 pub struct Play<'a> {
     pub command: ReplayMode,
@@ -28,7 +28,7 @@ pub struct Play<'a> {
     pub log: Option<&'a str>,
 }
 
-/// Opens the log, and returns its path unless it is standard input.
+/// Opens the log. Returns its path, or `None` for standard input.
 pub fn open_log<'a, L: Logs>(
     input: &mut L,
     log: Option<&'a str>,
@@ -50,8 +50,8 @@ pub fn open_log<'a, L: Logs>(
     }
 }
 
-// A session takes 29 kB. Each command creates one in a stack frame of its own, so that it isn't copied and only one is
-// on the stack at a time.
+// A session takes 29 kB. Each command creates its session in a separate stack frame, so that the session isn't copied
+// and only one session is on the stack at a time.
 
 /// Returns the program's initial session, without credentials.
 // This function creates it in the caller's stack frame; calling `Session::bare` there would copy it.
@@ -62,7 +62,7 @@ pub fn new_program_session() -> Session<CAPACITY>
 }
 
 impl<D: Files, L: Logs, O: Output, E: Target> Host<D, L, O, E> {
-    /// Plays the open log on a new session, saves the credentials afterwards if a path is given, and returns how the
+    /// Plays the open log on a new session, then saves the credentials if there is a path for them, and returns how the
     /// log ended.
     #[inline(never)]
     fn play_open<'a>(
@@ -104,8 +104,8 @@ impl<D: Files, L: Logs, O: Output, E: Target> Host<D, L, O, E> {
         }
     }
 
-    /// Plays the log on a session of its own, saves the credentials afterwards if there is a path for them, and returns
-    /// how the log ended. If both snapshots have the same path, it is locked meanwhile.
+    /// Plays the log on a new session, then saves the credentials if there is a path for them, and returns how the log
+    /// ended. If the credentials are loaded from and saved to the same path, the snapshot is locked meanwhile.
     pub fn play_log<'a>(&mut self, play: &Play<'a>) -> Result<CheckEnd, ProgramFault<'a>>
         requires { CanFail ⟦<Self as Modeled>⟧.model self.old }
         ensures { RunsCommand ⟦<Self as Modeled>⟧.model play.now.command (to_path play.now.load) (to_path play.now.save)

@@ -3,16 +3,16 @@ use crate::split::{DIGITS, Pieces, count_leading, find_byte, skip_front};
 use hid_packet::{Packet, View};
 use session_show::{Difference, TextBuf};
 
-/// Number of bytes of a packet around the first difference that are written.
+/// Number of bytes around the first difference of a packet that are written.
 const BYTES_PER_ROW: usize = 16;
 
-/// The spaces before a mark under a row's last byte.
+/// The spaces before a mark below the last byte of a row.
 const SPACES: &[u8] = b"                                                     ";
 
 /// Maximum depth of nested members that are named.
 const MAX_MEMBER_DEPTH: usize = 3;
 
-/// The format for a byte of the channel in which two packets differ, with both values.
+/// The format for a differing byte of the channel, with both values.
 const IN_CHANNEL: &[u8] =
     b"  byte %d of the packet, in the channel, is %x in the log and %x from the key:\n";
 
@@ -24,15 +24,15 @@ const COMMAND: &[u8] =
 const SEQUENCE_NUMBER: &[u8] =
     b"  byte %d of the packet, the sequence number, is %x in the log and %x from the key:\n";
 
-/// The format for a byte of the message length.
+/// The format for a differing byte of the message length.
 const IN_LENGTH: &[u8] =
     b"  byte %d of the packet, in the length, is %x in the log and %x from the key:\n";
 
-/// The format for any other byte.
+/// The format for any other differing byte.
 const OTHER_BYTE: &[u8] = b"  byte %d of the packet is %x in the log and %x from the key:\n";
 
-/// Writes the line of one packet, and those lines of its message that differ from the other message's line at the same
-/// position.
+/// Writes one packet in a line, and then the lines of its message that differ from the line at the same position of the
+/// other message.
 fn write_side(buf: &mut TextBuf, own: &[u8], other: &[u8]) {
     let mut others = Pieces {
         rest: other,
@@ -75,7 +75,8 @@ pub fn write_diff(buf: &mut TextBuf, difference: &Difference, logged: &[u8], sen
     }
 }
 
-/// Writes the first byte that differs, with those around it, and the members in which the messages differ first.
+/// Writes the first differing byte with the bytes around it, and the path of members in which the messages first
+/// differ.
 pub fn write_first_difference(
     buf: &mut TextBuf,
     difference: &Difference,
@@ -88,7 +89,7 @@ pub fn write_first_difference(
     let Some((at, old, new)) = difference.byte() else {
         return;
     };
-    // The meaning of the byte, if it is the same in both packets and isn't data.
+    // The meaning of the byte, if both packets have the same kind of field there and it isn't data.
     let form = match (at, own.view(), other.view()) {
         (0..=3, _, _) => IN_CHANNEL,
         (4, View::Start { .. }, View::Start { .. }) => COMMAND,
@@ -108,7 +109,7 @@ pub fn write_first_difference(
     write_path(buf, &differing_members(logged, sent));
 }
 
-/// Writes some bytes of a packet.
+/// Writes a row with some bytes of a packet.
 fn write_row(buf: &mut TextBuf, name: &str, packet: &Packet, from: usize) {
     buf.text(name);
     let part = skip_front(&packet.0, from);
@@ -119,7 +120,7 @@ fn write_row(buf: &mut TextBuf, name: &str, packet: &Packet, from: usize) {
     buf.text("\n");
 }
 
-/// Returns the depth and the name of a member from its line: `2 authData`, `signCount`.
+/// Returns the depth and the name of the member in a line such as `2 authData` or `signCount`.
 fn parse_member(line: &[u8]) -> (Option<usize>, &[u8]) {
     let text = skip_front(line, count_leading(line, DIGITS));
     let spaces = count_leading(text, b" ");
@@ -133,14 +134,14 @@ fn parse_member(line: &[u8]) -> (Option<usize>, &[u8]) {
     let text = skip_front(text, spaces);
     let colon = find_byte(text, b':');
     let end = match text {
-        // A name that is a number or a quoted string ends with the colon.
+        // A name that is a number or a quoted string ends at the colon.
         [b'0'..=b'9' | b'-' | b'"' | b'h', ..] => colon,
         _ => colon.min(find_byte(text, b' ')),
     };
     (level, text.get(..end).unwrap_or(text))
 }
 
-/// Returns the names of the members in which two messages differ first, outermost first.
+/// Returns the path of members in which two messages first differ, outermost member first.
 pub fn differing_members<'a>(logged: &'a [u8], sent: &[u8]) -> [&'a [u8]; MAX_MEMBER_DEPTH] {
     let mut names: [&[u8]; MAX_MEMBER_DEPTH] = [b""; MAX_MEMBER_DEPTH];
     let mut depth = 0;
@@ -171,7 +172,7 @@ pub fn differing_members<'a>(logged: &'a [u8], sent: &[u8]) -> [&'a [u8]; MAX_ME
     names
 }
 
-/// Writes the names of members, innermost first.
+/// Writes a path of members, innermost member first.
 fn write_path(buf: &mut TextBuf, names: &[&[u8]; MAX_MEMBER_DEPTH]) {
     let mut front: &[u8] = b"  the messages differ first in ";
     let mut end: &[u8] = b"";

@@ -1,4 +1,4 @@
-//! The packets in which a log differs from those that the key sends.
+//! The packets in a log that differ from those that the key sends.
 use crate::commands::new_program_session;
 use crate::fault::ProgramFault;
 use crate::files::Files;
@@ -31,15 +31,16 @@ const NO_KEY_PACKETS: Note = Note::Differences(
     "the log has no packets from the key; run `hidlog replay` first, then check its output",
 );
 
-/// Returns a comparison before the first line.
-// Takes 40 kB, which are never on the stack together with a session.
+/// Returns a comparison before the first line of the log. A comparison takes 40 kB, and is never on the stack together
+/// with a session.
 #[inline(never)]
 fn new_comparison(alloc: Global) -> Option<Box<Comparison>> {
     Box::new(alloc, Comparison::new()).ok()
 }
 
-/// Reports the differences of a log after the error message: with explanations, or all of them if requested. Without
-/// differences, reports signed bytes that differ from what this key asks to sign. Reads the log again, if possible.
+/// Reports the differences of a log after the error message: if texts are explained, or if all differences are
+/// requested. For a log without differences, reports the line whose bytes to sign differ from those of this key. For
+/// this, the log is read again if possible.
 pub fn report_differences<D: Files, S: Source + Drop, E: Target>(
     files: &D,
     options: &ReportOptions<'_>,
@@ -60,8 +61,8 @@ pub fn report_differences<D: Files, S: Source + Drop, E: Target>(
     compare_again(files, options, &mut reader, told, faults);
 }
 
-/// Compares the log on a session of its own and reports the differences. Not inlined, so that the session is on the
-/// stack only here.
+/// Compares the log on a new session, and reports the differences. Not inlined, so that the session is on the stack
+/// only here.
 #[inline(never)]
 fn compare_again<D: Files, S: Source, E: Target>(
     files: &D,
@@ -71,7 +72,7 @@ fn compare_again<D: Files, S: Source, E: Target>(
     faults: &mut E,
 ) {
     let session = &mut new_program_session();
-    // The snapshot was loaded before, so it is valid.
+    // The snapshot was loaded before, so loading it again succeeds.
     if load(session, files, options.load).is_err() {
         return;
     }
@@ -80,16 +81,16 @@ fn compare_again<D: Files, S: Source, E: Target>(
     }
 }
 
-/// The differences of a log reported so far.
+/// What was reported about the differences of a log so far.
 #[derive(Clone, Copy, Default)]
 struct ReportedDifferences {
     /// Number of differences.
     count: u64,
-    /// Whether the two keys' credentials may differ because of one of these differences.
+    /// Whether the keys may have different credentials because of a reported difference.
     has_changed: bool,
 }
 
-/// Reports the requested differences.
+/// Reports the differences that are requested.
 fn report_each<S: Source, E: Target>(
     comparison: &mut Comparison,
     session: &mut Session<CAPACITY>,
@@ -130,8 +131,8 @@ fn report_each<S: Source, E: Target>(
     report_end(comparison, options, reader, parsed.count, fault, faults);
 }
 
-/// Reports the number of inputs with differences, if all were requested; or, without differences, signed bytes that
-/// differ.
+/// Reports the number of inputs with differences if all differences are requested. For a log without differences,
+/// reports the line whose bytes to sign differ.
 fn report_end<S: Source, E: Target>(
     comparison: &mut Comparison,
     options: &ReportOptions<'_>,
@@ -168,7 +169,7 @@ struct DifferenceCount<'a> {
     options: &'a ReportOptions<'a>,
     count: u64,
     fault: Option<LogFault>,
-    /// The part of the log read so far, from the invalid line on.
+    /// The bytes that were read from the log, from the invalid line on.
     ahead: &'a [u8],
 }
 
@@ -204,8 +205,8 @@ impl Written for DifferenceCount<'_> {
     }
 }
 
-/// Reports a difference, unless too many were reported. Lines are truncated at a terminal. Returns whether the keys'
-/// credentials may differ after it.
+/// Reports a difference, unless the maximum number was reported already. At a terminal, lines are truncated. Returns
+/// whether the keys may have different credentials because of this difference.
 fn report_one<S: Source, E: Target>(
     comparison: &mut Comparison,
     options: &ReportOptions<'_>,
@@ -246,7 +247,7 @@ fn report_one<S: Source, E: Target>(
     finding.can_change_credentials()
 }
 
-/// Returns the finding for a difference, if it is to be reported.
+/// Returns the explanation of a difference. It is empty unless texts are explained or reports are JSON.
 fn report_for<S: Source>(
     comparison: &mut Comparison,
     options: &ReportOptions<'_>,

@@ -1,4 +1,4 @@
-//! The disk, path by path, and its open files.
+//! An interface to the disk and its open files, by path.
 ghost use Rattle.std.specs.Prelude.{◌≡◌, ◌≤◌, ℕ, Bool, true, false, List, None, Option, Some, is_some, length, take, IfOk, IfSome, OnOk};
 ghost use Rattle.hidlog.specs.Streams.{overwritten_at};
 
@@ -8,33 +8,34 @@ use std::os::unix::fs::{FileExt, FileTypeExt, MetadataExt};
 
 /// An open file.
 pub trait OpenFile {
-    /// This is the file at a path.
+    /// The open file is the one at this path.
     ghost is_at: { List ℕ → Self → Type 0 };
 
     /// Whether the content of files is known.
     ghost is_known: { Bool };
 
-    /// Its content, if known.
+    /// The content of the file, if known.
     ghost bytes: { Self → Option (List ℕ) };
 
-    /// Writes all bytes at an offset that is at most the file's length.
+    /// Writes all bytes at an offset, which must not exceed the file's length.
     fn write_at_offset(&mut self, piece: &[u8], at: u64) -> io::Result<()>
         ensures bytes { OnOk result (IfSome (bytes self.old) (λ has. at ≤ length has → bytes self.new ≡ Some (overwritten_at has at piece.now))) }
         ensures place { (path : List ℕ) → is_at path self.old → is_at path self.new };
 
-    /// Truncates the file to `size` bytes if longer, and syncs it to disk. Some file systems cannot sync.
+    /// Truncates the file to `size` bytes if it is longer, and syncs the file to disk. Some file systems don't support
+    /// syncing.
     fn cut(&mut self, size: u64) -> io::Result<()>
         ensures bytes { OnOk result (IfSome (bytes self.old) (λ has. size ≤ length has → bytes self.new ≡ Some (take size has))) }
         ensures place { (path : List ℕ) → is_at path self.old → is_at path self.new };
 }
 
-/// The kind of object at a writable path.
+/// The kind of object at a path to which a snapshot may be written.
 #[derive(Clone, Copy)]
 pub enum PathKind {
     Nothing,
     File,
     Pipe,
-    /// A device, or a dangling link.
+    /// A device, or a symbolic link without a target.
     Other,
 }
 
@@ -45,24 +46,24 @@ pub trait Disk {
     /// The file at a path has these bytes.
     ghost holds: { Self → List ℕ → List ℕ → Type 0 };
 
-    /// These bytes were written to an object at a path that isn't a regular file.
+    /// These bytes were written to the object at this path, which isn't a regular file.
     ghost handed: { List ℕ → List ℕ → Type 0 };
 
     /// Reads a whole file. Fails with `FileTooLarge` if it has more than `most` bytes.
     fn read(&self, path: &str, most: u64) -> io::Result<Vec<u8>>
         ensures { IfOk result (λ bytes. holds self.now path.now bytes.items × length bytes.items ≤ most) };
 
-    /// Examines a path. Rejects a directory, the log, and the file that is standard output.
+    /// Examines the object at a path. A directory, the log, and the file to which standard output goes are errors.
     fn look(&self, path: &str, log: Option<&str>) -> io::Result<PathKind>;
 
     /// Returns the inode number of the file at a path, or 0.
     fn number(&self, path: &str) -> u64;
 
-    /// Returns whether two paths lead to one file.
+    /// Returns whether two paths lead to the same file.
     fn is_same(&self, path: &str, other: &str) -> bool;
 
-    /// Opens a file for overwriting, and returns its length. It is locked against other programs, unless this program
-    /// already holds the lock.
+    /// Opens a file to overwrite its content, and returns the file's length. The file is locked against other programs,
+    /// unless this program already holds the lock.
     fn open(&self, path: &str, is_held: bool) -> io::Result<(Self::File, u64)>
         ensures place { IfOk result (λ opened. Self.File.is_at path.now opened.0) }
         ensures size { IfOk result (λ opened. IfSome (Self.File.bytes opened.0) (λ has. length has ≡ opened.1)) }
@@ -73,7 +74,7 @@ pub trait Disk {
         ensures place { IfOk result (λ file. Self.File.is_at path.now file) }
         ensures known { IfOk result (λ file. Self.File.is_known ≡ true → Self.File.bytes file ≡ Some bytes.now) };
 
-    /// Renames an open file, replacing any file at the path.
+    /// Renames an open file. A file at the new path is replaced.
     fn rename(&self, file: Self::File, from: &str, to: &str) -> io::Result<Self::File>
         ensures place { IfOk result (λ moved. Self.File.is_at to.now moved) }
         ensures bytes { IfOk result (λ moved. Self.File.bytes moved ≡ Self.File.bytes file) };
@@ -81,7 +82,7 @@ pub trait Disk {
     /// Removes a file.
     fn remove(&self, path: &str) -> io::Result<()>;
 
-    /// Writes bytes to an object at a path that isn't a regular file.
+    /// Writes bytes to the object at a path that isn't a regular file.
     fn write_special(&self, path: &str, bytes: &[u8], found: PathKind) -> io::Result<()>
         ensures { OnOk result (handed path.now bytes.now) };
 }
@@ -120,7 +121,7 @@ pub struct HostDisk<'a>(pub &'a HostRuntime);
 /// The system's error number for a directory, EISDIR.
 const EISDIR: i32 = 21;
 
-/// Returns whether a file is the one at a path.
+/// Returns whether a path leads to this file.
 fn is_at(rt: &HostRuntime, path: &str, file: &Metadata) -> bool {
     match fs::metadata(rt, path) {
         Ok(other) => other.ino() == file.ino() && other.dev() == file.dev(),
@@ -198,7 +199,7 @@ impl Disk for HostDisk<'_> {
 
     fn open(&self, path: &str, is_held: bool) -> io::Result<(File, u64)> {
         let file = OpenOptions::new().write(true).open(self.0, path)?;
-        // Not every file system has locks.
+        // Some file systems don't support locks.
         if !is_held && let Err(TryLockError::WouldBlock) = file.try_lock() {
             let message = "another program is writing to it";
             return Err(Error::new(ErrorKind::WouldBlock, message));
@@ -233,7 +234,7 @@ impl Disk for HostDisk<'_> {
         let PathKind::Pipe = found else {
             return fs::write(self.0, path, bytes);
         };
-        // Opening a pipe for both reading and writing never waits for a reader. After `both` is dropped, writing fails
+        // Opening a pipe for both reading and writing doesn't wait for a reader. After `both` is dropped, writing fails
         // if there is no reader.
         let both = OpenOptions::new()
             .read(true)

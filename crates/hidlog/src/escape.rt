@@ -4,7 +4,7 @@ use session_show::{TextBuf, Written, write_escaped};
 use std::fmt::{Display, Write};
 use std::io::Error;
 
-/// Lines that end with line feeds, with invisible characters escaped.
+/// A text of whole lines, in which invisible characters are escaped.
 #[derive(Clone, Copy)]
 pub struct EscapedText<'a>(pub &'a [u8]);
 
@@ -26,7 +26,7 @@ pub fn write_display<T: Display>(buf: &mut TextBuf, what: &T) {
     let _ = write!(buf, "{what}");
 }
 
-/// An error of a stream, and the stream's name if the message doesn't have it yet.
+/// An error of a stream, with the name of the stream if the message doesn't contain it.
 #[derive(Clone, Copy)]
 pub struct StreamFailure<'a> {
     pub name: Option<&'a str>,

@@ -1,4 +1,4 @@
-//! Errors of the program, as values until they are printed.
+//! Errors of the program, kept as values until they are printed.
 ghost use Rattle.std.specs.Prelude.{◌≡◌, ◌⊎◌};
 
 use crate::escape::write_display;
@@ -8,7 +8,7 @@ use session_log::{CAPACITY, LogFault};
 use session_show::{TextBuf, Written, write_escaped};
 use std::io::{self, ErrorKind};
 
-/// An error that ended the work on a log, with its path.
+/// An error that ended the processing of a log, with the path that it concerns.
 #[derive(Drop)]
 pub enum ProgramFault<'a> {
     /// Out of memory.
@@ -39,7 +39,7 @@ impl ProgramFault<'_> {
         }
     }
 
-    /// Returns the message. The messages of log errors are written elsewhere.
+    /// Returns the error message. The messages of log errors are written elsewhere.
     pub fn text(&self) -> &'static [u8]
         ensures { result.now ≡ text_of self.now }
     {
@@ -63,7 +63,7 @@ impl ProgramFault<'_> {
         }
     }
 
-    /// Returns the message that is written even without explanations.
+    /// Returns the message that is printed even if texts aren't explained.
     pub fn notice(&self) -> Option<Notice> {
         let ProgramFault::SnapshotReadError(_, error) = self else {
             return None;
@@ -76,10 +76,10 @@ impl ProgramFault<'_> {
     }
 }
 
-/// An error message in one line, without the path.
+/// An error message of one line, without the path.
 #[derive(Clone, Copy)]
 pub enum Notice {
-    /// Another program holds the snapshot.
+    /// Another program has locked the snapshot.
     Held,
     /// The snapshot's bytes don't match its checksums.
     Damaged,
@@ -102,11 +102,11 @@ pub struct ErrorDetail<'a> {
     pub fault: &'a ProgramFault<'a>,
     /// Its path.
     pub path: &'a str,
-    /// The number of the copy that an interrupted write left beside the snapshot, if any.
+    /// The number of the copy beside the snapshot that an interrupted write left, if any.
     pub copy: Option<u64>,
 }
 
-/// Writes why a snapshot with these bytes is rejected.
+/// Writes why the snapshot with these bytes is rejected.
 fn write_refusal(buf: &mut TextBuf, fault: SnapshotFault, bytes: &[u8]) {
     match fault {
         SnapshotFault::TooMany => buf.format(b"more than %d credentials", &[Some(CAPACITY as u64)]),
@@ -143,7 +143,7 @@ impl Written for ErrorDetail<'_> {
         buf.text("  ");
         write_escaped(buf, path);
         buf.text(": ");
-        // The text before the path of the copy, and the copy's number.
+        // The text before the path of the copy, and the number of the copy.
         let mut copied = None;
         match self.fault {
             ProgramFault::Memory | ProgramFault::Log(_) => {}

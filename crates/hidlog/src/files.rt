@@ -8,22 +8,22 @@ use crate::sums::{MAX_SUMS_LEN, SumLine, are_sums};
 use std::alloc::Global;
 use std::io::{self, Error, ErrorKind};
 
-/// Why writing a file failed, and what the file contains afterwards.
+/// Why writing a file failed, and what the file contains after the failure.
 #[derive(Drop)]
 pub enum SaveError {
-    /// Its content is unchanged.
+    /// The content of the file is unchanged.
     Kept(Error),
-    /// It may have some of the bytes. All of them are in the copy with this number beside it.
+    /// The file may contain only some of the new bytes. The copy with this number beside the file contains all of them.
     Copied(Error, u64),
-    /// It may have some of the bytes, and there is no copy.
+    /// The file may contain only some of the new bytes, and there is no copy.
     Broken(Error),
-    /// It has the bytes. The copy with this number beside it couldn't be removed.
+    /// The file contains the new bytes. The copy with this number beside the file could not be removed.
     Left(Error, u64),
 }
 
-/// Files, by their paths.
+/// Access to files by path.
 pub trait Files {
-    /// A file locked against other programs that load and then save it.
+    /// A lock on a file, against other programs that load the file and then save to it.
     type Held: Drop;
 
     /// The file at a path has these bytes.
@@ -32,10 +32,10 @@ pub trait Files {
     /// The file at a path cannot be read.
     ghost unreadable: { Self → List ℕ → Type 0 };
 
-    /// These bytes replaced the content of the file at a path.
+    /// These bytes replaced the content of the file at this path.
     ghost written: { Self → List ℕ → List ℕ → Self → Type 0 };
 
-    /// These bytes couldn't be written to the file at a path. The file may have some of them.
+    /// These bytes could not be written to the file at this path. The file may contain some of them.
     ghost unwritten: { Self → List ℕ → List ℕ → Self → Type 0 };
 
     /// The file at a path cannot be written.
@@ -46,19 +46,19 @@ pub trait Files {
         ensures { MatchResult result (λ bytes. holds self.now path.now bytes.items)
             (λ error. (error_kind error ≡ ErrorKind.OutOfMemory) ⊎ unreadable self.now path.now) };
 
-    /// Locks the file at a path, if it is also the one to be written, until the result is dropped. Fails if another
+    /// Locks the file at `path` if it is the same as that at `save`, until the result is dropped. Fails if another
     /// program holds the lock.
     fn hold(&self, path: &str, save: &str) -> io::Result<Option<Self::Held>>
         ensures { IfErr result (λ _. unreadable self.now path.now) };
 
-    /// Checks whether a file can be written, as far as possible without writing. The log itself is rejected.
+    /// Checks whether a file can be written, as far as possible without writing. The path of the log is an error.
     fn look(&self, path: &str, log: Option<&str>, is_held: bool) -> io::Result<()>
         ensures { IfErr result (λ _. unwritable self.now path.now) };
 
-    /// Returns the number of the copy that an interrupted write left beside a file, if any.
+    /// Returns the number of the copy beside a file that an interrupted write left, if any.
     fn copy(&self, path: &str) -> Option<u64>;
 
-    /// Writes a whole file in place, but not over the log.
+    /// Writes a whole file in place. The path of the log is an error.
     fn write(
         &mut self,
         path: &str,
@@ -70,26 +70,27 @@ pub trait Files {
             (λ _. unwritten self.old path.now bytes.now self.new) };
 }
 
-/// The files of a disk. The allocator is for the paths of the files beside a snapshot. No contract states why a read or a
-/// write fails.
+/// The files of a disk, which allocates memory for the paths of copies and checksums. The contracts don't state why a
+/// read or a write fails.
 #[derive(Drop)]
 pub struct HostFiles<D>(pub D, pub Global);
 
-/// Maximum number of bytes of a snapshot that can be read, 64 MiB. It is much larger than the longest snapshot, so that
-/// the snapshot of a key with more capacity is rejected because of its number of credentials.
+/// Maximum length of a snapshot that is read: 64 MiB. This is much more than the longest valid snapshot, so that the
+/// snapshot of a key with more capacity is rejected for its number of credentials, not for its length.
 const MAX_SNAPSHOT_LEN: u64 = 1 << 26;
 
 /// The system's error number for a missing path, ENOENT.
 const ENOENT: i32 = 2;
 
-/// The suffix of a copy beside a file, followed by a dot and a number if not 0.
+/// The suffix of a copy beside a file. A dot and the copy's number follow, unless the number is 0.
 pub const COPY_SUFFIX: &str = ".hidlog-copy";
 
-/// Maximum number of copies beside a file. An existing file is never overwritten, because it may not be a copy.
+/// Maximum number of copies beside a file. An existing file is never overwritten, because it may be something else than
+/// a copy.
 const MAX_COPIES: u64 = 100;
 
-/// The suffix of a file's checksums (src/sums.rt): a line for the content that it has or is about to have, preceded by
-/// a line for its previous content if that was intact.
+/// The suffix of the file with another file's checksums (src/sums.rt). It has a line for the content that the file has
+/// or is about to have. If the previous content was intact, a line for that content comes first.
 const CHECKSUM_SUFFIX: &str = ".hidlog-sum";
 
 /// Returns the path of a file's checksums.
@@ -105,14 +106,14 @@ fn copy_path(alloc: Global, path: &str, number: u64) -> io::Result<String> {
     Ok(format!(in alloc; "{path}{COPY_SUFFIX}.{number}")?)
 }
 
-/// The reason why a file that is loaded and then saved to cannot be loaded: another program has locked it.
+/// The reason why a file to which the program will save can't be loaded: another program has locked it.
 pub const LOCKED_REASON: &str = "another program has loaded it, and is going to save to it";
 
-/// The reason why a file whose bytes don't match its checksums cannot be loaded. At most 80 bytes.
+/// The reason why a file that doesn't match its checksums can't be loaded. At most 80 bytes.
 pub const DAMAGED_REASON: &str =
     "its bytes don't match its .hidlog-sum: it is damaged; else remove that file";
 
-/// A file that was created beside another one.
+/// A new file beside another file.
 #[derive(Drop)]
 struct CopyFile<F> {
     file: F,
@@ -120,7 +121,7 @@ struct CopyFile<F> {
     number: u64,
 }
 
-/// Creates a file with these bytes beside a path, under the first free name of a copy.
+/// Creates a file with these bytes beside the file at a path, with the first name of a copy that isn't in use.
 fn create_copy<D: Disk>(
     files: &HostFiles<D>,
     path: &str,
@@ -147,7 +148,7 @@ fn create_copy<D: Disk>(
     ))
 }
 
-/// Returns the error of a checksum file that cannot be read or has no checksums.
+/// Returns the error for a checksum file that can't be read or contains no checksums.
 fn checksum_error(kind: ErrorKind) -> Error {
     match kind {
         ErrorKind::InvalidInput => Error::new(
@@ -172,10 +173,10 @@ fn read_checksums<D: Disk>(files: &HostFiles<D>, path: &str) -> io::Result<Optio
                 kind => Err(checksum_error(kind)),
             },
         },
-        // Opening a pipe would block.
+        // Opening a pipe could block.
         Ok(_) => Err(checksum_error(ErrorKind::InvalidInput)),
         Err(error) => match error.kind() {
-            // No file can have a name of this length.
+            // A file with a name of this length can't exist.
             ErrorKind::InvalidFilename => Ok(None),
             ErrorKind::OutOfMemory => Err(error),
             ErrorKind::IsADirectory => Err(checksum_error(ErrorKind::InvalidInput)),
@@ -184,9 +185,9 @@ fn read_checksums<D: Disk>(files: &HostFiles<D>, path: &str) -> io::Result<Optio
     }
 }
 
-/// Writes the checksums of the file with this inode number before the file itself is written: those of the new bytes,
-/// and those of its present content unless that is damaged. So the file can be loaded with either content after an
-/// interrupted write. A file without checksums may stay without them.
+/// Writes the checksums of the file with this inode number, before the file itself is written: those of the new bytes
+/// and, unless the present content is damaged, those of the present content. So after an interrupted write, the file
+/// can be loaded with either content. A file without checksums may stay without checksums.
 fn write_checksums<D: Disk>(
     files: &HostFiles<D>,
     path: &str,
@@ -215,8 +216,8 @@ fn write_checksums<D: Disk>(
     }
 }
 
-/// Overwrites an open file of this length, truncates it to the new length and syncs it. The part beyond the old length
-/// is written first, so that a full disk leaves the old content unchanged.
+/// Overwrites an open file of this length, truncates it to the new length, and syncs it. The bytes beyond the old
+/// length are written first, so that a full disk leaves the old content unchanged.
 fn overwrite<F: OpenFile>(file: &mut F, old: u64, bytes: &[u8]) -> io::Result<()>
     ensures bytes { OnOk result (IfSome (F.bytes file.old) (λ has. length has ≡ old → F.bytes file.new ≡ Some bytes.now)) }
     ensures place { (path : List ℕ) → F.is_at path file.old → F.is_at path file.new }
@@ -232,8 +233,8 @@ fn overwrite<F: OpenFile>(file: &mut F, old: u64, bytes: &[u8]) -> io::Result<()
     file.cut(bytes.len() as u64)
 }
 
-/// Writes and syncs a file beside a path, then renames it to another path, so that the file at that path is always
-/// complete.
+/// Writes and syncs a file beside the file at a path, and then renames it to that path, so that the file at the path is
+/// always complete.
 fn write_and_rename<D: Disk>(
     files: &HostFiles<D>,
     path: &str,
@@ -266,8 +267,8 @@ fn write_new<D: Disk>(files: &HostFiles<D>, path: &str, bytes: &[u8]) -> io::Res
     written
 }
 
-/// Overwrites a file. While it is written, a copy of the new bytes is beside it, if the directory allows that; if the
-/// write fails, the file gets its old content back.
+/// Overwrites a file. During this, a copy of the new bytes is beside the file, if the directory permits. If the write
+/// fails, the old content is restored.
 fn replace<D: Disk>(
     files: &HostFiles<D>,
     path: &str,
@@ -332,7 +333,7 @@ impl<D: Disk> Files for HostFiles<D> {
             Ok((file, _)) => Ok(Some(file)),
             Err(error) => {
                 if !matches!(error.kind(), ErrorKind::WouldBlock) {
-                    // Other errors are reported when the file is written.
+                    // Other errors are reported later, when the file is written.
                     return Ok(None);
                 }
                 Err(Error::new(ErrorKind::WouldBlock, LOCKED_REASON))
@@ -341,7 +342,7 @@ impl<D: Disk> Files for HostFiles<D> {
     }
 
     fn read(&self, path: &str) -> io::Result<Vec<u8>> {
-        // Another program may be writing the file, whose checksums it has already written; so this tries again.
+        // Another program may be writing the file, after it wrote the checksums. Therefore this retries.
         for _ in 0..3 {
             let bytes = self.0.read(path, MAX_SNAPSHOT_LEN)?;
             let Some(sums) = read_checksums(self, path)? else {
@@ -386,7 +387,7 @@ impl<D: Disk> Files for HostFiles<D> {
         if path.is_empty() {
             return Err(Error::from_raw_os_error(ENOENT));
         }
-        // Whether a missing file can be created is tested by creating another file beside it.
+        // Whether a missing file can be created is tested by creating a copy beside its path.
         let made = create_copy(self, path, b"")?;
         self.0.remove(made.name.as_str())
     }

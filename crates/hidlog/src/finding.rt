@@ -11,7 +11,7 @@ use session_show::status::{
 };
 use session_show::{AwaitedReply, Difference, TextBuf, Transaction, Written};
 
-/// Commands that change no credentials.
+/// Commands that don't change credentials.
 const READ_ONLY_COMMANDS: [&str; 6] = [
     "INIT",
     "PING",
@@ -21,33 +21,33 @@ const READ_ONLY_COMMANDS: [&str; 6] = [
     "authenticatorSelection",
 ];
 
-/// The hint if no snapshot was loaded.
+/// The hint for a check without a snapshot.
 const NO_SNAPSHOT: &str =
     "the log's key may have had more credentials: was it recorded with --load?";
 
-/// The hint if a snapshot was loaded.
+/// The hint for a check with a snapshot.
 const OTHER_SNAPSHOT: &str =
     "the log's key may have had other credentials: is --load the right snapshot?";
 
-/// A difference: its transaction, the log's packet, the key's packet, and the reason.
+/// A difference with its explanation: the transaction, the packets of the log and of the key, and the reason.
 #[derive(Drop)]
 pub struct DifferenceReport {
     pub transaction: Option<Transaction>,
     pub logged: Vec<u8>,
     pub sent: Vec<u8>,
     pub reason: Vec<u8>,
-    /// Whether the packets belong to a request that may name a credential from before the log.
+    /// Whether the packets belong to a request that may refer to a credential created before the log.
     pub may_name_prior_credential: bool,
 }
 
-/// A difference as lines or as a JSON object.
+/// The report of a difference, as lines or as a JSON object.
 #[derive(Clone, Copy)]
 pub struct Finding<'a> {
     pub options: &'a ReportOptions<'a>,
     pub difference: &'a Difference,
-    /// Whether this is the first difference, which was reported as an error before.
+    /// Whether this is the first difference, which was already reported as an error.
     pub is_first: bool,
-    /// Whether the keys' credentials may differ because of earlier differences.
+    /// Whether the keys may have different credentials because of an earlier difference.
     pub has_changed: bool,
     pub texts: &'a DifferenceReport,
 }
@@ -62,7 +62,7 @@ enum Reply {
     Other,
 }
 
-/// Returns the kind of reply in a packet.
+/// Returns the kind of reply that a packet contains.
 fn parse_reply(packet: &Option<Packet>) -> Reply {
     let Some(packet) = packet else {
         return Reply::Other;
@@ -80,11 +80,11 @@ fn parse_reply(packet: &Option<Packet>) -> Reply {
 }
 
 impl Finding<'_> {
-    /// Returns a hint if this key may lack a credential that the log's key had before the log: the log's key excludes a
-    /// credential and this key doesn't, or this key finds no credential and the log's key does.
+    /// Returns a hint if the key may lack a credential that was created before the log: the log's key excludes a
+    /// credential that this key doesn't, or this key finds no credential where the log's key does.
     pub fn hint(&self) -> Option<&'static str> {
         let difference = self.difference;
-        // Both packets exist, on the same channel.
+        // Both packets are present, on the same channel.
         let Some((4.., _, _)) = difference.byte() else {
             return None;
         };
@@ -97,7 +97,7 @@ impl Finding<'_> {
                 Reply::Status(CREDENTIAL_EXCLUDED),
                 Reply::Status(OPERATION_DENIED | KEY_STORE_FULL),
             ) => true,
-            // The key has checked the excludeList only if it waits for a new key pair.
+            // A key that waits for a new key pair has checked the excludeList.
             (Reply::Status(CREDENTIAL_EXCLUDED), Reply::Waits) => {
                 matches!(difference.awaited, Some(AwaitedReply::Key))
             }
@@ -110,8 +110,8 @@ impl Finding<'_> {
         }
     }
 
-    /// Returns whether this difference means that the two keys may have different credentials from here on, for a
-    /// reason other than a missing snapshot: false if the command changes no credentials, or if there is a hint.
+    /// Returns whether the keys may have different credentials because of this difference, for a reason other than a
+    /// missing snapshot. Returns false if the command doesn't change credentials, or if there is a hint.
     pub fn can_change_credentials(&self) -> bool {
         let Some(transaction) = &self.texts.transaction else {
             return true;
@@ -121,7 +121,7 @@ impl Finding<'_> {
 }
 
 impl Written for Finding<'_> {
-    /// Writes the difference: its transaction, the packets and messages, and where they differ first.
+    /// Writes the report: the transaction, the packets with their messages, and the first difference between them.
     fn write(&self, buf: &mut TextBuf) {
         let options = self.options;
         let difference = self.difference;
@@ -143,7 +143,7 @@ impl Written for Finding<'_> {
             buf.text("\n");
         }
         write_diff(buf, difference, &texts.logged, &texts.sent);
-        // Details that the message's own lines show aren't repeated.
+        // Details are omitted if the lines of the message already contain them.
         if memmem::find(&texts.sent, skip_front(&texts.reason, 2)).is_none() {
             buf.bytes(&texts.reason);
         }

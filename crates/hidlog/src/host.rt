@@ -28,15 +28,15 @@ pub struct Host<D, L, O, E> {
     pub input: L,
     /// The output.
     pub output: O,
-    /// The stream for errors.
+    /// The stream for error messages.
     pub faults: E,
     pub alloc: Global,
     pub terminals: TerminalFlags,
-    /// The width of the terminal that errors are written to; `None` if they go elsewhere.
+    /// The width of the terminal to which errors are written, or `None` if they are written elsewhere.
     pub width: Option<usize>,
 }
 
-/// An environment whose parts have a model for contracts.
+/// An environment whose parts have a model in contracts.
 pub trait Modeled {
     type Files;
 

@@ -10,7 +10,7 @@ use session_show::{TextBuf, Written, put_json_fault, write_hex, write_string, wr
 /// The beginning of an error's JSON object.
 const FAULT_OBJECT_START: &[u8] = b"{\"kind\":\"fault\"";
 
-/// Writes the object of a difference.
+/// Writes the JSON object of a difference.
 pub fn write_difference(buf: &mut TextBuf, finding: &Finding<'_>) {
     let (difference, texts) = (finding.difference, finding.texts);
     finding.options.begin_object(buf, "difference");
@@ -48,7 +48,7 @@ pub fn write_difference(buf: &mut TextBuf, finding: &Finding<'_>) {
     buf.text("}\n");
 }
 
-/// Writes the names of the members in which two messages differ first, outermost first.
+/// Writes the path of members in which two messages first differ, outermost member first.
 fn write_members(buf: &mut TextBuf, names: &[&[u8]]) {
     let mut front: &[u8] = b",\"members\":[";
     let mut end: &[u8] = b"";
@@ -65,7 +65,7 @@ fn write_members(buf: &mut TextBuf, names: &[&[u8]]) {
     buf.bytes(end);
 }
 
-/// A log error as a JSON object.
+/// The report of a log error as a JSON object.
 #[derive(Clone, Copy)]
 pub struct ProgramFaultObject<'a> {
     pub options: &'a ReportOptions<'a>,

@@ -15,10 +15,10 @@ use std::mem;
 
 /// A source that can open a file.
 pub trait Logs: Source {
-    /// The log, read again.
+    /// The same log, when it is read a second time.
     type Reread: Source + Drop;
 
-    /// The source after opening the file at a path, before anything was read.
+    /// The state of the source after it opened the file at this path, and before the first read.
     ghost opened: { Self → List ℕ → Self → Type 0 };
 
     /// The file at a path cannot be opened.
@@ -30,41 +30,41 @@ pub trait Logs: Source {
             (λ _. unopenable self.old path.now × (self.new ≡ self.old))) }
         ensures counted { Self.failed self.new ≡ Self.failed self.old };
 
-    /// Returns the state of reading the log.
+    /// Returns the reader's state.
     fn state(&self) -> LogState<'_>;
 
-    /// Returns the log from its start, if it is a file. With `takes_rest`, also returns a log that cannot be read
-    /// twice, such as a pipe, if the part that was read is short; the result then reads the rest in place of this
+    /// Returns the log from its start, if it is a file. With `takes_rest`, a log that can't be read twice, such as a
+    /// pipe, is also returned if the part that was read is short. The result then reads the rest, instead of this
     /// source.
     fn reread(&mut self, takes_rest: bool) -> Option<Self::Reread>
         ensures counted { Self.failed self.new ≡ Self.failed self.old }
         ensures kept { takes_rest ≡ false → self.new ≡ self.old };
 }
 
-/// The state of reading a log.
+/// The state of a log that is being read.
 #[derive(Clone, Copy)]
 pub struct LogState<'a> {
-    /// Its name: the path, if any.
+    /// The name of the log: its path, if any.
     pub name: &'a str,
-    /// The lines that were read last, without the first part of a line that is only partly kept.
+    /// The lines that were read last, without a line of which only the end was kept.
     pub lines: &'a [u8],
-    /// The error at which reading failed.
+    /// The error of the failed read, if any.
     pub failure: Option<&'a Error>,
-    /// Statistics of the log so far.
+    /// The statistics of the log so far.
     pub seen: &'a SourceStats,
 }
 
 /// A source of a log.
 pub trait OpenSource: Read + Drop {
-    /// It reads the file at a path, from its start.
+    /// The stream reads the file at this path, from its start.
     ghost is_at: { List ℕ → Self → Type 0 };
 
-    /// Opens a file that isn't a directory, or standard input, and returns its length if it can be read again.
+    /// Opens a file that isn't a directory, or standard input. Returns its length if it can be read a second time.
     fn open(rt: &HostRuntime, path: Option<&str>) -> io::Result<(Self, Option<u64>)>
         ensures { IfOk result (λ opened. IfSome path.entry (λ path. is_at path.now opened.0)) };
 }
 
-/// Where the bytes of a log come from.
+/// A log's bytes: those of standard input or of a file.
 #[derive(Drop)]
 pub enum Stream<I, F> {
     /// Standard input.
@@ -114,10 +114,10 @@ impl OpenSource for Stream<Stdin, File> {
     }
 }
 
-/// The stored beginning of a log, followed by the unread rest.
+/// A log from its start: the bytes that were kept, followed by the unread bytes.
 pub type RewoundSource<S> = FromRead<BufReader<Chain<Cursor<Vec<u8>>, S>>>;
 
-/// The log of the process.
+/// The log of the program's process.
 pub type ProcessLog<'a> = HostLog<'a, Stream<Stdin, File>>;
 
 /// The path of standard input.
@@ -126,37 +126,36 @@ const STANDARD_INPUT: &str = "/dev/stdin";
 /// The system's error number for a directory, EISDIR.
 const EISDIR: i32 = 21;
 
-/// The note when a terminal is read.
+/// The note that is shown when the log is read from a terminal.
 const TERMINAL_NOTE: &[u8] = b"hidlog: reading a log from the terminal; end it with Ctrl-D\n";
 
-/// The progress shown at a terminal while a log is read.
+/// What is shown at a terminal while a log is read.
 #[derive(Clone, Copy, Default)]
 pub struct ProgressMode {
-    /// Whether a note says that the program waits for input.
+    /// Whether the note that the program waits for input is shown.
     pub is_told: bool,
-    /// Whether the progress of a long log is shown.
+    /// Whether the progress of reading a long log is shown.
     pub sees_progress: bool,
 }
 
-/// The log that the process reads: standard input, until a file is opened.
+/// The log of the process: standard input, unless a file is opened.
 #[derive(Drop)]
 pub struct HostLog<'a, S> {
     rt: &'a HostRuntime,
-    /// The path of the file that was opened.
+    /// The path of the opened file, if any.
     path: Option<String>,
     stream: S,
-    /// The error at which reading failed.
+    /// The error of the failed read, if any.
     failure: Option<Error>,
-    /// Whether a note at the terminal says that the program waits for input.
+    /// Whether the note that the program waits for input is shown at a terminal.
     is_told: bool,
-    /// Whether that note is still to be written for this log.
+    /// Whether the note is still due for this log.
     is_awaited: bool,
-    /// The allocator for a log that cannot be read again, if it may have to be.
+    /// The allocator for the bytes of a log that can't be read a second time, if the log may be needed again.
     keeps: Option<Global>,
     seen: SourceStats,
     recent: RecentBytes,
-    /// The last complete lines among the unread bytes, and the next one that isn't played yet, which the output
-    /// examines.
+    /// The last complete lines among the unread bytes, from which the output decides whether to buffer.
     last: LineBoundaries,
     ahead: &'a Cell<Lookahead>,
     ended: bool,
@@ -164,8 +163,8 @@ pub struct HostLog<'a, S> {
 }
 
 impl<'a, S: OpenSource> HostLog<'a, S> {
-    /// Returns the log on standard input, or an allocation error. With `is_kept`, a short log that cannot be read again
-    /// is kept. `audience` determines what is shown at a terminal.
+    /// Returns the log on standard input, or an allocation error. With `is_kept`, the bytes of a short log that can't
+    /// be read a second time are kept. `audience` determines what is shown at a terminal.
     pub fn new(
         rt: &'a HostRuntime,
         is_kept: bool,
@@ -195,7 +194,7 @@ impl<'a, S: OpenSource> HostLog<'a, S> {
 }
 
 impl<S: OpenSource> Source for HostLog<'_, S> {
-    // Bytes that were read but not consumed, then the rest of the stream.
+    // The bytes that were read but not consumed, followed by the rest of the stream.
     ghost left = { λ s. prepend_known (unread s.recent.held.items s.recent.at s.recent.end) (S.remaining s.stream) };
 
     ghost ended = { λ s. s.ended };
@@ -220,7 +219,8 @@ impl<S: OpenSource> Source for HostLog<'_, S> {
             self.last = LineBoundaries::of(read);
         }
         let last = self.last;
-        // Reads up to the next of these lines and its first byte, so that `ahead` changes when that line is played.
+        // Reads up to the next line with a boundary and its first byte, so that `ahead` changes when that line is
+        // played.
         let behind = recent.unread().len().saturating_sub(1);
         let most = last.next(behind).0.saturating_add(1);
         let n = recent.take(most, out);

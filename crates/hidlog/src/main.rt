@@ -55,9 +55,9 @@ use terminal::terminal_info;
 use terminal_output::Screen;
 
 impl<D: Files, L: Logs, O: Output, E: Target> Host<D, L, O, E> {
-    /// Returns what is reported about a single log besides its result: its differences, if texts are explained or all
-    /// differences were requested; and, if texts are explained, why a line isn't a log line, why reading failed, or
-    /// what may be wrong.
+    /// Returns further reports about a single log. The differences are reported if texts are explained or all
+    /// differences are requested. If texts are explained, there is also a report of why a line isn't a log line, why
+    /// reading failed, or what may be wrong.
     fn further_report(&mut self, outcome: &RunOutcome<'_>) -> Vec<u8>
         ensures { self.new ≡ record self.old { input = self.new.input } }
     {
@@ -94,7 +94,7 @@ impl<D: Files, L: Logs, O: Output, E: Target> Host<D, L, O, E> {
     fn play<'a>(&mut self, words: &'a [&'a str]) -> RunOutcome<'a>
         requires { CanFail ⟦<Self as Modeled>⟧.model self.old }
         ensures status { IfErr result.status (λ code. (code ≡ 1) ⊎ (code ≡ 2)) }
-        // The action was carried out. At most one text is written to standard error after it.
+        // The task was carried out. After it, at most one more text is written to standard error.
         ensures played { Plays ⟦<Self as Modeled>⟧.model (to_texts words.now) result.status self.old self.new }
     {
         let outcome = self.run(words);

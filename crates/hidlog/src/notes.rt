@@ -1,4 +1,4 @@
-//! Notes beside the result of `check`.
+//! Notes about a log, beside the result of `check`.
 use crate::report_options::ReportOptions;
 use crate::source_stats::SourceStats;
 use session_log::CAPACITY;
@@ -10,14 +10,14 @@ use token_session::Session;
 pub struct CheckEnd {
     /// The reply that the key needs from its caller.
     awaited: Option<AwaitedReply>,
-    /// Number of bytes of the open message.
+    /// Number of bytes that were received of the open message.
     held: u16,
-    /// Whether it processed a request, so that something may have been signed.
+    /// Whether the session processed a request, so that bytes may have been signed.
     pub has_served: bool,
 }
 
 impl CheckEnd {
-    /// Returns the end state of a session.
+    /// Returns the state of a session at the end of a log.
     pub fn of(session: &Session<CAPACITY>) -> Self {
         let need = session.need();
         let awaited = AwaitedReply::of(&need);
@@ -29,11 +29,11 @@ impl CheckEnd {
     }
 }
 
-/// The note on a line whose signed bytes differ.
+/// The note about a line whose bytes to sign differ.
 const SIGNED_OTHERWISE: &[u8] =
     b"line %d: the signed bytes differ from what this key asks to sign:  ";
 
-/// A note on a log beside its result.
+/// A note about a log, beside the result of `check`.
 #[derive(Clone, Copy)]
 pub enum Note {
     /// How to get more details about the differences.
@@ -42,13 +42,13 @@ pub enum Note {
     Doubt(&'static str),
     /// The log ends while the key waits for this reply.
     Waits(AwaitedReply),
-    /// It ends inside a message, after this many bytes.
+    /// The log ends inside a message, of which this many bytes were received.
     EndsInside(u16),
-    /// Its signed bytes differ.
+    /// The bytes to sign in the log differ from those of this key.
     Signed(SignedBytesMismatch),
 }
 
-/// A note as a line or a JSON object. Notes have no characters that JSON escapes.
+/// A note as a line or a JSON object. No character of a note has to be escaped in JSON.
 #[derive(Clone, Copy)]
 pub struct NoteText<'a> {
     pub options: &'a ReportOptions<'a>,
@@ -85,7 +85,7 @@ impl Written for NoteText<'_> {
     }
 }
 
-/// The possible problems of a log without differences, from its statistics and its end.
+/// What may be wrong with a log that has no differences, from the log's statistics and its end.
 #[derive(Clone, Copy)]
 pub struct Notes<'a> {
     pub options: &'a ReportOptions<'a>,

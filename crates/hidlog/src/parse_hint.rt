@@ -1,4 +1,4 @@
-//! Explains why a line isn't a log line: the bytes found, and those expected.
+//! Explains why a line isn't a log line, with the bytes that were found and those that were expected.
 use crate::split::{DIGITS, Pieces, count_leading, find_byte, skip_front};
 use session_log::parse_line;
 use session_show::{TextBuf, Written};
@@ -9,13 +9,13 @@ const MAX_LINE_LEN: usize = 255;
 /// The byte order mark of UTF-8.
 const BYTE_ORDER_MARK: &[u8] = &[0xEF, 0xBB, 0xBF];
 
-/// The first bytes of other kinds of files, and the command that reads them.
+/// The first bytes of other kinds of files, and the command that reads such a file.
 static OTHER_FILES: [(&[u8], &str); 11] = [
     (&[0xD4, 0xC3, 0xB2, 0xA1], PCAP),
     (&[0xA1, 0xB2, 0xC3, 0xD4], PCAP),
     (&[0x4D, 0x3C, 0xB2, 0xA1], PCAP),
     (&[0xA1, 0xB2, 0x3C, 0x4D], PCAP),
-    // A pcapng file has a line feed before these.
+    // A pcapng file contains a line feed before these bytes.
     (
         b"\r\r",
         "  this is a pcapng capture: hidlog import FILE reads it\n",
@@ -56,13 +56,13 @@ const PACKET: &[u8] = &[DIGIT; 128];
 /// The format of the longest signature: 144 digits.
 const SIGNATURE: &[u8] = &[DIGIT; 144];
 
-/// Three fields of sixty-four digits.
+/// The format of a new key: three fields of 64 digits.
 const KEY: &[u8] = b"\
     ................................................................ \
     ................................................................ \
     ................................................................";
 
-/// The formats after the timestamp of a line that begins with each of these letters.
+/// The formats of the field after the timestamp, for each first letter of a line.
 static FIELD_FORMATS: [&[&[u8]]; 6] = [
     &[PACKET],
     &[PACKET],
@@ -72,7 +72,7 @@ static FIELD_FORMATS: [&[&[u8]]; 6] = [
     &[b"no", SIGNATURE],
 ];
 
-/// Returns how many bytes at the start fit a format.
+/// Returns how many bytes at the start of a field match a format.
 fn fitting_field_len(fields: &[u8], form: &[u8]) -> usize {
     let len = fields.len().min(form.len());
     for place in 0..len {
@@ -89,7 +89,7 @@ fn fitting_field_len(fields: &[u8], form: &[u8]) -> usize {
     len
 }
 
-/// Returns how many bytes at the start fit a log line.
+/// Returns how many bytes at the start of a line match a log line.
 fn fitting_len(line: &[u8]) -> usize {
     let Some(letter) = line.first() else {
         return 0;
@@ -109,7 +109,7 @@ fn fitting_len(line: &[u8]) -> usize {
         {
             most = MAX_TIMESTAMP.len();
         }
-        // A timestamp has no leading zero.
+        // A timestamp with a leading zero is invalid.
         if fields.starts_with(b"0") {
             most = 1;
         }
@@ -129,10 +129,10 @@ fn fitting_len(line: &[u8]) -> usize {
     front.saturating_add(most)
 }
 
-/// The bytes that are expected at the first one that doesn't fit a log line.
+/// What is expected in place of the first byte that doesn't match: a text and a number, if any.
 type Expected = (&'static [u8], Option<u64>);
 
-/// Returns the number of hexadecimal digits at the start.
+/// Returns the number of hexadecimal digits at the start of a text.
 fn count_leading_digits(text: &[u8]) -> u64 {
     for place in 0..text.len() {
         if !text[place].is_ascii_hexdigit() {
@@ -142,7 +142,7 @@ fn count_leading_digits(text: &[u8]) -> u64 {
     text.len() as u64
 }
 
-/// Returns the format that is expected in the field after the timestamp, or in a packet from the key.
+/// Returns what is expected in the field after the timestamp, or in a packet from the key.
 fn expected_in_field(letter: u8, field: &[u8]) -> Expected {
     let digits = count_leading_digits(field);
     let is_whole = digits == field.len() as u64;
@@ -166,7 +166,7 @@ fn expected_in_field(letter: u8, field: &[u8]) -> Expected {
     }
 }
 
-/// Returns the format that is expected in a timestamp and the rest of the line.
+/// Returns what is expected in a timestamp and the rest of the line.
 fn expected_in_timed(letter: u8, fields: &[u8], place: usize) -> Expected {
     let digits = count_leading(fields, DIGITS);
     if place < digits && fields.starts_with(b"0") {
@@ -185,7 +185,7 @@ fn expected_in_timed(letter: u8, fields: &[u8], place: usize) -> Expected {
     }
 }
 
-/// The first byte that doesn't fit a log line, or the end of a line that ends too early.
+/// The first byte that doesn't match a log line, or the end of a line that is too short.
 #[derive(Clone, Copy)]
 pub struct ParseHint<'a> {
     line: &'a [u8],
@@ -193,7 +193,7 @@ pub struct ParseHint<'a> {
 }
 
 impl ParseHint<'_> {
-    /// Returns the hint for a kind of file that begins with these bytes, if known.
+    /// Returns the hint for a known kind of file that begins with these bytes.
     fn other_file(&self) -> Option<&'static str> {
         for (magic, text) in &OTHER_FILES {
             if self.line.starts_with(magic) {
@@ -203,7 +203,7 @@ impl ParseHint<'_> {
         None
     }
 
-    /// Returns the format that is expected at this position.
+    /// Returns what is expected at this position.
     fn expected(&self) -> Expected {
         let [letter, rest @ ..] = self.line else {
             return (b"expected a log line\n", None);
@@ -219,7 +219,7 @@ impl ParseHint<'_> {
         }
     }
 
-    /// Writes the byte that doesn't fit.
+    /// Writes the byte that doesn't match.
     fn write_byte(&self, buf: &mut TextBuf, byte: u8) {
         let number = Some(self.place.saturating_add(1) as u64);
         match byte {
@@ -261,8 +261,8 @@ impl Written for ParseHint<'_> {
     }
 }
 
-/// Returns why the first invalid line isn't a log line, if there is one. For a line that is too long, only the kind of
-/// file is named.
+/// Returns why the first invalid line, if any, isn't a log line. For a line that is too long, the hint is only about
+/// the kind of file.
 pub fn first_parse_hint(lines: &[u8]) -> Option<ParseHint<'_>> {
     let lines = Pieces {
         rest: lines,

@@ -1,4 +1,4 @@
-//! The program's process: arguments and standard error.
+//! The arguments and the standard error stream of the program's process.
 ghost use Rattle.std.specs.Prelude.{◌≡◌, ◌<◌, ◌-◌, ◌^◌, ◌⊎◌, ℕ, List, IfErr, OnOk, OnErr};
 ghost use Rattle.hidlog.specs.Program.{IsWrittenTo, IsReported, no_memory as no_memory_text, not_text};
 
@@ -19,7 +19,8 @@ pub fn write_error_text<E: Target>(faults: &mut E, text: &[u8])
     let _ = put_all(faults, text);
 }
 
-/// Writes a message to a stream, unless too many writes to it failed. Returns whether all was written.
+/// Writes a message to a stream, unless the stream's count of failures is at its maximum. Returns whether the whole
+/// message was written.
 pub fn write_message<E: Target, W: Written>(stream: &mut E, what: &W) -> bool
     ensures { E.failed stream.old < 2 ^ 64 - 1 → (text : List ℕ) × IsWrittenTo E.taken E.failed (stream.old, stream.new) text }
 {
@@ -29,7 +30,7 @@ pub fn write_message<E: Target, W: Written>(stream: &mut E, what: &W) -> bool
     put_chunks(stream, &mut TextBuf::new(Detail::Explained), what).is_ok()
 }
 
-/// Writes an error message to standard error and, if errors are explained, the line with the details.
+/// Writes an error message to standard error. If texts are explained, a line with the details follows.
 pub fn report_error<E: Target>(faults: &mut E, explains: bool, text: &[u8], why: &ErrorDetail<'_>)
     requires { E.failed faults.old < 2 ^ 64 - 1 }
     ensures { IsReported explains E.taken E.failed (faults.old, faults.new) text.now }
@@ -43,7 +44,7 @@ pub fn report_error<E: Target>(faults: &mut E, explains: bool, text: &[u8], why:
     }
 }
 
-/// Writes the message for lack of memory. Returns the exit status, 2.
+/// Writes the message for a failed allocation. Returns the exit status, 2.
 pub fn no_memory<E: Target>(faults: &mut E) -> u8
     requires { E.failed faults.old < 2 ^ 64 - 1 }
     ensures status { result ≡ 2 }
@@ -53,8 +54,8 @@ pub fn no_memory<E: Target>(faults: &mut E) -> u8
     2
 }
 
-/// Returns the program's arguments, with its name first. If one isn't UTF-8 or memory runs out, writes a message; the
-/// error is the exit status, 2.
+/// Returns the program's arguments, beginning with the program's name. If an argument isn't UTF-8 or an allocation
+/// fails, writes a message. The error is the exit status, 2.
 pub fn program_args<E: Target>(rt: &HostRuntime, faults: &mut E) -> Result<Vec<String>, u8>
     requires { E.failed faults.old < 2 ^ 64 - 1 }
     ensures silent { OnOk result (faults.new ≡ faults.old) }

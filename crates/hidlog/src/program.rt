@@ -1,4 +1,4 @@
-//! The program over any files, log, output and error stream.
+//! The program, with any implementation of files, log, output and error stream.
 ghost use Rattle.std.specs.Prelude.{◌≡◌, ◌<◌, ◌-◌, ◌^◌, ◌⊎◌, ◌∷◌, ℕ, List, [], false, true, None, Some, Result, IfErr, OnOk, codes};
 ghost use Rattle.clap.specs.Words.{kind_of};
 ghost use Rattle.session_log.specs.Streams.{WritesLogLine};
@@ -26,25 +26,25 @@ use clap::error::ErrorKind;
 use session_log::{LogFault, ReplayMode, Target, put_all};
 use session_show::{LogWriter, OutputFormat, explain, put_json_fault, show, write_log};
 
-/// The result of an action, and what else can be reported about a single log.
+/// The result of a task, and what else can be reported about a single log.
 #[derive(Drop)]
 pub struct RunOutcome<'a> {
-    /// The error is the exit status.
+    /// The exit status is 0 for Ok, or else the error.
     pub status: Result<(), u8>,
-    /// Whether errors are explained.
+    /// Whether error messages are explained.
     pub explains: bool,
     /// The log's error.
     pub fault: Option<LogFault>,
-    /// The message of another error, if errors aren't explained.
+    /// The message about an error outside the log, if error messages aren't explained.
     pub notice: Option<Notice>,
-    /// The state at the end of a log without an error.
+    /// The state of the session at the end of a log without errors.
     pub ending: Option<CheckEnd>,
-    /// How differences are reported, if the log was checked.
+    /// How the differences are reported, if the log was checked.
     pub options: Option<ReportOptions<'a>>,
 }
 
 impl RunOutcome<'_> {
-    /// Returns the result with only a status.
+    /// Returns a result that has only a status.
     pub fn of(status: Result<(), u8>, explains: bool) -> Self
         ensures { result.status ≡ status }
     {
@@ -70,8 +70,8 @@ fn put_text<O: Target>(output: &mut O, text: &[u8]) -> Result<(), LogFault>
     }
 }
 
-/// Writes the log in a format, up to its first error, if any. In JSON, the last object is that of the error, after
-/// those of open transactions.
+/// Writes the log in a format, up to its first error, if any. In JSON, the objects of the open transactions and then
+/// that of the error come last.
 #[inline(never)]
 fn show_in_format<L: Logs, O: Target>(
     form: OutputFormat,
@@ -128,7 +128,7 @@ fn show_in<L: Logs, O: Target>(
 }
 
 impl<D: Files, L: Logs, O: Output, E: Target> Host<D, L, O, E> {
-    /// Writes clap's help to the output, or its error to standard error. The status is 0 for help that was written,
+    /// Writes clap's help to the output, or clap's error to standard error. The status is 0 if help was written, or
     /// else 2.
     fn write_clap_message(&mut self, error: &Error) -> Result<(), u8>
         requires { CanFail ⟦<Self as Modeled>⟧.model self.old }
@@ -175,7 +175,7 @@ impl<D: Files, L: Logs, O: Output, E: Target> Host<D, L, O, E> {
         }
     }
 
-    /// Reports the result of work on a log.
+    /// Reports the result of processing a log.
     fn report_result<'a, A>(
         &mut self,
         came: &Result<A, ProgramFault<'_>>,
@@ -199,7 +199,7 @@ impl<D: Files, L: Logs, O: Output, E: Target> Host<D, L, O, E> {
         outcome
     }
 
-    /// Plays a log and reports the result.
+    /// Plays a log, and reports the result.
     fn run_command<'a>(&mut self, play: &Play<'_>, explains: bool) -> RunOutcome<'a>
         requires { CanFail ⟦<Self as Modeled>⟧.model self.old }
         ensures status { IfErr result.status (λ code. (code ≡ 1) ⊎ (code ≡ 2)) }
@@ -212,7 +212,7 @@ impl<D: Files, L: Logs, O: Output, E: Target> Host<D, L, O, E> {
         outcome
     }
 
-    /// Checks the log at a path, or on standard input.
+    /// Checks the log at a path or on standard input, and reports the result.
     fn check_log<'a>(&mut self, options: ReportOptions<'a>, log: Option<&'a str>) -> RunOutcome<'a>
         requires { CanFail ⟦<Self as Modeled>⟧.model self.old }
         ensures status { IfErr result.status (λ code. (code ≡ 1) ⊎ (code ≡ 2)) }
@@ -230,7 +230,8 @@ impl<D: Files, L: Logs, O: Output, E: Target> Host<D, L, O, E> {
         outcome
     }
 
-    /// Checks the logs at these paths, or standard input if there are none. With several, each report names its log.
+    /// Checks the logs at these paths, or standard input without paths. If there are several logs, each report contains
+    /// the log's path.
     fn check_logs<'a>(&mut self, options: ReportOptions<'a>, logs: &[&'a str]) -> RunOutcome<'a>
         requires { CanFail ⟦<Self as Modeled>⟧.model self.old }
         ensures status { IfErr result.status (λ code. (code ≡ 1) ⊎ (code ≡ 2)) }
@@ -245,13 +246,13 @@ impl<D: Files, L: Logs, O: Output, E: Target> Host<D, L, O, E> {
         }
     }
 
-    /// Runs the program with these arguments, its name first. The exit status is 1 for an error in the log, and 2 for
-    /// invalid arguments, a snapshot that cannot be used, or lack of memory outside the log. The message is written to
-    /// standard error, if possible.
+    /// Runs the program with these arguments, of which the first is the program's name. The exit status is 1 for an
+    /// error in the log, and 2 for invalid arguments, a snapshot that can't be used, or a failed allocation outside the
+    /// log. The error message is written to standard error, if possible.
     pub fn run<'a>(&mut self, words: &'a [&'a str]) -> RunOutcome<'a>
         requires { CanFail ⟦<Self as Modeled>⟧.model self.old }
         ensures status { IfErr result.status (λ code. (code ≡ 1) ⊎ (code ≡ 2)) }
-        // The action was carried out.
+        // The task was carried out, as `Answers` defines.
         ensures answered { Answers ⟦<Self as Modeled>⟧.model (to_texts words.now) result.status self.old self.new }
     {
         let alloc = self.alloc;

@@ -1,8 +1,8 @@
-//! The progress of a long log, at a terminal.
+//! The progress of reading a long log, shown at a terminal.
 use session_show::{Detail, TextBuf};
 use std::io::Write;
 
-/// Number of bytes that take about a second. Logs shorter than this show no progress.
+/// The number of bytes that are read in about a second. For a shorter log, no progress is shown.
 pub const MIN_PROGRESS_SIZE: u64 = 64 << 20;
 
 /// Number of bytes between updates.
@@ -11,14 +11,14 @@ const UPDATE_INTERVAL: u64 = 8 << 20;
 /// Bytes in a megabyte.
 const MEGABYTE: u64 = 1_000_000;
 
-/// Spaces that clear the last line.
+/// The text that clears the current line: spaces between carriage returns.
 const CLEAR_LINE: &[u8] = b"\r                              \r";
 
-/// Shows the progress, if requested.
+/// Shows the progress of reading a log, if requested.
 #[derive(Clone, Copy)]
 pub struct Progress {
     pub is_shown: bool,
-    /// Length of the log, if it can be read again.
+    /// Length of the log, if the log can be read a second time.
     pub size: Option<u64>,
     /// Number of bytes at which the next update is due.
     pub next: u64,
@@ -27,8 +27,8 @@ pub struct Progress {
 }
 
 impl Progress {
-    /// Shows that `len` bytes were read, or clears the line at the end. The cursor stays at the start of the line, so
-    /// that the next text overwrites it.
+    /// Shows that `len` bytes were read. With `None`, at the end of the log, clears the line. The cursor stays at the
+    /// start of the line, so that the next text overwrites the progress.
     pub fn pass(&mut self, rt: &HostRuntime, len: Option<u64>) {
         let Some(len) = len else {
             if self.is_written {

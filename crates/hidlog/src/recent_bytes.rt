@@ -1,4 +1,4 @@
-//! The most recent bytes of a stream.
+//! The bytes of a stream that were read last.
 ghost use Rattle.std.specs.Prelude.{◌≡◌, ◌<◌, ◌≤◌, ◌+◌, [], ◌++◌, length, take, drop, min, vec_len, IfOk, OnOk, OnErr};
 ghost use Rattle.std.specs.Io.KnownBytes.{Consumes, Keeps, IsAtEnd, prepend_known};
 ghost use Rattle.hidlog.specs.Streams.{unread};
@@ -10,10 +10,10 @@ use std::io::{self, Read};
 /// Capacity in bytes.
 const RECENT_CAPACITY: usize = 8192;
 
-/// Number of bytes that are kept when the buffer is full. An invalid line begins in the last 256 bytes read.
+/// Number of bytes that are kept when the buffer is full. An invalid line begins within the last 256 bytes read.
 const KEPT_LEN: usize = 4096;
 
-/// The most recent bytes of a stream: consumed ones, then the others.
+/// The bytes of a stream that were read last: consumed bytes, followed by unread bytes.
 #[derive(Drop)]
 pub struct RecentBytes {
     held: Vec<u8>,
@@ -25,7 +25,7 @@ pub struct RecentBytes {
     ghost fits: { end ≤ 8192 },
 }
 
-/// Reads once, appending after `len` bytes.
+/// Reads once, and stores the bytes at offset `end` of the buffer.
 fn read_after<R: Read>(stream: &mut R, held: &mut Vec<u8>, end: usize) -> io::Result<usize>
     requires { end ≤ vec_len held.old }
     ensures len { vec_len held.new ≡ vec_len held.old }
@@ -50,7 +50,7 @@ impl RecentBytes {
         })
     }
 
-    /// Returns the bytes that weren't consumed.
+    /// Returns the bytes that were read but not consumed.
     pub fn unread(&self) -> &[u8]
         ensures { result.now ≡ unread self.now.held.items self.now.at self.now.end }
     {
@@ -62,7 +62,7 @@ impl RecentBytes {
             .1
     }
 
-    /// Reads once more, after all bytes were consumed.
+    /// Reads once. All bytes in the buffer must have been consumed.
     pub fn fill<R: Read>(&mut self, stream: &mut R) -> io::Result<()>
         requires { unread self.old.held.items self.old.at self.old.end ≡ [] }
         ensures bytes { Keeps (R.remaining stream.old)
@@ -89,7 +89,7 @@ impl RecentBytes {
         n
     }
 
-    /// Returns the lines in the buffer, without the first part of a line that is only partly kept.
+    /// Returns the lines in the buffer, without a line of which only the end was kept.
     pub fn lines(&self) -> &[u8] {
         let read = self.held.as_slice().split_at(self.end).0;
         if self.forgot {
@@ -99,7 +99,7 @@ impl RecentBytes {
         }
     }
 
-    /// If the buffer is full, drops old bytes, all of which were consumed.
+    /// If the buffer is full, drops the oldest bytes, which were all consumed.
     fn drop_old(&mut self)
         ensures at { self.new.at ≡ self.new.end }
         ensures space { self.new.end ≤ 4096 }

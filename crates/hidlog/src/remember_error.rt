@@ -1,7 +1,7 @@
 //! The process's streams, with their last errors.
 use std::io::{self, Write};
 
-/// A writer that keeps its last error and returns one of the same kind. A failed call is not retried.
+/// A writer that stores its last error, and returns an error of the same kind. A failed call is not retried.
 #[derive(Drop)]
 pub struct RememberError<W> {
     pub inner: W,

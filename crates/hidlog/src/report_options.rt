@@ -7,7 +7,7 @@ use std::alloc::Global;
 /// How findings in a log are reported.
 #[derive(Clone, Copy)]
 pub struct ReportOptions<'a> {
-    /// The allocator for texts that are kept.
+    /// The allocator for texts that are stored.
     pub alloc: Global,
     /// Whether the reason is written after an error message.
     pub explains: bool,
@@ -17,16 +17,16 @@ pub struct ReportOptions<'a> {
     pub path: Option<&'a str>,
     /// Whether all differences are reported, not only the first.
     pub is_all: bool,
-    /// Whether they are reported as JSON objects.
+    /// Whether the differences are reported as JSON objects.
     pub is_json: bool,
     /// Whether nothing differs.
     pub is_same: bool,
-    /// The width of the terminal, if they go to one. JSON is never truncated.
+    /// The width of the terminal to which reports are written, if any. JSON is never truncated.
     pub width: Option<usize>,
 }
 
 impl ReportOptions<'_> {
-    /// Begins a line: with the log's path if several are checked, or with the program's name.
+    /// Begins a line with the log's path if several logs are checked, or else with the program's name.
     pub fn begin_line(&self, buf: &mut TextBuf) {
         match self.path {
             Some(path) => write_escaped(buf, path.as_bytes()),
@@ -35,7 +35,7 @@ impl ReportOptions<'_> {
         buf.text(": ");
     }
 
-    /// Begins a JSON object (RFC 8259), with the log's path if several are checked.
+    /// Begins a JSON object (RFC 8259). If several logs are checked, the object contains the log's path.
     pub fn begin_object(&self, buf: &mut TextBuf, kind: &str) {
         buf.text("{\"kind\":\"");
         buf.text(kind);

@@ -1,4 +1,4 @@
-//! Loading a session from a snapshot, and saving it.
+//! Loading the credentials of a session from a snapshot, and saving them.
 ghost use Rattle.std.specs.Prelude.{◌≡◌, [], List, IfErr, OnOk};
 ghost use Rattle.cred_table.specs.declared.row.Row.{Row as AnyRow};
 ghost use Rattle.token_session.specs.Meters.{IsStateAfter, session_of};
@@ -17,7 +17,7 @@ use std::alloc::Global;
 use std::io::ErrorKind;
 use token_session::Session;
 
-/// Loads the credentials of the snapshot at the path, if any, into a new session with AAGUID zero at time 0.
+/// Loads the credentials of the snapshot at the path, if any, into a new session with an AAGUID of zeros at time 0.
 #[inline(never)]
 pub fn load<'a, D: Files>(
     session: &mut Session<CAPACITY>,
@@ -47,8 +47,8 @@ pub fn load<'a, D: Files>(
     }
 }
 
-/// Locks the snapshot at the path, if it is loaded and later saved to, until the result is dropped. So of two
-/// programs that do this at the same time, neither overwrites what the other saved.
+/// Locks the snapshot at the path until the result is dropped, if the snapshot is loaded and later saved to. So if two
+/// programs do this at the same time, neither overwrites what the other one saved.
 pub fn lock_snapshot<'a, D: Files>(
     files: &D,
     path: Option<&'a str>,
@@ -65,7 +65,8 @@ pub fn lock_snapshot<'a, D: Files>(
     }
 }
 
-/// Checks whether a snapshot can be written to the path, if any. Only for `live`, whose log may take long to arrive.
+/// Checks whether a snapshot can be written to the path, if any. Only `live` does this, because its log may arrive
+/// slowly.
 pub fn check_writable<'a, D: Files>(
     files: &D,
     command: ReplayMode,

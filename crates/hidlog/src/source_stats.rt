@@ -2,25 +2,25 @@
 use crate::progress::{MIN_PROGRESS_SIZE, Progress};
 use std::alloc::Global;
 
-/// Maximum number of bytes that are kept of a log that cannot be read again, such as a pipe.
+/// Maximum number of bytes that are kept of a log that can't be read a second time, such as a pipe.
 const MAX_KEPT: usize = 1 << 20;
 
-/// Statistics of a log so far.
+/// Statistics of the part of a log that was read.
 #[derive(Drop)]
 pub struct SourceStats {
     /// Number of bytes.
     pub len: u64,
-    /// Whether the last byte is a line feed; true if there are none.
+    /// Whether the last byte is a line feed. True if no byte was read.
     pub ends_line: bool,
     pub has_input: bool,
-    /// All bytes, if they are kept.
+    /// All bytes of the log so far, if they are kept.
     pub kept: Option<Vec<u8>>,
     pub progress: Progress,
 }
 
 impl SourceStats {
-    /// Returns the statistics before the first byte. `size` is the log's length if it can be read again; otherwise its
-    /// bytes are kept if there is an allocator. With `is_shown`, progress is shown.
+    /// Returns the statistics before the first byte. `size` is the log's length if the log can be read a second time.
+    /// Otherwise the log's bytes are kept if there is an allocator. With `is_shown`, progress is shown.
     pub fn new(is_shown: bool, size: Option<u64>, keeps: Option<Global>) -> Self {
         SourceStats {
             len: 0,
@@ -39,7 +39,7 @@ impl SourceStats {
         }
     }
 
-    /// Processes the next bytes, none at the end of the log, and shows the progress.
+    /// Processes the next bytes, and shows the progress. At the end of the log, `bytes` is empty.
     pub fn take(&mut self, rt: &HostRuntime, bytes: &[u8]) {
         let [.., last] = bytes else {
             self.progress.pass(rt, None);

@@ -4,10 +4,10 @@ ghost use Rattle.std.specs.Iterator.{at_most};
 
 use memchr::memchr;
 
-/// The digits of a line's leading number.
+/// The decimal digits.
 pub const DIGITS: &[u8] = b"0123456789";
 
-/// An iterator over the parts of a text that a separator ends, such as its lines or its words.
+/// An iterator over the parts of a text that end at a separator, such as lines or words.
 #[derive(Clone, Copy)]
 pub struct Pieces<'a> {
     /// The rest of the text.
@@ -33,7 +33,7 @@ impl<'a> Iterator for Pieces<'a> {
     }
 }
 
-/// Returns the offset of the first byte with this value, or the text's length.
+/// Returns the offset of the first byte with this value. Without such a byte, returns the text's length.
 pub fn find_byte(text: &[u8], wanted: u8) -> usize
     ensures { result ≤ length text.now }
 {
@@ -50,7 +50,7 @@ pub fn count_leading(text: &[u8], bytes: &[u8]) -> usize {
     text.len()
 }
 
-/// Returns the text after `len` bytes; all of it if it is shorter.
+/// Returns the text without its first `len` bytes, or the whole text if it is shorter.
 pub fn skip_front(text: &[u8], len: usize) -> &[u8] {
     text.get(len..).unwrap_or(text)
 }

@@ -1,14 +1,14 @@
-//! The checksums beside a snapshot, which reveal damage.
+//! The checksums beside a snapshot, with which damage is detected.
 
 use sha2::{Digest, Sha256};
 
-/// Number of hexadecimal digits of a SHA-256 sum.
+/// Number of hexadecimal digits of a SHA-256 hash.
 const DIGITS: usize = 64;
 
-/// Length of a line: the sum, a space, the file's inode number as 16 hexadecimal digits, and a line feed.
+/// Length of a line: the hash, a space, the file's inode number in 16 hexadecimal digits, and a line feed.
 const SUM_LINE_LEN: usize = 82;
 
-/// Maximum length of a checksum file: two lines.
+/// Maximum length of a checksum file, which has at most two lines.
 pub const MAX_SUMS_LEN: usize = 2 * SUM_LINE_LEN;
 
 /// A line of a checksum file: the SHA-256 hash of a snapshot and the inode number of its file.
@@ -16,7 +16,7 @@ pub const MAX_SUMS_LEN: usize = 2 * SUM_LINE_LEN;
 pub struct SumLine([u8; SUM_LINE_LEN]);
 
 impl SumLine {
-    /// Returns the checksum line for these bytes, in the file with this inode number.
+    /// Returns the checksum line for a file with these bytes and this inode number.
     pub fn of(bytes: &[u8], file: u64) -> Self {
         let mut line = [b'\n'; SUM_LINE_LEN];
         line[DIGITS] = b' ';
@@ -32,18 +32,19 @@ impl SumLine {
         self.0.as_slice()
     }
 
-    /// Returns whether the checksum file has this line.
+    /// Returns whether the checksum file contains this line.
     pub fn is_in(&self, sums: &[u8]) -> bool {
         sums.starts_with(self.text()) || sums.ends_with(self.text())
     }
 
-    /// Returns whether the checksum file is for the same file. If another file replaced it, the checksums don't apply.
+    /// Returns whether the checksum file belongs to the same file as this line, by the inode number. If another file
+    /// replaced that file, the checksums don't apply.
     pub fn is_for_same_file(&self, sums: &[u8]) -> bool {
         sums.ends_with(&self.0[DIGITS..])
     }
 }
 
-/// Returns whether a text is one or two checksum lines.
+/// Returns whether a text consists of one or two checksum lines.
 pub fn are_sums(text: &[u8]) -> bool {
     if text.len() != SUM_LINE_LEN && text.len() != MAX_SUMS_LEN {
         return false;

@@ -1,4 +1,4 @@
-//! The terminal of the program's process.
+//! The terminals of the program's process.
 use crate::args::{Action, ShowFormat, parse_args};
 use crate::buffered_output::FlushPolicy;
 use crate::host::TerminalFlags;
@@ -7,7 +7,7 @@ use crate::terminal_output::Style;
 use std::env;
 use std::io::IsTerminal;
 
-/// The width of a terminal that doesn't report one.
+/// The width that is used for a terminal that doesn't report its width.
 const DEFAULT_WIDTH: usize = 80;
 
 /// The minimum width at which lines are truncated.
@@ -19,22 +19,22 @@ const MAX_WIDTH: usize = 1000;
 /// The column in which line numbers end.
 const NUMBER_COLUMN: usize = 5;
 
-/// The terminals of the process, for these arguments.
+/// The terminals of the process, as the program uses them with these arguments.
 #[derive(Clone, Copy)]
 pub struct TerminalInfo {
     pub terminals: TerminalFlags,
-    /// Whether logs are checked.
+    /// Whether the command is `check`.
     pub is_check: bool,
     pub holding: FlushPolicy,
     /// The progress display.
     pub audience: ProgressMode,
-    /// The style of a log's lines, if standard output is a terminal.
+    /// The style of the log's lines, if standard output is a terminal.
     pub style: Option<Style>,
     /// The width of standard error, if it is a terminal.
     pub width: Option<usize>,
 }
 
-/// Examines the terminals of the process, for these arguments.
+/// Examines the terminals of the process.
 pub fn terminal_info(rt: &HostRuntime, words: &[&str]) -> TerminalInfo {
     let terminals = TerminalFlags {
         output: rt.stdout().is_terminal(),
@@ -46,7 +46,7 @@ pub fn terminal_info(rt: &HostRuntime, words: &[&str]) -> TerminalInfo {
         [_, "show", ..] => (false, FlushPolicy::UntilNextInput),
         _ => (false, FlushPolicy::Nothing),
     };
-    // The width of a terminal according to the environment.
+    // The width of the terminal according to the environment.
     let columns = match env::var(rt, "COLUMNS") {
         Ok(text) => text.as_str().parse::<usize>().unwrap_or(DEFAULT_WIDTH),
         Err(_) => DEFAULT_WIDTH,
@@ -60,7 +60,7 @@ pub fn terminal_info(rt: &HostRuntime, words: &[&str]) -> TerminalInfo {
         style: None,
         width: terminals.faults.then_some(columns),
     };
-    // Without a terminal, the arguments don't matter.
+    // If no stream is a terminal, the arguments aren't needed.
     if (terminals.output || terminals.faults || rt.stdin().is_terminal())
         && let Ok(asked) = parse_args(rt.alloc(), words)
     {
@@ -76,7 +76,7 @@ pub fn terminal_info(rt: &HostRuntime, words: &[&str]) -> TerminalInfo {
     around
 }
 
-/// Returns how the lines of a log are shown at a terminal.
+/// Returns the style of a log's lines at a terminal.
 fn style_of(rt: &HostRuntime, task: &Action<'_>, columns: usize) -> Option<Style> {
     match task {
         Action::Show {
@@ -85,7 +85,7 @@ fn style_of(rt: &HostRuntime, task: &Action<'_>, columns: usize) -> Option<Style
             ..
         } => Some(Style {
             width: if *wide { usize::MAX } else { columns },
-            // The environment may turn colours off (no-color.org).
+            // The environment may turn colours off (see no-color.org).
             has_colours: match env::var(rt, "NO_COLOR") {
                 Ok(text) => text.as_str().is_empty(),
                 Err(_) => true,

@@ -1,4 +1,4 @@
-//! A log at a terminal: lines truncated at its width, with colours.
+//! Output to a terminal: lines truncated at the terminal's width, with colours.
 ghost use Rattle.std.specs.Prelude.{◌≡◌, ◌<◌, ◌-◌, ◌^◌, None, is_none, if◌then◌else◌};
 ghost use Rattle.session_show.specs.Written.{Writes};
 
@@ -24,15 +24,15 @@ const CYAN: &[u8] = b"\x1b[36m";
 /// The style of lines at a terminal.
 #[derive(Clone, Copy)]
 pub struct Style {
-    /// The width of a line. No line is as long as `usize::MAX`.
+    /// The maximum width of a line. `usize::MAX` means unlimited, because no line is that long.
     pub width: usize,
     pub has_colours: bool,
-    /// The column in which line numbers end, or 0 if they aren't aligned.
+    /// The column in which line numbers end, or 0 if line numbers aren't aligned.
     pub numbers: usize,
 }
 
-/// Writes a line without its line feed. If it is wider than the terminal, writes as much as fits, followed by two dots.
-/// A character of three or four bytes counts as two columns, because it may be a wide one.
+/// Writes a line without its line feed. If the line is wider than the terminal, writes as much of it as fits, followed
+/// by two dots. A character of three or four bytes in UTF-8 counts as two columns, because it may be a wide character.
 fn write_cut(buf: &mut TextBuf, line: &[u8], width: usize) {
     let (mut columns, mut end) = (0_usize, 0);
     for place in 0..line.len() {
@@ -64,7 +64,7 @@ fn colour_of(line: &[u8], digits: usize) -> &'static [u8] {
         };
     }
     match text {
-        // An ERROR from the key, ` < 00000001 ERROR 1 06`.
+        // An ERROR packet from the key, such as ` < 00000001 ERROR 1 06`.
         [b' ', b'<', ..] if skip_front(text, 12).starts_with(b"ERROR ") => RED,
         [b' ', b'<', ..] => GREEN,
         [b' ', b'>', ..] => CYAN,
@@ -76,7 +76,7 @@ fn colour_of(line: &[u8], digits: usize) -> &'static [u8] {
     }
 }
 
-/// Lines that end with line feeds, in a style.
+/// A text of whole lines, written in a style.
 #[derive(Clone, Copy)]
 pub struct StyledLines<'a> {
     pub text: &'a [u8],
@@ -113,7 +113,7 @@ impl Written for StyledLines<'_> {
     }
 }
 
-/// A target over another one, which is a terminal if there is a style.
+/// A target that writes to another one, which is a terminal if there is a style.
 #[derive(Drop)]
 pub struct Screen<T> {
     pub inner: T,
@@ -122,7 +122,7 @@ pub struct Screen<T> {
     pub line: Vec<u8>,
 }
 
-/// Writes lines in a style. Not inlined, because the buffer in its stack frame is zeroed at each call.
+/// Writes lines in a style. Not inlined, because the buffer in the stack frame is set to zeros in each call.
 #[inline(never)]
 fn put_styled<T: Target>(target: &mut T, lines: &StyledLines<'_>) -> Result<(), Failed>
     requires { T.failed target.old < 2 ^ 64 - 1 }
@@ -132,7 +132,7 @@ fn put_styled<T: Target>(target: &mut T, lines: &StyledLines<'_>) -> Result<(), 
 }
 
 impl<T: Target> Target for Screen<T> {
-    // Without a style, text passes unchanged. With a style, the contracts state nothing about the output.
+    // Without a style, the text is passed on unchanged. With a style, the contracts state nothing about the output.
     ghost taken = { λ s. if is_none s.style then T.taken s.inner else None };
 
     ghost failed = { λ s. T.failed s.inner };
@@ -141,14 +141,14 @@ impl<T: Target> Target for Screen<T> {
         let Some(style) = &self.style else {
             return self.inner.put(piece);
         };
-        // Number of leading bytes that are complete lines.
+        // Number of leading bytes that consist of complete lines.
         let len = match memrchr(b'\n', piece) {
             Some(place) => place.saturating_add(1),
             None => 0,
         };
         let whole = piece.get(..len).unwrap_or(piece);
         if self.line.extend_from_slice(whole).is_err() {
-            // If memory is exhausted, the text is written unchanged.
+            // If an allocation fails, the text is written unchanged.
             put_all(&mut self.inner, piece)?;
             return Ok(piece.len());
         }

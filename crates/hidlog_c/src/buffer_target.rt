@@ -1,12 +1,13 @@
-//! A target over the caller's buffer.
+//! A target that writes to the caller's buffer.
 ghost use Rattle.std.specs.Prelude.{◌≡◌, ◌<◌, ◌≤◌, ◌+◌, ◌-◌, ◌^◌, [], ◌∷◌, List, ℕ, Option, Some, length, take, is_ok, if◌then◌else◌, IfOk};
 ghost use Rattle.std.specs.Io.KnownBytes.{WriteAppends};
 
 use session_log::{Failed, Target};
 
-/// A target that fills the caller's buffer from its start. In contracts, the bytes taken are the ghost name of the
-/// borrow, followed by the bytes written; so after a call that only appends, the caller knows that the target still
-/// fills the same buffer. After a failed call, the buffer is full. The contract of `SliceOut` states neither.
+/// A target that fills the caller's buffer from its beginning. In contracts, the bytes taken are the ghost name of the
+/// borrow, followed by the bytes written. So after a call that only appends bytes, a contract can state that the target
+/// still writes to the same buffer. After a failed call, the buffer is full. The contract of `SliceOut` states neither
+/// of these two properties.
 #[derive(Drop)]
 pub struct BufferTarget<'a> {
     buffer: &'a mut [u8],
@@ -17,7 +18,7 @@ pub struct BufferTarget<'a> {
 }
 
 impl<'a> BufferTarget<'a> {
-    /// Returns a target for this buffer.
+    /// Returns a target that writes to this buffer.
     pub fn new(buffer: &'a mut [u8]) -> Self
         ensures same_reference { result.buffer.ghost_name ≡ buffer.entry.ghost_name }
         ensures none { result.len ≡ 0 }

@@ -1,5 +1,5 @@
-//! The functions on a key in C (hidlog.h). Each returns its result, or an error below 0 that leaves the key unchanged
-//! (fault.rt).
+//! The C functions that take a key (hidlog.h). Each function returns its result. An error is a result below 0
+//! (fault.rt), after which the key is unchanged.
 ghost use Rattle.std.specs.Prelude.{◌≡◌, None, Some, option_map};
 ghost use Rattle.token_session.specs.declared.input.Input.TheVariants as inputs;
 ghost use prog.Memory.{capped, size};
@@ -29,7 +29,7 @@ use cred_table::SnapshotFault;
 use hid_packet::Packet;
 use token_session::Input;
 
-/// Converts a number to a user presence reply, if valid.
+/// Converts a number of enum hidlog_presence to a user presence reply. Returns `None` for other numbers.
 fn parsed_presence_number(presence: u32) -> Option<Presence>
     ensures { result ≡ parsed_presence_number presence }
 {
@@ -49,7 +49,7 @@ pub extern "C" fn hidlog_key_size() -> usize
     std::mem::size_of::<Device>()
 }
 
-/// Returns the number of credentials that a key has capacity for.
+/// Returns the maximum number of credentials of a key.
 #[unsafe(no_mangle)]
 pub extern "C" fn hidlog_key_capacity() -> usize
     ensures { result ≡ CAPACITY }
@@ -57,7 +57,8 @@ pub extern "C" fn hidlog_key_capacity() -> usize
     CAPACITY
 }
 
-/// Initializes a key that powers up at `at`, with the credentials of the snapshot; none if it is empty.
+/// Initializes a key that powers up at time `at`, with the credentials of the snapshot. An empty snapshot means no
+/// credentials.
 #[unsafe(no_mangle)]
 pub extern "C" fn hidlog_key_init(
     key: &mut KeyHandle,
@@ -79,7 +80,7 @@ pub extern "C" fn hidlog_key_init(
     }
 }
 
-/// Advances the time to `at`, in milliseconds. Returns the number of queued packets.
+/// Advances the time to `at`, in milliseconds. Returns the number of packets that are queued for sending.
 #[unsafe(no_mangle)]
 pub extern "C" fn hidlog_key_tick(key: &mut KeyHandle, at: u64) -> i32
     ensures { Answers (held key.old) (held key.new) (record { at = at; input = inputs.Tick }) result }
@@ -87,7 +88,8 @@ pub extern "C" fn hidlog_key_tick(key: &mut KeyHandle, at: u64) -> i32
     key.process_input(at, Input::Tick)
 }
 
-/// Processes a host packet at time `at`, in milliseconds. Returns the number of queued packets.
+/// Processes a packet from the host at time `at`, in milliseconds. Returns the number of packets that are queued for
+/// sending.
 #[unsafe(no_mangle)]
 pub extern "C" fn hidlog_key_write_packet(key: &mut KeyHandle, at: u64, packet: &[u8; 64]) -> i32
     ensures { Answers (held key.old) (held key.new)
@@ -96,7 +98,7 @@ pub extern "C" fn hidlog_key_write_packet(key: &mut KeyHandle, at: u64, packet: 
     key.process_input(at, Input::Packet(Packet(*packet)))
 }
 
-/// Removes the next queued packet and writes it to `packet`. Returns the number of packets left.
+/// Removes the next queued packet, and copies it to `packet`. Returns the number of packets that remain.
 #[unsafe(no_mangle)]
 pub extern "C" fn hidlog_key_read_packet(key: &mut KeyHandle, packet: &mut [u8; 64]) -> i32
     ensures { Sends (held key.old) (held key.new) (packet.old, packet.new) result }
@@ -104,7 +106,7 @@ pub extern "C" fn hidlog_key_read_packet(key: &mut KeyHandle, packet: &mut [u8; 
     key.next(packet)
 }
 
-/// Provides user presence: 0 granted, 1 denied, 2 timed out.
+/// Provides the user presence reply: 0 granted, 1 denied, 2 timed out.
 #[unsafe(no_mangle)]
 pub extern "C" fn hidlog_key_provide_presence(key: &mut KeyHandle, at: u64, presence: u32) -> i32
     ensures { AnswersChecked (held key.old) (held key.new) at (option_map inputs.Presence (parsed_presence_number presence)) result }
@@ -115,7 +117,7 @@ pub extern "C" fn hidlog_key_provide_presence(key: &mut KeyHandle, at: u64, pres
     }
 }
 
-/// Provides a key pair for the new credential: its ID and the public key's coordinates.
+/// Provides a key pair for a new credential: the credential ID and the coordinates of the public key.
 #[unsafe(no_mangle)]
 pub extern "C" fn hidlog_key_provide_key_pair(
     key: &mut KeyHandle,
@@ -166,7 +168,7 @@ pub extern "C" fn hidlog_key_refuse_signature(key: &mut KeyHandle, at: u64) -> i
     key.process_input(at, Input::Signature(None))
 }
 
-/// Plays lines of a log, and writes what `live` writes for each to the start of `out`.
+/// Plays lines of a log, and writes the output of `live` for these lines to the start of `out`.
 #[unsafe(no_mangle)]
 pub extern "C" fn hidlog_key_replay_lines(
     key: &mut KeyHandle,
@@ -188,7 +190,7 @@ pub extern "C" fn hidlog_key_queued_packets(key: &mut KeyHandle) -> i32
     key.waiting()
 }
 
-/// Writes what the key needs from its caller, and returns its kind.
+/// Stores what the key needs from its caller, and returns the number of its kind.
 #[unsafe(no_mangle)]
 pub extern "C" fn hidlog_key_get_need(key: &mut KeyHandle, need: &mut CNeed) -> i32
     ensures same { held key.new ≡ held key.old }
@@ -197,9 +199,9 @@ pub extern "C" fn hidlog_key_get_need(key: &mut KeyHandle, need: &mut CNeed) -> 
     key.need(need)
 }
 
-/// Writes why the key refused its last input, as numbers and as a UTF-8 sentence at the start of `out`. `which` is 1
-/// for the input, 0 for a message that timed out before it. Returns the number of bytes written, or 0 if nothing was
-/// refused.
+/// Stores why the key refused its last input, as numbers in `report` and as a sentence in UTF-8 at the start of `out`.
+/// With `which` 1, this is the cause for the input; with 0, the cause for a message that timed out before the input.
+/// Returns the number of bytes written, or 0 if nothing was refused.
 #[unsafe(no_mangle)]
 pub extern "C" fn hidlog_key_cause(
     key: &mut KeyHandle,
@@ -222,7 +224,7 @@ pub extern "C" fn hidlog_key_credential_count(key: &mut KeyHandle) -> i32
     key.credentials()
 }
 
-/// Writes the credential at an index, from 0, in order of creation.
+/// Stores the credential at an index. Credentials are in order of creation, and indices begin at 0.
 #[unsafe(no_mangle)]
 pub extern "C" fn hidlog_key_get_credential(
     key: &mut KeyHandle,
@@ -244,7 +246,7 @@ pub extern "C" fn hidlog_key_pending_assertions(key: &mut KeyHandle) -> i32
     key.pending()
 }
 
-/// Writes the session's statistics.
+/// Stores the statistics of the session.
 #[unsafe(no_mangle)]
 pub extern "C" fn hidlog_key_get_stats(key: &mut KeyHandle, meters: &mut CStats) -> i32
     ensures same { held key.new ≡ held key.old }
@@ -253,7 +255,7 @@ pub extern "C" fn hidlog_key_get_stats(key: &mut KeyHandle, meters: &mut CStats)
     key.meters(meters)
 }
 
-/// Adds a credential, replacing one with the same ID. Begins a new session at `at`.
+/// Adds a credential. A credential with the same ID is replaced. Begins a new session at time `at`.
 #[unsafe(no_mangle)]
 pub extern "C" fn hidlog_key_add_credential(
     key: &mut KeyHandle,
@@ -265,7 +267,7 @@ pub extern "C" fn hidlog_key_add_credential(
     key.add(at, credential)
 }
 
-/// Removes the credential with an ID. Begins a new session at `at`.
+/// Removes the credential with this ID. Begins a new session at time `at`.
 #[unsafe(no_mangle)]
 pub extern "C" fn hidlog_key_remove_credential(key: &mut KeyHandle, at: u64, id: &[u8; 32]) -> i32
     ensures { Removes (held key.old) (held key.new) at id.now result }
@@ -273,7 +275,7 @@ pub extern "C" fn hidlog_key_remove_credential(key: &mut KeyHandle, at: u64, id:
     key.remove(at, id)
 }
 
-/// Removes all credentials. Begins a new session at `at`.
+/// Removes all credentials. Begins a new session at time `at`.
 #[unsafe(no_mangle)]
 pub extern "C" fn hidlog_key_clear_credentials(key: &mut KeyHandle, at: u64) -> i32
     ensures { Clears (held key.old) (held key.new) at result }
@@ -281,7 +283,7 @@ pub extern "C" fn hidlog_key_clear_credentials(key: &mut KeyHandle, at: u64) -> 
     key.clear(at)
 }
 
-/// Writes a snapshot of the credentials to the start of `out`, and returns its length.
+/// Writes a snapshot of the credentials to the start of `out`, and returns the snapshot's length.
 #[unsafe(no_mangle)]
 pub extern "C" fn hidlog_key_save_snapshot(key: &mut KeyHandle, out: &mut [u8]) -> i32
     ensures same { held key.new ≡ held key.old }
@@ -290,7 +292,7 @@ pub extern "C" fn hidlog_key_save_snapshot(key: &mut KeyHandle, out: &mut [u8]) 
     key.save(out)
 }
 
-/// Destroys the key. Its memory belongs to the caller again.
+/// Destroys the key. The caller may use its memory again.
 #[unsafe(no_mangle)]
 pub extern "C" fn hidlog_key_destroy(key: &mut KeyHandle) -> i32
     ensures none { held key.new ≡ None }

@@ -1,4 +1,4 @@
-//! The capacity of keys. The library with capacity 256 is the same sources with another number here.
+//! The capacity of keys. The library with capacity 256 has the same sources, with another number here.
 
 /// Maximum number of credentials, and of pending assertions.
 pub const CAPACITY: usize = 64;

@@ -9,20 +9,20 @@ use hid_assemble::Refusal as TransportRefusal;
 use session_show::{Detail, TextBuf, write_cause};
 use token_session::{Cause, Causes};
 
-/// The cause of a refusal, as numbers.
+/// The cause of a refusal, in numbers.
 #[derive(Clone, Copy)]
 #[repr(C)]
 pub struct CauseReport {
-    /// enum hidlog_cause_code of hidlog.h.
+    /// The number of the cause in enum hidlog_cause_code (hidlog.h).
     pub code: u32,
     /// The code of the ERROR packet, or the status of the response.
     pub status: u32,
-    /// The values that were compared, or 0.
+    /// The first of the values that were compared, or 0.
     pub first: u64,
     pub second: u64,
 }
 
-/// Returns the report of a cause with these numbers.
+/// Returns the report with these numbers.
 fn report(code: u32, status: u8, first: u64, second: u64) -> CauseReport
     ensures { result ≡ record { code = code; status = status; first = first; second = second } }
 {
@@ -108,7 +108,7 @@ fn command_report(why: Refusal) -> CauseReport
     report(code, why.status().0, first, second)
 }
 
-/// Returns the numbers of a cause.
+/// Returns the report of a cause.
 pub fn report_of(cause: Cause) -> CauseReport
     ensures { result ≡ report_of cause }
 {
@@ -119,8 +119,8 @@ pub fn report_of(cause: Cause) -> CauseReport
     }
 }
 
-/// Returns whether a C number selects the cause of the input's refusal (1) or that of a time-out before it (0). Other
-/// numbers are invalid.
+/// Returns true if a C number selects the cause for the input (1), and false if it selects the cause for a message that
+/// timed out before the input (0). Other numbers are invalid.
 pub fn parsed_which(which: u32) -> Option<bool>
     ensures { result ≡ parsed_which which }
 {
@@ -131,7 +131,8 @@ pub fn parsed_which(which: u32) -> Option<bool>
     }
 }
 
-/// Returns the cause of the time-out that was handled before the last input, or the cause of the input's own refusal.
+/// Returns the cause for which the last input was refused if `is_input` is true. Otherwise, returns the cause for which
+/// a message was dropped before the input, because it timed out.
 pub fn cause_at(causes: &Causes, is_input: bool) -> Option<Cause>
     ensures { result ≡ cause_at causes.now is_input }
 {
@@ -144,7 +145,8 @@ pub fn cause_at(causes: &Causes, is_input: bool) -> Option<Cause>
     }
 }
 
-/// Writes the sentence of a cause, as far as it fits, to the start of `out`, and returns the number of bytes written.
+/// Writes the sentence for a cause to the start of `out`, truncated if it doesn't fit, and returns the number of bytes
+/// written.
 pub fn put_sentence(cause: Cause, out: &mut [u8]) -> usize
     ensures front { result ≤ length out.new }
     ensures few { result < 10000 }

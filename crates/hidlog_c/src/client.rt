@@ -1,20 +1,21 @@
-//! The WebAuthn client as C functions. Each call is a function of its inputs: no state is kept between calls.
+//! The WebAuthn client as C functions. The result of each call depends only on its arguments: no state is kept between
+//! calls.
 
 use webauthn_client::{
     Abilities, Ceremony, Client, DomError, Message, Rejection, Response, Verification,
 };
 
-/// Values that a call returns in addition to its result.
+/// The values that a call returns in addition to its return value.
 #[repr(C)]
 #[derive(Clone, Copy)]
 pub struct ClientReport {
-    /// The options' timeout in milliseconds.
+    /// The timeout in the options, in milliseconds.
     pub timeout_ms: u32,
-    /// Whether the response claims user verification: 0 or 1.
+    /// Whether the response states that the user was verified: 0 or 1.
     pub is_verified: u32,
-    /// For an error: length of the member's name at the start of `out`.
+    /// After an error: the length of the member's name, which is at the start of `out`.
     pub member_len: u32,
-    /// For an error: length of the reason after it.
+    /// After an error: the length of the reason, which follows the member's name.
     pub reason_len: u32,
 }
 
@@ -35,7 +36,7 @@ fn error_number(error: DomError) -> i64 {
     }
 }
 
-/// Copies bytes to the beginning of a buffer, and returns their number, or [`ERR_BUFFER_TOO_SMALL`].
+/// Copies bytes to the beginning of a buffer. Returns their number, or [`ERR_BUFFER_TOO_SMALL`].
 fn put(bytes: &[u8], out: &mut [u8]) -> i64 {
     let Ok(length) = i64::try_from(bytes.len()) else {
         return ERR_BUFFER_TOO_SMALL;
@@ -47,8 +48,8 @@ fn put(bytes: &[u8], out: &mut [u8]) -> i64 {
     length
 }
 
-/// Returns the number of a rejection, and writes the name of the invalid member and the reason to the beginning of a
-/// buffer, if both fit.
+/// Returns the number of a rejection. If both fit into the buffer, writes the name of the invalid member and the reason
+/// to its beginning.
 fn write_rejection(rejection: Rejection, report: &mut ClientReport, out: &mut [u8]) -> i64 {
     let (member, reason) = (rejection.member.as_bytes(), rejection.reason.as_bytes());
     let (Ok(member_len), Ok(reason_len)) = (
@@ -68,7 +69,7 @@ fn write_rejection(rejection: Rejection, report: &mut ClientReport, out: &mut [u
     error_number(rejection.error)
 }
 
-/// Converts bits (enum hidlog_client_ability) to the authenticator's abilities.
+/// Converts bits (enum hidlog_client_ability) to the abilities of an authenticator.
 fn to_abilities(bits: u32) -> Abilities {
     let verification = if bits & 1 != 0 {
         Verification::Verified
@@ -84,7 +85,7 @@ fn to_abilities(bits: u32) -> Abilities {
     }
 }
 
-/// Returns the ceremony: 0 creates a credential, other numbers get an assertion.
+/// Returns the ceremony with this number: 0 creates a credential, and any other number gets an assertion.
 fn to_ceremony(ceremony: u32) -> Ceremony {
     if ceremony == 0 {
         Ceremony::Create
@@ -93,7 +94,7 @@ fn to_ceremony(ceremony: u32) -> Ceremony {
     }
 }
 
-/// Appends a call's request to a message, and reports its timeout and its verification.
+/// Appends the CTAP2 request of a call to a message, and stores the timeout and the user verification in `report`.
 fn write_request(
     client: &Client,
     report: &mut ClientReport,
@@ -105,8 +106,8 @@ fn write_request(
     Ok(())
 }
 
-/// Begins a call of navigator.credentials: checks its options, and writes the request for the key. Returns its length,
-/// or the number of an error.
+/// Begins a call of navigator.credentials: checks the options, and writes the CTAP2 request. Returns the length of the
+/// request, or the number of an error.
 #[unsafe(no_mangle)]
 pub extern "C" fn hidlog_client_request(
     ceremony: u32,
@@ -139,7 +140,8 @@ pub extern "C" fn hidlog_client_request(
     }
 }
 
-/// Ends a call with the key's response: writes the credential as JSON. Returns its length, or the number of an error.
+/// Ends a call of navigator.credentials with the authenticator's response: writes the credential as JSON. Returns the
+/// length of the JSON, or the number of an error.
 #[unsafe(no_mangle)]
 pub extern "C" fn hidlog_client_response(
     ceremony: u32,

@@ -1,4 +1,4 @@
-//! The commands, from a log to the caller's buffer.
+//! The commands in C: the log and the output are in the caller's memory.
 ghost use Rattle.std.specs.Prelude.{◌≡◌, [], List, ℕ, take, Option};
 ghost use Rattle.cred_table.specs.declared.row.Row.{Row as AnyRow};
 ghost use Rattle.token_session.specs.Meters.{IsStateAfter, session_of};
@@ -12,7 +12,7 @@ use crate::session_start::{new_command_session, open};
 use session_log::{LogFault, ReplayMode, SliceIn};
 use token_session::Session;
 
-/// Plays the log on the session. The target still writes to the same buffer afterwards.
+/// Plays the log on the session. After that, the target still writes to the same buffer.
 fn play(
     command: ReplayMode,
     session: &mut Session<CAPACITY>,
@@ -28,9 +28,9 @@ fn play(
     command.play(session, &mut SliceIn::new(log), writer)
 }
 
-/// Plays the log on a session with the credentials of the snapshot, none if it is empty. The output goes to the start
-/// of `out`.
-// Not inlined, so that its stack isn't in use while the session is created.
+/// Plays the log on a session with the credentials of the snapshot, or without credentials if the snapshot is empty.
+/// The output is written to the start of `out`. Not inlined, so that its stack frame isn't in use while the session is
+/// created.
 #[inline(never)]
 fn play_on(
     session: &mut Session<CAPACITY>,
@@ -52,8 +52,8 @@ fn play_on(
     }
 }
 
-/// Runs a command on a session with the credentials of the snapshot, none if it is empty. The output goes to the start
-/// of `out`.
+/// Runs a command on a session with the credentials of the snapshot, or without credentials if the snapshot is empty.
+/// The output is written to the start of `out`.
 pub fn run(command: ReplayMode, log: &[u8], snapshot: &[u8], out: &mut [u8]) -> CResult
     ensures { Answers command log.now snapshot.now (out.old, out.new) result }
 {

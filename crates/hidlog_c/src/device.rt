@@ -29,7 +29,7 @@ use hid_packet::Outbox;
 use std::marker::Model;
 use token_session::{Causes, Input, Session};
 
-/// A session, its queued packets, and why its last input was refused.
+/// A session, its queued packets, and the causes for which its last input was refused.
 #[derive(Drop)]
 pub struct Device {
     aaguid: [u8; 16],
@@ -44,7 +44,8 @@ const NO_CAUSES: Causes = Causes {
     input: None,
 };
 
-// In contracts, a device is its AAGUID, its session's state, the queued packets, and the causes of the last refusals.
+// In contracts, a device is its AAGUID, the state of its session, the queued packets, and the causes for which the last
+// input was refused.
 impl Model for Device {
     ghost use Rattle.hidlog_c.specs.Key.{DeviceState};
 
@@ -54,7 +55,7 @@ impl Model for Device {
 }
 
 impl Device {
-    /// Returns a device without credentials that powers up at `at`, with this AAGUID.
+    /// Returns a device with this AAGUID and without credentials, which powers up at time `at`.
     pub fn bare(aaguid: [u8; 16], at: u64) -> Self
         ensures { IsStarted result aaguid at [] }
     {
@@ -66,8 +67,8 @@ impl Device {
         }
     }
 
-    /// Powers the device up again at `at`, with the credentials of the snapshot. If the snapshot is rejected, nothing
-    /// changes. No packet may be queued.
+    /// Powers the device up again at time `at`, with the credentials of the snapshot. If the snapshot is rejected,
+    /// nothing changes. No packet may be queued.
     pub fn load(&mut self, at: u64, snapshot: &[u8]) -> Result<(), SnapshotFault>
         requires idle { self.old.waiting ≡ [] }
         ensures started { OnOk result ((rows : List AnyRow) × Loads CAPACITY snapshot.now (Ok tt) rows
@@ -82,7 +83,8 @@ impl Device {
         Ok(())
     }
 
-    /// Processes an input. Returns the number of packets queued for sending, or an error if packets were queued before.
+    /// Processes an input. Returns the number of packets queued for sending. If packets were queued before, returns an
+    /// error and doesn't process the input.
     pub fn process_input(&mut self, at: u64, input: Input) -> i32
         ensures { Answers (Some self.old) (Some self.new) (record { at = at; input = input }) result }
     {
@@ -93,7 +95,7 @@ impl Device {
         self.outbox.len() as i32
     }
 
-    /// Removes the next queued packet and writes it to `packet`.
+    /// Removes the next queued packet, and copies it to `packet`.
     pub fn next(&mut self, packet: &mut [u8; 64]) -> i32
         ensures { Sends (Some self.old) (Some self.new) (packet.old, packet.new) result }
     {
@@ -105,7 +107,7 @@ impl Device {
         self.outbox.len() as i32
     }
 
-    /// Plays lines of a log, unless packets are queued.
+    /// Plays lines of a log. If packets are queued, returns an error instead.
     pub fn play(&mut self, log: &[u8], out: &mut [u8], outcome: &mut CResult) -> i32
         ensures { TakesLines (Some self.old) (Some self.new) log.now (out.old, out.new) (outcome.old, outcome.new) result }
     {
@@ -117,8 +119,8 @@ impl Device {
         outcome.status as i32
     }
 
-    /// Writes why the last input was refused (`which` is 1), or the cause of the time-out that was handled before it
-    /// (0).
+    /// Stores why the last input was refused (`which` 1), or why a message that timed out before the input was dropped
+    /// (`which` 0).
     pub fn cause(&self, which: u32, report: &mut CauseReport, out: &mut [u8]) -> i32
         ensures { ReportsCause (Some self.now) which (report.old, report.new) (out.old, out.new) result }
     {
@@ -163,7 +165,7 @@ impl Device {
         self.session.pending()
     }
 
-    /// Writes the credential at an index, if there is one.
+    /// Stores the credential at an index, if there is one.
     pub fn credential(&self, place: usize, credential: &mut Credential) -> i32
         ensures { ReportsRow self.now.session.machine.core.state.rows place (credential.old, credential.new) result }
     {
@@ -181,7 +183,7 @@ impl Device {
         to_c_stats(self.session.meters())
     }
 
-    /// Returns the error if the key can't start a new session: packets are queued, or a request is pending.
+    /// Returns the error if a new session can't begin: packets are queued, or a request is pending.
     fn busy_error(&self) -> Option<i32>
         ensures busy { IfSome result (λ fault. IsBusy self.now fault) }
         ensures idle { IfNone result (IsIdle self.now) }
@@ -195,7 +197,7 @@ impl Device {
         }
     }
 
-    /// Starts a new session at `at` with these credentials. No packet may be queued.
+    /// Begins a new session at time `at` with these credentials. No packet may be queued.
     fn start(&mut self, at: u64, rows: Store<CAPACITY>)
         requires { self.old.waiting ≡ [] }
         ensures { IsStarted self.new self.old.aaguid at (⟦<Store<CAPACITY> as Table<CAPACITY>>⟧.rows rows) }
@@ -204,7 +206,7 @@ impl Device {
         self.causes = NO_CAUSES;
     }
 
-    /// Returns the credentials without the one with this ID, and whether there was one.
+    /// Returns the credentials except the one with this ID, and whether there was one.
     fn rows_without(&self, id: &[u8; 32]) -> (Store<CAPACITY>, bool)
         ensures { (rows : List AnyRow) × HasRows self.now rows
             × (⟦<Store<CAPACITY> as Table<CAPACITY>>⟧.rows result.0 ≡ without id.now rows)
@@ -216,7 +218,7 @@ impl Device {
         (rows, table.find(id).is_some())
     }
 
-    /// Adds a credential, replacing one with the same ID. Begins a new session.
+    /// Adds a credential, and begins a new session. A credential with the same ID is replaced.
     pub fn add(&mut self, at: u64, credential: &Credential) -> i32
         ensures { Adds (Some self.old) (Some self.new) at credential.now result }
     {
@@ -237,7 +239,7 @@ impl Device {
         0
     }
 
-    /// Removes the credential with this ID. Begins a new session.
+    /// Removes the credential with this ID, and begins a new session.
     pub fn remove(&mut self, at: u64, id: &[u8; 32]) -> i32
         ensures { Removes (Some self.old) (Some self.new) at id.now result }
     {
@@ -252,7 +254,7 @@ impl Device {
         0
     }
 
-    /// Removes all credentials. Begins a new session.
+    /// Removes all credentials, and begins a new session.
     pub fn clear(&mut self, at: u64) -> i32
         ensures { Clears (Some self.old) (Some self.new) at result }
     {
@@ -263,8 +265,8 @@ impl Device {
         0
     }
 
-    /// Writes a snapshot of the credentials to the start of a buffer of the maximum snapshot length, and returns its
-    /// length.
+    /// Writes a snapshot of the credentials to the start of a buffer for the longest snapshot, and returns the
+    /// snapshot's length.
     fn save_front(&self, front: &mut [u8]) -> usize
         requires { length front.old ≡ SNAPSHOT_MAX_LEN }
         ensures saved { SavesLen self.now (front.old, front.new) result }
@@ -274,7 +276,7 @@ impl Device {
         save_into(self.session.table(), front).unwrap_or(0)
     }
 
-    /// Writes a snapshot of the credentials to the start of `out`, and returns its length.
+    /// Writes a snapshot of the credentials to the start of `out`, and returns the snapshot's length.
     pub fn save(&self, out: &mut [u8]) -> i32
         ensures { SavesRows self.now (out.old, out.new) result }
     {

@@ -12,7 +12,7 @@ pub const STATE_INITIALIZED: u32 = 1;
 /// The state of a destroyed key.
 pub const STATE_DESTROYED: u32 = 2;
 
-/// A key: a device in the caller's memory. A struct of zeros is a key that was never initialized.
+/// A key: the device in the caller's memory. A struct of zeros is a key that was never initialized.
 #[repr(C)]
 pub struct KeyHandle {
     pub memory: Memory,

@@ -1,4 +1,4 @@
-//! The operations on a key.
+//! The operations of a key, which return an error if the key is not initialized.
 ghost use Rattle.std.specs.Prelude.{◌≡◌, ◌≢◌, [], None, Some, IfErr, OnOk, is_some};
 ghost use Rattle.cred_table.specs.Snapshots.{Refuses};
 ghost use Rattle.hidlog_c.specs.Causes.{ReportsCause};
@@ -21,16 +21,16 @@ use cred_table::SnapshotFault;
 use token_session::Input;
 
 impl KeyHandle {
-    /// Returns whether it is initialized.
+    /// Returns whether the key is initialized.
     pub fn is_initialized(&self) -> bool
         ensures { result ≡ is_some (held self.now) }
     {
         self.state == STATE_INITIALIZED
     }
 
-    /// Initializes the key with a device that powers up at `at`, with the credentials of the snapshot; none if it is
-    /// empty. Fails if the key is initialized or the snapshot is rejected.
-    // The snapshot is read into the device in place: moving its 39 kB would copy them.
+    /// Initializes the key with a device that powers up at time `at`, with the credentials of the snapshot. An empty
+    /// snapshot means no credentials. Fails if the key is initialized or the snapshot is rejected. The snapshot is
+    /// loaded into the device in place, because moving a device copies its 39 kB.
     pub fn initialize(
         &mut self,
         aaguid: [u8; 16],
@@ -65,7 +65,8 @@ impl KeyHandle {
         }
     }
 
-    /// Processes an input. Returns the number of packets queued for sending, or an error if packets were queued before.
+    /// Processes an input. Returns the number of packets queued for sending. If packets were queued before, returns an
+    /// error and doesn't process the input.
     pub fn process_input(&mut self, at: u64, input: Input) -> i32
         ensures { Answers (held self.old) (held self.new) (record { at = at; input = input }) result }
     {
@@ -75,7 +76,7 @@ impl KeyHandle {
         self.memory.device().process_input(at, input)
     }
 
-    /// Returns the error of an invalid argument.
+    /// Returns the error for an invalid argument.
     pub fn refuse(&self) -> i32
         ensures { result ≡ refusal_of (held self.now) }
     {
@@ -86,7 +87,7 @@ impl KeyHandle {
         }
     }
 
-    /// Removes the next queued packet and writes it to `packet`.
+    /// Removes the next queued packet, and copies it to `packet`.
     pub fn next(&mut self, packet: &mut [u8; 64]) -> i32
         ensures { Sends (held self.old) (held self.new) (packet.old, packet.new) result }
     {
@@ -96,7 +97,7 @@ impl KeyHandle {
         self.memory.device().next(packet)
     }
 
-    /// Plays lines of a log, unless packets are queued.
+    /// Plays lines of a log. If packets are queued, returns an error instead.
     pub fn play(&mut self, log: &[u8], out: &mut [u8], outcome: &mut CResult) -> i32
         ensures { TakesLines (held self.old) (held self.new) log.now (out.old, out.new) (outcome.old, outcome.new) result }
     {
@@ -106,7 +107,7 @@ impl KeyHandle {
         self.memory.device().play(log, out, outcome)
     }
 
-    /// Writes why the last input was refused, or the cause of the time-out that was handled before it.
+    /// Stores why the last input was refused, or why a message that timed out before the input was dropped.
     pub fn cause(&mut self, which: u32, report: &mut CauseReport, out: &mut [u8]) -> i32
         ensures same { held self.new ≡ held self.old }
         ensures cause { ReportsCause (held self.old) which (report.old, report.new) (out.old, out.new) result }
@@ -128,7 +129,7 @@ impl KeyHandle {
         self.memory.device().waiting() as i32
     }
 
-    /// Writes what the session needs from the caller, and returns its kind.
+    /// Stores what the session needs from the caller, and returns the number of its kind.
     pub fn need(&mut self, need: &mut CNeed) -> i32
         ensures same { held self.new ≡ held self.old }
         ensures need { ReportsNeed (held self.old) (need.old, need.new) result }
@@ -162,7 +163,7 @@ impl KeyHandle {
         self.memory.device().pending() as i32
     }
 
-    /// Writes the credential at an index, if there is one.
+    /// Stores the credential at an index, if there is one.
     pub fn credential(&mut self, place: usize, credential: &mut Credential) -> i32
         ensures same { held self.new ≡ held self.old }
         ensures credential { ReportsCredential (held self.old) place (credential.old, credential.new) result }
@@ -173,7 +174,7 @@ impl KeyHandle {
         self.memory.device().credential(place, credential)
     }
 
-    /// Writes the session's meters.
+    /// Stores the meters of the session.
     pub fn meters(&mut self, meters: &mut CStats) -> i32
         ensures same { held self.new ≡ held self.old }
         ensures meters { ReportsMeters (held self.old) (meters.old, meters.new) result }
@@ -195,7 +196,7 @@ impl KeyHandle {
         self.memory.device().add(at, credential)
     }
 
-    /// Removes the credential with an ID, and begins a new session.
+    /// Removes the credential with this ID, and begins a new session.
     pub fn remove(&mut self, at: u64, id: &[u8; 32]) -> i32
         ensures { Removes (held self.old) (held self.new) at id.now result }
     {
@@ -215,7 +216,7 @@ impl KeyHandle {
         self.memory.device().clear(at)
     }
 
-    /// Writes a snapshot of the credentials, and returns its length.
+    /// Writes a snapshot of the credentials, and returns the snapshot's length.
     pub fn save(&mut self, out: &mut [u8]) -> i32
         ensures same { held self.new ≡ held self.old }
         ensures saves { SavesKey (held self.old) (out.old, out.new) result }

@@ -1,6 +1,6 @@
-//! A security key as C functions (hidlog.h): a key with one input per call (`calls`), and the commands on session logs,
-//! from a log and a snapshot to a text and a result. Allocates nothing. The web page's WebAssembly module has the same
-//! source.
+//! A security key as C functions (hidlog.h): a key that processes one input per call (`calls`), and the commands on
+//! session logs, which take a log and a snapshot and return a text and a result. Allocates nothing. The WebAssembly
+//! module of the web page has the same source.
 #![tactic(auto)]
 
 mod buffer_target;
@@ -38,8 +38,8 @@ use crate::transactions::show_transactions;
 use session_log::ReplayMode;
 use session_show::Detail;
 
-/// Replays the log on a session with the credentials of the snapshot, none if it is empty. The output goes to the start
-/// of `out`.
+/// Replays the log on a session with the credentials of the snapshot, or without credentials if the snapshot is empty.
+/// The output is written to the start of `out`.
 #[unsafe(no_mangle)]
 pub extern "C" fn hidlog_replay(log: &[u8], snapshot: &[u8], out: &mut [u8], outcome: &mut CResult)
     ensures { Answers commands.Replay log.now snapshot.now (out.old, out.new) outcome.new }
@@ -47,7 +47,8 @@ pub extern "C" fn hidlog_replay(log: &[u8], snapshot: &[u8], out: &mut [u8], out
     *outcome = run(ReplayMode::Replay, log, snapshot, out);
 }
 
-/// Replays the log, and writes after the packets of each input line what the session needs, to the start of `out`.
+/// Replays the log, and writes the output to the start of `out`. After the packets of each input line, the output
+/// contains what the session needs.
 #[unsafe(no_mangle)]
 pub extern "C" fn hidlog_live(log: &[u8], snapshot: &[u8], out: &mut [u8], outcome: &mut CResult)
     ensures { Answers commands.Live log.now snapshot.now (out.old, out.new) outcome.new }
@@ -55,7 +56,7 @@ pub extern "C" fn hidlog_live(log: &[u8], snapshot: &[u8], out: &mut [u8], outco
     *outcome = run(ReplayMode::Live, log, snapshot, out);
 }
 
-/// Compares the log with what the session sends. The counts go to the start of `out`.
+/// Compares the packets in the log with those that the session sends, and writes the counts to the start of `out`.
 #[unsafe(no_mangle)]
 pub extern "C" fn hidlog_check(log: &[u8], snapshot: &[u8], out: &mut [u8], outcome: &mut CResult)
     ensures { Answers commands.Check log.now snapshot.now (out.old, out.new) outcome.new }
@@ -63,7 +64,7 @@ pub extern "C" fn hidlog_check(log: &[u8], snapshot: &[u8], out: &mut [u8], outc
     *outcome = run(ReplayMode::Check, log, snapshot, out);
 }
 
-/// Makes the log quiet. The quiet log goes to the start of `out`.
+/// Replaces ignored inputs of the log by ticks, and writes the resulting log to the start of `out`.
 #[unsafe(no_mangle)]
 pub extern "C" fn hidlog_quiet(log: &[u8], snapshot: &[u8], out: &mut [u8], outcome: &mut CResult)
     ensures { Answers commands.Quiet log.now snapshot.now (out.old, out.new) outcome.new }
@@ -71,7 +72,7 @@ pub extern "C" fn hidlog_quiet(log: &[u8], snapshot: &[u8], out: &mut [u8], outc
     *outcome = run(ReplayMode::Quiet, log, snapshot, out);
 }
 
-/// Converts a C number to a level of detail; 0 is the fixed text.
+/// Converts a C number to a level of detail. 0 selects the fixed text.
 fn detail_for(explain: u32) -> Detail
     ensures { result ≡ detail_for (not (explain == 0)) }
 {
@@ -82,7 +83,7 @@ fn detail_for(explain: u32) -> Detail
     }
 }
 
-/// Writes the log's fixed text, or its explanation if `explain` isn't 0, to the start of `out`.
+/// Writes the fixed text of the log, or the explained text if `explain` isn't 0, to the start of `out`.
 #[unsafe(no_mangle)]
 pub extern "C" fn hidlog_show(log: &[u8], explain: u32, out: &mut [u8], outcome: &mut CResult)
     ensures { IsShown (detail_for (not (explain == 0))) log.now out.new outcome.new }
@@ -90,7 +91,7 @@ pub extern "C" fn hidlog_show(log: &[u8], explain: u32, out: &mut [u8], outcome:
     *outcome = show_log(detail_for(explain), log, out);
 }
 
-/// Writes the transaction of each line and the end of each transaction, as numbers (hidlog.h), to the start of `out`.
+/// Writes the transaction of each line and the end of each transaction, in numbers (hidlog.h), to the start of `out`.
 #[unsafe(no_mangle)]
 pub extern "C" fn hidlog_transactions(log: &[u8], out: &mut [u8], outcome: &mut CResult)
     ensures { IsShown fixed log.now out.new outcome.new }
@@ -98,8 +99,8 @@ pub extern "C" fn hidlog_transactions(log: &[u8], out: &mut [u8], outcome: &mut 
     *outcome = show_transactions(log, out);
 }
 
-/// Writes the program's line for the error in a result, `hidlog: line 3: not a log line`, to the start of `out`;
-/// nothing if there is no error. Returns the number of bytes written.
+/// Writes the message for the error in a result, such as `hidlog: line 3: not a log line`, to the start of `out`.
+/// Without an error, writes nothing. Returns the number of bytes written.
 #[unsafe(no_mangle)]
 pub extern "C" fn hidlog_result_message(outcome: &CResult, out: &mut [u8]) -> usize
     ensures { result ≤ length out.new }

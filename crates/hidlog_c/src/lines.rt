@@ -1,4 +1,4 @@
-//! Lines of a log, played on the session of a key.
+//! Playing lines of a log on the session of a key.
 ghost use Rattle.std.specs.Prelude.{◌≡◌, [], take, Option};
 ghost use Rattle.hidlog_c.specs.Commands.{IsWritten};
 ghost use Rattle.hidlog_c.specs.Lines.{ArePlayed, FollowsLines, PlaysLines};
@@ -9,7 +9,7 @@ use crate::outcome::CResult;
 use session_log::{LogFault, SliceIn, process_live_lines};
 use token_session::Session;
 
-/// Plays the lines. The target still writes to the same buffer afterwards.
+/// Plays the lines. After that, the target still writes to the same buffer.
 fn play(
     session: &mut Session<CAPACITY>,
     log: &[u8],

@@ -5,7 +5,7 @@ ghost use Rattle.hidlog_c.specs.Key.{DeviceState};
 
 use std::marker::Model;
 
-/// The caller's memory, with or without a device.
+/// The caller's memory, which contains a device or is unused.
 #[repr(C)]
 pub struct Memory {
     pub(crate) at: *mut u8,

@@ -7,7 +7,7 @@ use crate::device::Device;
 use crate::memory::Memory;
 
 impl Memory {
-    /// Puts a device into the memory.
+    /// Moves a device into the memory.
     pub fn put(&mut self, device: Device)
         requires { self.old.device ≡ None }
         ensures { self.new.device ≡ Some device }

@@ -1,4 +1,4 @@
-//! The texts of errors.
+//! The messages for errors.
 ghost use Rattle.std.specs.Prelude.{◌≡◌, ◌≤◌, ℕ, Some, Err, length};
 ghost use Rattle.session_log.specs.declared.fault.LogFault.{LogFault as AnyFault};
 ghost use Rattle.hidlog_c.specs.Numbers.{to_c_result};
@@ -8,7 +8,7 @@ use arrayvec::ArrayVec;
 use session_log::LogFault;
 use std::io::Write;
 
-/// Returns the log error of a result, if any.
+/// Returns the log error with the numbers of a result, if any.
 fn fault_in(outcome: &CResult) -> Option<LogFault>
     ensures { (fault : AnyFault) (written : ℕ) → outcome.now ≡ to_c_result {A = Unit {0}} (Err fault) written → result ≡ Some fault }
 {
@@ -28,7 +28,7 @@ fn fault_in(outcome: &CResult) -> Option<LogFault>
     }
 }
 
-/// Returns the text for a snapshot error number, if there is one.
+/// Returns the message for the number of a snapshot error. For other numbers, it is empty.
 fn refusal(number: u32) -> &'static [u8] {
     match number {
         1 => b"hidlog: snapshot refused: 1\n",
@@ -38,8 +38,8 @@ fn refusal(number: u32) -> &'static [u8] {
     }
 }
 
-/// Writes the program's line for a result, as far as it fits, to the start of `out`; nothing for success. Returns the
-/// number of bytes written.
+/// Writes the message for a result to the start of `out`, truncated if it doesn't fit. For success, writes nothing.
+/// Returns the number of bytes written.
 pub fn write_result_message(outcome: &CResult, out: &mut [u8]) -> usize
     ensures { result ≤ length out.new }
 {

@@ -11,17 +11,17 @@ use session_log::LogFault;
 pub struct CResult {
     /// 0 for success, 1 for an error in the log, 2 for a rejected snapshot.
     pub status: u32,
-    /// The number of the log error or snapshot error; 0 if there is none.
+    /// The number of the log error or snapshot error, or 0 without an error.
     pub fault: u32,
-    /// The error's line, or 0.
+    /// The line of the error, or 0.
     pub line: u64,
-    /// The packet that differs, from 1; 0 for other errors.
+    /// The number of the packet that differs, counted from 1; 0 for other errors.
     pub packet: u64,
-    /// Number of bytes written to the buffer.
+    /// The number of bytes written to the buffer.
     pub written: u64,
 }
 
-/// Returns the line and the packet of an error, or 0 if it has none.
+/// Returns the numbers of the line and the packet of an error, or 0 if the error has none.
 fn line_and_packet(fault: &LogFault) -> (u64, u64)
     ensures line { result.0 ≡ line_of fault.now }
     ensures packet { result.1 ≡ packet_of fault.now }
@@ -37,7 +37,7 @@ fn line_and_packet(fault: &LogFault) -> (u64, u64)
 }
 
 impl CResult {
-    /// Converts the result of a command that wrote `written` bytes.
+    /// Converts the result of a command that wrote `written` bytes to a C struct.
     pub fn new<A: Drop>(answer: Result<A, LogFault>, written: usize) -> Self
         ensures { result ≡ to_c_result answer written }
     {
@@ -56,7 +56,7 @@ impl CResult {
         outcome
     }
 
-    /// Converts the error of a rejected snapshot.
+    /// Converts the error for a rejected snapshot to a C struct.
     pub fn refused(fault: SnapshotFault) -> Self
         ensures { result ≡ refused fault }
     {

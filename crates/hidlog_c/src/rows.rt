@@ -1,4 +1,4 @@
-//! Converts C credentials to rows.
+//! Conversion of C credentials to rows.
 ghost use Rattle.std.specs.Prelude.{◌≡◌, ◌≤◌, ◌<◌, length, take, option_map, IfSome, IfNone};
 ghost use Rattle.hidlog_c.specs.Changed.{Describes, DescribesNoRow};
 
@@ -7,7 +7,7 @@ use arrayvec::ArrayVec;
 use cred_table::{Name, Row};
 use std::str;
 
-/// Returns the first `len` bytes of an array, if it has as many.
+/// Returns the first `len` bytes of an array, or `None` if the array is shorter.
 fn valid_prefix(bytes: &[u8; 64], len: u32) -> Option<&[u8]>
     ensures front { IfSome result (λ front. (front.now ≡ take len bytes.now) × (len ≤ 64)) }
     ensures none { IfNone result (64 < len) }
@@ -15,7 +15,7 @@ fn valid_prefix(bytes: &[u8; 64], len: u32) -> Option<&[u8]>
     bytes.get(..len as usize)
 }
 
-/// Returns the row of a credential, if it is valid.
+/// Converts a C credential to a row. Returns `None` if the credential is invalid.
 pub fn to_row(credential: &Credential) -> Option<Row>
     ensures says { IfSome result (λ row. Describes credential.now row) }
     ensures none { IfNone result (DescribesNoRow credential.now) }

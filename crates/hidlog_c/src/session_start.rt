@@ -18,15 +18,15 @@ pub fn new_session(aaguid: [u8; 16], start: u64, rows: Store<CAPACITY>) -> Sessi
     Session::new(Config { aaguid }, rows, start)
 }
 
-/// Returns a session without credentials, with AAGUID zero, that begins at time 0.
-// This function creates it in the caller's stack frame; calling `Session::bare` there would copy it.
+/// Returns a session without credentials, with an AAGUID of zeros, which begins at time 0. The session is created in
+/// the caller's stack frame; calling `Session::bare` there would copy the session.
 pub fn new_command_session() -> Session<CAPACITY>
     ensures { result ≡ session_of (start_with []) [] }
 {
     Session::bare([0; 16], 0)
 }
 
-/// Loads the credentials of the snapshot into a new session. An empty snapshot has no credentials.
+/// Loads the credentials of the snapshot into a new session. An empty snapshot means no credentials.
 pub fn open(session: &mut Session<CAPACITY>, snapshot: &[u8]) -> Result<(), SnapshotFault>
     requires fresh { session.old ≡ session_of (start_with []) [] }
     ensures begins { OnOk result ((rows : List AnyRow) × IsSnapshotOrEmpty snapshot.now rows

@@ -1,4 +1,4 @@
-//! Showing a log, in its fixed text or explained.
+//! Writes a log in its fixed text or its explained text.
 ghost use Rattle.std.specs.Prelude.{◌≡◌};
 ghost use Rattle.hidlog_c.specs.Commands.{IsWritten};
 ghost use Rattle.hidlog_c.specs.Shown.{IsShown, Shows};
@@ -9,7 +9,7 @@ use crate::outcome::CResult;
 use session_log::{LogFault, SliceIn};
 use session_show::{Detail, explain, show};
 
-/// Shows the log in its fixed text. The target still writes to the same buffer afterwards.
+/// Writes the fixed text of the log. After that, the target still writes to the same buffer.
 fn play_fixed(log: &[u8], writer: &mut BufferTarget<'_>) -> Result<(), LogFault>
     requires none { writer.old.len ≡ 0 }
     requires unfailed { writer.old.failures ≡ 0 }
@@ -19,7 +19,7 @@ fn play_fixed(log: &[u8], writer: &mut BufferTarget<'_>) -> Result<(), LogFault>
     show(&mut SliceIn::new(log), writer)
 }
 
-/// Explains the log. The target still writes to the same buffer afterwards.
+/// Writes the explained text of the log. After that, the target still writes to the same buffer.
 fn play_explained(log: &[u8], writer: &mut BufferTarget<'_>) -> Result<(), LogFault>
     requires none { writer.old.len ≡ 0 }
     requires unfailed { writer.old.failures ≡ 0 }
@@ -29,7 +29,7 @@ fn play_explained(log: &[u8], writer: &mut BufferTarget<'_>) -> Result<(), LogFa
     explain(&mut SliceIn::new(log), writer)
 }
 
-/// Shows the log: writes the output of [`show`] or [`explain`] to the start of `out`.
+/// Writes the output of [`show`] or [`explain`] for the log to the start of `out`.
 pub fn show_log(detail: Detail, log: &[u8], out: &mut [u8]) -> CResult
     ensures { IsShown detail log.now out.new result }
 {

@@ -1,4 +1,4 @@
-//! The C structs that calls on a key write.
+//! The C structs in which calls on a key store their results.
 ghost use Rattle.std.specs.Prelude.{◌≡◌, ◌≤◌, ◌++◌, ◌-◌, drop, length, replicate};
 ghost use Rattle.authn_core.specs.Needs.{IsValidNeed};
 ghost use Rattle.authn_core.specs.Views.{to_needed};
@@ -14,11 +14,11 @@ use token_session::Meters;
 pub struct CNeed {
     /// 0 nothing, 1 user presence, 2 a key pair, 3 a signature.
     pub kind: u32,
-    /// For a signature, the number of bytes to sign; else 0.
+    /// The number of bytes to sign for a signature, or else 0.
     pub to_sign_len: u32,
-    /// For a signature, the credential ID; else zeros.
+    /// The credential ID for a signature, or else zeros.
     pub id: [u8; 32],
-    /// The bytes to sign, with zeros after them.
+    /// The bytes to sign, followed by zeros.
     pub signed: [u8; 196],
 }
 
@@ -34,15 +34,15 @@ pub struct Credential {
     pub x: [u8; 32],
     /// The y coordinate.
     pub y: [u8; 32],
-    /// The user handle, with zeros after it.
+    /// The user handle, followed by zeros.
     pub user: [u8; 64],
-    /// The user's name in UTF-8, with zeros after it.
+    /// The user's name in UTF-8, followed by zeros.
     pub name: [u8; 64],
     /// Length of the user handle in bytes.
     pub user_id_len: u32,
     /// Length of the name in bytes.
     pub user_name_len: u32,
-    /// 1 if the credential is discoverable, else 0.
+    /// 1 if the credential is discoverable, or else 0.
     pub discoverable: u32,
     /// The signature counter.
     pub counter: u32,
@@ -80,7 +80,7 @@ fn with_zeros<const N: usize>(bytes: &[u8]) -> [u8; N]
     kept
 }
 
-/// Returns a need of a kind other than a signature.
+/// Returns a need that isn't a signature, with this number.
 fn plain_need(kind: u32) -> CNeed
     ensures { result ≡ record { kind = kind; to_sign_len = 0; id = replicate 32 0; signed = replicate 196 0 } }
 {

@@ -1,4 +1,4 @@
-//! The transactions of a log, as numbers.
+//! Writes the transactions of a log in numbers.
 ghost use Rattle.std.specs.Prelude.{◌≡◌};
 ghost use Rattle.hidlog_c.specs.Commands.{IsWritten};
 ghost use Rattle.hidlog_c.specs.Shown.{IsShown, Shows};
@@ -9,7 +9,7 @@ use crate::outcome::CResult;
 use session_log::{LogFault, SliceIn};
 use session_show::write_transactions;
 
-/// Writes the transaction of each line. The target still writes to the same buffer afterwards.
+/// Writes the transaction of each line. After that, the target still writes to the same buffer.
 fn play_transactions(log: &[u8], writer: &mut BufferTarget<'_>) -> Result<(), LogFault>
     requires none { writer.old.len ≡ 0 }
     requires unfailed { writer.old.failures ≡ 0 }
@@ -19,7 +19,7 @@ fn play_transactions(log: &[u8], writer: &mut BufferTarget<'_>) -> Result<(), Lo
     write_transactions(&mut SliceIn::new(log), writer)
 }
 
-/// Writes the transaction of each line, as [`write_transactions`] does, to the start of `out`.
+/// Writes the output of [`write_transactions`] for the log to the start of `out`.
 pub fn show_transactions(log: &[u8], out: &mut [u8]) -> CResult
     ensures { IsShown fixed log.now out.new result }
 {

@@ -21,21 +21,21 @@ use token_session::{Session, Timed};
 /// Compares the packets of a log with those that the session sends, and writes nothing.
 #[derive(Drop)]
 struct CheckPlayer {
-    /// The packet expected next in the log. The packets after it are in the outbox.
+    /// The next expected packet of the log. The packets after it are in the outbox.
     awaited: Option<Packet>,
     outbox: Outbox,
     /// Number of lines read.
     lines: u64,
-    /// Line of the last input, or 0 before the first.
+    /// The line of the last input, or 0 before the first input.
     input: u64,
-    /// Number of packets found for the last input.
+    /// The number of packets that were found for the last input.
     found: u64,
     inputs: u64,
     packets: u64,
 }
 
 impl CheckPlayer {
-    /// Returns the player before the first line.
+    /// Returns the state before the first line.
     fn new() -> Self
         ensures begun { (s : SessionState) → log_comparison s result.lines result.input result.found
             (due_packets result.awaited result.outbox) result.inputs result.packets ≡ first_comparison s }
@@ -58,7 +58,7 @@ impl CheckPlayer {
         }
     }
 
-    /// Returns the error for a packet that differs, is missing or is one too many.
+    /// Returns the error for the next packet of the last input: it differs, is missing or is one too many.
     fn difference(&self) -> LogFault
         requires { self.now.found < 2 ^ 64 - 1 }
         ensures { result ≡ LogFault.Differs self.now.input (self.now.found + 1) }
@@ -69,7 +69,7 @@ impl CheckPlayer {
         }
     }
 
-    /// Compares the log's packet on this line with the expected one.
+    /// Compares the packet on this line of the log with the expected one.
     fn match_packet(&mut self, number: u64)
         requires found { self.old.found < 2 ^ 64 - 1 }
         requires packets { self.old.packets < 2 ^ 64 - 1 }
@@ -87,7 +87,7 @@ impl CheckPlayer {
         self.packets += 1;
     }
 
-    /// Expects the packets in the outbox, which belong to the input on this line.
+    /// Makes the packets in the outbox the expected ones. They belong to the input on this line.
     fn begin_input(&mut self, number: u64)
         requires { self.old.inputs < 2 ^ 64 - 1 }
         ensures lines { self.new.lines ≡ number }
@@ -156,15 +156,14 @@ impl<const C: usize> Player<C> for CheckPlayer {
     }
 }
 
-/// Compares a log with what a session sends for its inputs (docs/use/LOG_FORMAT.md). Each input line must be followed
-/// by exactly the packets sent for it, in order; comments and count lines may be between them. Hexadecimal digits are
-/// compared by value. Writes only the number of equal inputs and packets, at the reader's end. Allocates nothing.
-///
-/// Fails with [`LogFault::Differs`] at the first packet that differs, is missing or is one too many; a missing one is
-/// found at the next input line or at the reader's end. [`LogFault::BadLine`], [`LogFault::TooLong`],
-/// [`LogFault::TooManyLines`] and [`LogFault::Read`] are as for [`crate::replay`]; the first of these and of a
-/// difference is returned. [`LogFault::Write`] occurs only at the reader's end; then only a part of the text was
-/// written. The session has stepped all inputs up to the error.
+/// Compares the packets in a log with those that a session sends for its inputs (docs/use/LOG_FORMAT.md). After each
+/// input line, the log must contain exactly the packets sent for the input, in order; comments and lines of meters may
+/// be between them. Hexadecimal digits are compared by value. At the end of the log, writes the number of equal inputs
+/// and packets, and nothing else. Allocates nothing. Fails with [`LogFault::Differs`] at the first packet that differs,
+/// is missing or is one too many. A missing packet is found at the next input line or at the end of the log.
+/// [`LogFault::BadLine`], [`LogFault::TooLong`], [`LogFault::TooManyLines`] and [`LogFault::Read`] are as for
+/// [`crate::replay`]. If there are several errors, the first one is returned. [`LogFault::Write`] occurs only at the
+/// end of the log; then only a part of the text was written. The session has processed all inputs up to the error.
 pub fn check<S: Source, T: Target, const C: usize>(
     reader: &mut S,
     writer: &mut T,
@@ -179,7 +178,8 @@ pub fn check<S: Source, T: Target, const C: usize>(
         × PlaysThrough check_machine (first_comparison session.old)
         (λ bytes text. PlaysWholeLog check_machine (first_comparison session.old) later bytes text (ending_of result)) S.left S.failed
         S.ended T.taken T.failed result (reader.old, reader.new) (writer.old, writer.new) }
-    // For each history that leads to the session's state, this is the result that the definitions give for the history.
+    // For each history that leads to the session's state, the result is the one that the definitions give for the
+    // history.
     ensures history { (start : Start) (h : List OneInput) → IsStateAfter session.old start h
         → PlaysLog commands.Check start h S.left S.failed S.ended T.taken T.failed result session.new (reader.old, reader.new)
         (writer.old, writer.new) }

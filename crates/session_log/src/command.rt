@@ -1,4 +1,4 @@
-//! The commands of the program `hidlog` that play a log on a session, over any source and targets.
+//! The commands of the program `hidlog` that play a log on a session, with any source and targets.
 ghost use Rattle.std.specs.Prelude.{◌≡◌, ◌<◌, ◌-◌, ◌^◌, List};
 ghost use Rattle.authn_core.specs.Turn.{Start};
 ghost use Rattle.token_session.specs.declared.input.Timed.{Timed as OneInput};
@@ -17,10 +17,10 @@ use arrayvec::ArrayVec;
 use std::io::Write;
 use token_session::{Meters, Session};
 
-/// Capacity of the program's session: credentials, and pending assertions.
+/// Capacity of the program's session: the maximum number of credentials, and of pending assertions.
 pub const CAPACITY: usize = 64;
 
-/// Writes an error message and a line feed. A failed write is ignored.
+/// Writes an error message and a line feed. The error of a failed write is ignored.
 pub fn write_error<E: Target>(faults: &mut E, fault: &LogFault)
     requires { E.failed faults.old < 2 ^ 64 - 1 }
 {
@@ -43,19 +43,18 @@ fn discard_meters(answer: Result<Meters, LogFault>) -> Result<(), LogFault>
 /// A command that plays a log on a session.
 #[derive(Clone, Copy, Debug, PartialEq, Eq)]
 pub enum ReplayMode {
-    /// Writes the log with the packets that the session sends ([`crate::replay`]).
+    /// Writes the log, with the packets that the session sends ([`crate::replay`]).
     Replay,
-    /// Also writes the replies that the session needs ([`crate::live`]).
+    /// As `Replay`, and also writes what the session needs ([`crate::live`]).
     Live,
-    /// Compares the log with what the session sends ([`crate::check`]).
+    /// Compares the packets in the log with those that the session sends ([`crate::check`]).
     Check,
-    /// Replaces inputs that the session ignores by ticks ([`crate::quiet`]).
+    /// Replaces ignored inputs in the log by ticks ([`crate::quiet`]).
     Quiet,
 }
 
 impl ReplayMode {
-    /// Runs this command.
-    // Not inlined, so that its 30 kB of stack aren't in use while a snapshot is loaded.
+    /// Runs this command. Not inlined, so that its 30 kB of stack aren't in use while a snapshot is loaded.
     #[inline(never)]
     pub fn play<S: Source, T: Target, const C: usize>(
         self,
@@ -65,7 +64,7 @@ impl ReplayMode {
     ) -> Result<(), LogFault>
         requires reads { S.failed reader.old < 2 ^ 64 - 1 }
         requires writes { T.failed writer.old < 2 ^ 64 - 1 }
-        // For each history that leads to the session's state, this is the result that the definitions give for the
+        // For each history that leads to the session's state, the result is the one that the definitions give for the
         // history.
         ensures plays { (start : Start) (h : List OneInput) → IsStateAfter session.old start h
             → PlaysLog self start h S.left S.failed S.ended T.taken T.failed result session.new

@@ -1,12 +1,13 @@
-//! Wrappers of std readers and writers that count failed calls.
+//! Wrappers for readers and writers of the standard library, which count failed calls.
 ghost use Rattle.std.specs.Prelude.{◌≡◌, ◌<◌, ◌≤◌, ◌+◌, ◌-◌, ◌^◌, length, is_ok, if◌then◌else◌, IfOk};
 ghost use Rattle.std.specs.Io.KnownBytes.{ReadConsumes, WriteAppends};
 
 use crate::fault::Failed;
 use std::io::{Read, Write};
 
-/// A contract can't distinguish one failed call of a std reader or writer from two. So it isn't proved, but reviewed
-/// and tested, that `read` and `write` here call it once.
+/// A wrapper for a reader or writer, with the number of failed calls. A contract can't distinguish one failed call of a
+/// reader or writer from two. Therefore it is reviewed and tested, but not proved, that `read` and `write` call the
+/// reader or writer once.
 #[derive(Drop)]
 pub(crate) struct CountFailures<S> {
     inner: S,
@@ -14,7 +15,7 @@ pub(crate) struct CountFailures<S> {
 }
 
 impl<S> CountFailures<S> {
-    /// Creates a wrapper with a count of 0.
+    /// Creates a wrapper with the count 0.
     pub(crate) fn new(inner: S) -> Self
         ensures same { result.inner ≡ inner }
         ensures none { result.failures ≡ 0 }
@@ -50,7 +51,7 @@ impl<R: Read> CountFailures<R> {
 }
 
 impl<W: Write> CountFailures<W> {
-    /// Calls `write` once. Writing 0 of more than 0 bytes is a failure.
+    /// Calls `write` of the writer once. A result of 0 for a non-empty piece is a failure.
     pub(crate) fn write(&mut self, piece: &[u8]) -> Result<usize, Failed>
         requires { self.old.failures < 2 ^ 64 - 1 }
         ensures bound { IfOk result (λ n. n ≤ length piece.now) }

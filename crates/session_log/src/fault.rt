@@ -4,7 +4,7 @@ ghost use Rattle.session_log.specs.Numbers.{fault_number};
 
 use thiserror::Error;
 
-/// A failed read or write.
+/// The error of a failed read or write.
 #[derive(Clone, Copy, Debug, PartialEq, Eq)]
 pub struct Failed;
 
@@ -14,16 +14,16 @@ pub enum LogFault {
     /// 1: the line doesn't match the grammar.
     #[error("line {0}: not a log line")]
     BadLine(u64),
-    /// 2: the line is longer than 255 bytes without its line feed.
+    /// 2: the line is longer than 255 bytes, without its line feed.
     #[error("line {0}: longer than 255 bytes")]
     TooLong(u64),
-    /// 3: a packet in the log differs from what the session sent. The line is that of the input, or 0 before the first
-    /// input; packets of an input are counted from 1.
+    /// 3: a packet in the log differs from the packet that the session sent. `line` is that of the input, or 0 before
+    /// the first input.
     #[error("line {line}: differs at packet {packet}")]
     Differs {
         /// The input's line.
         line: u64,
-        /// The first packet that differs, is missing or is one too many.
+        /// The number of the first packet of the input, counted from 1, that differs, is missing or is one too many.
         packet: u64,
     },
     /// 4: reading this line failed.
@@ -35,7 +35,7 @@ pub enum LogFault {
     /// 6: the log has more than 2^32-1 lines.
     #[error("too many lines")]
     TooManyLines,
-    /// 7: out of memory at this line.
+    /// 7: an allocation failed at this line.
     #[error("line {0}: no memory")]
     Memory(u64),
 }

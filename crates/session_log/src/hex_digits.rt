@@ -1,5 +1,6 @@
 //! Hexadecimal digits. Most packets end in many zeros, which are skipped sixteen digits or bytes at a time. The loops
-//! over digits have no branches, so that they compile to vector instructions; those of the crate `hex` do not.
+//! over digits contain no branches, so that they are compiled to vector instructions; the loops of the crate `hex`
+//! aren't.
 ghost use Rattle.std.specs.Prelude.{◌≡◌, ◌++◌, ◌*◌, ◌<◌, ◌≤◌, ℕ, true, length, replicate, slice_index};
 ghost use Rattle.std.specs.Prelude.{None, Some, MatchOption};
 ghost use Rattle.hex.specs.Hex.{encode_lower, hex_digit_value, lower_digits};
@@ -13,7 +14,7 @@ fn are_all<const N: usize>(group: &[u8; N], byte: u8) -> bool
     *group == [byte; N]
 }
 
-/// Returns the bytes without trailing groups of `N` bytes that all equal `byte`.
+/// Returns the bytes without the groups of `N` bytes at their end that all equal `byte`.
 fn trim_groups<const N: usize>(bytes: &[u8], byte: u8) -> &[u8]
     requires { (0 < N) × (N ≤ 32) }
     ensures { (n : ℕ) × (bytes.now ≡ result.now ++ replicate (N * n) byte) }
@@ -27,12 +28,12 @@ fn trim_groups<const N: usize>(bytes: &[u8], byte: u8) -> &[u8]
     used
 }
 
-/// Returns the value of a hexadecimal digit in either case, or 255 for any other byte.
+/// Returns the value of a hexadecimal digit in upper or lower case, or 255 for any other byte.
 fn digit_value(digit: u8) -> u8
     ensures { hex_digit_value digit ≡ value_below_16 result }
 {
     let decimal = digit.wrapping_sub(b'0');
-    // Bit 5 makes an uppercase letter lowercase.
+    // Setting bit 5 converts an uppercase letter to lower case.
     let letter = (digit | 0x20).wrapping_sub(b'a');
     if decimal < 10 {
         decimal
@@ -54,8 +55,8 @@ fn digit_values(digits: &[u8; 32]) -> [u8; 32]
     values
 }
 
-/// Decodes 32 hexadecimal digits, in either case.
-// Inlined, because storing the result in memory takes as long as decoding it.
+/// Decodes 32 hexadecimal digits, in upper or lower case. Inlined, because storing the result in memory takes as long
+/// as decoding the digits.
 #[inline(always)]
 fn decode_group(digits: &[u8; 32]) -> Option<[u8; 16]>
     ensures { result ≡ decoded_bytes 16 digits.now }
@@ -72,7 +73,7 @@ fn decode_group(digits: &[u8; 32]) -> Option<[u8; 16]>
     if are_digits { Some(bytes) } else { None }
 }
 
-/// Decodes fewer than 32 digits. After `None` the bytes are unspecified.
+/// Decodes fewer than 32 hexadecimal digits. If the result is `None`, the bytes are unspecified.
 fn decode_rest(digits: &[u8], bytes: &mut [u8]) -> Option<()>
     requires pairs { length digits.now ≡ 2 * length bytes.old }
     requires few { length digits.now < 32 }
@@ -86,7 +87,8 @@ fn decode_rest(digits: &[u8], bytes: &mut [u8]) -> Option<()>
     Some(())
 }
 
-/// Decodes hexadecimal digits in either case, two for each byte. After `None` the bytes are unspecified.
+/// Decodes hexadecimal digits, in upper or lower case, two for each byte. If the result is `None`, the bytes are
+/// unspecified.
 pub fn decode_digits(digits: &[u8], bytes: &mut [u8]) -> Option<()>
     ensures { MatchOption result (decoded_bytes (length bytes.old) digits.now ≡ None)
         (λ _. decoded_bytes (length bytes.old) digits.now ≡ Some bytes.new) }
@@ -105,7 +107,7 @@ pub fn decode_digits(digits: &[u8], bytes: &mut [u8]) -> Option<()>
     decode_rest(&digits[2 * done..], &mut bytes[done..])
 }
 
-/// Decodes `2 * N` hexadecimal digits, in either case.
+/// Decodes `2 * N` hexadecimal digits, in upper or lower case.
 pub fn decode_bytes<const N: usize>(digits: &[u8]) -> Option<[u8; N]>
     ensures { result ≡ decoded_bytes N digits.now }
 {
@@ -141,7 +143,8 @@ pub fn encode_digits(bytes: &[u8], digits: &mut [u8])
     }
 }
 
-/// Encodes bytes as lowercase hexadecimal digits, into a buffer of twice their length that is filled with `0` digits.
+/// Encodes bytes as lowercase hexadecimal digits, two for each byte. The buffer `digits` must be filled with `0`
+/// digits.
 pub fn write_digits(bytes: &[u8], digits: &mut [u8])
     requires { digits.old ≡ replicate (2 * length bytes.now) 48 }
     ensures { digits.new ≡ encode_lower bytes.now }

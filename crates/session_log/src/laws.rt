@@ -1,4 +1,4 @@
-//! Laws about the definitions. Each function has an empty body: its contract is the law.
+//! Laws about the definitions. Each function has an empty body, and its contract is the law.
 ghost use Rattle.std.specs.Prelude.{◌≡◌, ◌≤◌, ◌↔◌, ℕ, List, [], ◌∷◌, ◌++◌, length, flat_map, sum_by, All, true, false, Some, None};
 ghost use Rattle.session_log.specs.declared.line.Line.{Line as AnyLine};
 ghost use Rattle.authn_core.specs.Turn.{Start};
@@ -17,15 +17,15 @@ ghost use Rattle.session_log.specs.Parsed.{parsed};
 ghost use Rattle.session_log.specs.Session.{history_course, quiet_history};
 ghost use Rattle.session_log.specs.declared.fault.LogFault.TheVariants.{Differs};
 
-/// States that parsing a line returns exactly what the grammar defines for it, and `None` if and only if the grammar
-/// doesn't allow the line.
+/// States that parsing a line returns exactly what the grammar defines for the line, and `None` if and only if the line
+/// isn't in the grammar.
 pub fn parsing_follows_the_grammar()
     ensures read { (line : List ℕ) (l : AnyLine) → (parsed line ≡ Some l) ↔ IsLogLineText line l }
     ensures refused { (line : List ℕ) → (parsed line ≡ None) ↔ ((l : AnyLine) → ¬ IsLogLineText line l) }
 {}
 
-/// States that a quiet log has the inputs of its original, with ticks in place of ignored inputs: if two histories are
-/// related in this way, so are the histories extended by the two logs.
+/// States that a quiet log contains the inputs of the original log, with ticks in place of ignored inputs. If the same
+/// is true for two histories, it is also true for the histories extended by the two logs.
 pub fn quiet_logs_have_ticks_for_noise()
     ensures { (start : Start) (h g : List OneInput) (bytes : List ℕ)
         → (play_all (quiet_history start) h bytes).fault ≡ None → HasTicksForNoise start h g
@@ -33,7 +33,7 @@ pub fn quiet_logs_have_ticks_for_noise()
         (append_inputs (inputs (lines (play_all (quiet_history start) h bytes).text)) g) }
 {}
 
-/// States that making a quiet log quiet again, after the same history, gives the same text, without an error.
+/// States that `quiet` doesn't change its own output after the same history, and returns no error.
 pub fn making_quiet_is_idempotent()
     ensures faultless { (start : Start) (h : List OneInput) (bytes : List ℕ)
         → (play_all (quiet_history start) h bytes).fault ≡ None
@@ -44,8 +44,8 @@ pub fn making_quiet_is_idempotent()
         ≡ (play_all (quiet_history start) h bytes).text }
 {}
 
-/// States that in a log without differences, the packets before the first input and after each input are exactly
-/// those that are defined for the history, and the counts are the numbers of its inputs and packets.
+/// States that in a log without differences, the packets before the first input and after each input are exactly those
+/// that the definitions give for the history, and the counts are the numbers of its inputs and packets.
 pub fn checked_logs_have_the_sent_packets()
     ensures same { (start : Start) (h : List OneInput) (bytes : List ℕ)
         → fault_of (check_history start) (play_all (check_history start) (first_comparison h) bytes) ≡ None
@@ -61,8 +61,8 @@ pub fn checked_logs_have_the_sent_packets()
         → (play_all (check_history start) (first_comparison h) bytes).text ≡ [] }
 {}
 
-/// States that a reported difference is the first position at which the log's packets differ from those that are
-/// defined for the history.
+/// States that a reported difference is the first position at which the packets in the log differ from those that the
+/// definitions give for the history.
 pub fn differences_are_the_first()
     ensures { (start : Start) (h : List OneInput) (bytes : List ℕ) (line packet : ℕ)
         → fault_of (check_history start) (play_all (check_history start) (first_comparison h) bytes) ≡ Some (Differs line packet)
@@ -70,8 +70,8 @@ pub fn differences_are_the_first()
         ([] ∷ sent_groups (history_course start) h (inputs (lines bytes))) (0 ∷ input_lines 1 (lines bytes)) line packet }
 {}
 
-/// States that exactly the last of the lines that report a need begins with `# need `. The bytes to sign are split into
-/// pieces of at most 96 bytes; concatenated, these are the bytes to sign.
+/// States that among the lines for a need, exactly the last one begins with `# need `. The bytes to sign are in pieces
+/// of at most 96 bytes, whose concatenation is the bytes to sign.
 pub fn needs_are_reported_once()
     ensures last { (n : Needed) → (before : List (List ℕ)) × (last : List ℕ) × (need_lines n ≡ before ++ last ∷ [])
         × (reports_need last ≡ true) × All (λ line. reports_need line ≡ false) before }

@@ -1,5 +1,5 @@
-//! Text logs of CTAPHID sessions: reads lines, steps a session through their inputs, and writes each line with the
-//! packets that the session sent for it (docs/use/LOG_FORMAT.md).
+//! Text logs of CTAPHID sessions: reads lines, passes their inputs to a session, and writes each line with the packets
+//! that the session sends for it (docs/use/LOG_FORMAT.md).
 #![tactic(auto)]
 
 mod check_player;

@@ -13,30 +13,30 @@ use token_session::{Input, Timed};
 /// A parsed line of a log.
 #[derive(Clone, Copy)]
 pub enum Line {
-    /// `t M`, `> M P`, or a reply of the caller: an input of the session.
+    /// An input of the session: `t M`, `> M P`, or a reply of the caller.
     Input(Timed),
-    /// `< P`: a packet that an earlier run sent.
+    /// A packet that was sent in an earlier run: `< P`.
     Sent(Packet),
-    /// `#..` or an empty line.
+    /// A comment: `#..` or an empty line.
     Comment,
-    /// `=..`: the counts of an earlier run.
+    /// The meters of an earlier run: `=..`.
     Count,
 }
 
-/// A line by its first byte, with its fields not parsed yet.
+/// A line whose kind is known from its first byte, and whose fields haven't been parsed.
 #[derive(Clone, Copy)]
 enum LineKind<'a> {
-    /// An input: its letter, and the fields after it.
+    /// An input: the letter of the line, and the fields after the letter.
     Input(u8, &'a [u8]),
-    /// A packet that an earlier run sent: its field.
+    /// A packet that was sent in an earlier run: the field with the packet.
     Sent(&'a [u8]),
-    /// `#..` or an empty line.
+    /// A comment: `#..` or an empty line.
     Comment,
-    /// `=..`: the counts of an earlier run.
+    /// The meters of an earlier run: `=..`.
     Count,
 }
 
-/// Parses decimal digits, with any leading zeros, as a number below 2^64.
+/// Parses decimal digits as a number below 2^64. Leading zeros are allowed.
 fn parse_digits(digits: &[u8]) -> Option<u64>
     ensures { SomeIff result (AllDigits 10 digits.now × (digits_value 10 digits.now ≤ 2 ^ 64 - 1))
         (digits_value 10 digits.now) }
@@ -49,7 +49,7 @@ fn parse_digits(digits: &[u8]) -> Option<u64>
     Some(number)
 }
 
-/// Returns whether there is a leading zero.
+/// Returns whether the digits have a leading zero.
 fn is_padded(digits: &[u8]) -> bool
     ensures { IsTrue result ↔ ((2 ≤ length digits.now) × (slice_index digits.now 0 ≡ 48)) }
 {
@@ -83,7 +83,7 @@ fn split_field(fields: &[u8]) -> Option<(&[u8], &[u8])>
     Some((fields.split_at(end).0, fields.split_at(end + 1).1))
 }
 
-/// Returns the index of the first space, by a loop over bytes.
+/// Returns the index of the first space, with a loop over bytes.
 fn near_space(fields: &[u8]) -> Option<usize>
     ensures value { result ≡ position (λ b. b == space) fields.now }
     ensures within { IfSome result (λ end. end < length fields.now) }
@@ -91,7 +91,7 @@ fn near_space(fields: &[u8]) -> Option<usize>
     fields.iter().position(|byte| *byte == b' ')
 }
 
-/// Returns the parts before and after the first space, like [`split_field`], and sooner if the first part is short.
+/// Returns the parts before and after the first space, like [`split_field`]. Faster if the first part is short.
 fn split_time(fields: &[u8]) -> Option<(&[u8], &[u8])>
     ensures { MatchOption result (first_field fields.now ≡ None) (λ parts.
         first_field fields.now ≡ Some record { 0 = parts.0.now; 1 = parts.1.now }) }
@@ -115,7 +115,7 @@ fn parse_presence(word: &[u8]) -> Option<Input>
     }
 }
 
-/// Parses a new key pair: credential ID, x and y coordinates.
+/// Parses a new key pair: the credential ID and the coordinates X and Y.
 fn parse_new_key(fields: &[u8]) -> Option<NewKey>
     ensures { result ≡ parsed_key_pair fields.now }
 {
@@ -128,7 +128,7 @@ fn parse_new_key(fields: &[u8]) -> Option<NewKey>
     })
 }
 
-/// Parses the reply to a key request: a new key pair or a refusal.
+/// Parses the reply to a request for a key pair: a new key pair or a refusal.
 fn parse_key_reply(field: &[u8]) -> Option<Input>
     ensures { result ≡ parsed_new_key field.now }
 {
@@ -139,7 +139,7 @@ fn parse_key_reply(field: &[u8]) -> Option<Input>
     Some(Input::Key(Some(key)))
 }
 
-/// Parses the digits of a signature. `out` has the signature's length.
+/// Parses the digits of a signature. `out` must have the length of the signature.
 fn parse_signature_into(digits: &[u8], out: &mut [u8]) -> Option<Signature>
     requires { length out.old ≡ length digits.now / 2 }
     ensures { result ≡ parsed_signature_bytes digits.now }
@@ -160,7 +160,7 @@ fn parse_signature(digits: &[u8]) -> Option<Signature>
     parse_signature_into(digits, &mut bytes[..len])
 }
 
-/// Parses the reply to a signature request: a signature or a refusal.
+/// Parses the reply to a request for a signature: a signature or a refusal.
 fn parse_signature_reply(field: &[u8]) -> Option<Input>
     ensures { result ≡ parsed_signature field.now }
 {
@@ -171,7 +171,7 @@ fn parse_signature_reply(field: &[u8]) -> Option<Input>
     Some(Input::Signature(Some(signature)))
 }
 
-/// Parses the field after the timestamp, by the line's letter.
+/// Parses the field after the timestamp of a line with this letter.
 fn parse_input(letter: u8, field: &[u8]) -> Option<Input>
     ensures { result ≡ parsed_input letter field.now }
 {
@@ -202,8 +202,8 @@ fn parse_tick(field: &[u8]) -> Option<Timed>
     })
 }
 
-/// Parses the timestamp and the input of a line other than a tick.
-// Not inlined, so that parsing ticks and comments needs little stack.
+/// Parses the timestamp and the input of a line other than a tick. Not inlined, so that parsing ticks and comments
+/// needs little stack.
 #[inline(never)]
 fn parse_other_input(letter: u8, fields: &[u8]) -> Option<Timed>
     ensures { MatchOption result (input_line letter fields.now ≡ None)
@@ -226,7 +226,7 @@ fn parse_timed(letter: u8, fields: &[u8]) -> Option<Timed>
     }
 }
 
-/// Returns the kind of a line, given without its line feed, if it begins like a log line.
+/// Returns the kind of a line without its line feed, or `None` if the line doesn't begin like a log line.
 fn line_kind(line: &[u8]) -> Option<LineKind<'_>>
     ensures { MatchOption result (parsed line.now ≡ None) (λ kind. parsed line.now ≡ line_of_kind kind) }
 {
@@ -239,7 +239,7 @@ fn line_kind(line: &[u8]) -> Option<LineKind<'_>>
     }
 }
 
-/// Parses a line, given without its line feed. Returns `None` if it isn't a log line.
+/// Parses a line without its line feed. Returns `None` if the line isn't a log line.
 pub fn parse_line(line: &[u8]) -> Option<Line>
     ensures { result ≡ parsed line.now }
 {

@@ -12,7 +12,7 @@ use crate::window::Window;
 /// Maximum number of lines of a log.
 const MAX_LINES: u64 = 0xFFFF_FFFF;
 
-/// Returns whether a line beyond the maximum number begins in the window.
+/// Returns whether the window contains the beginning of a line beyond the maximum number of lines.
 fn is_too_many(window: &Window, number: u64) -> bool
     ensures value { MatchBool result
         ((2 ^ 32 ≤ number) × (0 < length window.now))
@@ -23,13 +23,13 @@ fn is_too_many(window: &Window, number: u64) -> bool
     number > MAX_LINES && held > 0
 }
 
-/// Reads until the window begins with a complete line, line `number`, and returns its length without the line feed. At
-/// the reader's end it returns `None`, and the window is empty or has the last line, which ends without a line feed.
-/// Reads nothing if the window has a complete line, or else at most as much as fits into it. Allocates nothing.
-///
-/// Fails with [`LogFault::TooManyLines`] where line 2^32 begins, with [`LogFault::TooLong`] at the 256th byte of a
-/// line, and with [`LogFault::Read`] if the reader fails, without retrying. What was read is in the window.
-// Inlined, because most lines are in the window already, and then a call costs more than its work.
+/// Reads until the window begins with a complete line, which has the number `number`, and returns its length without
+/// the line feed. At the end of the log, returns `None`; the window then contains the last line if it has no line feed,
+/// or else is empty. If the window contains a complete line, nothing is read. Otherwise, at most as much is read as
+/// fits into the window. Allocates nothing. Fails with [`LogFault::TooManyLines`] if line 2^32 begins, with
+/// [`LogFault::TooLong`] at the 256th byte of a line, and with [`LogFault::Read`] if the reader fails, which is not
+/// retried. All bytes that were read are in the window. Inlined, because most lines are in the window already, and then
+/// a call takes longer than its work.
 #[inline(always)]
 pub fn next_line<S: Source>(
     window: &mut Window,

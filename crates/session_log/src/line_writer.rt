@@ -1,4 +1,4 @@
-//! Writing lines: the text of a line is assembled in memory, and then written to the target.
+//! Writing lines. The text for a line is assembled in memory, and then written to the target.
 ghost use Rattle.std.specs.Prelude.{◌≡◌, ◌<◌, ◌≤◌, ◌+◌, ◌*◌, ◌-◌, ◌^◌, [], ◌∷◌, ◌++◌, length, flat_map, map, decimal, ◌/◌, OnOk, OnErr, IfErr};
 ghost use Rattle.std.specs.Io.KnownBytes.{Appends};
 ghost use Rattle.hex.specs.Hex.{encode_lower};
@@ -19,17 +19,18 @@ use hid_packet::{Outbox, Packet};
 use itoa::Buffer;
 use token_session::Meters;
 
-/// Length of a packet's line in bytes.
+/// Length of the line for a packet, in bytes.
 const SENT_LINE: usize = 131;
 
-/// Maximum number of bytes that are written for one line: the line with its line feed, the lines of 130 packets, and
-/// the lines of a need. The longest need has 196 bytes to sign: three lines, and the line of the credential.
+/// Maximum number of bytes that are written for one line: the line with its line feed, the lines for 130 packets, and
+/// the lines for a need. The longest need has 196 bytes to sign, for which there are three lines, and the line with the
+/// credential ID.
 const MAX_TEXT_LEN: usize = 255 + 1 + 130 * SENT_LINE + 504;
 
 /// Maximum number of bytes to sign on one line.
 const MAX_SIGNED_PER_LINE: usize = 96;
 
-/// The text written for one line of the log.
+/// The text that is written for one line of the log.
 pub type Text = ArrayVec<u8, MAX_TEXT_LEN>;
 
 /// Appends a line and its line feed.
@@ -41,7 +42,7 @@ fn push_line(text: &mut Text, line: &[u8])
     text.push(b'\n');
 }
 
-/// Appends the line of a packet that was sent.
+/// Appends the line for a packet that was sent.
 fn push_packet(text: &mut Text, packet: Packet)
     requires { length text.old.items + SENT_LINE ≤ MAX_TEXT_LEN }
     ensures text { text.new.items ≡ text.old.items ++ sent_text packet.0 }
@@ -55,7 +56,7 @@ fn push_packet(text: &mut Text, packet: Packet)
     text.push(b'\n');
 }
 
-/// Appends the lines of the packets in the outbox, and empties it.
+/// Appends the lines for the packets in the outbox, and removes the packets.
 fn push_packets(text: &mut Text, outbox: &mut Outbox)
     requires { length text.old.items + SENT_LINE * length outbox.old ≤ MAX_TEXT_LEN }
     ensures text { text.new.items ≡ text.old.items ++ flat_map sent_text outbox.old }
@@ -81,7 +82,7 @@ fn push_digits(text: &mut Text, bytes: &[u8])
     let _ = text.try_extend_from_slice(used);
 }
 
-/// Appends a line with a piece of the bytes to sign.
+/// Appends a line with one piece of the bytes to sign.
 fn push_piece(text: &mut Text, piece: &[u8])
     requires few { length piece.now ≤ MAX_SIGNED_PER_LINE }
     requires space { length text.old.items + 10 + 2 * length piece.now ≤ MAX_TEXT_LEN }
@@ -93,7 +94,7 @@ fn push_piece(text: &mut Text, piece: &[u8])
     text.push(b'\n');
 }
 
-/// Appends the lines of the bytes to sign.
+/// Appends the lines with the bytes to sign.
 fn push_signed(text: &mut Text, signed: &[u8])
     requires few { length signed.now ≤ 196 }
     requires space { length text.old.items + 422 ≤ MAX_TEXT_LEN }
@@ -108,7 +109,7 @@ fn push_signed(text: &mut Text, signed: &[u8])
     }
 }
 
-/// Appends the line that names the signing credential.
+/// Appends the line with the ID of the credential that has to sign.
 fn push_signature(text: &mut Text, id: &[u8; 32])
     requires { length text.old.items + 82 ≤ MAX_TEXT_LEN }
     ensures { text.new.items ≡ text.old.items ++ with_line_feed (signature_line id.now) }
@@ -118,7 +119,7 @@ fn push_signature(text: &mut Text, id: &[u8; 32])
     text.push(b'\n');
 }
 
-/// Appends the lines of a need.
+/// Appends the lines for a need.
 fn push_need(text: &mut Text, need: Need<'_>)
     requires sized { IsValidNeed (to_needed need) }
     requires space { length text.old.items + 504 ≤ MAX_TEXT_LEN }
@@ -135,7 +136,7 @@ fn push_need(text: &mut Text, need: Need<'_>)
     }
 }
 
-/// Appends a word and a number.
+/// Appends a word, and a number after it.
 fn push_count(text: &mut Text, word: &[u8], count: u64)
     requires { length text.old.items + length word.now + 20 ≤ MAX_TEXT_LEN }
     ensures text { text.new.items ≡ text.old.items ++ word.now ++ decimal count }
@@ -147,7 +148,7 @@ fn push_count(text: &mut Text, word: &[u8], count: u64)
     let _ = text.try_extend_from_slice(digits);
 }
 
-/// Assembles the last line of a log, which has the meters.
+/// Appends the last line of a log, which contains the meters.
 fn push_meters(text: &mut Text, meters: Meters)
     ensures text { text.new.items ≡ meters_line meters }
     ensures fits { FitsMeters meters }
@@ -170,7 +171,7 @@ pub fn put_text<T: Target>(writer: &mut T, text: &[u8]) -> Result<(), LogFault>
     put_all(writer, text).map_err(|_| LogFault::Write)
 }
 
-/// Writes the line of a tick.
+/// Writes the line for a tick.
 pub fn put_tick<T: Target>(writer: &mut T, text: &mut Text, at: u64) -> Result<(), LogFault>
     requires { T.failed writer.old < 2 ^ 64 - 1 }
     ensures { WritesLogLine T.taken T.failed (writer.old, writer.new) (with_line_feed (tick_text at)) result }
@@ -181,7 +182,7 @@ pub fn put_tick<T: Target>(writer: &mut T, text: &mut Text, at: u64) -> Result<(
     put_text(writer, text.as_slice())
 }
 
-/// Writes an input line, with its line feed, and the packets in the outbox, which it empties.
+/// Writes an input line with its line feed, and the lines for the packets in the outbox, which are removed from it.
 pub fn put_input<T: Target>(
     writer: &mut T,
     text: &mut Text,
@@ -196,7 +197,7 @@ pub fn put_input<T: Target>(
     ensures empty { outbox.new ≡ [] }
     ensures packets { ArePackets outbox.old }
 {
-    // Most lines send nothing, and are written without being copied.
+    // For most lines no packet is sent, and the line is written without copying it.
     if outbox.is_empty() {
         return put_text(writer, line);
     }
@@ -206,8 +207,8 @@ pub fn put_input<T: Target>(
     put_text(writer, text.as_slice())
 }
 
-/// Writes an input line, with its line feed, the packets in the outbox, which it empties, and the lines of the current
-/// need.
+/// Writes an input line with its line feed, the lines for the packets in the outbox, which are removed from it, and the
+/// lines for what the session needs.
 pub fn put_response<T: Target>(
     writer: &mut T,
     text: &mut Text,
@@ -231,7 +232,7 @@ pub fn put_response<T: Target>(
     put_text(writer, text.as_slice())
 }
 
-/// Writes the last line of a log.
+/// Writes the last line of a log, which contains the meters.
 pub fn put_meters<T: Target>(
     writer: &mut T,
     text: &mut Text,

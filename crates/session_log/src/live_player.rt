@@ -1,4 +1,4 @@
-//! Replays a log, and writes the replies that the session needs.
+//! Replays a log, and also writes what the session needs.
 ghost use Rattle.std.specs.Prelude.{◌≡◌, ◌<◌, ◌-◌, ◌^◌, List, [], OnOk};
 ghost use Rattle.session_log.specs.Command.{PlaysThrough};
 ghost use Rattle.session_log.specs.Ending.{ending_of, read_fails, write_fails};
@@ -20,8 +20,8 @@ use crate::target::Target;
 use hid_packet::Outbox;
 use token_session::{Meters, Session};
 
-/// Copies each input line and comment, and writes after an input line the packets that are sent and the reply that is
-/// needed. Drops comments about needs from an earlier run.
+/// Writes each input line and comment again. After an input line, writes the packets that are sent and what the session
+/// needs. Comments about needs in an earlier run are dropped.
 #[derive(Drop)]
 struct LivePlayer {
     outbox: Outbox,
@@ -29,7 +29,7 @@ struct LivePlayer {
 }
 
 impl LivePlayer {
-    /// Returns the player before the first line.
+    /// Returns the state before the first line.
     fn new() -> Self
         ensures { result.outbox ≡ [] }
     {
@@ -40,7 +40,7 @@ impl LivePlayer {
     }
 }
 
-/// Returns whether a comment is about a need from an earlier run.
+/// Returns whether a comment is about a need in an earlier run.
 fn is_need_line(comment: &[u8]) -> bool
     ensures { result ≡ is_one comment.now }
 {
@@ -76,7 +76,7 @@ impl<const C: usize> Player<C> for LivePlayer {
             }
             Line::Input(timed) => {
                 session.step(timed.at, timed.input, &mut self.outbox);
-                // The need is read after the input.
+                // What the session needs is determined after the input.
                 put_response(
                     writer,
                     &mut self.text,
@@ -93,11 +93,9 @@ impl<const C: usize> Player<C> for LivePlayer {
     }
 }
 
-/// Plays lines of a log on a session and writes what [`live`] writes for each, without the last line, which has the
-/// meters. So a log can be played in parts while it is recorded. The text for a line is written before more is read.
-/// Allocates nothing.
-///
-/// Fails like [`live`], with line numbers from 1 in these lines.
+/// Plays lines of a log on a session, and writes the output of [`live`] for them, without the last line, which contains
+/// the meters. This way, a log can be played in parts while it is recorded. The text for a line is written before more
+/// is read. Allocates nothing. The errors are those of [`live`]; line numbers begin at 1 in these lines.
 pub fn process_live_lines<S: Source, T: Target, const C: usize>(
     reader: &mut S,
     writer: &mut T,
@@ -110,7 +108,8 @@ pub fn process_live_lines<S: Source, T: Target, const C: usize>(
     ensures end { OnOk result (IsAtEndOfInput S.left S.ended reader.new) }
     ensures reach { ReadsTo live_machine session.old (S.left reader.old) (S.left reader.new)
         (IsAtEndOfInput S.left S.ended reader.new) (ending_of result) }
-    // For each history that leads to the session's state, this is the result that the definitions give for the history.
+    // For each history that leads to the session's state, the result is the one that the definitions give for the
+    // history.
     ensures history { (start : Start) (h : List OneInput) → IsStateAfter session.old start h
         → (later : List OneInput) × IsStateAfter session.new start later
         × ReadsAndWrites (S.left reader.old) (S.left reader.new) (T.taken writer.old) (T.taken writer.new)
@@ -124,12 +123,11 @@ pub fn process_live_lines<S: Source, T: Target, const C: usize>(
     process_lines(&mut player, reader, writer, session)
 }
 
-/// Replays a log on a session like [`crate::replay`], and writes after the packets of each input line what the session
-/// needs ([`Session::need`]; docs/use/LOG_FORMAT.md), as comments, exactly the last of which begins with `# need `.
-/// Comments that begin with `# need ` or `# signed ` are dropped, so that playing the output gives the output again.
-/// The text for a line is written before more is read. Allocates nothing.
-///
-/// Fails like [`crate::replay`].
+/// Replays a log on a session like [`crate::replay`]. After the packets of each input line, also writes what the
+/// session needs ([`Session::need`]; docs/use/LOG_FORMAT.md), as comments of which exactly the last begins with `# need
+/// `. Comments in the log that begin with `# need ` or `# signed ` are dropped, so that playing the output gives the
+/// same output. The text for a line is written before more is read. Allocates nothing. The errors are those of
+/// [`crate::replay`].
 pub fn live<S: Source, T: Target, const C: usize>(
     reader: &mut S,
     writer: &mut T,
@@ -137,15 +135,17 @@ pub fn live<S: Source, T: Target, const C: usize>(
 ) -> Result<Meters, LogFault>
     requires read { S.failed reader.old < 2 ^ 64 - 1 }
     requires write { T.failed writer.old < 2 ^ 64 - 1 }
-    // On success, no line is invalid, and the whole log was written with the needs. Errors are those of a replay.
+    // On success, no line is invalid, and the whole log was written with what the session needs. The errors are those
+    // of a replay.
     ensures lived { PlaysThrough live_machine session.old
         (λ bytes text. Logs live_machine session.old session.new bytes text result) S.left S.failed S.ended T.taken
         T.failed result (reader.old, reader.new) (writer.old, writer.new) }
     // Playing the output on an equal session gives the same output.
     ensures again { OnOk result (RepeatsIn live_machine (T.taken writer.old) (T.taken writer.new) session.old) }
-    // So does replaying it on an equal session.
+    // Replaying the output on an equal session gives the same output, too.
     ensures replays { OnOk result (Repeats (T.taken writer.old) (T.taken writer.new) session.old) }
-    // For each history that leads to the session's state, this is the result that the definitions give for the history.
+    // For each history that leads to the session's state, the result is the one that the definitions give for the
+    // history.
     ensures history { (start : Start) (h : List OneInput) → IsStateAfter session.old start h
         → (later : List OneInput) × IsStateAfter session.new start later
         × PlaysThrough (live_history start) h (λ bytes text. Logs (live_history start) h later bytes text result)

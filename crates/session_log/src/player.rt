@@ -1,4 +1,4 @@
-//! Processes the lines of a log.
+//! Processing the lines of a log with a command.
 ghost use Rattle.std.specs.Prelude.{◌≡◌, ◌<◌, ◌≤◌, ◌+◌, ◌-◌, ◌^◌, ℕ, length, take, drop, IfErr, OnOk};
 ghost use Rattle.session_log.specs.Command.{PlaysThrough};
 ghost use Rattle.session_log.specs.Ending.{ending_of};
@@ -13,7 +13,7 @@ use crate::target::Target;
 use crate::window::Window;
 use token_session::Session;
 
-/// What a command does with each line of a log.
+/// A command, with what it does for each line of a log.
 pub trait Player<const C: usize> {
     ghost use Rattle.std.specs.Prelude.{◌≡◌, ◌<◌, ◌≤◌, ◌+◌, ◌-◌, ◌^◌, ℕ, length, Some, OnOk, IfErr};
     ghost use Rattle.session_log.specs.Ending.{ending_of};
@@ -23,19 +23,19 @@ pub trait Player<const C: usize> {
     ghost use Rattle.session_log.specs.World.{LineSemantics};
     ghost use Rattle.token_session.specs.Meters.{SessionState};
 
-    /// The type of the states between lines, in contracts.
+    /// In contracts, the type of the states between lines.
     ghost State: { Type 0 };
 
-    /// The definition of what the command does with each line.
+    /// The definition of what the command does for each line.
     ghost world: { LineSemantics State };
 
-    /// The state after the lines so far.
+    /// The state after the lines that were processed.
     ghost state: { Self → SessionState → State };
 
-    /// Whether the player is ready for line n.
+    /// Whether the command is ready for line `n`.
     ghost IsReady: { Self → ℕ → Type 0 };
 
-    /// Processes parsed line `number` of the log; `text` is the line with its line feed. An invalid line leaves the
+    /// Processes the parsed line `number` of the log. `text` is the line with its line feed. An invalid line leaves the
     /// session unchanged.
     fn play<T: Target>(
         &mut self,
@@ -67,7 +67,7 @@ pub trait Player<const C: usize> {
         ensures same { (s : SessionState) → state self.new s ≡ state self.old s };
 }
 
-/// Processes line `number` of a log, if it is a log line. An invalid line leaves the session unchanged.
+/// Processes line `number` of a log, if it is a log line. Otherwise fails, and the session is unchanged.
 fn parse_and_process_line<P: Player<C>, T: Target, const C: usize>(
     player: &mut P,
     line: &[u8],
@@ -92,7 +92,7 @@ fn parse_and_process_line<P: Player<C>, T: Target, const C: usize>(
     }
 }
 
-/// Processes the first line of a window, which ends with its line feed, and removes it.
+/// Processes the first line of a window, which ends with a line feed, and removes it from the window.
 fn process_first_line<P: Player<C>, T: Target, const C: usize>(
     player: &mut P,
     window: &mut Window,
@@ -126,8 +126,8 @@ fn process_first_line<P: Player<C>, T: Target, const C: usize>(
     played
 }
 
-/// Processes all lines of a reader, reading as needed: before a line is processed, at most that line and as much as
-/// fits into the window are read.
+/// Processes all lines of a reader. Before a line is processed, at most this line and as much as fits into the window
+/// are read.
 pub fn process_lines<P: Player<C>, S: Source, T: Target, const C: usize>(
     player: &mut P,
     reader: &mut S,

@@ -1,4 +1,4 @@
-//! Replaces the inputs of a log that the session ignores by ticks.
+//! Replaces the ignored inputs in a log by ticks.
 ghost use Rattle.std.specs.Prelude.{◌≡◌, ◌<◌, ◌-◌, ◌^◌, List, []};
 ghost use Rattle.session_log.specs.Command.{PlaysLog, PlaysThrough};
 ghost use Rattle.session_log.specs.declared.command.ReplayMode.TheVariants as commands;
@@ -18,7 +18,7 @@ use crate::target::Target;
 use hid_packet::Outbox;
 use token_session::Session;
 
-/// Copies each input line and comment, with ticks in place of ignored inputs.
+/// Writes each input line and comment again, with ticks in place of ignored inputs.
 #[derive(Drop)]
 struct QuietPlayer {
     outbox: Outbox,
@@ -26,7 +26,7 @@ struct QuietPlayer {
 }
 
 impl QuietPlayer {
-    /// Returns the player before the first line.
+    /// Returns the state before the first line.
     fn new() -> Self
         ensures { result.outbox ≡ [] }
     {
@@ -37,7 +37,7 @@ impl QuietPlayer {
     }
 }
 
-/// Drops the packets that were sent.
+/// Removes the packets from the outbox.
 fn drop_packets(outbox: &mut Outbox)
     ensures { outbox.new ≡ [] }
 {
@@ -66,7 +66,7 @@ impl<const C: usize> Player<C> for QuietPlayer {
             Line::Sent(_) | Line::Count => Ok(()),
             Line::Comment => put_text(writer, text),
             Line::Input(timed) => {
-                // Whether the input is ignored depends on the state before it.
+                // Whether the input is ignored is determined before the input is processed.
                 let noise = session.noise(timed.at, &timed.input);
                 session.step(timed.at, timed.input, &mut self.outbox);
                 drop_packets(&mut self.outbox);
@@ -88,12 +88,11 @@ impl<const C: usize> Player<C> for QuietPlayer {
     }
 }
 
-/// Makes a log quiet (docs/use/LOG_FORMAT.md): copies each input line and comment, with a tick at the same time in
-/// place of an input that is ignored ([`Session::noise`]). The session is stepped through the inputs of the original
-/// log; its packets and meters aren't written. Replayed on an equal session, the output sends what the log sends,
-/// without the responses to ignored inputs, and ends with equal meters. Allocates nothing.
-///
-/// Fails like [`crate::replay`].
+/// Replaces ignored inputs in a log by ticks (docs/use/LOG_FORMAT.md): writes each input line and comment again, with a
+/// tick at the same time in place of an input that the session ignores ([`Session::noise`]). The session processes the
+/// inputs of the original log; its packets and meters aren't written. If the output is replayed on an equal session,
+/// the same packets are sent, except the responses to ignored inputs, and the meters at the end are the same. Allocates
+/// nothing. The errors are those of [`crate::replay`].
 pub fn quiet<S: Source, T: Target, const C: usize>(
     reader: &mut S,
     writer: &mut T,
@@ -101,11 +100,12 @@ pub fn quiet<S: Source, T: Target, const C: usize>(
 ) -> Result<(), LogFault>
     requires read { S.failed reader.old < 2 ^ 64 - 1 }
     requires write { T.failed writer.old < 2 ^ 64 - 1 }
-    // On success, all lines are valid, and the whole quiet log was written. Errors are those of a replay.
+    // On success, all lines are valid, and the whole output was written. The errors are those of a replay.
     ensures made { PlaysThrough quiet_machine session.old
         (λ bytes text. PlaysWholeLog quiet_machine session.old session.new bytes text (ending_of result)) S.left S.failed S.ended
         T.taken T.failed result (reader.old, reader.new) (writer.old, writer.new) }
-    // For each history that leads to the session's state, this is the result that the definitions give for the history.
+    // For each history that leads to the session's state, the result is the one that the definitions give for the
+    // history.
     ensures history { (start : Start) (h : List OneInput) → IsStateAfter session.old start h
         → PlaysLog commands.Quiet start h S.left S.failed S.ended T.taken T.failed result session.new (reader.old, reader.new)
         (writer.old, writer.new) }

@@ -18,7 +18,7 @@ use hid_packet::Outbox;
 use token_session::laws::answers_follow_history;
 use token_session::{Meters, Session};
 
-/// Returns a session's meters, in numbers of at most 64 bits.
+/// Returns the meters of a session, as numbers of 64 bits.
 pub fn meters_u64<const C: usize>(session: &Session<C>) -> Meters
     ensures value { result ≡ session.now.meters }
     ensures fits { FitsMeters result }
@@ -26,7 +26,7 @@ pub fn meters_u64<const C: usize>(session: &Session<C>) -> Meters
     session.meters()
 }
 
-/// Copies each input line and comment, and writes after an input line the packets that are sent for it.
+/// Writes each input line and comment again. After an input line, writes the packets that are sent for the input.
 #[derive(Drop)]
 struct ReplayPlayer {
     outbox: Outbox,
@@ -34,7 +34,7 @@ struct ReplayPlayer {
 }
 
 impl ReplayPlayer {
-    /// Returns the player before the first line.
+    /// Returns the state before the first line.
     fn new() -> Self
         ensures { result.outbox ≡ [] }
     {
@@ -78,14 +78,13 @@ impl<const C: usize> Player<C> for ReplayPlayer {
     }
 }
 
-/// Replays a log on a session (docs/use/LOG_FORMAT.md): writes each input line and comment again, after an input line
-/// the packets that the session sends for it, and at the end the session's meters, which it also returns. The text for
-/// a line is written before more is read. Allocates nothing.
-///
-/// After [`LogFault::BadLine`], [`LogFault::TooLong`] and [`LogFault::TooManyLines`] the texts of the lines before the
-/// invalid one were written; after [`LogFault::Read`] those of the complete lines that were read; after
-/// [`LogFault::Write`] only a part of the text. The session has stepped all inputs up to the error. A failed read or
-/// write is not retried. There are no other errors.
+/// Replays a log on a session (docs/use/LOG_FORMAT.md): writes each input line and comment again, after each input line
+/// the packets that the session sends for the input, and at the end the meters of the session, which are also returned.
+/// The text for a line is written before more is read. Allocates nothing. After [`LogFault::BadLine`],
+/// [`LogFault::TooLong`] and [`LogFault::TooManyLines`], the texts for the lines before the invalid line were written;
+/// after [`LogFault::Read`], those for the complete lines that were read; after [`LogFault::Write`], only a part of the
+/// text. The session has processed all inputs up to the error. A failed read or write is not retried. There are no
+/// other errors.
 pub fn replay<S: Source, T: Target, const C: usize>(
     reader: &mut S,
     writer: &mut T,
@@ -103,12 +102,14 @@ pub fn replay<S: Source, T: Target, const C: usize>(
         result (reader.old, reader.new) (writer.old, writer.new) }
     // Replaying the output on an equal session gives the same output.
     ensures again { OnOk result (Repeats (T.taken writer.old) (T.taken writer.new) session.old) }
-    // For each history that leads to the session's state, this is the result that the definitions give for the history.
+    // For each history that leads to the session's state, the result is the one that the definitions give for the
+    // history.
     ensures history { (start : Start) (h : List OneInput) → IsStateAfter session.old start h
         → (later : List OneInput) × IsStateAfter session.new start later
         × PlaysThrough (history start) h (λ bytes text. Logs (history start) h later bytes text result)
         S.left S.failed S.ended T.taken T.failed result (reader.old, reader.new) (writer.old, writer.new) }
-    // If the history's start is valid, this is also the result by the definitions without an authenticator's state.
+    // If the start of the history is valid, the result is also the one that the definitions without an authenticator's
+    // state give.
     ensures told { (start : Start) (h : List OneInput) → IsStateAfterValidStart session.old start h
         → (later : List OneInput) × IsStateAfterValidStart session.new start later
         × PlaysThrough (exchange_history start) h (λ bytes text. Logs (exchange_history start) h later bytes text result)

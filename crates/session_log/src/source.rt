@@ -1,4 +1,4 @@
-//! Sources of a log's bytes.
+//! Sources from which the bytes of a log are read.
 ghost use Rattle.std.specs.Prelude.{◌≡◌, ◌<◌, ◌≤◌, ◌+◌, ◌-◌, ◌^◌, [], ◌∷◌, ◌++◌, List, ℕ, Option, Some, length, take, drop, min, is_ok, if◌then◌else◌, ◌||◌, Bool, true, false, Ok, IsTrue, IsOk, IfOk};
 ghost use Rattle.std.specs.Io.KnownBytes.{ReadConsumes};
 ghost use Rattle.session_log.specs.Streams.{is_empty_read};
@@ -9,17 +9,17 @@ use std::io::Read;
 
 /// A source of bytes.
 pub trait Source {
-    /// The bytes not yet read, if known.
+    /// The bytes that haven't been read yet, if known.
     ghost left: { Self → Option (List ℕ) };
 
-    /// Whether a read into a non-empty buffer returned 0 bytes.
+    /// Whether a read into a non-empty buffer has returned 0 bytes.
     ghost ended: { Self → Bool };
 
     /// Number of failed calls.
     ghost failed: { Self → ℕ };
 
-    /// Reads the next bytes to the beginning of `out`, and returns their number: 0 for a non-empty buffer only at the
-    /// end. A failed call reads nothing.
+    /// Copies the next bytes to the beginning of `out`, and returns their number. For a non-empty buffer, 0 means the
+    /// end of the source. A failed call reads nothing.
     fn get(&mut self, out: &mut [u8]) -> Result<usize, Failed>
         requires { failed self.old < 2 ^ 64 - 1 }
         ensures bound { IfOk result (λ n. n ≤ length out.new) }
@@ -32,7 +32,7 @@ pub trait Source {
         ensures { result ≡ failed self.now };
 }
 
-/// A source over a slice, which never fails.
+/// A source that reads from a slice, and never fails.
 #[derive(Drop)]
 pub struct SliceIn<'a> {
     rest: &'a [u8],
@@ -40,7 +40,7 @@ pub struct SliceIn<'a> {
 }
 
 impl<'a> SliceIn<'a> {
-    /// Creates a source of these bytes.
+    /// Creates a source that reads these bytes.
     pub fn new(bytes: &'a [u8]) -> Self
         ensures left { ⟦<SliceIn<'a> as Source>⟧.left result ≡ Some bytes.now }
         ensures open { ⟦<SliceIn<'a> as Source>⟧.ended result ≡ false }
@@ -67,7 +67,7 @@ impl Source for SliceIn<'_> {
             result out.new }
         ensures end { self.new.ended ≡ (self.old.ended || is_empty_read result (length out.new)) }
         ensures counted { 0 ≡ (if is_ok result then 0 else 0 + 1) }
-        // Reads as many bytes as fit. The rest of the buffer is unchanged.
+        // As many bytes are read as fit into the buffer. The rest of the buffer is unchanged.
         ensures most { result ≡ Ok (min (length self.old.rest.now) (length out.old)) }
         ensures rest { drop (length self.old.rest.now) out.new ≡ drop (length self.old.rest.now) out.old }
     {
@@ -83,7 +83,7 @@ impl Source for SliceIn<'_> {
     }
 }
 
-/// A source over any std reader. Each `get` is one read.
+/// A source that reads from any reader of the standard library. Each call of `get` is one read.
 #[derive(Drop)]
 pub struct FromRead<R> {
     inner: CountFailures<R>,
@@ -91,7 +91,7 @@ pub struct FromRead<R> {
 }
 
 impl<R: Read> FromRead<R> {
-    /// Creates a source over a reader.
+    /// Creates a source that reads from this reader.
     pub fn new(inner: R) -> Self
         ensures left { ⟦<FromRead<R> as Source>⟧.left result ≡ R.remaining inner }
         ensures open { ⟦<FromRead<R> as Source>⟧.ended result ≡ false }

@@ -1,4 +1,4 @@
-//! Targets of a log's bytes.
+//! Targets to which the bytes of a log are written.
 ghost use Rattle.std.specs.Prelude.{◌≡◌, ◌<◌, ◌≤◌, ◌+◌, ◌-◌, ◌^◌, ◌↔◌, [], ◌∷◌, ◌++◌, List, ℕ, Option, Some, length, take, drop, min, is_ok, if◌then◌else◌, IsErr, IfOk, OnOk, OnErr, MatchResult};
 ghost use Rattle.std.specs.Io.KnownBytes.{Appends, WriteAppends};
 ghost use Rattle.session_log.specs.Streams.{WriteFails, WritesAll, WritesText};
@@ -9,7 +9,7 @@ use std::io::Write;
 
 /// A target of bytes.
 pub trait Target {
-    /// The bytes written so far, if known.
+    /// The bytes that were written so far, if known.
     ghost taken: { Self → Option (List ℕ) };
 
     /// Number of failed calls.
@@ -29,8 +29,8 @@ pub trait Target {
         ensures { result ≡ failed self.now };
 }
 
-/// Writes the whole piece, in as many calls as needed. On failure, only a part of the piece was written; there is no
-/// retry.
+/// Writes the whole piece, in as many calls as needed. After a failure, which is not retried, only a part of the piece
+/// was written.
 pub fn put_all<T: Target>(writer: &mut T, piece: &[u8]) -> Result<(), Failed>
     requires { T.failed writer.old < 2 ^ 64 - 1 }
     ensures { WritesText T.taken T.failed (writer.old, writer.new) piece.now result }
@@ -45,8 +45,8 @@ pub fn put_all<T: Target>(writer: &mut T, piece: &[u8]) -> Result<(), Failed>
     Ok(())
 }
 
-/// A target over a borrowed buffer. Writes as many bytes as fit, and fails only for a non-empty piece if the buffer is
-/// full.
+/// A target that writes to a borrowed buffer. It writes as many bytes as fit, and fails only for a non-empty piece if
+/// the buffer is full.
 #[derive(Drop)]
 pub struct SliceOut<'a> {
     buffer: &'a mut [u8],
@@ -56,7 +56,7 @@ pub struct SliceOut<'a> {
 }
 
 impl<'a> SliceOut<'a> {
-    /// Creates a target that fills this buffer from its beginning.
+    /// Creates a target that writes to this buffer, from the beginning.
     pub fn new(buffer: &'a mut [u8]) -> Self
         ensures none { take result.len result.buffer.now ≡ [] }
         ensures same { drop result.len result.buffer.now ≡ buffer.entry.now }
@@ -70,7 +70,7 @@ impl<'a> SliceOut<'a> {
         }
     }
 
-    /// Returns the bytes written.
+    /// Returns the bytes that were written.
     pub fn written(&self) -> &[u8]
         ensures { result.now ≡ take self.now.len self.now.buffer.now }
     {
@@ -91,7 +91,7 @@ impl Target for SliceOut<'_> {
             (Some (take self.new.len self.new.buffer.now)) result piece.now }
         ensures counted { self.new.failures
             ≡ (if is_ok result then self.old.failures else self.old.failures + 1) }
-        // Writes as many bytes as fit, fails if none do, and leaves the rest of the buffer unchanged.
+        // As many bytes are written as fit. If no byte fits, the call fails. The rest of the buffer is unchanged.
         ensures most { IfOk result (λ n.
             n ≡ min (length piece.now) (length self.old.buffer.now - self.old.len)) }
         ensures full { IsErr result
@@ -116,14 +116,15 @@ impl Target for SliceOut<'_> {
     }
 }
 
-/// A target over any std writer. Each `put` is one write; a write of 0 bytes of a non-empty piece is a failure.
+/// A target that writes to any writer of the standard library. Each call of `put` is one write. A write of 0 bytes of a
+/// non-empty piece is a failure.
 #[derive(Drop)]
 pub struct ToWrite<W> {
     inner: CountFailures<W>,
 }
 
 impl<W: Write> ToWrite<W> {
-    /// Creates a target over a writer.
+    /// Creates a target that writes to this writer.
     pub fn new(inner: W) -> Self
         ensures taken { ⟦<ToWrite<W> as Target>⟧.taken result ≡ W.contents inner }
         ensures none { ⟦<ToWrite<W> as Target>⟧.failed result ≡ 0 }

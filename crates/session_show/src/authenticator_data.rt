@@ -1,4 +1,4 @@
-//! Authenticator data, line by line (WebAuthn, section 6.1).
+//! Authenticator data as text, with a line for each field (WebAuthn Level 2, section 6.1).
 
 use crate::escape::write_escaped;
 use crate::member_names::MapKind;
@@ -13,7 +13,7 @@ use sha2::{Digest, Sha256};
 /// Flag ED: extension data included.
 const EXTENSIONS: u8 = 0x80;
 
-/// Writes a line for each field of authenticator data, as far as the bytes reach.
+/// Writes a line for each field of authenticator data. If the bytes end early, the remaining fields are omitted.
 pub fn write_authenticator_data(buf: &mut TextBuf, number: u64, bytes: &[u8], rp_id: &[u8]) {
     let Some((hash, rest)) = bytes.split_at_checked(32) else {
         return;
@@ -44,7 +44,7 @@ pub fn write_authenticator_data(buf: &mut TextBuf, number: u64, bytes: &[u8], rp
     }
 }
 
-/// Writes the line of the extensions, if flag ED is set, or of surplus bytes.
+/// Writes the line of the extensions if flag ED is set, or else that of surplus bytes, if any.
 fn write_last(buf: &mut TextBuf, number: u64, flags: u8, bytes: &[u8]) {
     if flags & EXTENSIONS != 0 {
         write_item(buf, b"%d       extensions ", number, bytes);
@@ -53,7 +53,7 @@ fn write_last(buf: &mut TextBuf, number: u64, flags: u8, bytes: &[u8]) {
     }
 }
 
-/// Writes lines for the attested credential data and what follows it.
+/// Writes lines for the attested credential data and for the bytes after it.
 fn write_credential(buf: &mut TextBuf, number: u64, flags: u8, bytes: &[u8]) {
     let Some((aaguid, rest)) = bytes.split_at_checked(16) else {
         return;
@@ -79,7 +79,7 @@ fn write_credential(buf: &mut TextBuf, number: u64, flags: u8, bytes: &[u8]) {
     }
 }
 
-/// Writes a line for each member of a COSE key, if it is a map, prefixed with the line number.
+/// Writes a line for each member of a COSE key, if the key is a map. Each line begins with the line number.
 pub fn write_key(buf: &mut TextBuf, format: &[u8], number: u64, key: &[u8]) {
     let map = match item_at(key, Item::Int(1)) {
         Some(Item::Int(key_type)) => MapKind::Key(key_type),

@@ -1,4 +1,4 @@
-//! Why the key refuses a packet or a command, in a sentence for each cause.
+//! Why the key refuses a packet or a command, as a sentence for each cause.
 use crate::text_buf::TextBuf;
 use authn_core::Refusal as Command;
 use ctap_cbor::Fault;
@@ -6,10 +6,10 @@ use ctap_message::RequestFault;
 use hid_assemble::Refusal as Transport;
 use token_session::Cause;
 
-/// A sentence and the numbers in it.
+/// A sentence, and the numbers that are inserted into it.
 type Sentence = (&'static [u8], [Option<u64>; 2]);
 
-/// Returns a sentence with its numbers.
+/// Returns a sentence with the numbers to insert.
 fn sentence(words: &'static [u8], first: Option<u64>, second: Option<u64>) -> Sentence {
     (words, [first, second])
 }
@@ -71,7 +71,7 @@ fn transport_sentence(why: Transport) -> Sentence {
     }
 }
 
-/// Returns the number that the mark `%p` expects for a parameter (see `TextBuf::format`).
+/// Returns the number with which the mark `%p` names a parameter (see `TextBuf::format`).
 fn parameter_number(command: u8, parameter: u8) -> Option<u64> {
     Some(u64::from(u16::from_be_bytes([command, parameter])))
 }
@@ -94,7 +94,7 @@ fn entry_sentence(command: u8, parameter: u8) -> Sentence {
     sentence(words, parameter_number(command, parameter), None)
 }
 
-/// Returns a sentence with a length in it.
+/// Returns a sentence into which a length is inserted.
 fn length_sentence(words: &'static [u8], len: usize) -> Sentence {
     sentence(words, Some(len as u64), None)
 }
@@ -165,7 +165,7 @@ fn request_sentence(fault: RequestFault) -> Sentence {
 /// Returns the sentence for a refused command.
 fn command_sentence(why: Command) -> Sentence {
     match why {
-        // A session returns the failed check instead (Cause::Request).
+        // For a bad request, a session returns the failed check instead (Cause::Request).
         Command::BadRequest { status } => sentence(
             b"the request fails a check of its command (status 0x%x)",
             Some(u64::from(status)),
@@ -221,7 +221,7 @@ fn command_sentence(why: Command) -> Sentence {
     }
 }
 
-/// Writes why the key refuses, as a sentence without a full stop.
+/// Writes why the key refuses a packet or a command, as a sentence without a full stop.
 pub fn write_cause(buf: &mut TextBuf, cause: Cause) {
     let (words, numbers) = match cause {
         Cause::Transport(why) => transport_sentence(why),

@@ -1,4 +1,4 @@
-//! Writing texts of any length to a target in chunks.
+//! Writes texts of any length to a target, in chunks.
 ghost use Rattle.std.specs.Prelude.{◌≡◌, ◌<◌, ◌≤◌, ◌-◌, ◌^◌, ◌∷◌, ◌++◌, length, decimal};
 ghost use Rattle.session_show.specs.Written.{Writes, WritesNumbered};
 
@@ -7,16 +7,17 @@ use arrayvec::ArrayVec;
 use itoa::Buffer;
 use session_log::{Failed, Target, put_all};
 
-/// Maximum number of chunks of a text, which is never reached, because a line shows one message of at most 7609 bytes.
+/// Maximum number of chunks of a text. It is never reached, because a line shows at most one message, and a message has
+/// at most 7609 bytes.
 const MAX_CHUNKS: usize = 1 << 32;
 
 /// A value that can be written as text.
 pub trait Written {
-    /// Writes the text, the same on each call.
+    /// Writes the text. Each call writes the same text.
     fn write(&self, buf: &mut TextBuf);
 }
 
-/// Writes a line number, a space and a text. After a failure, only a part of it was written.
+/// Writes a line number, a space and a text. After a failure, the target has only a part of them.
 pub fn put_with_line_number<T: Target, W: Written>(
     writer: &mut T,
     buf: &mut TextBuf,
@@ -34,7 +35,7 @@ pub fn put_with_line_number<T: Target, W: Written>(
     put_chunks(writer, buf, written)
 }
 
-/// Writes a text. After a failure, only a part of it was written.
+/// Writes a text. After a failure, the target has only a part of it.
 pub fn put_chunks<T: Target, W: Written>(
     writer: &mut T,
     buf: &mut TextBuf,

@@ -1,24 +1,24 @@
-//! The summary counts of a session.
+//! The counts in the summary of a session.
 
 use crate::text_buf::TextBuf;
 use session_walk::status::CREDENTIAL_EXCLUDED;
 use session_walk::{End, Entry, Role};
 
-/// Output formats of the counts. Each takes the numbers in the order of `Counts::write`.
+/// Formats for writing the counts. Each format takes the numbers in the order of `Counts::write`.
 pub struct CountFormats {
-    /// Counts of registrations, assertions and refused requests.
+    /// The counts of registrations, assertions and refused requests.
     credentials: &'static [u8],
-    /// A status and its count, for the first one and for the others.
+    /// The count of a status, for the first status and for the others.
     statuses: [&'static [u8]; 2],
     /// Count of ERRORs.
     messages: &'static [u8],
-    /// An ERROR code and its count, for the first one and for the others.
+    /// The count of an ERROR code, for the first code and for the others.
     errors: [&'static [u8]; 2],
-    /// Counts of inputs outside any transaction.
+    /// The counts of inputs outside any transaction.
     unexpected: &'static [u8],
 }
 
-/// As lines of text.
+/// The formats of lines of text.
 pub static TEXT_FORMATS: CountFormats = CountFormats {
     credentials: b"registrations: %d%-\nassertions: %d%-\nregistrations excluded: %d\nrequests refused: %d\n",
     statuses: [b"%-%-  %s %x: %d\n", b"%-%-  %s %x: %d\n"],
@@ -44,11 +44,11 @@ pub static JSON_FORMATS: CountFormats = CountFormats {
         \"strayCancels\":%d,\"unexpectedReplies\":%d,\"strayReplies\":%d}\n",
 };
 
-/// A count for each byte value.
+/// A count for each value of a byte.
 #[derive(Clone, Copy)]
 struct Tally {
     times: [u64; 256],
-    /// Sum of the counts.
+    /// The sum of all counts.
     sum: u64,
 }
 
@@ -60,7 +60,7 @@ impl Tally {
         self.sum = self.sum.saturating_add(1);
     }
 
-    /// Writes each value that occurred.
+    /// Writes the count of each value that occurred.
     fn write(&self, buf: &mut TextBuf, formats: &[&'static [u8]; 2]) {
         let mut format = formats[0];
         for number in 0..=255_u8 {
@@ -81,15 +81,15 @@ pub struct Counts {
     made: u64,
     used: u64,
     excluded: u64,
-    /// Statuses of refused requests.
+    /// The statuses of refused requests.
     refused: Tally,
-    /// Codes of the ERRORs.
+    /// The codes of ERROR packets.
     errors: Tally,
     /// Continuation packets outside any open message.
     continuations: u64,
-    /// CANCELs with nothing to cancel.
+    /// CANCEL packets without a pending request.
     cancels: u64,
-    /// Replies that nothing waited for.
+    /// Replies of the caller that no request waited for.
     replies: u64,
 }
 
@@ -112,7 +112,7 @@ impl Counts {
         }
     }
 
-    /// Counts a line's role and the transactions that it ends.
+    /// Counts the input of a line, if it is outside any transaction, and the transactions that end with the line.
     pub fn add_line(&mut self, entry: &Entry<'_>) {
         if let Some(deferred) = &entry.deferred
             && deferred.transaction.is_none()
@@ -131,7 +131,7 @@ impl Counts {
                 End::Refused(code) => self.errors.add(code),
                 End::Status(0) => match command {
                     Some(0x01) => self.made = self.made.saturating_add(1),
-                    // A request with `up: false` only asks whether a credential exists; nobody signs in with it.
+                    // A request with `up: false` only tests whether a credential exists, and is not a sign-in.
                     Some(0x02 | 0x08) if !ended.exchange.named.is_silent => {
                         self.used = self.used.saturating_add(1);
                     }

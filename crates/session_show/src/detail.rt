@@ -7,14 +7,14 @@ use session_log::Line;
 /// The level of detail of a log's text.
 #[derive(Clone, Copy)]
 pub enum Detail {
-    /// The fixed text with numbers only, for programs, without comments.
+    /// Fixed: the text for programs, with numbers instead of names, and without comments.
     Fixed,
     /// Explained: with names, members and comments.
     Explained,
 }
 
 impl Detail {
-    /// Returns whether a line has any text.
+    /// Returns whether there is any text for a line.
     pub fn has_text(self, line: &[u8], parsed: &Line) -> bool
         ensures { result ≡ has_text self line.now parsed.now }
     {

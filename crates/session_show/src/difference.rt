@@ -22,32 +22,32 @@ const LINE_BOUND: u64 = 1 << 33;
 /// A packet that differs, is missing or is one too many.
 #[derive(Clone, Copy)]
 pub struct Difference {
-    /// Line of the input that the packet was sent for, or 0 before the first.
+    /// The line of the input for which the packet was sent, or 0 before the first input.
     pub input: u64,
-    /// Number of the packet among those sent for that input, from 1.
+    /// The number of the packet among those sent for the input, counted from 1.
     pub number: u64,
-    /// Line of the log's packet. If that is missing, the line of the next input, or the last line.
+    /// The line of the packet in the log. If the packet is missing, the line of the next input, or else the last line.
     pub line: u64,
     /// The packet in the log.
     pub logged: Option<Packet>,
     /// The packet that the session sends.
     pub sent: Option<Packet>,
-    /// The reply that the session waits for at this point.
+    /// The reply that the session waits for when the difference is found.
     pub awaited: Option<AwaitedReply>,
     /// If the input is a reply that the session didn't wait for, its kind.
     pub reply: Option<AwaitedReply>,
     /// Whether the input is a continuation packet outside any open message.
     pub last_was_stray: bool,
-    /// Why the session refused the input, or dropped a message before it.
+    /// Why the session refused the input, or dropped a message before the input.
     pub causes: Causes,
-    /// Timestamp of the input, or 0 before the first.
+    /// The timestamp of the input, or 0 before the first input.
     pub(crate) at: u64,
     /// The last KEEPALIVE that the session sent, with its timestamp.
     pub(crate) kept_alive: Option<(u64, Packet)>,
 }
 
 impl Difference {
-    /// Returns the error that [`session_log::check`] reports for this difference.
+    /// Returns the error with which [`session_log::check`] reports this difference.
     pub fn fault(&self) -> LogFault {
         LogFault::Differs {
             line: self.input,
@@ -69,10 +69,10 @@ impl Difference {
     }
 }
 
-/// A packet of the log or the session, with the message that it and the following packets complete.
+/// A packet of the log or of the session, and the message that this packet and the following ones complete.
 #[derive(Clone, Copy)]
 struct ComparedPacket<'a> {
-    /// The tracker that processed these packets.
+    /// The tracker that processed the packet and the following ones.
     walk: &'a TransactionTracker,
     packet: &'a Packet,
     line: u64,
@@ -89,13 +89,14 @@ impl Written for ComparedPacket<'_> {
     }
 }
 
-/// A log and a session that plays its inputs.
+/// A log that is compared with a session, which plays the log's inputs.
 #[derive(Drop)]
 pub struct Comparison {
     played: ReplayedLog,
-    /// Bytes that were read but not processed yet; after an error, from the invalid line on.
+    /// The bytes that were read but not processed. After an error, they begin with the invalid line.
     pub window: Window,
-    /// Whether the packets that were explained last belong to a request that may name a credential from before the log.
+    /// Whether the packets that were explained last belong to a request that may refer to a credential created before
+    /// the log.
     pub may_name_prior_credential: bool,
     /// Number of lines processed.
     lines: u64,
@@ -103,7 +104,7 @@ pub struct Comparison {
 }
 
 impl Comparison {
-    /// Returns the state before the first line.
+    /// Returns the comparison before the first line.
     pub fn new() -> Self {
         Comparison {
             played: ReplayedLog::new(),
@@ -114,8 +115,9 @@ impl Comparison {
         }
     }
 
-    /// Plays a log on a session up to the next input with a difference, and returns the first difference there, or
-    /// `None` at the end of the log. Reading resumes where the last call ended, with the same reader and session.
+    /// Plays a log on a session up to the next input with a difference. Returns the first difference of this input, or
+    /// `None` at the end of the log. The next call continues where this one ended, and must get the same reader and
+    /// session.
     pub fn find<S: Source>(
         &mut self,
         reader: &mut S,
@@ -134,7 +136,7 @@ impl Comparison {
                 return Err(LogFault::BadLine(number));
             };
             let difference = self.played.take(number, line, &parsed, session);
-            // If a packet is missing before an input, the next call processes the input's line.
+            // If a packet is missing before an input, the line of the input is left to the next call.
             if let Some(found) = &difference {
                 if found.logged.is_some() {
                     self.drop_line(end);
@@ -158,20 +160,19 @@ impl Comparison {
         }
     }
 
-    /// Removes the line that ends at this offset from the window, with its line feed if any.
+    /// Removes the line that ends at this offset from the window, including its line feed, if any.
     fn drop_line(&mut self, end: usize) {
         let held = self.window.len();
         self.window.drop_front(end.saturating_add(1).min(held));
         self.lines = self.lines.saturating_add(1);
     }
 
-    /// Explains the last difference. Writes to `reason` why the key doesn't send the packet of the log, if the
-    /// preceding lines show it (`  it needs a new key; line 9 is a signature`). Writes the log's packet to `logged` and
-    /// the session's packet to `sent`, each as `< 00000001 CBOR 181`, and if the following packets complete a CBOR
-    /// message, its lines as in [`crate::show`]. For this, more of the log is read. Failed writes are ignored.
-    ///
-    /// Returns the transaction of the session's packet, or else of the log's packet, or else the transaction that holds
-    /// its channel or got the last response there.
+    /// Explains the last difference. Writes to `reason` why the key doesn't send the packet of the log, if the lines up
+    /// to it allow a conclusion (`  it needs a new key; line 9 is a signature`). Writes the packet of the log to
+    /// `logged` and the packet of the session to `sent`, each as `< 00000001 CBOR 181`. If the following packets
+    /// complete a CBOR message, the lines of the message follow, as in [`crate::show`]. To find them, more of the log
+    /// is read. Failed writes are ignored. Returns the transaction of the session's packet, or else that of the log's
+    /// packet, or else the pending or last transaction on the channel.
     pub fn explain<S: Source, T: Target>(
         &mut self,
         difference: &Difference,
@@ -190,7 +191,7 @@ impl Comparison {
         };
         self.played.process_logged();
         let mut transaction = self.played.walk.transaction.or(before);
-        // The reply that the key needs is determined before its packets are processed.
+        // The reply that the key needs is determined before the packets of the key are processed.
         let why = Reason {
             walk: &self.played.key,
             difference,
@@ -214,13 +215,13 @@ impl Comparison {
         transaction
     }
 
-    /// Returns the first line so far whose signed bytes differ from those that the session asks to sign.
+    /// Returns the first line so far whose bytes to sign differ from those of the session.
     pub fn signed_bytes_mismatch(&self) -> Option<SignedBytesMismatch> {
         self.played.signed.otherwise
     }
 
-    /// Returns whether the log has no packet from the key. Reads up to the first one, without comparing. Returns false
-    /// after a read error.
+    /// Returns whether the log contains no packet from the key. Reads up to the first such packet, without comparing
+    /// packets. Returns false after a read error.
     pub fn has_only_inputs<S: Source>(&mut self, reader: &mut S) -> bool {
         for _ in 0..LINE_BOUND {
             if self.played.has_sent {
@@ -237,7 +238,7 @@ impl Comparison {
         false
     }
 
-    /// Writes the packets that differ and the messages that they begin.
+    /// Writes the two packets that differ, and the messages that begin with them.
     fn put<S: Source, T: Target>(
         &mut self,
         difference: &Difference,
@@ -269,7 +270,7 @@ impl Comparison {
         Ok(())
     }
 
-    /// Continues with the packets that complete a message of the log, up to the next input.
+    /// Processes the following packets of the log, up to the next input, to complete the message of a packet.
     fn follow_logged<S: Source>(&mut self, packet: &Packet, reader: &mut S) {
         for _ in 0..LINE_BOUND {
             if !self.played.walk.channels.is_answering(channel_of(packet)) {
@@ -289,7 +290,7 @@ impl Comparison {
     }
 }
 
-/// Writes a text, unless the count of failed writes has reached its maximum.
+/// Writes a text, unless the target's count of failures is at its maximum.
 fn put_counted<T: Target, W: Written>(
     writer: &mut T,
     buf: &mut TextBuf,

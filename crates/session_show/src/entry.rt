@@ -15,13 +15,13 @@ use session_walk::status::CREDENTIAL_EXCLUDED;
 use session_walk::{CborMessage, Ended, Entry, Excluded, Transaction};
 use token_session::Input;
 
-/// Output formats of a CBOR message.
+/// Formats for writing a CBOR message.
 pub struct MessageFormats {
-    /// The text before its CBOR item.
+    /// The text before the CBOR item of the message.
     front: &'static [u8],
-    /// The explanation after its item: the name of its first byte, and the meaning of an error.
+    /// The explanation after the CBOR item: the name of the first byte, and the meaning of an error.
     names: &'static [u8],
-    /// The JSON before its item.
+    /// The JSON before the CBOR item of the message.
     pub json: &'static [u8],
 }
 
@@ -39,7 +39,7 @@ static ANSWER: MessageFormats = MessageFormats {
     json: br#"{"line":%d,"kind":"answer","transaction":%d,"channel":"%w","status":%d,"statusName":"%S"#,
 };
 
-/// Returns the output formats of a message.
+/// Returns the formats for writing a message.
 pub fn message_formats(message: &CborMessage<'_>) -> &'static MessageFormats {
     if message.is_request {
         &REQUEST
@@ -48,8 +48,8 @@ pub fn message_formats(message: &CborMessage<'_>) -> &'static MessageFormats {
     }
 }
 
-/// Returns the kind of map in a message. In a response to an unknown request, the members have no names: its command is
-/// 0, which doesn't exist.
+/// Returns the kind of the map in a message. In the response to an unknown request, members have no names, because the
+/// command is 0, which doesn't exist.
 pub fn map_kind(message: &CborMessage<'_>, first: u8) -> MapKind {
     if message.is_request {
         return MapKind::Request(first);
@@ -60,9 +60,9 @@ pub fn map_kind(message: &CborMessage<'_>, first: u8) -> MapKind {
     }
 }
 
-/// Writes the lines of a message, with the number of the line that completes it: its command or status and its CBOR
-/// item; with explanations, also the name of the command or status, the meaning of a CBOR error, and a line for each
-/// member.
+/// Writes the lines of a message, which begin with the number of the line that completes the message: the command or
+/// status, and the CBOR item. If texts are explained, the name of the command or status, the meaning of a CBOR error,
+/// and a line for each member follow.
 pub fn write_message(buf: &mut TextBuf, number: u64, message: &CborMessage<'_>) {
     let Some([first, item @ ..]) = message.bytes else {
         let format = b"%d   message not shown: too many open messages\n";
@@ -96,14 +96,14 @@ pub fn write_message(buf: &mut TextBuf, number: u64, message: &CborMessage<'_>) 
     }
 }
 
-/// Writes the item after a message's first byte, if any, and returns the number of its CBOR error.
+/// Writes the CBOR item after the first byte of a message, if any. Returns the number of the error in it, if any.
 fn write_item(buf: &mut TextBuf, item: &[u8]) -> Option<u64> {
     if item.is_empty() {
         return None;
     }
     buf.text(" ");
     let checked = check(item).result;
-    // An item may be long, so it isn't written again for later chunks.
+    // Because an item may be long, its text isn't created again for later chunks.
     match buf.known {
         Some(len) if len <= buf.before => buf.before -= len,
         _ => {
@@ -120,7 +120,8 @@ fn write_item(buf: &mut TextBuf, item: &[u8]) -> Option<u64> {
     }
 }
 
-/// Writes the text for a line of a log, after its number and a space. Each line ends with a line feed.
+/// Writes the text for a line of a log, which follows the line's number and a space. Each line of the text ends with a
+/// line feed.
 pub fn write_entry(buf: &mut TextBuf, entry: &Entry<'_>) {
     let number = entry.own.number;
     match entry.own.parsed {
@@ -152,8 +153,9 @@ pub fn write_entry(buf: &mut TextBuf, entry: &Entry<'_>) {
     }
 }
 
-/// Writes numbers for the web page: the lines on which the line's transaction and its message begin (0 if none), then
-/// an earlier line that this one shows to belong to no transaction, and the transactions that end.
+/// Writes the numbers for the web page: the lines at which the transaction and the message of this line begin (0 if
+/// there are none), then an earlier line that, as this line shows, belongs to no transaction, and then the transactions
+/// that end.
 pub fn write_page(buf: &mut TextBuf, entry: &Entry<'_>) {
     let deferred = match &entry.deferred {
         Some(deferred) if deferred.transaction.is_none() => Some(deferred.number),
@@ -172,8 +174,8 @@ pub fn write_page(buf: &mut TextBuf, entry: &Entry<'_>) {
     buf.text("\n");
 }
 
-/// Output formats of an input: in the fixed text, with its timestamp; and in JSON, with line number, timestamp and the
-/// first line of its transaction.
+/// Formats for writing an input: in the fixed text with the timestamp, and in JSON with the line number, the timestamp
+/// and the first line of the transaction.
 pub struct InputFormats {
     text: &'static [u8],
     pub json: &'static [u8],
@@ -224,7 +226,7 @@ static NO_SIGNATURE: InputFormats = InputFormats {
     json: b"{\"line\":%d,\"kind\":\"signature\",\"timeMs\":%d,\"moment\":%d,\"transaction\":%d,\"accepted\":false,\"had\":false}\n",
 };
 
-/// Returns the output formats of an input; for a packet, of the text before its channel.
+/// Returns the formats for writing an input. For a packet, they are for the text before the channel.
 pub fn input_formats(input: &Input) -> &'static InputFormats {
     match input {
         Input::Packet(_) => &PACKET,
@@ -239,8 +241,8 @@ pub fn input_formats(input: &Input) -> &'static InputFormats {
     }
 }
 
-/// Writes a line for a transaction that ended other than by a response or an ERROR to its complete message, prefixed
-/// with the number of the line that it ends at, if any.
+/// Writes the line for a transaction that ended without a response or an ERROR to its complete message. The line begins
+/// with the number of the line at which the transaction ended, if any.
 pub fn write_ended(buf: &mut TextBuf, number: Option<u64>, ended: &Ended) {
     let line = Some(ended.exchange.transaction.line);
     let (formats, one, two) = end_formats(ended);
@@ -251,7 +253,8 @@ pub fn write_ended(buf: &mut TextBuf, number: Option<u64>, ended: &Ended) {
 }
 
 impl Written for Transaction {
-    /// Writes it as `authenticatorMakeCredential 01 on channel 00000001, from line 12`, without a line feed.
+    /// Writes the transaction without a line feed, as in `authenticatorMakeCredential 01 on channel 00000001, from line
+    /// 12`.
     fn write(&self, buf: &mut TextBuf) {
         buf.text(self.name());
         let command = u64::from(self.command.unwrap_or(self.message));

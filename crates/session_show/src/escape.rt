@@ -1,9 +1,9 @@
-//! Escapes untrusted text, so that it can't hide or move the text around it.
+//! Escapes untrusted text, so that it can't hide or move the text before and after it.
 
 use crate::text_buf::TextBuf;
 
-/// Characters that are invisible or move others: control characters, line breaks, and those that fonts leave blank
-/// (Unicode's Default_Ignorable_Code_Point, U+FFF9 to U+FFFB, the blank Braille pattern).
+/// Characters that are invisible or change the position of others: control characters, line breaks, and characters that
+/// fonts leave blank (Unicode's Default_Ignorable_Code_Point, U+FFF9 to U+FFFB, and the blank Braille pattern).
 static INVISIBLE_CHARS: &[(char, char)] = &[
     ('\0', '\u{1f}'),
     ('\u{7f}', '\u{9f}'),
@@ -27,7 +27,7 @@ static INVISIBLE_CHARS: &[(char, char)] = &[
     ('\u{e0000}', '\u{e0fff}'),
 ];
 
-/// Returns whether a character is invisible or moves others.
+/// Returns whether a character is invisible or changes the position of others.
 pub fn is_invisible(c: char) -> bool {
     for (first, last) in INVISIBLE_CHARS {
         if *first <= c && c <= *last {
@@ -37,7 +37,8 @@ pub fn is_invisible(c: char) -> bool {
     false
 }
 
-/// Returns whether bytes are written as they are: printable ASCII without characters that JSON escapes. Most texts are.
+/// Returns whether a text needs no escaping: it is printable ASCII without characters that JSON escapes. Most texts
+/// are.
 pub fn is_printable(bytes: &[u8]) -> bool {
     for byte in bytes {
         if !matches!(byte, b' ' | b'!' | b'#'..=b'[' | b']'..=b'~') {
@@ -47,8 +48,9 @@ pub fn is_printable(bytes: &[u8]) -> bool {
     true
 }
 
-/// Writes a character. An invisible one is written as `\u` and four digits, or in braces if it has more, and in JSON as
-/// a surrogate pair. In the fixed text only those below U+0020 and U+007F are escaped.
+/// Writes a character. An invisible character is written as `\u` and four digits; if more digits are needed, they are
+/// in braces, or in JSON there is a surrogate pair. In the fixed text, only characters below U+0020 and U+007F are
+/// escaped.
 pub fn write_char(buf: &mut TextBuf, c: char, is_json: bool) {
     let is_escaped = if buf.explains {
         is_invisible(c)
@@ -74,8 +76,8 @@ pub fn write_char(buf: &mut TextBuf, c: char, is_json: bool) {
     }
 }
 
-/// Writes untrusted bytes as text, and escapes invisible characters. If the bytes aren't UTF-8, each byte outside ASCII
-/// is written as `\x` and two digits.
+/// Writes untrusted bytes as text, with invisible characters escaped. If the bytes aren't UTF-8, each byte outside
+/// ASCII is written as `\x` and two digits.
 pub fn write_escaped(buf: &mut TextBuf, line: &[u8]) {
     if is_printable(line) {
         buf.bytes(line);

@@ -1,4 +1,4 @@
-//! CBOR items as text: diagnostic notation (RFC 8949, section 8) and JSON (RFC 8259).
+//! CBOR items as text, in diagnostic notation (RFC 8949, section 8) or JSON (RFC 8259).
 ghost use Rattle.std.specs.Prelude.{◌<◌, ◌≤◌, ◌-◌, ◌^◌};
 ghost use Rattle.session_show.specs.Written.{Writes};
 
@@ -15,7 +15,7 @@ use session_walk::{Names, name_in};
 pub struct Notation {
     comma: &'static str,
     colon: &'static str,
-    /// The text before and after the digits of a byte string.
+    /// The texts before and after the digits of a byte string.
     bytes: (&'static str, &'static str),
     is_json: bool,
 }
@@ -36,7 +36,7 @@ pub static JSON: &Notation = &Notation {
     is_json: true,
 };
 
-/// Bytes that should be a CBOR item.
+/// The bytes that should encode a CBOR item.
 #[derive(Clone, Copy)]
 pub struct Diagnostic<'a>(pub &'a [u8]);
 
@@ -46,7 +46,7 @@ impl Written for Diagnostic<'_> {
     }
 }
 
-/// Writes bytes as an item, or the error that `check` found.
+/// Writes bytes as an item, or the error that `check` returned for them.
 pub fn write_item_or_error(buf: &mut TextBuf, item: &[u8], checked: &Result<(), Fault>) {
     match checked {
         Ok(()) => write_value(buf, &mut Cursor::new(item), 1, DIAGNOSTIC, &[]),
@@ -72,8 +72,8 @@ pub fn show_item<T: Target>(writer: &mut T, item: &[u8]) -> Result<(), Failed>
     )
 }
 
-/// Writes the next item with its content. The bytes were checked, so there is no error. Map keys that are
-/// numbers are written by name, if they have one.
+/// Writes the next item with its content. The bytes were checked before, so there is no error. A map key that is a
+/// number is written by name, if the key has a name.
 #[cycle(write)]
 pub fn write_value(
     buf: &mut TextBuf,
@@ -101,7 +101,7 @@ pub fn write_value(
     }
 }
 
-/// Writes `count` items, in a map each after its key.
+/// Writes `count` items. In a map, each item follows its key.
 #[cycle(write)]
 fn write_decoded(
     buf: &mut TextBuf,
@@ -130,7 +130,7 @@ fn write_decoded(
     }
 }
 
-/// Writes a map key, by name if it is a number that has one.
+/// Writes a map key. A number is written by name, if it has a name.
 fn write_key(buf: &mut TextBuf, key: Item<'_>, notation: &Notation, names: Names) {
     if let Item::Int(number) = key
         && notation.is_json
@@ -147,7 +147,7 @@ fn write_key(buf: &mut TextBuf, key: Item<'_>, notation: &Notation, names: Names
     buf.text(notation.colon);
 }
 
-/// Writes an item other than an array or a map.
+/// Writes an item that is neither an array nor a map.
 pub fn write_scalar(buf: &mut TextBuf, item: Item<'_>, notation: &Notation) {
     match item {
         Item::Int(number) => buf.integer(number),
@@ -163,14 +163,14 @@ pub fn write_scalar(buf: &mut TextBuf, item: Item<'_>, notation: &Notation) {
     }
 }
 
-/// Writes an untrusted text in quotation marks, escaping `"` and `\`.
+/// Writes an untrusted text in quotation marks, with `"` and `\` escaped.
 pub fn write_text(buf: &mut TextBuf, text: &str, is_json: bool) {
     buf.text("\"");
     if is_printable(text.as_bytes()) {
         buf.bytes(text.as_bytes());
     } else {
         for c in text.chars() {
-            // Text after a full chunk is dropped.
+            // When the chunk is full, the rest of the text is dropped.
             if buf.is_full() {
                 break;
             }

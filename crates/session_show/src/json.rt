@@ -3,7 +3,7 @@
 use crate::item::write_text;
 use crate::text_buf::TextBuf;
 
-/// Writes a member's name; the value follows.
+/// Writes the name of a member. The value has to follow.
 fn begin_member(buf: &mut TextBuf, name: &str) {
     buf.text(",\"");
     buf.text(name);
@@ -18,7 +18,7 @@ pub fn write_string(buf: &mut TextBuf, name: &str, text: Option<&str>) {
     }
 }
 
-/// Writes a byte string as hexadecimal digits.
+/// Writes a member whose value is a byte string, as hexadecimal digits.
 pub fn write_hex(buf: &mut TextBuf, name: &str, bytes: &[u8]) {
     begin_member(buf, name);
     buf.text("\"");

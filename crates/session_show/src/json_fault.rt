@@ -48,7 +48,7 @@ static TOO_MANY: &[u8] = b"{\"kind\":\"fault\",\"number\":6,\"reason\":\"too man
 static NO_MEMORY: &[u8] =
     b"{\"kind\":\"fault\",\"number\":7,\"reason\":\"no memory\",\"line\":%d}\n";
 
-/// Writes the object of an error on a line: `{"kind":"fault","number":1,"reason":"not a log line","line":3}`.
+/// Writes the object of a log error on one line: `{"kind":"fault","number":1,"reason":"not a log line","line":3}`.
 pub fn put_json_fault<T: Target>(writer: &mut T, fault: &LogFault) -> Result<(), Failed>
     requires { T.failed writer.old < 2 ^ 64 - 1 }
     ensures { Writes T.taken T.failed (writer.old, writer.new) result }

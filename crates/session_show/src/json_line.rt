@@ -1,4 +1,4 @@
-//! The JSON objects for a line of a log. Members that were renamed in format 2 have both names in this version.
+//! The JSON objects for a line of a log. Members that were renamed in format 2 occur under both names in this version.
 
 use crate::chunked::Written;
 use crate::entry::{input_formats, map_kind, message_formats};
@@ -13,7 +13,7 @@ use session_log::Line;
 use session_walk::{CborMessage, Ended, LineEntry, Names, RpId, channel_of};
 use token_session::Input;
 
-/// Writes the objects of a line. A comment that isn't UTF-8 is written as hexadecimal digits.
+/// Writes the objects for a line. A comment that isn't UTF-8 is written in hexadecimal digits.
 pub fn write_line(buf: &mut TextBuf, own: &LineEntry<'_>) {
     let (line, began) = (Some(own.number), own.first_line());
     match own.parsed {
@@ -42,7 +42,8 @@ pub fn write_line(buf: &mut TextBuf, own: &LineEntry<'_>) {
     }
 }
 
-/// Writes the rest of a packet's object, from its channel on, and the object of the message that it completes.
+/// Writes the rest of a packet's object from the channel on, and then the object of the message that the packet
+/// completes.
 fn write_packet(buf: &mut TextBuf, own: &LineEntry<'_>, packet: &Packet) {
     let cid = channel_of(packet);
     let channel = Some(u64::from(cid));
@@ -112,7 +113,7 @@ fn write_message(buf: &mut TextBuf, own: &LineEntry<'_>, channel: u32, message: 
     buf.text("}\n");
 }
 
-/// Writes a canonical item: its diagnostic notation, its value and its bytes.
+/// Writes an item in canonical encoding: its diagnostic notation, its value and its bytes.
 fn write_item(buf: &mut TextBuf, names: Names, item: &[u8]) {
     buf.text(",\"item\":\"");
     buf.is_quoted = true;
@@ -123,7 +124,7 @@ fn write_item(buf: &mut TextBuf, names: Names, item: &[u8]) {
     write_hex(buf, "bytes", item);
 }
 
-/// Writes the object of a transaction that ended, or is open at the log's end.
+/// Writes the object of a transaction that ended, or that is open at the end of the log.
 pub fn write_transaction(buf: &mut TextBuf, number: u64, ended: &Ended) {
     let exchange = &ended.exchange;
     let transaction = &exchange.transaction;

@@ -1,4 +1,4 @@
-//! Writes a log line by line, in one of several formats.
+//! Writes a log line by line, in one of several output formats.
 ghost use Rattle.std.specs.Prelude.{◌≡◌, ◌<◌, ◌-◌, ◌^◌, IfErr, OnOk};
 ghost use Rattle.session_log.specs.Ending.{ending_of, read_fails, write_fails};
 ghost use Rattle.session_log.specs.Replay.{IsLineFault, ReadsTo};
@@ -24,16 +24,16 @@ pub enum OutputFormat {
     Text(Detail),
     /// Numbers for the web page, line by line.
     Page,
-    /// A table of transactions, then counts.
+    /// A table of the transactions, and then the counts.
     Table,
-    /// A JSON object for each transaction, then one for the counts.
+    /// A JSON object for each transaction, and then one for the counts.
     Summary,
     /// JSON objects for each packet, tick, reply, comment, CBOR message and transaction.
     Objects,
 }
 
 impl OutputFormat {
-    /// Returns the level of detail, if the format has text for each line.
+    /// Returns the level of detail if the format has text for each line, or else `None`.
     fn detail(self) -> Option<Detail>
         ensures { result ≡ detail_of self }
     {
@@ -45,7 +45,7 @@ impl OutputFormat {
     }
 }
 
-/// What is tracked from line to line, by output format.
+/// What the writer tracks from line to line, by output format.
 #[derive(Drop)]
 enum LineTracker {
     /// The messages of the fixed text.
@@ -55,7 +55,7 @@ enum LineTracker {
 }
 
 impl LineTracker {
-    /// Processes the next line, and returns its entry.
+    /// Processes the next line, and returns the entry for it.
     fn next_entry<'a>(&'a mut self, number: u64, line: &'a [u8], parsed: &'a Line) -> Entry<'a> {
         match self {
             LineTracker::Messages(transcript) => transcript.next_entry(number, line, parsed),
@@ -70,13 +70,13 @@ impl LineTracker {
     }
 }
 
-/// The state between the lines of a log that is being written.
+/// The state of a log writer between two lines.
 #[derive(Drop)]
 pub struct LogWriter {
     pub format: OutputFormat,
     following: LineTracker,
     counts: Counts,
-    /// Whether the table has a row.
+    /// Whether the table has any row so far.
     is_begun: bool,
     /// The last line.
     last: u64,
@@ -110,7 +110,7 @@ impl LogWriter {
         }
     }
 
-    /// Writes the output for the next line.
+    /// Writes the output for a line.
     fn write_next_line<T: Target>(
         &mut self,
         number: u64,
@@ -151,8 +151,8 @@ impl LogWriter {
         }
     }
 
-    /// Writes the text after the last line, whose number is `number`: with explanations, how much of each incomplete
-    /// message was received.
+    /// Writes the text after the last line, which has the number `number`. If texts are explained, this is how much of
+    /// each incomplete message was received.
     fn write_after_last_line<T: Target>(
         &mut self,
         number: u64,
@@ -185,8 +185,8 @@ impl LogWriter {
         }
     }
 
-    /// Writes what remains at the end of the log, in a format without a text for each line: an ambiguous packet, the
-    /// open transactions, and the counts.
+    /// Writes what remains at the end of the log, in a format without text for each line: a packet whose transaction is
+    /// not yet known, the open transactions, and the counts.
     pub fn put<T: Target>(&mut self, writer: &mut T) -> Result<(), Failed>
         requires { T.failed writer.old < 2 ^ 64 - 1 }
         ensures { Writes T.taken T.failed (writer.old, writer.new) result }
@@ -253,8 +253,8 @@ pub fn write_log<S: Source, T: Target>(
     log_writer.write_after_last_line(number, writer)
 }
 
-/// Writes a transaction that ended, with the number of the line that it ends at. In a table, the header precedes the
-/// first one. In a text, the line number is written before each but the first.
+/// Writes a transaction that ended, with the number of the line at which it ended. In a table, the header comes before
+/// the first transaction. In a text, each transaction but the first is preceded by the line number.
 fn write_end(buf: &mut TextBuf, format: OutputFormat, number: u64, ended: &Ended, has_head: bool) {
     match format {
         OutputFormat::Text(_) | OutputFormat::Page => {
@@ -271,16 +271,16 @@ fn write_end(buf: &mut TextBuf, format: OutputFormat, number: u64, ended: &Ended
     }
 }
 
-/// The first line of a stream of JSON objects.
+/// The first line of a stream of JSON objects, which identifies the format.
 const FORMAT_LINE: &str = "{\"kind\":\"format\",\"format\":2}\n";
 
-/// What remains to be written at the end of the log.
+/// What remains to be written at the end of a log.
 #[derive(Clone, Copy)]
 struct LogEnd<'a> {
     format: OutputFormat,
     walk: &'a TransactionTracker,
     counts: &'a Counts,
-    /// Whether the table has its header.
+    /// Whether the header of the table was written.
     has_head: bool,
     /// The last line.
     last: u64,
@@ -315,13 +315,13 @@ impl Written for LogEnd<'_> {
     }
 }
 
-/// The output for a line: an earlier ambiguous line that it resolves, the line itself, and the transactions that it
-/// ends.
+/// The output for a line: an earlier packet whose transaction this line determines, the line itself, and the
+/// transactions that end with it.
 #[derive(Clone, Copy)]
 struct LineOutput<'a> {
     format: OutputFormat,
     entry: Entry<'a>,
-    /// Whether the table has its header.
+    /// Whether the header of the table was written.
     has_head: bool,
 }
 

@@ -1,4 +1,4 @@
-//! Names of map members, and of some of their values, in CTAP 2.1 and COSE.
+//! The names of map members and of some member values, in CTAP 2.1 and COSE.
 
 use crate::standard::{ALGORITHMS, CURVES, KEY_TYPES, answer_names, key_names, request_names};
 use session_walk::{Names, name_in};
@@ -6,11 +6,11 @@ use session_walk::{Names, name_in};
 /// Kinds of maps whose members have names.
 #[derive(Clone, Copy)]
 pub enum MapKind {
-    /// The parameters of this command.
+    /// The parameters of the command with this byte.
     Request(u8),
-    /// The response to this command.
+    /// The response to the command with this byte.
     Answer(u8),
-    /// A COSE key of this type, or 0 if unknown (RFC 9052, section 7).
+    /// A COSE key of this type (RFC 9052, section 7), or of an unknown type if 0.
     Key(i128),
 }
 
@@ -21,7 +21,7 @@ const OKP: i128 = 1;
 const EC2: i128 = 2;
 
 impl MapKind {
-    /// Returns the names of the map's members.
+    /// Returns the names of the members of this kind of map.
     pub fn names(self) -> Names {
         match self {
             MapKind::Request(command) => request_names(command),
@@ -30,7 +30,7 @@ impl MapKind {
         }
     }
 
-    /// Returns the name of a value of the member with this key.
+    /// Returns the name of a value of the member with this key, if it has one.
     pub fn name_of(self, key: i128, value: i128) -> Option<&'static str> {
         let MapKind::Key(key_type) = self else {
             return None;

@@ -1,4 +1,4 @@
-//! The lines of members and of their decoded bytes.
+//! The lines for members of maps, and for the bytes decoded from them.
 
 use crate::chunked::Written;
 use crate::item::{DIAGNOSTIC, Diagnostic, write_scalar, write_value};
@@ -8,7 +8,7 @@ use crate::text_buf::TextBuf;
 use ctap_cbor::{Cursor, Item};
 use session_walk::name_in;
 
-/// Writes a member: its key, its name if any, its checked value, and the value's meaning.
+/// Writes a member: its key, its name, if any, its value, which was checked before, and the meaning of the value.
 pub fn write_member(buf: &mut TextBuf, map: MapKind, key: Item<'_>, value: &[u8]) {
     write_scalar(buf, key, DIAGNOSTIC);
     if let Item::Int(number) = key
@@ -27,14 +27,14 @@ pub fn write_member(buf: &mut TextBuf, map: MapKind, key: Item<'_>, value: &[u8]
     buf.text("\n");
 }
 
-/// Writes the line of a byte field as hexadecimal digits, prefixed with the line number.
+/// Writes the line of a byte field in hexadecimal digits. The line begins with the line number.
 pub fn write_bytes(buf: &mut TextBuf, format: &[u8], number: u64, bytes: &[u8]) {
     buf.format(format, &[Some(number)]);
     buf.hex(bytes);
     buf.text("\n");
 }
 
-/// Writes the line of a CBOR field, or that it is missing, prefixed with the line number.
+/// Writes the line of a CBOR field, or a line that the field is missing. The line begins with the line number.
 pub fn write_item(buf: &mut TextBuf, format: &[u8], number: u64, item: &[u8]) {
     buf.format(format, &[Some(number)]);
     if item.is_empty() {
@@ -45,8 +45,8 @@ pub fn write_item(buf: &mut TextBuf, format: &[u8], number: u64, item: &[u8]) {
     buf.text("\n");
 }
 
-/// Returns the integer at the start of a DER signature, and the rest (RFC 3279, section 2.2.3): not negative, and in as
-/// few bytes as possible.
+/// Returns the integer at the beginning of a DER signature, and the rest of the signature (RFC 3279, section 2.2.3).
+/// The integer must not be negative, and must be encoded in as few bytes as possible.
 fn first_number(bytes: &[u8]) -> Option<(&[u8], &[u8])> {
     let [2, len, rest @ ..] = bytes else {
         return None;
@@ -60,7 +60,7 @@ fn first_number(bytes: &[u8]) -> Option<(&[u8], &[u8])> {
     }
 }
 
-/// Writes a line for each of the two integers of a well-formed ASN.1 signature.
+/// Writes a line for each of the two integers in an ASN.1 signature, if the signature is well-formed.
 pub fn write_signature(buf: &mut TextBuf, number: u64, signature: &[u8]) {
     let [0x30, len, rest @ ..] = signature else {
         return;

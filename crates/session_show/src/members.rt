@@ -1,4 +1,4 @@
-//! A line for each member of a request or response, and for its decoded bytes.
+//! Lines for the members of a request or response, and for the bytes decoded from them.
 
 use crate::authenticator_data::{write_authenticator_data, write_key};
 use crate::member_names::MapKind;
@@ -9,10 +9,10 @@ use crate::text_buf::TextBuf;
 use ctap_cbor::{Cursor, Item};
 use session_walk::{Pairs, item_at, name_in};
 
-/// The prefix of a member of a COSE key.
+/// The beginning of the line for a member of a COSE key.
 const KEY_MEMBER_PREFIX: &[u8] = b"%d       ";
 
-/// Writes a line for each member of a map whose members have names. For a response, the RP ID is that of its request.
+/// Writes a line for each member of a map with named members. For a response, `rp_id` is the RP ID of the request.
 pub fn write_members(buf: &mut TextBuf, number: u64, map: MapKind, item: &[u8], rp_id: &[u8]) {
     if map.names().is_empty() {
         return;
@@ -45,8 +45,8 @@ pub fn write_members(buf: &mut TextBuf, number: u64, map: MapKind, item: &[u8], 
     }
 }
 
-/// Decodes a member of a response: authenticator data, a signature, an attestation statement with a signature, or a
-/// key.
+/// Writes lines for the decoded bytes of a response's member: authenticator data, a signature, an attestation statement
+/// with a signature, or a key.
 fn write_decoded(
     buf: &mut TextBuf,
     number: u64,

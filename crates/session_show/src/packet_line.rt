@@ -1,4 +1,4 @@
-//! A packet on one line.
+//! A packet as one line of text.
 
 use crate::standard::{CAPABILITIES, ERRORS, KEEPALIVES};
 use crate::status_names::{write_flags, write_name};
@@ -7,9 +7,9 @@ use hid_packet::command::{ERROR, INIT, KEEPALIVE};
 use hid_packet::{Packet, View};
 use session_walk::{MESSAGES, channel_of, name_in};
 
-/// Writes a packet's channel and its sequence number; or its command, as `0x` and two digits if it has no name, and the
-/// length of its message. ERROR and KEEPALIVE are followed by their first data byte. Explained, the meaning of the data
-/// follows.
+/// Writes a packet: the channel, and then the sequence number, or the command and the message length. A command without
+/// a name is written as `0x` and two digits. For ERROR and KEEPALIVE, the first data byte follows. If texts are
+/// explained, the meaning of the data follows.
 pub fn write_packet(buf: &mut TextBuf, packet: &Packet, is_host: bool) {
     let channel = Some(u64::from(channel_of(packet)));
     let (cmd, len, part) = match packet.view() {
@@ -40,8 +40,8 @@ pub fn write_packet(buf: &mut TextBuf, packet: &Packet, is_host: bool) {
     }
 }
 
-/// Writes the data of an INIT: the host's nonce of 8 bytes, or the 17 bytes of the response: nonce, channel, versions
-/// of protocol and device, capabilities.
+/// Writes the data of an INIT packet: the host's nonce of 8 bytes; or the 17 bytes of the response, which are nonce,
+/// channel, versions of protocol and device, and capabilities.
 fn write_init(buf: &mut TextBuf, len: u16, part: &[u8], is_host: bool) {
     if len != if is_host { 8 } else { 17 } {
         return;

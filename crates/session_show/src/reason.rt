@@ -1,4 +1,4 @@
-//! Explains, from the preceding lines, why the key's packets differ from those of the log.
+//! Explains why the packets of the key differ from those of the log, from the lines before the difference.
 
 use crate::cause::write_cause;
 use crate::chunked::Written;
@@ -18,12 +18,12 @@ use token_session::{Cause, KEEPALIVE_PERIOD};
 pub struct Reason<'a> {
     pub walk: &'a TransactionTracker,
     pub difference: &'a Difference,
-    /// The transaction that the difference is reported in, if the key sends nothing.
+    /// The transaction under which the difference is reported, if the key sends no packet.
     pub transaction: Option<Transaction>,
 }
 
 impl Written for Reason<'_> {
-    /// Writes a line with the reason why the key sends nothing or refuses, if known.
+    /// Writes a line with the reason why the key sends no packet or refuses a request, if the reason is known.
     fn write(&self, buf: &mut TextBuf) {
         let Some(sent) = &self.difference.sent else {
             match self.next_keepalive() {
@@ -64,7 +64,7 @@ impl Written for Reason<'_> {
 }
 
 impl Reason<'_> {
-    /// Returns the cause of an ERROR or an error status.
+    /// Returns the cause of an ERROR packet or of a response with an error status, if known.
     fn cause(&self, cmd: u8, code: u8) -> Option<Cause> {
         match self.difference.causes.time {
             Some(overdue) if cmd == ERROR && code == MSG_TIMEOUT => Some(Cause::Transport(overdue)),
@@ -94,7 +94,7 @@ impl Reason<'_> {
         }
     }
 
-    /// Writes why the key refuses a packet or request: the line of the log that it conflicts with, or the sentence for
+    /// Writes why the key refuses a packet or request: the line of the log with which it conflicts, or the sentence for
     /// the cause.
     fn write_refusal(&self, buf: &mut TextBuf, cid: u32, cause: Cause) {
         buf.text("  ");
@@ -128,8 +128,8 @@ impl Reason<'_> {
         buf.text("\n");
     }
 
-    /// Begins a line about the transaction in process: with `subject`, or with its name if the difference is reported
-    /// in another one.
+    /// Begins a line about the transaction that the key processes. The line begins with `subject`, or with the
+    /// transaction's name if the difference is reported under another transaction.
     fn begin(&self, buf: &mut TextBuf, served: &Transaction, subject: &str) {
         buf.text("  ");
         if matches!(&self.transaction, Some(of) if of.line == served.line) {
@@ -141,7 +141,7 @@ impl Reason<'_> {
         }
     }
 
-    /// Writes which packet of a message is missing.
+    /// Writes which packet of an incomplete message is missing.
     fn write_unfinished(&self, buf: &mut TextBuf, open: &OpenTransaction) {
         let next = Some(u64::from(open.progress.continuations));
         buf.format(b"  still waiting for continuation packet %d of ", &[next]);
@@ -155,7 +155,8 @@ impl Reason<'_> {
         buf.format(b": %d of %d bytes received\n", &[came, length]);
     }
 
-    /// Returns the time at which the key's next KEEPALIVE is due, and its transaction, if the log has one too early.
+    /// If the log contains a KEEPALIVE too early, returns the time at which the key's next KEEPALIVE is due, and the
+    /// transaction.
     fn next_keepalive(&self) -> Option<(u64, Transaction)> {
         let (Some((last, packet)), None, Some(logged)) = (
             self.difference.kept_alive,
@@ -178,7 +179,7 @@ impl Reason<'_> {
         }
     }
 
-    /// Writes the reply that the key waits for before its response on a channel, or why it sends no response there.
+    /// Writes the reply that the key waits for before it responds on a channel, or why the key doesn't respond there.
     fn write_waiting(&self, buf: &mut TextBuf) {
         let Some(logged) = &self.difference.logged else {
             return;

@@ -1,4 +1,4 @@
-//! A log that is replayed on a session, with trackers for the log's packets and the session's packets.
+//! A log that is replayed on a session, with one tracker for the packets of the log and one for those of the session.
 
 use crate::difference::Difference;
 use crate::signed_bytes::SignedComments;
@@ -8,27 +8,27 @@ use session_log::{CAPACITY, Line};
 use session_walk::{AwaitedReply, Role, TransactionTracker, channel_of};
 use token_session::{Causes, Session};
 
-/// A bound for loops over the packets of a message, greater than their maximum number.
+/// A bound for loops over the packets of a message, which is greater than their maximum number.
 pub const PACKET_BOUND: usize = 130;
 
-/// The state after the lines so far.
+/// The state of a replay after some lines.
 #[derive(Drop)]
 pub struct ReplayedLog {
-    /// The tracker of the log.
+    /// The tracker of the log's inputs and packets.
     pub walk: TransactionTracker,
-    /// The tracker of the log's inputs and the session's packets.
+    /// The tracker of the log's inputs and of the session's packets.
     pub key: TransactionTracker,
-    /// Packets of the session that `key` hasn't processed yet.
+    /// The packets of the session that `key` hasn't processed yet.
     pub outbox: Outbox,
-    /// Line of the last input, or 0 before the first.
+    /// The line of the last input, or 0 before the first input.
     input: u64,
-    /// Number of its packets that were compared.
+    /// The number of packets of the last input that were compared.
     compared: u64,
-    /// Whether one of them differed; the others aren't compared then.
+    /// Whether a packet of the last input differed. The packets after it aren't compared.
     has_differed: bool,
-    /// The packets that differed, until the trackers process them.
+    /// The last difference, until the trackers have processed its packets.
     last: Option<Difference>,
-    /// Whether the log has a packet from the key.
+    /// Whether the log contains a packet from the key.
     pub has_sent: bool,
     /// The reply that the session waits for.
     awaited: Option<AwaitedReply>,
@@ -38,7 +38,7 @@ pub struct ReplayedLog {
     last_was_stray: bool,
     /// Why the session refused the last input, or dropped a message before it.
     causes: Causes,
-    /// Timestamp of the last input, and the latest timestamp.
+    /// The timestamp of the last input, and the latest timestamp.
     at: u64,
     now: u64,
     /// The last KEEPALIVE that the session sent, with its timestamp.
@@ -72,9 +72,9 @@ impl ReplayedLog {
         }
     }
 
-    /// Processes the next line, and returns the difference that it shows. An input steps the session, unless the log
-    /// lacks a packet of the previous input; then the line isn't processed. If the line's packet differs, the tracker
-    /// processes it later.
+    /// Processes the next line. Returns the difference that becomes known with this line, if any. An input is passed to
+    /// the session, unless the log lacks a packet of the previous input; then the line isn't processed. If the packet
+    /// of the line differs, the tracker processes it later.
     pub fn take(
         &mut self,
         number: u64,
@@ -119,7 +119,7 @@ impl ReplayedLog {
         None
     }
 
-    /// Compares a packet of the log with the session's.
+    /// Compares a packet of the log with the expected packet of the session.
     fn compare(&mut self, number: u64, packet: &Packet) -> Option<Difference> {
         self.has_sent = true;
         if self.has_differed {
@@ -136,8 +136,8 @@ impl ReplayedLog {
         Some(self.record_difference(number, Some(*packet), sent))
     }
 
-    /// Passes the log's last differing packet to its tracker. Before that, the excluded credential of the key's
-    /// request is copied from the log's tracker, if that has the same request.
+    /// Passes the last differing packet of the log to the tracker of the log. Before that, if both trackers have the
+    /// same request, its excluded credential is copied from the tracker of the log to that of the session.
     pub fn process_logged(&mut self) {
         let Some(mut last) = self.last else {
             return;
@@ -154,19 +154,19 @@ impl ReplayedLog {
         }
     }
 
-    /// Passes the last differing packets to the trackers.
+    /// Passes the last differing packets to their trackers.
     pub fn process_last(&mut self) {
         self.process_logged();
         let Some(last) = self.last.take() else {
             return;
         };
-        // A packet missing in the log is attributed to the input before it.
+        // If a packet is missing in the log, it belongs to the input before this line.
         if let Some(packet) = &last.sent {
             self.process_sent(last.input, packet);
         }
     }
 
-    /// Continues after a difference with the session's packets.
+    /// Continues after a difference, with the packets of the session.
     pub fn resume_after_difference(&mut self) {
         self.process_last();
         for _ in 0..PACKET_BOUND {
@@ -177,13 +177,13 @@ impl ReplayedLog {
         }
     }
 
-    /// Processes a packet that the session sent at this line.
+    /// Processes a packet that the session sent for the input on this line.
     pub fn process_sent(&mut self, line: u64, packet: &Packet) {
         if let View::Start { cmd: KEEPALIVE, .. } = packet.view() {
             self.kept_alive = Some((self.now, *packet));
         }
         self.key.take(line, &Line::Sent(*packet));
-        // If the message timed out before its packet, the session's ERROR comes first.
+        // If the message timed out before this packet, the ERROR of the session comes first.
         if let Some(deferred) = self.key.deferred()
             && deferred.transaction.is_none()
         {
@@ -191,7 +191,7 @@ impl ReplayedLog {
         }
     }
 
-    /// Returns the packet that is missing at the end of the log.
+    /// Returns the difference at the end of the log, if a packet is missing there.
     pub fn finish(&mut self, line: u64) -> Option<Difference> {
         self.signed.end();
         if self.has_differed {

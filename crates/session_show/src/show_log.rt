@@ -43,8 +43,8 @@ pub fn show<S: Source, T: Target>(reader: &mut S, writer: &mut T) -> Result<(), 
     )
 }
 
-/// Explains a log (docs/use/EXPLAINED.md): the text of [`show`] with the standard's names for its numbers, comments,
-/// and after a message a line for each of its members. Otherwise like [`show`].
+/// Explains a log (docs/use/EXPLAINED.md): writes the text of [`show`] with the standard's names for numbers, with the
+/// comments of the log, and with a line for each member of a message. Otherwise the same as [`show`].
 pub fn explain<S: Source, T: Target>(reader: &mut S, writer: &mut T) -> Result<(), LogFault>
     requires read { S.failed reader.old < 2 ^ 64 - 1 }
     requires write { T.failed writer.old < 2 ^ 64 - 1 }
@@ -64,10 +64,9 @@ pub fn explain<S: Source, T: Target>(reader: &mut S, writer: &mut T) -> Result<(
 }
 
 /// Writes the transaction of each line of a log (hidlog.h, `hidlog_transactions`): a line of numbers for each packet,
-/// tick and reply. Otherwise like [`crate::show`].
-///
-/// A continuation packet that may have arrived too late is written with its message. If it was too late, the next line
-/// shows that it belongs to no transaction.
+/// tick and reply. Otherwise the same as [`crate::show`]. A continuation packet that may have arrived too late is
+/// written with the message to which it would belong. If it was too late, the next line shows that it belongs to no
+/// transaction.
 pub fn write_transactions<S: Source, T: Target>(
     reader: &mut S,
     writer: &mut T,

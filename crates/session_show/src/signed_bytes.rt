@@ -1,42 +1,42 @@
-//! The bytes that a log reports as signed, compared with those that a session asks to sign.
+//! The bytes to sign in the comments of a log, compared with those of a session.
 
 use authn_core::Need;
 
 /// The prefix of a comment with bytes to sign.
 const SIGNED_PREFIX: &[u8] = b"# signed ";
 
-/// The prefix of the comment that follows them.
+/// The prefix of the comment after those with bytes to sign.
 const NEED_PREFIX: &[u8] = b"# need ";
 
 /// Maximum number of bytes to sign on one line.
 const MAX_BYTES_PER_LINE: usize = 123;
 
-/// Length of the client data hash, the last bytes to be signed.
+/// Length of the client data hash, which comes last in the bytes to sign.
 const CLIENT_DATA_HASH_LEN: usize = 32;
 
-/// A line whose signed bytes differ from those that the session asks to sign.
+/// A line whose bytes to sign differ from those of the session.
 #[derive(Clone, Copy)]
 pub struct SignedBytesMismatch {
     pub line: u64,
-    /// The part that differs.
+    /// The name of the part that differs.
     pub what: &'static str,
 }
 
-/// The comments after an input with the bytes to sign.
+/// The comments with bytes to sign that follow an input.
 #[derive(Clone, Copy, Default)]
 pub struct SignedComments {
-    /// Number of bytes to sign in the comments so far.
+    /// Number of bytes to sign in these comments so far.
     pub len: usize,
-    /// Number of bytes that the session asks to sign.
+    /// Number of bytes to sign of the session.
     asked: usize,
-    /// Line of the last comment.
+    /// The line of the last comment.
     line: u64,
-    /// The first mismatch of the log.
+    /// The first mismatch in the log.
     pub otherwise: Option<SignedBytesMismatch>,
 }
 
 impl SignedComments {
-    /// Processes a comment, given the reply that the session needs.
+    /// Processes a comment. `need` is what the session needs.
     pub fn take(&mut self, number: u64, line: &[u8], need: &Need<'_>) {
         let Some(digits) = line.strip_prefix(SIGNED_PREFIX) else {
             if line.starts_with(NEED_PREFIX) {
@@ -67,14 +67,14 @@ impl SignedComments {
         }
     }
 
-    /// Ends the comments after an input, which may lack bytes.
+    /// Processes the end of the comments after an input, in which bytes may be missing.
     pub fn end(&mut self) {
         if self.len > 0 && self.len < self.asked {
             self.record_mismatch("it lacks bytes at its end");
         }
     }
 
-    /// Records a mismatch at the last line, if it is the first one.
+    /// Records a mismatch at the last comment, if it is the first mismatch.
     fn record_mismatch(&mut self, what: &'static str) {
         if self.otherwise.is_none() {
             self.otherwise = Some(SignedBytesMismatch {
@@ -84,7 +84,7 @@ impl SignedComments {
         }
     }
 
-    /// Returns the part of the signed bytes that the next byte belongs to.
+    /// Returns the name of the part to which the next byte belongs.
     fn part(&self) -> &'static str {
         if self.asked == 0 {
             "it asks for no signature here"

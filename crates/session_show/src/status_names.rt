@@ -1,10 +1,10 @@
-//! Names of numbers in CTAP 2.1. Numbers without a name are shown as numbers.
+//! The names of numbers in CTAP 2.1. A number without a name is written in digits.
 
 use crate::standard::{ERRORS, KEEPALIVES, STATUSES, request_names};
 use crate::text_buf::TextBuf;
 use session_walk::{COMMANDS, MESSAGES, Names, name_in};
 
-/// Returns the name of a number for a mark (`TextBuf::format`).
+/// Returns the name of a number for this mark in a format (`TextBuf::format`).
 pub fn name_for(mark: u8, number: u64) -> Option<&'static str> {
     let names = match mark {
         b'S' | b'a' | b's' => STATUSES,
@@ -26,7 +26,7 @@ pub fn name_for(mark: u8, number: u64) -> Option<&'static str> {
     }
 }
 
-/// Writes two spaces and the name, if there is one and the text is explained.
+/// Writes two spaces and a name, if there is a name and texts are explained.
 pub fn write_name(buf: &mut TextBuf, name: Option<&str>) {
     if let Some(name) = name
         && buf.explains
@@ -36,7 +36,7 @@ pub fn write_name(buf: &mut TextBuf, name: Option<&str>) {
     }
 }
 
-/// Descriptions of CBOR errors, by number.
+/// The descriptions of CBOR errors, by number.
 pub static FAULTS: Names = &[
     (1, "Truncated: the item ends early"),
     (2, "Reserved: a length that is reserved or indefinite"),
@@ -59,10 +59,10 @@ pub static FAULTS: Names = &[
     (10, "Memory: no memory"),
 ];
 
-/// Flag bits and their names.
+/// The bits of a flags byte, and their names.
 pub type Flags = &'static [(u8, &'static str)];
 
-/// Writes a byte of flags, and the names of those set.
+/// Writes a byte of flags, and the names of the flags that are set.
 pub fn write_flags(buf: &mut TextBuf, flags: u8, letters: Flags) {
     buf.hex(&[flags]);
     for (flag, name) in letters {

@@ -1,4 +1,4 @@
-//! A row of the table of transactions.
+//! A row in the table of transactions.
 
 use crate::escape::write_escaped;
 use crate::text_buf::TextBuf;
@@ -10,17 +10,17 @@ pub static TABLE_HEADER: &str =
     "  line  channel   command                        status                            \
     user ms  KEEPALIVEs  RP id\n";
 
-/// End of the column for the status, counted from the beginning of the column for the command.
+/// The end of the status column, counted from the beginning of the command column.
 const STATUS_END: usize = 63;
 
-/// End of the column for the milliseconds until the user's reply.
+/// The end of the column for the milliseconds until the user's reply.
 const USER_END: usize = 72;
 
-/// End of the column for KEEPALIVEs.
+/// The end of the column for the number of KEEPALIVEs.
 const KEEPALIVES_END: usize = 84;
 
-/// Writes a transaction: line, channel, command, status, milliseconds until the user's reply, number of KEEPALIVEs, RP
-/// ID.
+/// Writes the row of a transaction: line, channel, command, status, milliseconds until the user's reply, number of
+/// KEEPALIVEs, and RP ID.
 pub fn write_row(buf: &mut TextBuf, ended: &Ended) {
     let exchange = &ended.exchange;
     buf.column(exchange.transaction.line, 6);
@@ -31,7 +31,7 @@ pub fn write_row(buf: &mut TextBuf, ended: &Ended) {
     buf.text("  ");
     let (formats, one, two) = end_formats(ended);
     buf.format(formats.row, &[one, two]);
-    // A text longer than its column shortens the columns after it.
+    // After a text longer than its column, the next columns are shorter.
     buf.fill(name, STATUS_END);
     let ends = [
         (exchange.presence_ms, USER_END),

@@ -10,26 +10,26 @@ use std::fmt;
 /// Length of a chunk in bytes.
 pub const CHUNK_LEN: usize = 8192;
 
-/// Number of bytes that are written as hexadecimal digits at a time.
+/// Number of bytes that are converted to hexadecimal digits at a time.
 const HEX_BATCH_LEN: usize = 32;
 
 /// Padding for columns.
 const SPACES: &[u8] = b"                                ";
 
-/// Holds one chunk of a text: bytes before the chunk are skipped, and those after it are dropped. So a text of any
-/// length is produced in chunks of fixed size, by writing it once for each chunk.
+/// A buffer for one chunk of a text: bytes before the chunk are skipped, and bytes after it are dropped. A text of any
+/// length is produced in chunks of a fixed size, by writing the text once for each chunk.
 #[derive(Drop)]
 pub struct TextBuf {
     /// Whether names, members and comments are written.
     pub(crate) explains: bool,
-    /// Number of bytes before this chunk.
+    /// Number of bytes of the text before this chunk.
     first: usize,
     /// Number of bytes still to skip.
     pub(crate) before: usize,
     part: ArrayVec<u8, CHUNK_LEN>,
-    /// Whether the text is inside a JSON string, where `"` and `\` are escaped.
+    /// Whether the text is in a JSON string, in which `"` and `\` are escaped.
     pub(crate) is_quoted: bool,
-    /// Length of a part that a text has at most once, if known from an earlier chunk.
+    /// Length of a part that occurs at most once in a text, if known from an earlier chunk.
     pub(crate) known: Option<usize>,
 }
 
@@ -46,7 +46,7 @@ impl TextBuf {
         }
     }
 
-    /// Begins the chunk after `before` bytes.
+    /// Begins the chunk after the first `before` bytes of the text.
     pub fn begin(&mut self, before: usize) {
         self.first = before;
         self.before = before;
@@ -57,13 +57,13 @@ impl TextBuf {
         }
     }
 
-    /// Returns the number of bytes written so far, skipped ones included.
+    /// Returns the number of bytes written so far, including those that were skipped.
     pub fn place(&self) -> usize {
         let passed = self.first.saturating_sub(self.before);
         passed.saturating_add(self.part.len())
     }
 
-    /// Returns the chunk so far.
+    /// Returns the bytes of the chunk so far.
     pub fn part(&self) -> &[u8]
         ensures { length result.now ≤ 8192 }
     {
@@ -99,8 +99,7 @@ impl TextBuf {
         }
     }
 
-    /// Writes a text inside a JSON string.
-    // Separate from `text`, which is called far more often.
+    /// Writes a text in a JSON string. This is separate from `text`, which is called much more often.
     fn json_text(&mut self, text: &str) {
         for byte in text.as_bytes() {
             if matches!(byte, b'"' | b'\\') {
@@ -110,7 +109,7 @@ impl TextBuf {
         }
     }
 
-    /// Pads the text written since an offset with spaces to a width.
+    /// Pads the text that was written since an offset with spaces to a width.
     pub fn fill(&mut self, place: usize, width: usize) {
         let written = self.place().saturating_sub(place);
         self.bytes(SPACES.get(..width.saturating_sub(written)).unwrap_or(b""));
@@ -130,8 +129,8 @@ impl TextBuf {
         self.text(buffer.format(number));
     }
 
-    /// Writes a format: a text with a mark for each number, `%` and a letter (see `mark`). If a number or its name is
-    /// missing, the text before the mark is cut at its last comma.
+    /// Writes a format: a text in which `%` and a letter mark the place of each number (see `mark`). If a number or its
+    /// name is missing, the text before the mark ends at the last comma.
     pub fn format(&mut self, format: &[u8], numbers: &[Option<u64>]) {
         let mut rest = format;
         for number in numbers {
@@ -148,10 +147,10 @@ impl TextBuf {
         self.bytes(rest);
     }
 
-    /// Writes the text before a mark, and then a number: `d` in decimal, `x` and `w` its last byte and its last four
-    /// bytes in hexadecimal, `-` not at all; `n` in decimal and a space, without the text. Other letters write its name
-    /// (`name_for`), uppercase ones a quotation mark after it; if it has no name, `less` is written instead of the
-    /// text.
+    /// Writes the text before a mark, and then a number. The mark `d` writes the number in decimal, `x` and `w` its
+    /// last byte and its last four bytes in hexadecimal, and `-` nothing; `n` writes the number in decimal and a space,
+    /// without the text. Any other letter writes the name of the number (`name_for`), and an uppercase letter also a
+    /// quotation mark after it. If there is no name, `less` is written instead of the text.
     fn mark(&mut self, mark: u8, number: u64, text: &[u8], less: &[u8]) {
         match mark {
             b'-' => self.bytes(text),
@@ -186,7 +185,7 @@ impl TextBuf {
 
     /// Writes a decimal integer.
     pub fn integer(&mut self, number: i128) {
-        // Most numbers are small; those take fewer steps.
+        // Most numbers are small, and small numbers are converted in fewer steps.
         if let Ok(small) = u64::try_from(number) {
             self.decimal(small);
             return;
@@ -197,7 +196,7 @@ impl TextBuf {
 
     /// Writes bytes as hexadecimal digits.
     pub fn hex(&mut self, bytes: &[u8]) {
-        // A long text is mostly digits, which are skipped together.
+        // A long text consists mostly of hexadecimal digits, so many of them are skipped at once.
         let passed = bytes.len().min(self.before / 2);
         self.before -= 2 * passed;
         for some in bytes.split_at(passed).1.chunks(HEX_BATCH_LEN) {
@@ -209,10 +208,10 @@ impl TextBuf {
         }
     }
 
-    /// Writes a character as `\u` and four digits.
+    /// Writes the UTF-16 code unit with these two bytes as `\u` and four digits.
     pub fn escape(&mut self, high: u8, low: u8) {
         let len = if self.is_quoted { 7 } else { 6 };
-        // Most of a long text may be escapes; skips them at once.
+        // A long text may consist mostly of escapes, so many of them are skipped at once.
         if len <= self.before {
             self.before -= len;
             return;
@@ -234,7 +233,8 @@ impl fmt::Write for TextBuf {
     }
 }
 
-/// Returns the offsets of the last comma before a format's first mark (0 if none) and of the mark.
+/// Returns two offsets in a format: that of the last comma before the first mark (0 if there is none), and that of the
+/// first mark.
 fn find_mark(format: &[u8]) -> (usize, usize) {
     let mut comma = 0;
     let mut place = 0_usize;
@@ -249,7 +249,7 @@ fn find_mark(format: &[u8]) -> (usize, usize) {
     (comma, place)
 }
 
-/// Returns the first `len` bytes, or all.
+/// Returns the first `len` bytes, or all bytes if there are fewer.
 pub fn front(bytes: &[u8], len: usize) -> &[u8] {
     bytes.get(..len).unwrap_or(bytes)
 }

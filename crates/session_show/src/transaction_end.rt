@@ -1,19 +1,20 @@
-//! Output formats of the end of a transaction.
+//! Formats for writing the end of a transaction.
 
 use session_walk::{End, Ended};
 
-/// The formats for one kind of end.
+/// The formats for one kind of end of a transaction.
 pub struct EndFormats {
     /// In a table.
     pub row: &'static [u8],
     /// In JSON.
     pub json: &'static [u8],
-    /// For the web page; the first number is the line at which the transaction began.
+    /// The format for the web page. The first number is the line at which the transaction began.
     pub page: &'static [u8],
-    /// In the explained text if its message is complete; the first numbers are the line of the end and that of the
-    /// beginning. Empty for a response or an ERROR to a complete message, which have lines of their own.
+    /// The format for the explained text, if the message is complete. The first numbers are the lines of the end and of
+    /// the beginning. Empty for a response or an ERROR to a complete message, for which there is another line.
     pub whole: &'static [u8],
-    /// In the explained text if its message is incomplete; then the number of bytes received follows.
+    /// The format for the explained text, if the message is incomplete. The number of bytes received follows the same
+    /// numbers.
     pub part: &'static [u8],
 }
 
@@ -97,7 +98,7 @@ static UNFINISHED: EndFormats = EndFormats {
     part: b"%n  line %d: %d of %d bytes received\n",
 };
 
-/// Returns the formats for the end of a transaction, and its numbers.
+/// Returns the formats for the end of a transaction, and the numbers to insert.
 pub fn end_formats(ended: &Ended) -> (&'static EndFormats, Option<u64>, Option<u64>) {
     match &ended.end {
         End::Status(status) => {

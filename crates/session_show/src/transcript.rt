@@ -1,10 +1,10 @@
-//! The messages of the fixed text: one per direction is collected, on any channel.
+//! The messages in the fixed text. In each direction, one message at a time is collected, on any channel.
 
 use session_log::Line;
 use session_walk::{CborMessage, Collector, Entry, LineEntry, Role};
 use token_session::Input;
 
-/// The messages that the lines so far began.
+/// The messages that began in the lines so far.
 #[derive(Drop, Default)]
 pub struct PlainTranscript {
     requests: Collector,
@@ -12,7 +12,7 @@ pub struct PlainTranscript {
 }
 
 impl PlainTranscript {
-    /// Processes the next line, and returns its entry.
+    /// Processes the next line, and returns the entry for it.
     pub fn next_entry<'a>(
         &'a mut self,
         number: u64,

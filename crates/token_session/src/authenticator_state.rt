@@ -1,4 +1,4 @@
-//! The authenticator within a session, and the packets that it sends.
+//! The authenticator in a session, and the packets that are sent with its answers.
 ghost use Rattle.std.specs.Prelude.{◌≡◌, ◌+◌, ◌≤◌, ◌++◌, Some, length, option_map, if◌then◌else◌};
 ghost use Rattle.hid_assemble.specs.Assembly.{still_open};
 ghost use Rattle.authn_core.specs.Views.{to_answer, to_event, to_work};
@@ -23,14 +23,14 @@ use hid_assemble::Assembler;
 use hid_packet::Outbox;
 use hid_packet::command::{CBOR, INIT, KEEPALIVE};
 
-/// Milliseconds from one KEEPALIVE to the next while a request is pending.
+/// The time between two KEEPALIVE packets while a request is pending, in milliseconds.
 pub const KEEPALIVE_PERIOD: u64 = 100;
 
 /// The device data of an INIT response: protocol version 2, device version 1.0.0, and the capabilities CBOR and NMSG
 /// (CTAP 2.1, section 11.2.9.1.3).
 const DEVICE_INFO: [u8; 5] = [2, 1, 0, 0, 0x0c];
 
-/// Sends the response to an INIT on the channel `on`, which allocates `channel`.
+/// Sends the response to INIT on the channel `on`. The response contains the channel ID `channel`.
 #[tactic(auto, using(hid_packet::proofs::Carrying::few_written), unfolding(crate::specs::Replies::init_response))]
 pub(crate) fn send_init_response(outbox: &mut Outbox, on: u32, channel: u32, nonce: &[u8; 8])
     requires { length outbox.old ≤ 1 }
@@ -45,7 +45,7 @@ pub(crate) fn send_init_response(outbox: &mut Outbox, on: u32, channel: u32, non
     outbox.put_message(on, INIT, answer.as_slice());
 }
 
-/// The authenticator within a session, with the timestamp of its last KEEPALIVE and its meters.
+/// The authenticator in a session, with the timestamp of its last KEEPALIVE, and the meters.
 #[derive(Drop)]
 pub(crate) struct AuthenticatorState<const C: usize> {
     pub(crate) core: Core<Store<C>, C>,
@@ -54,8 +54,8 @@ pub(crate) struct AuthenticatorState<const C: usize> {
 }
 
 impl<const C: usize> AuthenticatorState<C> {
-    /// Handles an event, and updates the meters if it is a request. The result is sent on the channel of the request,
-    /// or of the request that was pending. Returns the cause of a refusal, if any.
+    /// Handles an event. If the event is a request, updates the meters. The packets of the answer are sent on the
+    /// channel of the request. Returns the cause of a refusal, if any.
     pub(crate) fn take(&mut self, now: u64, event: &Event<'_>, outbox: &mut Outbox) -> Option<Cause>
         requires later { self.old.core.latest ≤ now }
         requires bounded { AreBounded self.old.meters }
@@ -97,7 +97,8 @@ impl<const C: usize> AuthenticatorState<C> {
         }
     }
 
-    /// Sends the result of an event to its channel. `before` is the request that was pending before the event.
+    /// Sends the packets of the answer to an event on a channel. `before` is the request that was pending before the
+    /// event.
     #[inline(always)]
     #[tactic(auto, unfolding(crate::specs::Replies::answer_packets, crate::specs::Machine::response_sends_keepalive))]
     fn send(
@@ -131,7 +132,7 @@ impl<const C: usize> AuthenticatorState<C> {
     }
 }
 
-/// Returns whether an input is ignored ("noise" in the theorem) once time has passed to `now`.
+/// Returns whether an input is ignored ("noise" in the theorem), after time has passed to `now`.
 pub fn is_noise<const C: usize>(
     assembler: &Assembler,
     core: &Core<Store<C>, C>,

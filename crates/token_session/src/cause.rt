@@ -6,25 +6,26 @@ ghost use Rattle.token_session.specs.Causes.{command_cause};
 use authn_core::{Event, Refusal, Turn};
 use ctap_message::{RequestFault, request_fault};
 
-/// Why the response to an input is an ERROR packet or an error status.
+/// Why an ERROR packet or an error status is sent in response to an input.
 #[derive(Clone, Copy, Debug, PartialEq, Eq)]
 pub enum Cause {
-    /// The transport refuses a packet, or drops a message: an ERROR packet is sent.
+    /// The transport rejects a packet or drops a message, and sends an ERROR packet.
     Transport(hid_assemble::Refusal),
-    /// A request fails a check of its command: the response is an error status.
+    /// A request fails a check of its command. The response is an error status.
     Request(RequestFault),
-    /// The authenticator refuses a command: the response is an error status.
+    /// The authenticator refuses a command. The response is an error status.
     Command(Refusal),
 }
 
-/// The causes for one input: a message may time out before the input is processed.
+/// The causes for one input: why a message was dropped before the input because it timed out, and why the input is
+/// refused.
 #[derive(Clone, Copy, Debug, PartialEq, Eq)]
 pub struct Causes {
     pub time: Option<hid_assemble::Refusal>,
     pub input: Option<Cause>,
 }
 
-/// Returns the cause of an event's refusal, if it was refused.
+/// Returns the cause for the refusal of an event, if any.
 pub(crate) fn cause_of(turn: Turn, event: &Event<'_>) -> Option<Cause>
     ensures { result ≡ command_cause (to_event event.now) (refusal_of turn) }
 {

@@ -1,4 +1,4 @@
-//! Steps a session through a list of inputs, or two sessions through two lists.
+//! Passing a list of inputs to a session, or two lists to two sessions.
 ghost use Rattle.std.specs.Prelude.{◌≡◌, ◌+◌, ◌<◌, ◌≤◌, ◌++◌, ◌⊎◌, List, [], length, map, reverse, take, IfErr, IfOk};
 ghost use Rattle.arrayvec.specs.ArrayVec.{array_vec_len};
 ghost use Rattle.authn_core.specs.Turn.{Start};
@@ -25,7 +25,7 @@ use thiserror::Error;
 /// The error of [`drive`].
 #[derive(Clone, Copy, Debug, Error, PartialEq, Eq)]
 pub enum DriveFault {
-    /// 1: there was capacity for fewer than 130 packets before the next input. This many inputs were stepped.
+    /// 1: before the next input, there was capacity for fewer than 130 packets. `done` inputs were processed.
     #[error("the list of packets is full after {done} inputs")]
     Full { done: usize },
 }
@@ -44,7 +44,8 @@ impl DriveFault {
 /// The error of [`drive_both`].
 #[derive(Clone, Copy, Debug, Error, PartialEq, Eq)]
 pub enum BothFault {
-    /// 1: one of the lists was full. `first` and `second` are the numbers of inputs that each session has stepped.
+    /// 1: a list of packets had too little capacity. `first` and `second` are the numbers of inputs that the two
+    /// sessions have processed.
     #[error("a list of packets is full after {first} and {second} inputs")]
     Full { first: usize, second: usize },
 }
@@ -60,7 +61,7 @@ impl BothFault {
     }
 }
 
-/// Moves all packets to the list, with the number of the input that sent them.
+/// Moves all packets to the list, with the number of the input for which they were sent.
 fn collect_packets<const N: usize>(outbox: &mut Outbox, number: u64, sent: &mut ArrayVec<Sent, N>)
     requires { array_vec_len sent.old + length outbox.old ≤ N }
     ensures sent { map numbered_packet sent.new.items ≡ map numbered_packet sent.old.items ++ with_input_number number outbox.old }
@@ -74,14 +75,14 @@ fn collect_packets<const N: usize>(outbox: &mut Outbox, number: u64, sent: &mut 
     }
 }
 
-/// States that a packet has 64 bytes, for proofs. Has no effect.
+/// States for proofs that a packet has 64 bytes. Has no effect when called.
 fn packet_bounds(packet: &Packet)
     ensures { length packet.now.0 ≡ 64 }
 {
     let _bytes = packet.0.as_slice();
 }
 
-/// States that the packet of an input, if it is one, has 64 bytes, for proofs. Has no effect.
+/// States for proofs that the packet in an input, if any, has 64 bytes. Has no effect when called.
 fn input_bounds(input: &Input)
     ensures { HasFullPacket input.now }
 {
@@ -90,20 +91,20 @@ fn input_bounds(input: &Input)
     }
 }
 
-/// Steps a session through the inputs, and appends the packets that they send. Stops before the first input at which
-/// there is capacity for fewer than 130 packets.
+/// Passes the inputs to a session, and appends the packets that are sent for them. Stops before the first input at
+/// which there is capacity for fewer than 130 packets.
 pub fn drive<const C: usize, const N: usize>(
     session: &mut Session<C>,
     inputs: &[Timed],
     sent: &mut ArrayVec<Sent, N>,
 ) -> Result<Meters, DriveFault>
-    // The session and the list are those after the stepped inputs.
+    // The session and the list are exactly those after the inputs that were processed.
     ensures run { IsDriven N session.old session.new (map numbered_packet sent.old.items) (map numbered_packet sent.new.items)
         inputs.now (inputs_done (length inputs.now) result) }
     ensures meters { IfOk result (λ meters. meters ≡ session.new.meters) }
-    // Each packet of the stepped inputs has 64 bytes.
+    // Each packet in the inputs that were processed has 64 bytes.
     ensures whole { ArriveWithFullPackets (take (inputs_done (length inputs.now) result) inputs.now) }
-    // It fails if and only if there is too little capacity.
+    // The call fails if and only if the capacity is too small.
     ensures full { IfErr result (λ e. (inputs_done 0 result < length inputs.now)
         × (N < array_vec_len sent.new + OUTBOX_CAPACITY)) }
     // After any history.
@@ -131,9 +132,10 @@ pub fn drive<const C: usize, const N: usize>(
     Ok(session.meters())
 }
 
-/// Creates a session and steps it through the inputs, replacing the content of `sent` by the packets that they send.
-/// Stops before the first input at which there is capacity for fewer than 130 packets. Its contract is the main
-/// theorem: for every start and every list of inputs, the packets sent are exactly those of the history's definition.
+/// Creates a session and passes the inputs to it. The packets that are sent replace the content of `sent`. Stops before
+/// the first input at which there is capacity for fewer than 130 packets. The contract is the main theorem: for every
+/// start and every list of inputs, the packets that are sent are exactly those that the definitions give for the
+/// history.
 pub fn drive_new<const C: usize, const N: usize>(
     config: Config,
     rows: Store<C>,
@@ -152,10 +154,10 @@ pub fn drive_new<const C: usize, const N: usize>(
     ensures meters { IfOk result (λ meters. meters
         ≡ meters_of (start_of config.aaguid start C (⟦<Store<C> as Table<C>>⟧.rows rows.entry))
         (received (start_of config.aaguid start C (⟦<Store<C> as Table<C>>⟧.rows rows.entry)) (reverse inputs.now))) }
-    // It fails if and only if there is too little capacity.
+    // The call fails if and only if the capacity is too small.
     ensures full { IfErr result (λ e. (inputs_done 0 result < length inputs.now)
         × (N < array_vec_len sent.new + OUTBOX_CAPACITY)) }
-    // Before each input that was stepped there was capacity for 130 packets.
+    // Before each input that was processed, there was capacity for 130 packets.
     ensures capacity { HadCapacity N []
         (session_of (start_of config.aaguid start C (⟦<Store<C> as Table<C>>⟧.rows rows.entry)) [])
         inputs.now (inputs_done (length inputs.now) result) }
@@ -166,9 +168,9 @@ pub fn drive_new<const C: usize, const N: usize>(
     drive(&mut session, inputs, sent)
 }
 
-/// Steps one session through its inputs, and then another one. If the second list has ticks in place of ignored inputs
-/// of the first, both sessions end in the same state, and the second list of packets is the first without the responses
-/// to the ignored inputs.
+/// Passes a list of inputs to one session, and then another list to another session. If the second list has ticks in
+/// place of ignored inputs of the first, both sessions end in the same state, and the second list of packets is the
+/// first without the responses to the ignored inputs.
 pub fn drive_both<const C: usize, const N: usize>(
     first: &mut Session<C>,
     second: &mut Session<C>,
@@ -183,14 +185,14 @@ pub fn drive_both<const C: usize, const N: usize>(
     ensures second { IsDriven N second.old second.new (map numbered_packet quiet_sent.old.items)
         (map numbered_packet quiet_sent.new.items) quiet.now (second_done (length quiet.now) result) }
     ensures meters { IfOk result (λ meters. (meters.0 ≡ first.new.meters) × (meters.1 ≡ second.new.meters)) }
-    // It fails if and only if one of the runs fails. If the first one fails, the second isn't begun.
+    // The call fails if and only if one of the two runs fails. If the first one fails, the second one isn't begun.
     ensures full { IfErr result (λ e.
         ((first_done 0 result < length inputs.now) × (N < array_vec_len sent.new + OUTBOX_CAPACITY)
         × (second_done 0 result ≡ 0))
         ⊎ ((first_done 0 result ≡ length inputs.now) × (second_done 0 result < length quiet.now)
         × (N < array_vec_len quiet_sent.new + OUTBOX_CAPACITY))) }
-    // After two histories with the same start, if the second one has ticks in place of ignored inputs before the run,
-    // it has them after the run.
+    // If the second of two histories with the same start has ticks in place of ignored inputs before the run, the same
+    // is true after the run.
     ensures alike { (start : Start) (h g : List OneInput) → IsStateAfter first.old start h
         → IsStateAfter second.old start g → HasTicksForNoise start h g → HasTicksForNoise start (append_inputs inputs.now h) (append_inputs quiet.now g)
         → IfOk result (λ meters. (first.new ≡ second.new) × (meters.0 ≡ meters.1)

@@ -10,13 +10,13 @@ use hid_packet::Packet;
 pub enum Input {
     /// A packet from a host.
     Packet(Packet),
-    /// Time has passed, and nothing else happened.
+    /// Time passes, and nothing else happens.
     Tick,
     /// The caller's reply to a request for user presence.
     Presence(Presence),
-    /// A key pair for a new credential, or `None` if the caller has none.
+    /// A key pair for a new credential, or `None` if the caller refuses to create one.
     Key(Option<NewKey>),
-    /// A signature, or `None` if the caller doesn't sign.
+    /// A signature, or `None` if the caller refuses to sign.
     Signature(Option<Signature>),
 }
 
@@ -27,7 +27,7 @@ pub struct Timed {
     pub input: Input,
 }
 
-/// A packet that was sent, with the number of the input that sent it, counted from 0.
+/// A packet that was sent, with the number of the input for which it was sent, counted from 0.
 #[derive(Clone, Copy, Debug, Default, PartialEq, Eq)]
 pub struct Sent {
     pub input: u64,
@@ -37,7 +37,7 @@ pub struct Sent {
 /// A session's meters.
 #[derive(Clone, Copy, Debug, PartialEq, Eq)]
 pub struct Meters {
-    /// Maximum number of data bytes of an open message, at the start and after each input.
+    /// Maximum number of data bytes of an open message that were stored, at the start and after each input.
     pub held: u16,
     /// Maximum number of credentials.
     pub rows: u16,
@@ -45,14 +45,14 @@ pub struct Meters {
     pub pending: u16,
     /// Number of complete CBOR requests, at most 2^64-1.
     pub requests: u64,
-    /// Bytes of these requests after the command byte, at most 2^64-1.
+    /// Number of bytes of these requests after the command bytes, at most 2^64-1.
     pub bytes: u64,
     /// Number of steps of parsing these requests, at most 2^64-1.
     pub steps: u64,
 }
 
 impl Meters {
-    /// Counts a request, with the number of steps that parsing it took.
+    /// Adds a request, and the number of steps of parsing it.
     #[tactic(auto, unfolding(crate::specs::Meters::counted))]
     pub(crate) fn count(&mut self, message: &[u8], steps: u64)
         requires { steps ≡ min (steps_of message.now) MAX_STEPS }

@@ -1,5 +1,5 @@
-//! Laws about the definitions: transport and authenticator together, as one state machine, send over any history
-//! exactly the packets that the history's definition gives. Each function has an empty body: its contract is the law.
+//! Laws about the definitions. The state machine of transport and authenticator sends, for any history, exactly the
+//! packets that the definitions give for the history. Each function has an empty body, and its contract is the law.
 
 ghost use Rattle.std.specs.Prelude.{◌≡◌, ◌≤◌, ◌⊎◌, ◌+◌, ◌*◌, ℕ, List, [], ◌∷◌, length, max, true, Some, None, option_to_list, if◌then◌else◌};
 ghost use Rattle.token_session.specs.declared.input.Timed.{Timed as OneInput};
@@ -40,16 +40,16 @@ use authn_core::laws::{
 };
 use ctap_message::laws::steps_are_bounded;
 
-/// States that after any history, the machine is in the state that the history's definition gives, and each input sends
-/// the packets that it gives.
+/// States that after any history, the machine is in the state that the definitions give for the history, and that for
+/// each input exactly the packets are sent that the definitions give.
 pub fn machine_follows_history()
     ensures state { (start : Start) (h : List OneInput) → IsMachineAfter (machine start h) start h }
     ensures packets { (start : Start) (h : List OneInput) (x : OneInput)
         → (turn (machine start h) x).packets ≡ sent_now start h x }
 {}
 
-/// States that a machine that is in the state of a history stays in that of the longer history after each further
-/// input, and sends the packets of the longer history.
+/// States that a machine in the state of a history is, after each further input, in the state of the longer history,
+/// and sends the packets of the longer history.
 pub fn runs_follow_history()
     ensures state { (s : MachineState) (start : Start) (h xs : List OneInput) → IsMachineAfter s start h
         → IsMachineAfter (run_state s xs) start (append_inputs xs h) }
@@ -57,21 +57,22 @@ pub fn runs_follow_history()
         → run_sent n s xs ≡ sent_from n start h xs }
 {}
 
-/// States that the next KEEPALIVE is due relative to the time of the last input that sent one.
+/// States that the time until the next KEEPALIVE is counted from the last input for which a KEEPALIVE was sent.
 pub fn keepalives_count_from_the_last()
     ensures { (start : Start) (h : List OneInput) (x : OneInput) → last_keepalive start (received start (x ∷ h))
         ≡ (if has_keepalive (sent_now start h x) then (received_after start h x).at
         else last_keepalive start (received start h)) }
 {}
 
-/// States that at most one message is incomplete after a history and at any later time, with at most 7550 bytes stored.
+/// States that after a history and at any later time, at most one message is incomplete, and at most 7550 bytes of it
+/// are stored.
 pub fn one_message_is_open()
     ensures one { (start : Start) (t : ℕ) (h : List OneInput) → latest_time start (received start h) ≤ t
         → all_open [] (received start h) t ≡ option_to_list (open_at (received start h) t) }
     ensures held { (start : Start) (h : List OneInput) → held start (received start h) ≤ MAX_STORED_LEN }
 {}
 
-/// States that a packet with a whole PING or CBOR message on an allocated channel completes the message if no message
+/// States that a packet with a whole PING or CBOR message on an allocated channel completes the message, if no message
 /// is incomplete and no request is pending.
 pub fn messages_of_one_packet_finish()
     ensures { (start : Start) (h : List OneInput) (x : OneInput) (p : AnyPacket) (cid cmd : ℕ) (bytes : List ℕ)
@@ -83,8 +84,8 @@ pub fn messages_of_one_packet_finish()
 {}
 
 /// States that the packets of a PING or CBOR message on an allocated channel, in order and less than 500 ms apart,
-/// complete the message with exactly its bytes, whatever other hosts send meanwhile, if no message is incomplete and no
-/// request is pending at the first packet.
+/// complete the message with exactly its bytes, whatever packets other hosts send meanwhile. At the first packet, no
+/// message may be incomplete and no request pending.
 pub fn messages_of_several_packets_finish()
     ensures { (start : Start) (h between : List OneInput) (x y : OneInput) (p q : AnyPacket) (cid cmd : ℕ)
         (bytes : List ℕ) → x.input ≡ PacketCame p → y.input ≡ PacketCame q
@@ -93,9 +94,9 @@ pub fn messages_of_several_packets_finish()
         ≡ Some (record { cid = cid; cmd = cmd; bytes = bytes }) }
 {}
 
-/// States that a complete CBOR message is a request: its response is the authenticator's, on its channel, and nothing
-/// else is sent for it except packets because of time. So the response of authenticatorGetInfo is its map with the
-/// AAGUID of the start, whatever happened before.
+/// States that a complete CBOR message is a request. The authenticator's response is sent on its channel, and no other
+/// packet is sent for the request, except those that are sent because time passed. Therefore the response to
+/// authenticatorGetInfo is its map with the AAGUID of the start, whatever happened before.
 pub fn requests_are_answered()
     ensures request { (start : Start) (h : List OneInput) (x : OneInput) (m : Message)
         → message_completed_at (received_after start h x) (received start h) ≡ Some m → m.cmd ≡ CBOR
@@ -108,7 +109,7 @@ pub fn requests_are_answered()
 {}
 
 /// States that the meters are bounded: at most 7550 bytes of an incomplete message are stored, and parsing takes at
-/// most four steps for each byte after a command byte, and two for each request.
+/// most four steps for each byte after a command byte, and two more for each request.
 pub fn meters_are_bounded()
     ensures held { (start : Start) (h : List OneInput) → (meters_of start (received start h)).held ≤ MAX_STORED_LEN }
     ensures steps { (start : Start) (h : List OneInput) → (meters_of start (received start h)).steps
@@ -117,26 +118,27 @@ pub fn meters_are_bounded()
     steps_are_bounded();
 }
 
-/// States that one input sends at most 130 packets, in any state.
+/// States that at most 130 packets are sent for one input, in any state.
 pub fn one_input_sends_few_packets()
     ensures { (s : MachineState) (x : OneInput) → length (turn s x).packets ≤ OUTBOX_CAPACITY }
 {}
 
-/// States that the bytes of a completed message are exactly the data of its initialization packet and its channel's
-/// following packets, up to the one that completes it.
+/// States that the bytes of a completed message are exactly the data of its initialization packet and of the following
+/// packets on its channel, up to the packet that completes the message.
 pub fn finished_messages_were_received()
     ensures { (start : Start) (h : List OneInput) (x : OneInput) (m : Message) → ArriveWithFullPackets (x ∷ h)
         → message_completed_at (received_after start h x) (received start h) ≡ Some m
         → CarriesMessage (completed_packets_at (received_after start h x) (received start h)) m.cid m.cmd m.bytes }
 {}
 
-/// States that an ignored input has the same effect as a tick: the same state and meters afterwards, and a tick sends
-/// only packets because of time. An input is ignored after a history if it is ignored in the state of that history.
+/// States that an ignored input has the same effect as a tick: the same state and meters follow, and for a tick only
+/// those packets are sent that are due because time passed. An input is ignored after a history if it is ignored in the
+/// state of the history.
 pub fn noise_is_a_tick()
     ensures step { (s : SessionState) (x : OneInput) → is_noise_at s.machine x ≡ true
         → stepped s x ≡ stepped s (tick_at x.at) }
-    // An input is ignored if and only if it is a packet for which nothing or only an ERROR "invalid channel" or
-    // "channel busy" is sent, or a reply that the authenticator ignores. A tick never is.
+    // An input is ignored if and only if it is a packet for which no packet or only an ERROR packet "invalid channel"
+    // or "channel busy" is sent, or a reply that the authenticator ignores. A tick isn't.
     ensures answered { (a : Assembly) (core : CoreState) (now : ℕ) (i : Input)
         → is_noise_among a.given a.current core i ≡ is_turned_away_by a core now i }
     ensures packets { (s : MachineState) (at : ℕ) → (turn s (tick_at at)).packets ≡ (time_passed s (max s.now at)).packets }
@@ -145,8 +147,8 @@ pub fn noise_is_a_tick()
 {}
 
 /// States that a history in which ticks replace ignored inputs leads to the same state: channels, incomplete message,
-/// authenticator, times and meters. It sends the same packets, except the responses to the replaced inputs; so do
-/// further inputs after the two histories.
+/// authenticator, times and meters. The same packets are sent, except the responses to the replaced inputs. The same is
+/// true for further inputs after the two histories.
 pub fn ticks_can_replace_noise()
     ensures session { (start : Start) (h g : List OneInput) → HasTicksForNoise start h g
         → session_of start (received start h) ≡ session_of start (received start g) }
@@ -156,10 +158,10 @@ pub fn ticks_can_replace_noise()
         → HasTicksForNoise start (append_inputs xs h) (append_inputs ys g) → sent_from n start g ys ≡ quiet_from n start h xs ys }
 {}
 
-/// States which credentials exist after any history: those of the start and the created ones, in order, without those
-/// that a granted reset or a replacement removed. Each counter is its initial value plus the number of its increments.
-/// No two assertions signed with one credential have the same counter: the counters increase. While an assertion's
-/// signature is pending, its bytes are the newest.
+/// States which credentials exist after any history: those of the start and those created later, in order, except the
+/// ones removed by a granted reset or a replacement. The signature counter of each is its initial value plus the number
+/// of its increments. No two assertions signed by the same credential contain the same signature counter, because the
+/// counters increase. While the signature of an assertion is pending, its bytes to sign are the newest.
 pub fn credentials_follow_history()
     ensures rows { (start : Start) (h : List OneInput)
         → (core start (received start h)).state.rows ≡ rows_after_changes start.rows
@@ -178,11 +180,11 @@ pub fn credentials_follow_history()
     signed_bytes_differ();
 }
 
-/// States that the signed bytes are the bytes in the response. For an assertion these are the authenticator data, with
-/// the RP ID hash, the requested UP flag and the credential's counter, and the client data hash of the newest request;
-/// for a registration they have the ID and public key that the caller supplied. If UP is set, the user consented since
-/// that request. The response to a signature is sent on the channel of the request, with exactly the authenticator data
-/// that were signed.
+/// States that the signed bytes are those in the response. For an assertion, they consist of the authenticator data,
+/// with the RP ID hash, the requested UP flag and the signature counter of the credential, and the client data hash of
+/// the newest request. For a registration, they contain the ID and public key that the caller supplied. If UP is set,
+/// the user consented since that request. The response is sent on the channel of the request, and contains exactly the
+/// authenticator data that was signed.
 pub fn signed_bytes_are_in_the_response()
     ensures signed { (start : Start) (h : List OneInput) → ValidRows start.capacity start.rows
         → IsNeeded start.aaguid (latest_requests start (received start h)) (core start (received start h)).state.rows
@@ -195,8 +197,8 @@ pub fn signed_bytes_are_in_the_response()
     signing_law();
 }
 
-/// States that the packets of a history are determined by the earlier inputs and responses alone, without the
-/// authenticator's state. So are its credentials, and the pending request.
+/// States that the packets that are sent for a history are determined by the earlier inputs and responses alone,
+/// without the authenticator's state. The same is true for its credentials and for the pending request.
 pub fn answers_follow_history()
     ensures told { (start : Start) (h : List OneInput) → ValidRows start.capacity start.rows → AgreesWithExchanges start h }
     ensures waits { (start : Start) (h : List OneInput) → ValidRows start.capacity start.rows
@@ -205,9 +207,9 @@ pub fn answers_follow_history()
     answering_law();
 }
 
-/// States the main theorem for the state machine, for every start and every list of inputs; `drive_new` states it for
-/// the code. It requires valid credentials at the start and packets of 64 bytes, which the types of this program
-/// guarantee.
+/// States the main theorem for the state machine, for every start and every list of inputs; the contract of `drive_new`
+/// states it for the code. The credentials at the start must be valid, and packets must have 64 bytes, which the types
+/// of this program guarantee.
 pub fn every_history_is_answered()
     ensures answered { (start : Start) (h : List OneInput) → ValidRows start.capacity start.rows
         → IsAnswered start h (turns_send start h) }

@@ -31,16 +31,17 @@ use hid_packet::command::{CBOR, ERROR, KEEPALIVE, PING};
 use hid_packet::{Outbox, Packet};
 use std::marker::Model;
 
-/// A session of a FIDO2 key, from power-up to power-down, with capacity for `C` credentials. Allocates nothing.
+/// A session of a FIDO2 security key, from power-up to power-down, with capacity for `C` credentials. Allocates
+/// nothing.
 #[derive(Drop)]
 pub struct Session<const C: usize> {
-    /// The latest timestamp of the start and the inputs.
+    /// The latest of the timestamps of the start and the inputs.
     latest: u64,
     assembler: Assembler,
     authenticator: AuthenticatorState<C>,
 }
 
-// In contracts, a session is the state of the composed machine, and the meters.
+// In contracts, a session is the state of the composed machine and the meters.
 impl<const C: usize> Model for Session<C> {
     ghost use Rattle.std.specs.Prelude.{◌≤◌};
     ghost use Rattle.token_session.specs.Meters.{SessionState, AreBounded};
@@ -61,7 +62,7 @@ impl<const C: usize> Model for Session<C> {
     ghost invariant = { λ s. (s.authenticator.core.latest ≤ s.latest) × AreBounded s.authenticator.meters };
 }
 
-/// Returns the meters at a start with this many credentials.
+/// Returns the meters at the start of a session with this many credentials.
 fn first_meters(rows: u16) -> Meters
     ensures { result ≡ record { held = 0; rows = rows; pending = 0; requests = 0; bytes = 0; steps = 0 } }
 {
@@ -75,7 +76,7 @@ fn first_meters(rows: u16) -> Meters
     }
 }
 
-/// Returns an authenticator without credentials, created in place.
+/// Returns an authenticator without credentials, which is created in place.
 #[inline(never)]
 fn empty_core<const C: usize>(aaguid: [u8; 16], start: u64) -> Core<Store<C>, C>
     requires some { 1 ≤ C }
@@ -115,8 +116,8 @@ impl<const C: usize> Session<C> {
     }
 
     /// Returns a session without credentials that starts at time `start`, in milliseconds, for an authenticator with
-    /// this AAGUID. No channel is allocated. It has capacity for 1 to 256 credentials.
-    // Created in place: moving its 31 kB would copy them.
+    /// this AAGUID. No channel is allocated. The capacity `C` must be from 1 to 256 credentials. The session is created
+    /// in place, because moving a session copies its 31 kB.
     #[inline(never)]
     pub fn bare(aaguid: [u8; 16], start: u64) -> Self
         requires some { 1 ≤ C }
@@ -135,8 +136,8 @@ impl<const C: usize> Session<C> {
         }
     }
 
-    /// Starts again at time `start`, in milliseconds, with the credentials of a snapshot in place of its own. No
-    /// channel is allocated, and no request is pending. If the snapshot is rejected, the session is unchanged.
+    /// Starts the session again at time `start`, in milliseconds. The credentials of the snapshot replace the previous
+    /// ones. No channel is allocated, and no request is pending. If the snapshot is rejected, the session is unchanged.
     pub fn load(&mut self, config: Config, snapshot: &[u8], start: u64) -> Result<(), SnapshotFault>
         ensures value { MatchResult result
             (λ _. (rows : List AnyRow) × Loads C snapshot.now (Ok tt) rows
@@ -153,27 +154,29 @@ impl<const C: usize> Session<C> {
         Ok(())
     }
 
-    /// Processes one input at time `at`, in milliseconds, and puts the packets to send into the outbox: at most 130. A
-    /// time earlier than the latest counts as the latest. Always succeeds. Returns the causes of refusals, if any.
+    /// Processes one input at time `at`, in milliseconds, and appends the packets to send to the outbox, at most 130. A
+    /// time earlier than the latest time counts as the latest time. This never fails. Returns the causes of refusals,
+    /// if any.
     pub fn step(&mut self, at: u64, input: Input, outbox: &mut Outbox) -> Causes
         requires { outbox.old ≡ [] }
         // The new state and the packets are those of the composed machine.
         ensures state { self.new ≡ stepped self.old (record { at = at; input = input }) }
         ensures packets { outbox.new ≡ input_packets_of self.old (record { at = at; input = input }) }
         ensures few { length outbox.new ≤ OUTBOX_CAPACITY }
-        // For each history that leads to the session's state: the history with this input leads to its new state, and
-        // exactly the packets that the history defines for the input are sent.
+        // For each history that leads to the session's state, the history extended by this input leads to the new
+        // state, and exactly the packets that the definitions give for the input are sent.
         ensures after { (start : Start) (h : List OneInput) → IsStateAfter self.old start h
             → IsStateAfter self.new start (record { at = at; input = input } ∷ h) }
         ensures sent { (start : Start) (h : List OneInput) → IsStateAfter self.old start h
             → outbox.new ≡ sent_now start h (record { at = at; input = input }) }
-        // If the history's start is valid, exactly the packets are sent that are defined without an authenticator's
-        // state.
+        // If the start of the history is valid, exactly those packets are sent that are defined without an
+        // authenticator's state.
         ensures follows { (start : Start) (h : List OneInput) → IsStateAfterValidStart self.old start h
             → IsStateAfterValidStart self.new start (record { at = at; input = input } ∷ h) }
         ensures told { (start : Start) (h : List OneInput) → IsStateAfterValidStart self.old start h
             → outbox.new ≡ packets_sent_now start h (record { at = at; input = input }) }
-        // The causes of refusals are those of the composed machine, and those that the history defines.
+        // The causes of refusals are those of the composed machine, and those that the definitions give for the
+        // history.
         ensures why { result ≡ causes_of self.old.machine (record { at = at; input = input }) }
         ensures named { (start : Start) (h : List OneInput) → IsStateAfter self.old start h
             → result ≡ causes_after start h (record { at = at; input = input }) }
@@ -196,14 +199,14 @@ impl<const C: usize> Session<C> {
         Causes { time, input: why }
     }
 
-    /// Returns whether this input at time `at` would be noise: once time has passed to `at`, it would change nothing.
-    /// Noise is a CANCEL without a pending request; a packet on a channel that was never allocated, except INIT on the
-    /// broadcast channel; an initialization packet, except INIT and CANCEL, while another channel has an open message
-    /// or any channel has a pending request; a continuation packet without an open message on its channel; and a reply
-    /// of the caller that isn't needed. A tick never is. The session is unchanged.
+    /// Returns whether this input at time `at` would be noise: after time has passed to `at`, the input would change
+    /// nothing. Noise is: a CANCEL without a pending request; a packet on a channel that isn't allocated, except INIT
+    /// on the broadcast channel; an initialization packet, except INIT and CANCEL, while another channel has an open
+    /// message or any channel has a pending request; a continuation packet without an open message on its channel; and
+    /// a reply of the caller that isn't needed. A tick is never noise. The call doesn't change the session.
     pub fn noise(&self, at: u64, input: &Input) -> bool
         ensures state { result ≡ is_noise_at self.now.machine (record { at = at; input = input.now }) }
-        // The input is noise after each history that leads to the session's state.
+        // For each history that leads to the session's state, the input is noise after the history.
         ensures history { (start : Start) (h : List OneInput) → IsStateAfter self.now start h → result
             ≡ is_noise_after start (received_after start h (record { at = at; input = input.now })) (received start h) }
     {
@@ -211,7 +214,7 @@ impl<const C: usize> Session<C> {
         is_noise(&self.assembler, &self.authenticator.core, now, input)
     }
 
-    /// Returns the number of data bytes received of the open message, at most 7550.
+    /// Returns the number of data bytes of the open message that were received, at most 7550.
     pub fn held(&self) -> u16
         ensures bytes { result ≡ stored_len self.now.machine.current }
         ensures limit { result ≤ MAX_STORED_LEN }
@@ -221,7 +224,8 @@ impl<const C: usize> Session<C> {
         self.assembler.held()
     }
 
-    /// Returns what the authenticator needs from its caller, with the exact bytes to sign, at most 196.
+    /// Returns what the authenticator needs from its caller. For a signature, this includes the bytes to sign, at most
+    /// 196.
     pub fn need(&self) -> Need<'_>
         ensures value { to_needed result ≡ needs self.now.machine.core.state.work }
         ensures sized { IsValidNeed (to_needed result) }
@@ -252,8 +256,8 @@ impl<const C: usize> Session<C> {
         self.authenticator.core.table()
     }
 
-    /// Returns the session's meters. Parsing its requests took at most four steps for each byte after a command byte,
-    /// and two for each request.
+    /// Returns the meters of the session. Parsing its requests took at most four steps for each byte after a command
+    /// byte, and two more for each request.
     pub fn meters(&self) -> Meters
         ensures value { result ≡ self.now.meters }
         ensures bounded { AreBounded result }
@@ -261,7 +265,7 @@ impl<const C: usize> Session<C> {
         self.authenticator.meters
     }
 
-    /// Advances the time to `at`: a message may time out, or a KEEPALIVE be sent.
+    /// Advances the time to `at`. A message may time out, or a KEEPALIVE may be sent.
     #[tactic(auto, using(hid_packet::proofs::Carrying::few_written))]
     fn pass_time(&mut self, at: u64, outbox: &mut Outbox) -> Option<Refusal>
         requires sent { outbox.old ≡ [] }
@@ -290,7 +294,7 @@ impl<const C: usize> Session<C> {
         }
     }
 
-    /// Processes an input, after the packets due by time were sent.
+    /// Processes an input, after the packets that are sent because time passed.
     fn serve(&mut self, input: &Input, outbox: &mut Outbox) -> Option<Cause>
         requires { length outbox.old ≤ 1 }
         ensures state { self.new.machine ≡ (processed_input self.old.machine outbox.old input.now).state }
@@ -313,7 +317,7 @@ impl<const C: usize> Session<C> {
         }
     }
 
-    /// Processes a packet, after the packets due by time were sent.
+    /// Processes a packet, after the packets that are sent because time passed.
     #[tactic(auto, using(hid_packet::proofs::Carrying::few_written))]
     fn serve_packet(&mut self, packet: &Packet, outbox: &mut Outbox) -> Option<Cause>
         requires { length outbox.old ≤ 1 }

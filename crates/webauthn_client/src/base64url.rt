@@ -11,7 +11,7 @@ use crate::text::{Text, push};
 use arrayvec::ArrayVec;
 use base64::engine::general_purpose::URL_SAFE_NO_PAD;
 
-/// Number of characters written at a time.
+/// Number of characters that are written at a time.
 const ENCODED_CHUNK_LEN: usize = 12288;
 
 /// Returns the six bits of a base64url character.
@@ -40,7 +40,7 @@ fn refused(member: &'static str) -> Rejection
     }
 }
 
-/// Decodes base64url. Surplus bits at the end are ignored, as in browsers.
+/// Decodes base64url. As in browsers, surplus bits at the end are ignored.
 pub fn decode(text: &[u8], member: &'static str) -> Result<Text, Rejection> {
     if text.len() % 4 == 1 {
         return Err(refused(member));
@@ -62,7 +62,7 @@ pub fn decode(text: &[u8], member: &'static str) -> Result<Text, Rejection> {
     Ok(bytes)
 }
 
-/// Appends the base64url encoding of bytes. Fails, and appends nothing, if the capacity is too small.
+/// Appends the base64url encoding of bytes. If the capacity is too small, fails and appends nothing.
 pub fn encode<const N: usize>(bytes: &[u8], out: &mut ArrayVec<u8, N>) -> Result<(), ()>
     ensures { OnOk result (out.new.items ≡ out.old.items ++ encode_of url_safe_no_pad bytes.now) }
 {

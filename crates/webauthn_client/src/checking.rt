@@ -1,11 +1,11 @@
-//! Validates JSON (RFC 8259) in one pass. The open brackets are kept as bits.
+//! Validates JSON (RFC 8259) in one pass. The open brackets are stored as bits.
 
 use std::str::from_utf8;
 
-/// Maximum nesting of arrays and objects.
+/// Maximum nesting depth of arrays and objects.
 const MAX_NESTING: u8 = 64;
 
-/// The state within a number.
+/// The state inside a number.
 #[derive(Clone, Copy)]
 enum NumberState {
     Minus,
@@ -18,7 +18,7 @@ enum NumberState {
     Exponent,
 }
 
-/// The tokens that are allowed next.
+/// The tokens that may come next.
 #[derive(Clone, Copy)]
 enum ExpectedToken {
     Value,
@@ -34,7 +34,8 @@ enum ExpectedToken {
     Number(NumberState),
 }
 
-/// The state of the validation. Open brackets are bits, 1 for an object, the innermost lowest.
+/// The state of the validation. Each open bracket is a bit, which is 1 for an object. The innermost bracket is the
+/// lowest bit.
 #[derive(Clone, Copy)]
 struct Checker {
     at: ExpectedToken,
@@ -43,7 +44,7 @@ struct Checker {
 }
 
 impl Checker {
-    /// Returns the state with these tokens allowed next.
+    /// Returns the state with these tokens as the ones that may come next.
     fn expecting(self, at: ExpectedToken) -> Option<Checker> {
         Some(Checker { at, ..self })
     }
@@ -98,7 +99,7 @@ impl Checker {
         }
     }
 
-    /// Handles a byte after a value.
+    /// Handles a byte after a complete value.
     fn after(self, byte: u8) -> Option<Checker> {
         match byte {
             b' ' | b'\t' | b'\n' | b'\r' => self.expecting(ExpectedToken::Next),
@@ -143,7 +144,7 @@ impl Checker {
         }
     }
 
-    /// Handles a hexadecimal digit of a `\u` escape; `left` more digits follow.
+    /// Handles a hexadecimal digit of a `\u` escape, after which `left` more digits must follow.
     fn hex(self, is_key: bool, left: u8, byte: u8) -> Option<Checker> {
         if !byte.is_ascii_hexdigit() {
             return None;
@@ -154,7 +155,7 @@ impl Checker {
         self.expecting(ExpectedToken::Hex(is_key, left - 1))
     }
 
-    /// Handles a letter of `true`, `false` or `null`.
+    /// Handles a letter in `true`, `false` or `null`.
     fn word(self, rest: &'static [u8], byte: u8) -> Option<Checker> {
         let (first, rest) = rest.split_first()?;
         if *first != byte {
@@ -167,7 +168,7 @@ impl Checker {
         })
     }
 
-    /// Handles a byte in or after a number.
+    /// Handles a byte in a number, or the byte after a number.
     fn number(self, digits: NumberState, byte: u8) -> Option<Checker> {
         let next = match (digits, byte) {
             (NumberState::Minus, b'0') => NumberState::Zero,
@@ -235,7 +236,7 @@ impl Checker {
     }
 }
 
-/// Returns whether a number may end.
+/// Returns whether a number may end in this state.
 fn ends(digits: NumberState) -> bool {
     matches!(
         digits,
@@ -243,7 +244,7 @@ fn ends(digits: NumberState) -> bool {
     )
 }
 
-/// Returns whether bytes are one JSON value in UTF-8, with at most 64 levels of nesting.
+/// Returns whether the bytes are exactly one JSON value in UTF-8, with at most 64 levels of nesting.
 pub fn is_json(text: &[u8]) -> bool {
     if from_utf8(text).is_err() {
         return false;

@@ -1,5 +1,5 @@
-//! A call of `navigator.credentials`: parses the options, encodes the CTAP2 request, and builds the page's response or
-//! error from the authenticator's response.
+//! A call of `navigator.credentials`: parses the options, encodes the CTAP2 request, and converts the authenticator's
+//! response to the page's response or error.
 
 ghost use Rattle.std.specs.Prelude.{◌≡◌, ◌≢◌, ◌∷◌, ℕ, List, OnOk, IfOk, IsTrue};
 ghost use Rattle.ctap_cbor.specs.Tree.{Tree};
@@ -19,7 +19,7 @@ use crate::response::{Response, authentication_json, invalid_response, registrat
 use crate::{registration, sign_in};
 use ctap_cbor::check;
 
-/// A pending call of `navigator.credentials`. Borrows the page's options and origin, and keeps nothing else.
+/// A pending call of `navigator.credentials`. It borrows the page's options and origin, and has no other state.
 #[derive(Clone, Copy)]
 pub struct Client<'a> {
     ceremony: Ceremony,
@@ -28,11 +28,12 @@ pub struct Client<'a> {
     suffix: &'a [u8],
     abilities: Abilities,
     is_conditional: bool,
-    /// The time-out in the options, in milliseconds; for conditional mediation, which has none, the browser's default.
+    /// The timeout in the options, in milliseconds. For conditional mediation, which has no timeout, the browser's
+    /// default.
     pub timeout: u32,
 }
 
-/// The default time-out, in milliseconds.
+/// The browser's default timeout, in milliseconds.
 const DEFAULT_TIMEOUT_MS: u32 = 600_000;
 
 /// Returns the error that the page gets for a CTAP status code.
@@ -51,7 +52,7 @@ fn status_rejection(status: u8) -> Rejection
 }
 
 impl<'a> Client<'a> {
-    /// Begins a call with JSON options at an origin. Fails if an option has the wrong type.
+    /// Begins a call with JSON options from a page with this origin. Fails if an option has the wrong type.
     pub fn begin(
         ceremony: Ceremony,
         options: &'a [u8],
@@ -88,7 +89,7 @@ impl<'a> Client<'a> {
         })
     }
 
-    /// Appends the CTAP2 request. Fails if browsers would reject the options' values.
+    /// Appends the CTAP2 request to a message. Fails if browsers would reject the values of the options.
     pub fn request(&self, message: &mut Message) -> Result<(), Rejection> {
         match self.ceremony {
             Ceremony::Create => registration::encode_request(
@@ -115,7 +116,7 @@ impl<'a> Client<'a> {
         Ok(())
     }
 
-    /// Returns whether the response's UV flag is set.
+    /// Returns whether the UV flag of the response is set.
     pub fn is_verified(&self) -> Result<bool, Rejection>
         ensures { IfOk result (λ v. IsTrue v → self.now.abilities.verification ≡ Verified) }
     {
@@ -133,7 +134,7 @@ impl<'a> Client<'a> {
         }
     }
 
-    /// Appends the page's response, converted from the authenticator's response map, which must be one item in
+    /// Appends the page's response, converted from the map in the authenticator's response. The map must be one item in
     /// canonical CBOR.
     fn response(&self, map: &[u8], out: &mut Response) -> Result<(), Rejection>
         ensures { OnOk result ((t : Tree) × IsCanonical t map.now) }
@@ -152,8 +153,8 @@ impl<'a> Client<'a> {
         }
     }
 
-    /// Appends the page's response as JSON, converted from the authenticator's response; if there were several, from
-    /// the one for the selected account.
+    /// Appends the page's response as JSON, converted from the authenticator's response. If the authenticator returned
+    /// several responses, `answer` is the one for the selected account.
     pub fn answer(&self, answer: &[u8], out: &mut Response) -> Result<(), Rejection>
         ensures { OnOk result ((map : List ℕ) × (answer.now ≡ 0 ∷ map) × ((t : Tree) × IsCanonical t map)) }
     {

@@ -28,7 +28,8 @@ fn push(out: &mut ClientData, bytes: &[u8]) -> Result<(), Rejection>
     Ok(())
 }
 
-/// Returns the client data of a ceremony. It has this challenge and this origin, and nothing else from the page.
+/// Returns the client data for a ceremony, with this challenge and this origin. Nothing else in the client data comes
+/// from the page.
 pub fn write_client_data(
     ceremony: Ceremony,
     challenge: &[u8],

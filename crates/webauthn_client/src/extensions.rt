@@ -1,5 +1,5 @@
-//! Client extensions. The authenticator supports none, so they are rejected, ignored, or answered as unsupported, as in
-//! Chromium.
+//! Client extensions. The authenticator supports no extension, so each one is rejected, ignored, or answered as
+//! unsupported, as in Chromium.
 
 ghost use Rattle.std.specs.Prelude.{◌≡◌};
 ghost use Rattle.webauthn_client.specs.declared.rejection.DomError.TheVariants.{NotSupported};
@@ -11,22 +11,22 @@ use crate::rejection::{DomError, Rejection, not_allowed, type_error};
 use crate::relying_party::{Origin, check_site};
 use crate::text::{is_word, to_string_value};
 
-/// Returns an extension by its name.
+/// Returns the input of an extension, by the extension's name.
 pub fn extension<'a>(extensions: Option<&'a [u8]>, name: &str) -> Option<&'a [u8]> {
     member(extensions?, name)
 }
 
-/// Returns a member of an extension.
+/// Returns a member of an extension's input.
 pub fn inner_member<'a>(extensions: Option<&'a [u8]>, name: &str, inner: &str) -> Option<&'a [u8]> {
     member(member(extensions?, name)?, inner)
 }
 
-/// Returns whether an extension's input is `true`.
+/// Returns whether the input of an extension is truthy in ECMAScript.
 pub fn is_true(extensions: Option<&[u8]>, name: &str) -> bool {
     boolean(extension(extensions, name).unwrap_or(b"false"))
 }
 
-/// Returns the error for an extension that this call doesn't allow, or whose input is invalid.
+/// Returns the error for an extension that isn't allowed in this call, or whose input is invalid.
 fn unsupported(member: &'static str, reason: &'static str) -> Rejection
     ensures error { result.error ≡ NotSupported }
     ensures member { result.member.now ≡ member.now }
@@ -90,7 +90,7 @@ fn check_prf_bytes(value: &[u8]) -> Result<(), Rejection> {
     Ok(())
 }
 
-/// Checks that the extensions' binary inputs are base64url.
+/// Checks that the binary inputs of the extensions are base64url.
 pub fn check_extension_bytes(extensions: Option<&[u8]>) -> Result<(), Rejection> {
     if let Some(blob) = extension(extensions, "credBlob") {
         decode_member(blob, "extensions.credBlob")?;
@@ -116,7 +116,7 @@ pub fn check_extension_bytes(extensions: Option<&[u8]>) -> Result<(), Rejection>
     Ok(())
 }
 
-/// Checks the credential protection policy.
+/// Checks the extension `credProtect` (credential protection policy).
 fn check_protection(
     extensions: Option<&[u8]>,
     verification: Option<&[u8]>,
@@ -147,7 +147,7 @@ fn check_protection(
     Ok(())
 }
 
-/// Checks that an `appid` URL has the page's site.
+/// Checks that the URL of the extension `appid` has the same site as the page.
 fn check_app_id(value: Option<&[u8]>, origin: &Origin) -> Result<(), Rejection> {
     let Some(value) = value else {
         return Ok(());
@@ -193,7 +193,7 @@ pub fn check_creation(
     Ok(())
 }
 
-/// Returns whether a value is a string that isn't empty.
+/// Returns whether a value is a non-empty string.
 fn is_nonempty_string(value: Option<&[u8]>) -> bool {
     match value {
         Some(value) => !is_word(value, ""),
@@ -221,7 +221,7 @@ fn credential_names(record: &[u8]) -> (bool, bool) {
     (has_any, true)
 }
 
-/// Checks the extensions of a sign-in.
+/// Checks the extensions of an authentication.
 pub fn check_request(
     extensions: Option<&[u8]>,
     has_list: bool,

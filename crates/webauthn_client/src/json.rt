@@ -16,8 +16,8 @@ pub enum Kind {
     Number,
 }
 
-/// The state of a scan: the number of open arrays and objects, and whether it is in a string, or after a backslash
-/// there.
+/// The state of a scan: the number of open arrays and objects, whether the scan is inside a string, and whether the
+/// last byte was a backslash there.
 #[derive(Clone, Copy)]
 struct Scan {
     depth: usize,
@@ -156,7 +156,7 @@ pub fn next_value<'a>(text: &'a [u8]) -> Option<(&'a [u8], &'a [u8])> {
     Some(text.split_at(len))
 }
 
-/// Returns what follows the opening bracket of an array or object; an empty slice for other values.
+/// Returns the text after the opening bracket of an array or object, or an empty slice for other values.
 pub fn inside(value: &[u8]) -> &[u8] {
     match value.split_first() {
         Some((b'{' | b'[', rest)) => rest,
@@ -164,7 +164,8 @@ pub fn inside(value: &[u8]) -> &[u8] {
     }
 }
 
-/// Returns the member of an object by name, the last if there are several. None for other values.
+/// Returns the value of an object's member by name. If the name occurs several times, the last value is returned. For
+/// other values, returns None.
 pub fn member<'a>(object: &'a [u8], name: &str) -> Option<&'a [u8]> {
     if kind_of(object) != Kind::Object {
         return None;

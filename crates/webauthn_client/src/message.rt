@@ -7,7 +7,7 @@ use crate::rejection::{Rejection, too_long};
 use arrayvec::ArrayVec;
 use ctap_cbor::head_into;
 
-/// The data of a CTAPHID_CBOR message: a command byte and its parameters.
+/// The data of a CTAPHID_CBOR message: a command byte, followed by the parameters.
 pub type Message = ArrayVec<u8, 7609>;
 
 /// Appends bytes.

@@ -1,5 +1,5 @@
-//! Parses the JSON options of `navigator.credentials.create` and `get` as Chromium does: required members and types, in
-//! WebIDL's order.
+//! Parses the JSON options of `navigator.credentials.create` and `get` as Chromium does: the required members and their
+//! types, in WebIDL's order.
 
 ghost use Rattle.std.specs.Prelude.{◌≡◌, IfOk, IsTrue};
 ghost use Rattle.webauthn_client.specs.declared.options.Verification.TheVariants.{Verified};
@@ -11,7 +11,7 @@ use crate::number::count;
 use crate::rejection::{DomError, Rejection, not_allowed, type_error};
 use crate::text::{Text, is_word, to_string_value};
 
-/// Whether the authenticator verifies the user: it can't, it does, or verification fails.
+/// The authenticator's user verification: not supported, successful, or failing.
 #[derive(Clone, Copy, Debug, PartialEq, Eq)]
 pub enum Verification {
     None,
@@ -28,7 +28,7 @@ pub struct Abilities {
 }
 
 impl Abilities {
-    /// Returns the authenticator's transport.
+    /// Returns the name of the authenticator's transport.
     pub fn transport(self) -> &'static str {
         if self.is_platform { "internal" } else { "usb" }
     }
@@ -37,7 +37,7 @@ impl Abilities {
 /// Maximum number of credentials in a list.
 const MAX_LIST_LEN: usize = 64;
 
-/// Checks that a value is a dictionary. An array counts as one without members.
+/// Checks that a value is a dictionary. An array counts as a dictionary without members.
 pub fn dictionary(value: &[u8], name: &'static str) -> Result<(), Rejection> {
     match kind_of(value) {
         Kind::Object | Kind::Array => Ok(()),
@@ -87,7 +87,7 @@ fn check_descriptor(item: &[u8]) -> Result<(), Rejection> {
     Ok(())
 }
 
-/// Checks the types in a list of credential descriptors.
+/// Checks the types of all members in a list of credential descriptors.
 pub fn check_descriptors(list: Option<&[u8]>, name: &'static str) -> Result<(), Rejection> {
     let Some(list) = list else {
         return Ok(());
@@ -104,7 +104,7 @@ pub fn check_descriptors(list: Option<&[u8]>, name: &'static str) -> Result<(), 
     Ok(())
 }
 
-/// Decodes a base64url member.
+/// Decodes a member in base64url.
 pub fn decode_member(value: &[u8], name: &'static str) -> Result<Text, Rejection> {
     let text = to_string_value(value)?;
     decode(text.as_slice(), name)
@@ -160,7 +160,7 @@ pub fn public_key_count(list: &[u8]) -> u64 {
     known
 }
 
-/// Appends a list of credential descriptors in CTAP2's encoding.
+/// Appends a list of credential descriptors in the encoding of CTAP2.
 pub fn put_descriptors(message: &mut Message, list: &[u8]) -> Result<(), Rejection> {
     put_head(message, 4, public_key_count(list))?;
     let mut rest = inside(list);
@@ -179,8 +179,8 @@ pub fn put_descriptors(message: &mut Message, list: &[u8]) -> Result<(), Rejecti
     Ok(())
 }
 
-/// Returns whether user verification is requested. As in Chromium, a registration requests it if the authenticator
-/// supports it.
+/// Returns whether user verification is requested. As in Chromium, a registration requests user verification if the
+/// authenticator supports it.
 pub fn is_verified(
     wanted: Option<&[u8]>,
     verification: Verification,
@@ -204,7 +204,7 @@ pub fn is_verified(
     }
 }
 
-/// Returns the public key options: the given ones, or their member `publicKey`.
+/// Returns the options of a public key credential: either `given` itself, or its member `publicKey`.
 pub fn public_key(given: &[u8]) -> Result<&[u8], Rejection> {
     if kind_of(given) != Kind::Object {
         return Err(type_error("publicKey", "the options must be an object"));
@@ -219,7 +219,7 @@ pub fn public_key(given: &[u8]) -> Result<&[u8], Rejection> {
     Ok(member(given, "publicKey").unwrap_or(given))
 }
 
-/// Checks that the mediation is one of the four values. Returns whether it is conditional.
+/// Checks that the mediation has one of the four valid values. Returns whether the mediation is conditional.
 pub fn is_conditional(mediation: &[u8]) -> Result<bool, Rejection> {
     if mediation == b"conditional".as_slice() {
         return Ok(true);

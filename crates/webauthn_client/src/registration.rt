@@ -18,7 +18,7 @@ use crate::relying_party::{Origin, select_rp_id};
 use crate::text::{is_word, to_string_value};
 use sha2::{Digest, Sha256};
 
-/// Checks the types in `pubKeyCredParams`.
+/// Checks the types of all members in `pubKeyCredParams`.
 fn check_parameters(list: &[u8]) -> Result<(), Rejection> {
     sequence(list, "pubKeyCredParams")?;
     let mut rest = inside(list);
@@ -34,7 +34,7 @@ fn check_parameters(list: &[u8]) -> Result<(), Rejection> {
     Ok(())
 }
 
-/// Checks the required members of `user` and `rp`.
+/// Checks that `user` and `rp` have their required members.
 fn check_entities(options: &[u8]) -> Result<(), Rejection> {
     let rp = required(options, "rp")?;
     dictionary(rp, "PublicKeyCredentialRpEntity")?;
@@ -47,7 +47,7 @@ fn check_entities(options: &[u8]) -> Result<(), Rejection> {
     Ok(())
 }
 
-/// Checks the options' types, and that binary members are base64url.
+/// Checks the types of the options, and that binary members are base64url.
 pub fn check_types(options: &[u8]) -> Result<(), Rejection> {
     dictionary(options, "PublicKeyCredentialCreationOptionsJSON")?;
     optional_dictionary(
@@ -70,7 +70,7 @@ pub fn check_types(options: &[u8]) -> Result<(), Rejection> {
     check_extension_bytes(extensions)
 }
 
-/// Returns a member of `authenticatorSelection`.
+/// Returns a member of `authenticatorSelection` in the options.
 fn selection<'a>(options: &'a [u8], name: &str) -> Option<&'a [u8]> {
     member(member(options, "authenticatorSelection")?, name)
 }
@@ -94,7 +94,7 @@ pub fn is_discoverable(options: &[u8], abilities: Abilities) -> Result<bool, Rej
     Ok((is_required || is_preferred) && abilities.has_resident_key)
 }
 
-/// Checks that the authenticator has the required capabilities.
+/// Checks that the authenticator has the abilities that the options require.
 fn check_abilities(options: &[u8], abilities: Abilities) -> Result<(), Rejection> {
     if let Some(wanted) = selection(options, "authenticatorAttachment") {
         if is_word(
@@ -162,7 +162,7 @@ fn put_entities(message: &mut Message, options: &[u8], rp_id: &[u8]) -> Result<(
     )
 }
 
-/// Checks the options' values, as browsers do before they check the RP ID.
+/// Checks the values of the options, as browsers do before they check the RP ID.
 fn check_values(options: &[u8], origin: &Origin) -> Result<(), Rejection> {
     if decode_member(required(required(options, "user")?, "id")?, "user.id")?.len() > 64 {
         return Err(type_error("user.id", "User handle exceeds 64 bytes"));

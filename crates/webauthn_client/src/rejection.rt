@@ -1,9 +1,9 @@
-//! Errors of a failed call, as the page gets them.
+//! The errors that a page gets when a call fails.
 
 ghost use Rattle.std.specs.Prelude.{◌≡◌};
 ghost use Rattle.webauthn_client.specs.declared.rejection.DomError.TheVariants.{«Type», NotAllowed, Range};
 
-/// The name of a DOM exception.
+/// The name of a DOM exception that a page gets.
 #[derive(Clone, Copy, Debug, PartialEq, Eq)]
 pub enum DomError {
     Type,
@@ -32,7 +32,7 @@ impl DomError {
     }
 }
 
-/// An error: the DOM exception's name, the invalid option (or empty), and the reason.
+/// An error: the name of the DOM exception, the name of the invalid option, or an empty text, and the reason.
 #[derive(Clone, Copy)]
 pub struct Rejection {
     pub error: DomError,
@@ -52,7 +52,7 @@ pub fn type_error(member: &'static str, reason: &'static str) -> Rejection
     }
 }
 
-/// Returns the error if the authenticator or the user rejects the call.
+/// Returns the error for a call that the authenticator or the user rejects.
 pub fn not_allowed(reason: &'static str) -> Rejection
     ensures { result.error ≡ NotAllowed }
 {
@@ -63,7 +63,7 @@ pub fn not_allowed(reason: &'static str) -> Rejection
     }
 }
 
-/// Returns the error for a string or list that exceeds this client's buffers.
+/// Returns the error for a string or list that is too long for this client's buffers.
 pub fn too_long() -> Rejection
     ensures { result.error ≡ Range }
 {

@@ -1,4 +1,4 @@
-//! The page's origin, and the RP IDs that it may use.
+//! The origin of a page, and the RP IDs that the page may use.
 
 ghost use Rattle.std.specs.Prelude.{◌≡◌, ◌↔◌, ◌∷◌, ◌<◌, IsTrue, IfOk, List, ℕ, length};
 ghost use Rattle.webauthn_client.specs.RelyingParty.{MayUse};
@@ -25,12 +25,12 @@ fn security_error(reason: &'static str) -> Rejection
     }
 }
 
-/// Returns whether a byte may occur in a host name. None of these needs escaping in JSON.
+/// Returns whether a byte may occur in a host name. No such byte needs escaping in JSON.
 fn is_host_char(byte: u8) -> bool {
     matches!(byte, b'a'..=b'z' | b'0'..=b'9' | b'-' | b'.' | b'_')
 }
 
-/// Parses the host after the scheme, and checks the port after it.
+/// Returns the host at the beginning of a text, if a valid port or nothing follows it.
 fn parse_host(rest: &[u8]) -> Option<&[u8]> {
     let len = rest
         .iter()
@@ -79,7 +79,7 @@ fn last_label(host: &[u8]) -> &[u8] {
     host
 }
 
-/// Returns whether a host is an IPv4 address: its last label is numeric.
+/// Returns whether a host is an IPv4 address: its last label is a number.
 fn is_address(host: &[u8]) -> bool {
     last_label(host).iter().all(|&byte| byte.is_ascii_digit())
 }
@@ -94,7 +94,8 @@ fn is_dot_and_suffix(tail: &[u8], id: &[u8]) -> bool
     }
 }
 
-/// Returns whether a domain is the host or a registrable suffix of it: longer than the host's public suffix.
+/// Returns whether a page at this host may use the RP ID `id`: the RP ID is the host, or a parent domain of the host
+/// that is longer than the host's public suffix.
 pub fn may_use(id: &[u8], host: &[u8], suffix: &[u8]) -> bool
     ensures { IsTrue result ↔ MayUse id.now host.now suffix.now }
 {
@@ -105,7 +106,8 @@ pub fn may_use(id: &[u8], host: &[u8], suffix: &[u8]) -> bool
     is_dot_and_suffix(tail, id)
 }
 
-/// Returns whether the page is a secure context: https, or localhost.
+/// Checks that the page's host is not an IP address, and that the page is a secure context: its scheme is https, or its
+/// host is localhost.
 fn check_context(origin: &Origin) -> Result<(), Rejection> {
     if is_address(origin.host) {
         return Err(security_error(
@@ -121,8 +123,8 @@ fn check_context(origin: &Origin) -> Result<(), Rejection> {
     Ok(())
 }
 
-/// Returns the RP ID: the given one if the page may use it, or else its host. If the caller passes no public suffix,
-/// the last label is used.
+/// Returns the RP ID of a call: the one in the options if the page may use it, or else the page's host. If the caller
+/// passes no public suffix, the last label of the host is used.
 pub fn select_rp_id<'a>(
     given: Option<&'a [u8]>,
     origin: &Origin<'a>,
@@ -148,7 +150,8 @@ pub fn select_rp_id<'a>(
     Ok(id)
 }
 
-/// Checks that a URL is valid and has the page's site, over https if the page does.
+/// Checks that a URL is valid and has the same site as the page. If the page's scheme is https, so must be that of the
+/// URL.
 pub fn check_site(url: &[u8], origin: &Origin) -> Result<(), Rejection> {
     let path = match url.iter().position(|&byte| byte == b'/') {
         Some(_) => url,

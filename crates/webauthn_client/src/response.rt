@@ -1,4 +1,4 @@
-//! The page's response: RegistrationResponseJSON and AuthenticationResponseJSON (WebAuthn Level 3, section 5.1).
+//! The page's response: RegistrationResponseJSON or AuthenticationResponseJSON (WebAuthn Level 3, section 5.1).
 
 ghost use Rattle.std.specs.Prelude.{◌≡◌, ◌++◌, OnOk};
 ghost use Rattle.base64.specs.GeneralPurpose.{encode_of};
@@ -20,11 +20,11 @@ pub type Response = ArrayVec<u8, 16384>;
 /// A buffer for an attestation object.
 type Attestation = ArrayVec<u8, 7680>;
 
-/// The prefix of a P-256 public key as SubjectPublicKeyInfo (RFC 5480).
+/// The bytes before a P-256 public key in SubjectPublicKeyInfo (RFC 5480).
 const SPKI: &[u8] =
     b"\x30\x59\x30\x13\x06\x07\x2a\x86\x48\xce\x3d\x02\x01\x06\x08\x2a\x86\x48\xce\x3d\x03\x01\x07\x03\x42\x00\x04";
 
-/// A member of a response map: its whole encoding, and its content if it is a string.
+/// A member of a response map: its encoding, and its content if it is a string.
 #[derive(Clone, Copy)]
 struct ResponseMember<'a> {
     whole: &'a [u8],
@@ -101,7 +101,7 @@ fn push_beginning(
     push_encoded(out, client_data.as_slice())
 }
 
-/// Appends the end of a response, after the extension results.
+/// Appends the end of a response, which follows the extension results.
 fn push_end(out: &mut Response, abilities: Abilities) -> Result<(), Rejection> {
     if abilities.is_platform {
         push(
@@ -116,7 +116,7 @@ fn push_end(out: &mut Response, abilities: Abilities) -> Result<(), Rejection> {
     }
 }
 
-/// Ends an unfinished JSON string, and appends the public key and its algorithm if the COSE key is on P-256.
+/// Ends an unfinished JSON string. If the COSE key is on P-256, appends the public key and its algorithm.
 fn push_public_key(out: &mut Response, cose: &[u8]) -> Result<(), Rejection> {
     push(out, b"\"")?;
     if cose.len() < 77 || &cose[..10] != b"\xa5\x01\x02\x03\x26\x20\x01\x21\x58\x20".as_slice() {
@@ -134,7 +134,7 @@ fn push_public_key(out: &mut Response, cose: &[u8]) -> Result<(), Rejection> {
     push(out, b"\",\"publicKeyAlgorithm\":-7")
 }
 
-/// Appends an extension result, after a comma if another one precedes it.
+/// Appends an extension result. A comma precedes it, unless it is the first one.
 fn push_result(
     out: &mut Response,
     has_any: &mut bool,
@@ -289,7 +289,7 @@ pub fn authentication_json(
     ) else {
         return Err(invalid_response());
     };
-    // {"id": bytes, ..}, canonical: its first key is "id".
+    // The map {"id": bytes, ..} in canonical CBOR, in which the first key is "id".
     let Some(id) = credential.whole.strip_prefix(b"\xa2\x62id") else {
         return Err(invalid_response());
     };
@@ -310,7 +310,7 @@ pub fn authentication_json(
     push_end(out, abilities)
 }
 
-/// Appends the user handle from a user map, whose first member is the ID. An empty one is omitted.
+/// Appends the user handle in a user map, whose first member is the ID. An empty user handle is omitted.
 fn push_user(out: &mut Response, user: &[u8]) -> Result<(), Rejection> {
     let Some(id) = user.get(1..) else {
         return Ok(());

@@ -16,7 +16,7 @@ use crate::relying_party::{Origin, select_rp_id};
 use crate::text::{is_word, to_string_value};
 use sha2::{Digest, Sha256};
 
-/// Checks the options' types, and that binary members are base64url.
+/// Checks the types of the options, and that binary members are base64url.
 pub fn check_types(options: &[u8]) -> Result<(), Rejection> {
     dictionary(options, "PublicKeyCredentialRequestOptionsJSON")?;
     let allowed = member(options, "allowCredentials");
@@ -32,7 +32,7 @@ pub fn check_types(options: &[u8]) -> Result<(), Rejection> {
     check_extension_bytes(extensions)
 }
 
-/// Returns whether a value is this transport's name.
+/// Returns whether a value is the name of this transport.
 fn is_transport(value: &[u8]) -> bool {
     let text = match to_string_value(value) {
         Ok(text) => text,
@@ -47,7 +47,8 @@ fn is_transport(value: &[u8]) -> bool {
         || name == b"internal".as_slice()
 }
 
-/// Returns whether a credential is usable over a transport: its descriptor has this transport, or no known one.
+/// Returns whether a credential is usable over a transport: its descriptor contains this transport, or no known
+/// transport.
 fn is_usable_over(item: &[u8], transport: &str) -> bool {
     let list = member(item, "transports").unwrap_or(b"");
     let mut rest = inside(list);
@@ -67,7 +68,7 @@ fn is_usable_over(item: &[u8], transport: &str) -> bool {
     !has_named
 }
 
-/// Returns whether the list is empty, or has a credential that is usable over this transport.
+/// Returns whether the list is empty, or contains a credential that is usable over this transport.
 fn is_any_usable_over(list: &[u8], transport: &str) -> bool {
     if public_key_count(list) == 0 {
         return true;

@@ -6,10 +6,10 @@ use crate::json::{Kind, inside, kind_of, next_value};
 use crate::rejection::{Rejection, too_long};
 use arrayvec::ArrayVec;
 
-/// A buffer for UTF-8 text or bytes.
+/// A buffer for a text in UTF-8 or other bytes.
 pub type Text = ArrayVec<u8, 2048>;
 
-/// The parser's state within a string.
+/// The state of a string parser.
 #[derive(Clone, Copy)]
 enum Mode {
     Plain,
@@ -17,7 +17,7 @@ enum Mode {
     Hex(u8),
 }
 
-/// A string parser: the UTF-16 code unit of the current escape, and the preceding high surrogate, or 0.
+/// A string parser, with the UTF-16 code unit of the current escape, and the preceding high surrogate, or 0.
 #[derive(Clone, Copy)]
 struct Reader {
     mode: Mode,
@@ -172,7 +172,7 @@ fn push_string(value: &[u8], out: &mut Text) -> Result<(), Rejection> {
     reader.flush(out)
 }
 
-/// Appends the conversion of a value that isn't an array.
+/// Appends a value that isn't an array, converted to a string.
 fn push_scalar(value: &[u8], out: &mut Text) -> Result<(), Rejection> {
     match kind_of(value) {
         Kind::Text => push_string(value, out),
@@ -181,7 +181,7 @@ fn push_scalar(value: &[u8], out: &mut Text) -> Result<(), Rejection> {
     }
 }
 
-/// Appends the conversion of a value. Nested arrays convert to empty strings.
+/// Appends a value, converted to a string. Nested arrays are converted to empty strings.
 pub fn push_value(value: &[u8], out: &mut Text) -> Result<(), Rejection> {
     if kind_of(value) != Kind::Array {
         return push_scalar(value, out);
@@ -211,7 +211,7 @@ pub fn to_string_value(value: &[u8]) -> Result<Text, Rejection> {
     Ok(text)
 }
 
-/// Returns whether a value converts to this string.
+/// Returns whether a value is converted to this string.
 pub fn is_word(value: &[u8], word: &str) -> bool {
     if kind_of(value) == Kind::Text && !value.contains(&b'\\') {
         return value.get(1..value.len().saturating_sub(1)) == Some(word.as_bytes());

@@ -24,10 +24,10 @@ use ctap_message::{Answer, AssertRequest, Descriptors, write_assertion};
 use fido_authdata::{ASSERTION_LEN, AuthData, to_sign};
 use sha2::{Digest, Sha256};
 
-/// Milliseconds after an assertion within which the next one may be requested.
+/// The time limit for authenticatorGetNextAssertion after an assertion, in milliseconds.
 const NEXT_LIMIT: u64 = 30_000;
 
-/// Returns the signature counter of the credential with this ID, or 0 if there is none.
+/// Returns the signature counter of the credential with this ID, or 0 without such a credential.
 fn counter_of<T: Table<C>, const C: usize>(table: &T, id: &[u8; 32]) -> u32
     ensures { result ≡ counter_of id.now (T.rows table.now) }
 {
@@ -37,7 +37,7 @@ fn counter_of<T: Table<C>, const C: usize>(table: &T, id: &[u8; 32]) -> u32
     }
 }
 
-/// Returns the user handle of the credential with this ID, if it is discoverable.
+/// Returns the user handle of the credential with this ID, if the credential is discoverable.
 fn user_of<'a, T: Table<C>, const C: usize>(table: &'a T, id: &[u8; 32]) -> Option<&'a [u8]>
     ensures value { option_copied result ≡ get.user_handle_in (find (has_id id.now) (T.rows table.now)) }
     ensures short { ForSome result (λ u. length u.now ≤ 64) }
@@ -72,7 +72,7 @@ fn collect_applicable<T: Table<C>, const C: usize>(
 }
 
 impl<T: Table<C>, const C: usize> Core<T, C> {
-    /// Begins an assertion with the first applicable credential.
+    /// Begins an assertion by the first applicable credential.
     pub(crate) fn begin_assert(
         &mut self,
         cid: u32,
@@ -101,7 +101,8 @@ impl<T: Table<C>, const C: usize> Core<T, C> {
         self.begin_pending_assertion(cid, &client, &rp, presence, given, count, answer)
     }
 
-    /// Begins an assertion with the first of the pending credentials. With `presence` the user is asked first.
+    /// Begins an assertion by the first pending credential. With `presence`, user presence is needed before the
+    /// signature.
     fn begin_pending_assertion(
         &mut self,
         cid: u32,
@@ -139,7 +140,7 @@ impl<T: Table<C>, const C: usize> Core<T, C> {
         Turn::Waits(self.wait(cid, Task::AwaitAssertPresence(a)))
     }
 
-    /// Continues an assertion: increments the credential's signature counter, and waits for the signature.
+    /// Continues an assertion: increments the signature counter of the credential, and waits for the signature.
     pub(crate) fn sign(&mut self, cid: u32, a: &AssertState) -> KeepaliveStatus
         requires there { is_some (find (has_id a.now.id) self.old.core.state.rows) ≡ true }
         requires below { counter_of a.now.id self.old.core.state.rows < 2 ^ 32 - 1 }
@@ -155,7 +156,7 @@ impl<T: Table<C>, const C: usize> Core<T, C> {
         )
     }
 
-    /// Continues the assertion if the user consents.
+    /// Continues an assertion if the user consents, or else responds with an error.
     pub(crate) fn on_assert_presence(
         &mut self,
         cid: u32,
@@ -201,7 +202,7 @@ impl<T: Table<C>, const C: usize> Core<T, C> {
 
     // ---- the next one
 
-    /// Begins an assertion with the first pending credential.
+    /// Begins an assertion by the first pending credential.
     pub(crate) fn next(&mut self, cid: u32, answer: &mut Answer) -> Turn
         ensures { TakesTurn self.old self.new result answer.new.items (get.next_assertion_turn self.old.core.state.rows
             self.old.core.state.pending self.old.latest cid) }

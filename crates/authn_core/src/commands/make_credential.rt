@@ -21,7 +21,7 @@ use ctap_message::{Answer, Descriptors, MakeRequest, write_created};
 use fido_authdata::{AuthData, CREATED_LEN, to_sign};
 use sha2::{Digest, Sha256};
 
-/// Returns whether one of the IDs is that of a credential of the RP.
+/// Returns whether any of the IDs belongs to a credential of the RP.
 fn has_listed_credential<T: Table<C>, const C: usize>(
     table: &T,
     rp: &[u8; 32],
@@ -38,7 +38,7 @@ fn has_listed_credential<T: Table<C>, const C: usize>(
     false
 }
 
-/// Stores a new credential, replacing that of the same account.
+/// Stores a new credential. A discoverable credential for the same account is replaced.
 fn store<T: Table<C>, const C: usize>(table: &mut T, making: MakeState, key: NewKey)
     requires capacity { make.has_capacity C (to_make_state making) (T.rows table.old) ≡ true }
     requires fresh { is_some (find (has_id key.id) (T.rows table.old)) ≡ false }
@@ -74,7 +74,7 @@ fn store<T: Table<C>, const C: usize>(table: &mut T, making: MakeState, key: New
 }
 
 impl<T: Table<C>, const C: usize> Core<T, C> {
-    /// Requests user presence, even if a credential is excluded.
+    /// Waits for user presence, even if a credential is excluded.
     pub(crate) fn begin_make(&mut self, cid: u32, asked: MakeRequest<'_>) -> KeepaliveStatus
         requires hash { length asked.hash.now ≡ 32 }
         requires user { length asked.user_id.now ≤ 64 }
@@ -96,7 +96,8 @@ impl<T: Table<C>, const C: usize> Core<T, C> {
         self.wait(cid, Task::AwaitMakePresence(making, excluded))
     }
 
-    /// Requests a key pair if the user consents, no credential is excluded and there is capacity.
+    /// Waits for a key pair if the user consents, no credential is excluded and there is capacity. Otherwise, responds
+    /// with an error.
     pub(crate) fn on_make_presence(
         &mut self,
         cid: u32,
@@ -122,7 +123,7 @@ impl<T: Table<C>, const C: usize> Core<T, C> {
         Turn::Waits(self.wait(cid, Task::AwaitKeyPair(making)))
     }
 
-    /// Requests a signature by the new key, unless its credential ID exists already.
+    /// Waits for a signature with the new key, unless a credential with its ID exists already.
     pub(crate) fn on_make_key_pair(
         &mut self,
         cid: u32,
@@ -145,7 +146,7 @@ impl<T: Table<C>, const C: usize> Core<T, C> {
         Turn::Waits(self.wait(cid, Task::AwaitMakeSignature(making, *key, signed)))
     }
 
-    /// Stores the credential once it is signed, and responds with the signed authenticator data.
+    /// Stores the credential when it is signed, and responds with the signed authenticator data.
     pub(crate) fn on_make_signature(
         &mut self,
         making: MakeState,

@@ -1,4 +1,4 @@
-//! authenticatorReset and authenticatorSelection (CTAP 2.1, sections 6.6 and 6.9), which only ask for user presence.
+//! authenticatorReset and authenticatorSelection (CTAP 2.1, sections 6.6 and 6.9), which need only user presence.
 
 ghost use Rattle.std.specs.Prelude.{[], ◌∷◌, None};
 ghost use Rattle.authn_core.specs.State.{AwaitSelectionPresence, respond, await_reply};
@@ -13,11 +13,11 @@ use crate::work::KeepaliveStatus;
 use cred_table::Table;
 use ctap_message::{Answer, Status, write_status};
 
-/// Milliseconds after power-up within which a reset may be requested.
+/// The time limit for a reset after power-up, in milliseconds.
 const RESET_LIMIT: u64 = 10_000;
 
 impl<T: Table<C>, const C: usize> Core<T, C> {
-    /// Asks for user presence, unless it is too late for a reset.
+    /// Waits for user presence for a reset, unless the time limit has passed.
     pub(crate) fn begin_reset(&mut self, cid: u32, answer: &mut Answer) -> Turn
         ensures { TakesTurn self.old self.new result answer.new.items
             (reset_turn self.old.core.state.rows self.old.core.setup.began
@@ -36,7 +36,7 @@ impl<T: Table<C>, const C: usize> Core<T, C> {
         Turn::Waits(self.wait(cid, Task::AwaitResetPresence))
     }
 
-    /// Removes all credentials if the user consents, and responds.
+    /// Removes all credentials if the user consents, and responds in any case.
     pub(crate) fn reset(&mut self, reply: Presence, answer: &mut Answer) -> Turn
         ensures { TakesTurn self.old self.new result answer.new.items
             (presence_turn (respond [] None (0x00 ∷ [])) self.old.core.state.rows
@@ -50,7 +50,7 @@ impl<T: Table<C>, const C: usize> Core<T, C> {
         self.select(reply, answer)
     }
 
-    /// Asks for user presence.
+    /// Waits for user presence for a selection.
     pub(crate) fn begin_selection(&mut self, cid: u32) -> KeepaliveStatus
         ensures { TakesWork self.old self.new result (await_reply self.old.core.state.rows None cid AwaitSelectionPresence) }
     {
@@ -58,7 +58,7 @@ impl<T: Table<C>, const C: usize> Core<T, C> {
         self.wait(cid, Task::AwaitSelectionPresence)
     }
 
-    /// Responds with the user's reply.
+    /// Responds to a selection according to the user's reply.
     pub(crate) fn select(&mut self, reply: Presence, answer: &mut Answer) -> Turn
         ensures { TakesTurn self.old self.new result answer.new.items (presence_turn (respond self.old.core.state.rows
             self.old.core.state.pending (0x00 ∷ [])) self.old.core.state.rows self.old.core.state.pending reply) }
