@@ -18,7 +18,7 @@ use Rattle.ctap_message.specs.Members.{map_of, array_of, is_text}
 use Rattle.ctap_message.specs.MakeCredential.{rp_types, user_types, make_types}
 use Rattle.ctap_message.specs.Descriptors.{option_types, parameter_types, descriptor_types}
 use Rattle.ctap_message.specs.Fields.{Descriptor, descriptor_in, DescriptorList, descriptors_in, Options, options_in}
-use Rattle.ctap_message.specs.Fields.{Parameter, parameter_in, is_whole_parameter, names_es256, Parameters}
+use Rattle.ctap_message.specs.Fields.{Parameter, parameter_in, is_whole_parameter, is_for_es256, Parameters}
 use Rattle.ctap_message.specs.Fields.{parameters_in, rp_in, User, user_in}
 use Rattle.ctap_message.specs.Judged.{MakeParameters, AssertionParameters}
 use Rattle.ctap_message.specs.Walks.{Reads, typed, HasPairs}
@@ -128,7 +128,7 @@ unfolding all_entries some_entry
 parameters_start = refl
 
 pub parameters_more : (old : Parameters) (p : Bool × Parameter) (w whole s es256 : Bool) (t : Tree) →
-    w ≡ is_whole_parameter p.1 → whole ≡ (old.is_whole && w) → s ≡ names_es256 p.1 → es256 ≡ (old.has_es256 || s)
+    w ≡ is_whole_parameter p.1 → whole ≡ (old.is_whole && w) → s ≡ is_for_es256 p.1 → es256 ≡ (old.has_es256 || s)
     → p ≡ typed (map_of parameter_types) parameter_in t → (ts : Trees) → old ≡ parameters_in (Some (Array ts)) →
     make_parameters whole es256 ≡ parameters_in (Some (Array (push ts t)))
 parameters_more old p w whole s es256 t f g h i is ts eq = grind (arith, entries_push, some_push)

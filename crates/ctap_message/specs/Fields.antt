@@ -69,8 +69,8 @@ abbrev pub is_whole_parameter : Parameter → Bool
 is_whole_parameter p = is_some p.alg && is_some p.credential_type
 
 -- The credential parameter is for ES256 public keys.
-abbrev pub names_es256 : Parameter → Bool
-names_es256 p = is_es256 p.alg && is_public_key p.credential_type
+abbrev pub is_for_es256 : Parameter → Bool
+is_for_es256 p = is_es256 p.alg && is_public_key p.credential_type
 
 -- The summary of pubKeyCredParams: whether each entry has an algorithm and a type, and whether any entry is for ES256
 -- public keys.
@@ -83,7 +83,7 @@ abbrev pub parameters_in : Option Tree → Parameters
 parameters_in t =
     record {
       is_whole = all_entries (λ t. is_whole_parameter (parameter_in (Some t))) (entries_of t);
-      has_es256 = some_entry (λ t. names_es256 (parameter_in (Some t))) (entries_of t);
+      has_es256 = some_entry (λ t. is_for_es256 (parameter_in (Some t))) (entries_of t);
     }
 
 -- ---- the ID of rp, and the members of user

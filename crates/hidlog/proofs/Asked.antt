@@ -3,7 +3,7 @@ use Rattle.std.proofs.Common.{◌≡◌, ◌≢◌, ◌⊎◌, inl, inr, ℕ, Li
 use Rattle.clap.specs.Kinds.{IsAmong, Kinds}
 use Rattle.clap.specs.declared.error.kind.ErrorKind.{ErrorKind, TheVariants.OutOfMemory}
 use Rattle.hidlog.specs.declared.args.Verbosity.{Verbosity}
-use Rattle.hidlog.specs.CommandLine.{Task, answers_to, parsed_command_line, unless}
+use Rattle.hidlog.specs.CommandLine.{Task, argument_errors, parsed_command_line, unless}
 
 no_kinds : (kinds : Kinds) (found : Option (Task × Verbosity)) (ask : Task × Verbosity) → unless kinds found ≡ Some ask →
     kinds ≡ []
@@ -11,9 +11,9 @@ no_kinds [] found ask is = refl
 no_kinds (kind ∷ kinds) found ask is = cc
 
 -- Words that ask for something have no fault.
-faultless : (words : List (List ℕ)) (ask : Task × Verbosity) → parsed_command_line words ≡ Some ask → answers_to words ≡ []
+faultless : (words : List (List ℕ)) (ask : Task × Verbosity) → parsed_command_line words ≡ Some ask → argument_errors words ≡ []
 unfolding parsed_command_line
-faultless words ask is = no_kinds (answers_to words) _ ask is
+faultless words ask is = no_kinds (argument_errors words) _ ask is
 
 only_memory : (kind : ErrorKind) (kinds : Kinds) → kinds ≡ [] → IsAmong kind (OutOfMemory ∷ kinds) → kind ≡ OutOfMemory
 only_memory kind kinds none (inl memory) = memory
@@ -25,13 +25,13 @@ lacks_memory kind memory (inr other) = absurd (other.0 memory)
 
 -- Where the words ask for something, memory was wanting.
 pub unasked : {L H Q : Type 0} (P : Task × Verbosity → Type 0) (words : List (List ℕ)) (kind : ErrorKind) →
-    IsAmong kind (OutOfMemory ∷ answers_to words)
+    IsAmong kind (OutOfMemory ∷ argument_errors words)
     → L ⊎ ((kind ≢ OutOfMemory) × H) → Q → MatchOption (parsed_command_line words) Q (λ ask. P ask ⊎ L)
 unasked {L} {H} {Q} P words kind among explained answer = go (parsed_command_line words) refl
   where
     go : (o : Option (Task × Verbosity)) → parsed_command_line words ≡ o → MatchOption o Q (λ ask. P ask ⊎ L)
     go None is = answer
-    go (Some ask) is = inr (lacks_memory kind (only_memory kind (answers_to words) (faultless words ask is) among)
+    go (Some ask) is = inr (lacks_memory kind (only_memory kind (argument_errors words) (faultless words ask is) among)
         explained)
 
 -- Where the words ask for something, that is done.

@@ -23,7 +23,7 @@ use Rattle.hidlog.specs.declared.args.{CommandOptions.CommandOptions, ShowFormat
 use Rattle.hidlog.specs.declared.args.Verbosity.{TheVariants.ByTerminal}
 use Rattle.hidlog.specs.declared.cli.{CommandEntry.CommandEntry, CommandParameter.CommandParameter}
 use Rattle.hidlog.specs.CommandLine.{Task, command, command_for, rule_for, command_task, parsed_command_line, grammar}
-use Rattle.hidlog.specs.CommandLine.{answers_to, logs_of, play, check, show, task_for, to_texts}
+use Rattle.hidlog.specs.CommandLine.{argument_errors, logs_of, play, check, show, task_for, to_texts}
 use Rattle.clap.specs.declared.error.kind.ErrorKind.TheVariants as kind
 use Rattle.session_log.specs.declared.command.ReplayMode.TheVariants as playing
 
@@ -198,9 +198,9 @@ entered_asks (Some stop) no_help some =
     (λ same. no_help (sym ((bytes_eq-Decides (codes "help") stop.0).0 same))) some
 
 -- Words without fault ask for something.
-faultless_asks : (words : List Text) → answers_to words ≡ [] →
+faultless_asks : (words : List Text) → argument_errors words ≡ [] →
     is_some (option_and_then command_task (subcommand_of grammar words)) ≡ true
-unfolding answers_to
+unfolding argument_errors
 faultless_asks words faultless =
     let app = built grammar in
     let args = argument_words grammar words in
@@ -212,14 +212,14 @@ faultless_asks words faultless =
 
 -- What a parse of these words says, where its command has this grammar.
 pub faults_are : (app : App) (words : List Text) (P : Kinds → Type 0) → app ≡ grammar →
-    (is_simple_and_free app ≡ true → P (fault_of app words)) → P (answers_to words)
-unfolding answers_to
+    (is_simple_and_free app ≡ true → P (fault_of app words)) → P (argument_errors words)
+unfolding argument_errors
 faults_are app words P is says = subst (λ a. P (fault_of a words)) is
     (says (ap is_simple_and_free is ∙ is_simple_grammar))
 
 -- Words without fault ask for what the command asks for that was met.
 pub asked_is : (app : App) (words : List Text) (m : ArgMatches) → app ≡ grammar → HasMatchesOf app words m →
-    answers_to words ≡ []
+    argument_errors words ≡ []
     → parsed_command_line words ≡ option_and_then command_task (subcommand_rows_of m)
 unfolding parsed_command_line
 asked_is app words m is has faultless =
@@ -227,7 +227,7 @@ asked_is app words m is has faultless =
 
 -- They ask for something.
 pub asked_some : (app : App) (words : List Text) (m : ArgMatches) → app ≡ grammar → HasMatchesOf app words m →
-    answers_to words ≡ []
+    argument_errors words ≡ []
     → is_some (option_and_then command_task (subcommand_rows_of m)) ≡ true
 asked_some app words m is has faultless =
     ap (λ met. is_some (option_and_then command_task met)) ((has (ap is_simple is)).1 ∙ ap (λ a. subcommand_of a words) is)
@@ -285,25 +285,25 @@ no_logs found is = ap (λ all. unwrap_or all []) (is ∙ raw_values-rows found (
 -- What a command alone asks for, whatever the program's name is.
 pub plain_replay : (name : Text) → parsed_command_line (name ∷ codes "replay" ∷ [])
     ≡ Some (play playing.Replay None None None, ByTerminal)
-unfolding parsed_command_line answers_to clap_on_literals
+unfolding parsed_command_line argument_errors clap_on_literals
 plain_replay name = refl
 
 pub plain_live : (name : Text) → parsed_command_line (name ∷ codes "live" ∷ [])
     ≡ Some (play playing.Live None None None, ByTerminal)
-unfolding parsed_command_line answers_to clap_on_literals
+unfolding parsed_command_line argument_errors clap_on_literals
 plain_live name = refl
 
 pub plain_check : (name : Text) → parsed_command_line (name ∷ codes "check" ∷ []) ≡ Some (check None false false [], ByTerminal)
-unfolding parsed_command_line answers_to clap_on_literals
+unfolding parsed_command_line argument_errors clap_on_literals
 plain_check name = refl
 
 pub plain_quiet : (name : Text) → parsed_command_line (name ∷ codes "quiet" ∷ [])
     ≡ Some (play playing.Quiet None None None, ByTerminal)
-unfolding parsed_command_line answers_to clap_on_literals
+unfolding parsed_command_line argument_errors clap_on_literals
 plain_quiet name = refl
 
 pub plain_show : (name : Text) → parsed_command_line (name ∷ codes "show" ∷ []) ≡ Some (show Lines false None, ByTerminal)
-unfolding parsed_command_line answers_to clap_on_literals
+unfolding parsed_command_line argument_errors clap_on_literals
 plain_show name = refl
 
 -- the options of a command alone

@@ -5,16 +5,16 @@ use Rattle.clap.specs.{Kinds.Kinds, declared.error.kind.ErrorKind.TheVariants.Di
 use Rattle.hidlog.specs.declared.args.ShowFormat.TheVariants.{Json, JsonSummary, Lines, Summary}
 use Rattle.hidlog.specs.declared.args.Verbosity.{Verbosity}
 use Rattle.hidlog.specs.declared.args.Verbosity.TheVariants.{ByTerminal, Explained, Fixed}
-use Rattle.hidlog.specs.CommandLine.{Task, play, check, show, answers_to, parsed_command_line}
+use Rattle.hidlog.specs.CommandLine.{Task, play, check, show, argument_errors, parsed_command_line}
 use Rattle.session_log.specs.declared.command.ReplayMode.TheVariants as playing
 
 -- what clap answers to these words after the program's name
 answers : List (List ℕ) → Kinds
-unfolding answers_to clap_on_literals
-answers words = answers_to (codes "hidlog" ∷ words)
+unfolding argument_errors clap_on_literals
+answers words = argument_errors (codes "hidlog" ∷ words)
 
 asked : List (List ℕ) → Option (Task × Verbosity)
-unfolding parsed_command_line answers_to clap_on_literals
+unfolding parsed_command_line argument_errors clap_on_literals
 asked words = parsed_command_line (codes "hidlog" ∷ words)
 
 version_asked : answers (codes "--version" ∷ []) ≡ DisplayVersion ∷ []

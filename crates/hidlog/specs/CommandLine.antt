@@ -71,8 +71,8 @@ grammar = record {
 
 -- The kinds of clap's errors for these arguments, including help and version. The list is empty if the arguments are
 -- valid.
-unfoldable pub answers_to : List (List ℕ) → Kinds
-answers_to words = fault_of grammar words
+unfoldable pub argument_errors : List (List ℕ) → Kinds
+argument_errors words = fault_of grammar words
 
 -- ---- what is asked
 
@@ -150,8 +150,8 @@ task_for name options logs =
     else None
 
 -- The task of a command, from its name and its parsed options.
-abbrev pub task_by : List ℕ → List Row → Option Task
-task_by name found =
+abbrev pub task_from_options : List ℕ → List Row → Option Task
+task_from_options name found =
     if bytes_eq name (codes "replay") then Some (play playing.Replay (first_of (codes "load") found)
     (first_of (codes "save") found) (first_of (codes "log") found))
     else if bytes_eq name (codes "live") then Some (play playing.Live (first_of (codes "load") found)
@@ -166,7 +166,7 @@ task_by name found =
 
 -- The task and the level of detail of a command, from its name and its parsed options.
 abbrev pub command_task : List ℕ × List Row → Option (Task × Verbosity)
-command_task (name, found) = option_map (λ ask. (ask, verbosity_of found)) (task_by name found)
+command_task (name, found) = option_map (λ ask. (ask, verbosity_of found)) (task_from_options name found)
 
 -- The task and the level of detail, or None if clap reports an error.
 abbrev pub unless : Kinds → Option (Task × Verbosity) → Option (Task × Verbosity)
@@ -176,7 +176,7 @@ unless (kind ∷ kinds) ask = None
 -- The task and the level of detail that the arguments specify, or None if the arguments are invalid. The first
 -- argument is the program's name.
 unfoldable pub parsed_command_line : List (List ℕ) → Option (Task × Verbosity)
-parsed_command_line words = unless (answers_to words) (option_and_then command_task (subcommand_of grammar words))
+parsed_command_line words = unless (argument_errors words) (option_and_then command_task (subcommand_of grammar words))
 
 -- The path of a log, or None for standard input, which is used without a path and for `-`.
 abbrev pub named : Option (List ℕ) → Option (List ℕ)

@@ -13,7 +13,7 @@ use Rattle.session_log.specs.{Ending.ending_of, Replay.ReadsTo, Streams.IsAtEndO
 use Rattle.session_log.specs.declared.command.ReplayMode.{ReplayMode, TheVariants.Check, TheVariants.Live}
 use Rattle.session_show.specs.Shown.{IsLineText, Shows, read_only_world}
 use Rattle.session_show.specs.declared.detail.Detail.{Detail, TheVariants.Explained, TheVariants.Fixed}
-use Rattle.hidlog.specs.CommandLine.{Task, answers_to, parsed_command_line, explains, named, play, check, show}
+use Rattle.hidlog.specs.CommandLine.{Task, argument_errors, parsed_command_line, explains, named, play, check, show}
 use Rattle.hidlog.specs.declared.args.ShowFormat.{ShowFormat, TheVariants.Lines}
 use Rattle.hidlog.specs.{declared.host.Host.Host, Model.Model, Several.AreSame, Program.writing_failed}
 use Rattle.hidlog.specs.Fault.{RunResult, WritesFault, to_run_result, of_log, reasoned}
@@ -156,7 +156,7 @@ module _ {D I O F : Type 0} (model : Model D I O F) where
   -- message was written. Texts are explained with `--explain`, or by default if they go to a terminal.
   abbrev pub Answers : List (List ℕ) → Status → (old new : Host D I O F) → Type 0
   Answers words status old new = MatchOption (parsed_command_line words)
-      ((kind : ErrorKind) × IsAmong kind (OutOfMemory ∷ answers_to words) × WritesClapMessage kind status old new)
+      ((kind : ErrorKind) × IsAmong kind (OutOfMemory ∷ argument_errors words) × WritesClapMessage kind status old new)
       (λ asked. CarriesOut asked.0 (detail_for (explains asked.1 old.terminals.output))
       (explains asked.1 old.terminals.faults)
       status old new

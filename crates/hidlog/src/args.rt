@@ -1,7 +1,7 @@
 //! The program's command line arguments.
 ghost use Rattle.std.specs.Prelude.{◌≡◌, List, ℕ, Some, IfOk, IfErr, IfSome, option_map, option_and_then};
 ghost use Rattle.clap.specs.Words.{HasKind, subcommand_rows_of};
-ghost use Rattle.hidlog.specs.CommandLine.{AreParsedOptions, answers_to, command_task, task_and_verbosity, parsed_command_line, to_task, explains, show_format, is_set as is_found, logs_of, verbosity_of, task_for, to_texts};
+ghost use Rattle.hidlog.specs.CommandLine.{AreParsedOptions, argument_errors, command_task, task_and_verbosity, parsed_command_line, to_task, explains, show_format, is_set as is_found, logs_of, verbosity_of, task_for, to_texts};
 ghost use Rattle.clap.specs.Matches.{found_of};
 ghost use Rattle.clap.specs.Walk.{rows_of};
 
@@ -245,7 +245,7 @@ fn parse_without_options<'a>(alloc: Global, words: &[&str]) -> Option<Invocation
 #[inline(never)]
 pub fn parse_args<'a>(alloc: Global, words: &'a [&'a str]) -> Result<Invocation<'a>, Error>
     ensures task { IfOk result (λ asked. parsed_command_line (to_texts words.now) ≡ Some (task_and_verbosity asked)) }
-    ensures answer { IfErr result (λ error. HasKind (answers_to (to_texts words.now)) error) }
+    ensures answer { IfErr result (λ error. HasKind (argument_errors (to_texts words.now)) error) }
 {
     if let Some(asked) = parse_without_options(alloc, words) {
         return Ok(asked);

@@ -66,32 +66,32 @@ without_first d [] = Some d
 without_first d (packet ∷ more) = Some (record d { waiting = more })
 
 -- The device after a call of hidlog_key_read_packet.
-abbrev pub after_next : Option DeviceState → Option DeviceState
-after_next None = None
-after_next (Some d) = without_first d d.waiting
+abbrev pub device_after_read : Option DeviceState → Option DeviceState
+device_after_read None = None
+device_after_read (Some d) = without_first d d.waiting
 
 -- The queued packets of a key.
-abbrev pub waiting_of : Option DeviceState → List (List ℕ)
-waiting_of None = []
-waiting_of (Some d) = d.waiting
+abbrev pub queued_packets_of : Option DeviceState → List (List ℕ)
+queued_packets_of None = []
+queued_packets_of (Some d) = d.waiting
 
 -- The first queued packet. If no packet is queued, the old content.
-abbrev pub first_or : List ℕ → List (List ℕ) → List ℕ
-first_or old [] = old
-first_or old (packet ∷ more) = packet
+abbrev pub first_packet_or : List ℕ → List (List ℕ) → List ℕ
+first_packet_or old [] = old
+first_packet_or old (packet ∷ more) = packet
 
 -- The number of queued packets after the first one. If no packet is queued, ERR_NO_PACKET.
-abbrev pub left_after : List (List ℕ) → ℤ
-left_after [] = ERR_NO_PACKET
-left_after (packet ∷ more) = pos (length more)
+abbrev pub packets_left_or_error : List (List ℕ) → ℤ
+packets_left_or_error [] = ERR_NO_PACKET
+packets_left_or_error (packet ∷ more) = pos (length more)
 
 -- The return value of a call of hidlog_key_read_packet.
-abbrev pub next_answer : Option DeviceState → ℤ
-next_answer None = ERR_NOT_INITIALIZED
-next_answer (Some d) = left_after d.waiting
+abbrev pub read_return_value : Option DeviceState → ℤ
+read_return_value None = ERR_NOT_INITIALIZED
+read_return_value (Some d) = packets_left_or_error d.waiting
 
 -- The result of returning the first queued packet. A pair is the caller's packet before and after the call.
 pub record Sends (before after : Option DeviceState) (packet : List ℕ × List ℕ) (result : ℤ) : Type 0 where
-  pub state : after ≡ after_next before
-  pub packet_is : packet.1 ≡ first_or packet.0 (waiting_of before)
-  pub answer : result ≡ next_answer before
+  pub state : after ≡ device_after_read before
+  pub packet_is : packet.1 ≡ first_packet_or packet.0 (queued_packets_of before)
+  pub answer : result ≡ read_return_value before

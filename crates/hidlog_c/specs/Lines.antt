@@ -45,9 +45,9 @@ PlaysOn d (packet ∷ more) after log out outcome result =
     (after ≡ Some d) × (out.1 ≡ out.0) × (outcome.1 ≡ outcome.0) × (result ≡ ERR_PACKETS_QUEUED)
 
 -- The effect of playing lines on a key, and the call's return value.
-abbrev pub TakesLines : (before after : Option DeviceState) → (log : List ℕ) → (List ℕ × List ℕ) →
+abbrev pub ReplaysLines : (before after : Option DeviceState) → (log : List ℕ) → (List ℕ × List ℕ) →
     (CResult × CResult)
     → ℤ → Type 0
-TakesLines None after log out outcome result =
+ReplaysLines None after log out outcome result =
     (after ≡ None) × (out.1 ≡ out.0) × (outcome.1 ≡ outcome.0) × (result ≡ ERR_NOT_INITIALIZED)
-TakesLines (Some d) after log out outcome result = PlaysOn d d.waiting after log out outcome result
+ReplaysLines (Some d) after log out outcome result = PlaysOn d d.waiting after log out outcome result

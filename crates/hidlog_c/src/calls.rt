@@ -10,7 +10,7 @@ ghost use Rattle.hidlog_c.specs.Held.{held};
 ghost use Rattle.hidlog_c.specs.Changed.{Adds, Clears, Removes, SavesKey};
 ghost use Rattle.hidlog_c.specs.Key.{Answers, Sends};
 ghost use Rattle.hidlog_c.specs.Words.{AnswersChecked, parsed_presence_number, signature_input};
-ghost use Rattle.hidlog_c.specs.Lines.{TakesLines};
+ghost use Rattle.hidlog_c.specs.Lines.{ReplaysLines};
 ghost use Rattle.hidlog_c.specs.Reports.{ReportsCredential, ReportsMeters, ReportsNeed, count_or, credential_count, pending_assertions, waiting_packets};
 ghost use Rattle.hidlog_c.specs.Switched.{Initializes};
 
@@ -176,7 +176,7 @@ pub extern "C" fn hidlog_key_replay_lines(
     out: &mut [u8],
     outcome: &mut CResult,
 ) -> i32
-    ensures { TakesLines (held key.old) (held key.new) log.now (out.old, out.new) (outcome.old, outcome.new) result }
+    ensures { ReplaysLines (held key.old) (held key.new) log.now (out.old, out.new) (outcome.old, outcome.new) result }
 {
     key.play(log, out, outcome)
 }

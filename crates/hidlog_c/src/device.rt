@@ -8,7 +8,7 @@ ghost use Rattle.cred_table.specs.Snapshots.{Loads, Refuses};
 ghost use Rattle.hidlog_c.specs.Changed.{Adds, Clears, HasRows, IsBusy, IsIdle, SavesLen, Removes, SavesRows};
 ghost use Rattle.hidlog_c.specs.Causes.{ReportsCause};
 ghost use Rattle.hidlog_c.specs.Key.{Answers, Sends};
-ghost use Rattle.hidlog_c.specs.Lines.{TakesLines};
+ghost use Rattle.hidlog_c.specs.Lines.{ReplaysLines};
 ghost use Rattle.hidlog_c.specs.Switched.{IsStarted};
 ghost use Rattle.hidlog_c.specs.Reports.{ReportsRow, credential_count, to_c_stats, to_c_need, pending_assertions, waiting_packets};
 
@@ -109,7 +109,7 @@ impl Device {
 
     /// Plays lines of a log. If packets are queued, returns an error instead.
     pub fn play(&mut self, log: &[u8], out: &mut [u8], outcome: &mut CResult) -> i32
-        ensures { TakesLines (Some self.old) (Some self.new) log.now (out.old, out.new) (outcome.old, outcome.new) result }
+        ensures { ReplaysLines (Some self.old) (Some self.new) log.now (out.old, out.new) (outcome.old, outcome.new) result }
     {
         if !self.outbox.is_empty() {
             return ERR_PACKETS_QUEUED;

@@ -6,7 +6,7 @@ ghost use Rattle.hidlog_c.specs.Held.{held};
 ghost use Rattle.hidlog_c.specs.Changed.{Adds, Clears, Removes, SavesKey};
 ghost use Rattle.hidlog_c.specs.Key.{Answers, Sends};
 ghost use Rattle.hidlog_c.specs.Words.{refusal_of};
-ghost use Rattle.hidlog_c.specs.Lines.{TakesLines};
+ghost use Rattle.hidlog_c.specs.Lines.{ReplaysLines};
 ghost use Rattle.hidlog_c.specs.Switched.{Begins};
 ghost use Rattle.hidlog_c.specs.Reports.{ReportsCredential, ReportsMeters, ReportsNeed, count_or, credential_count, pending_assertions, waiting_packets};
 
@@ -99,7 +99,7 @@ impl KeyHandle {
 
     /// Plays lines of a log. If packets are queued, returns an error instead.
     pub fn play(&mut self, log: &[u8], out: &mut [u8], outcome: &mut CResult) -> i32
-        ensures { TakesLines (held self.old) (held self.new) log.now (out.old, out.new) (outcome.old, outcome.new) result }
+        ensures { ReplaysLines (held self.old) (held self.new) log.now (out.old, out.new) (outcome.old, outcome.new) result }
     {
         if !self.is_initialized() {
             return ERR_NOT_INITIALIZED;

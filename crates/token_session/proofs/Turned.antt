@@ -8,7 +8,7 @@ use Rattle.authn_core.specs.Turn.{CoreState, turn, working_channel}
 use Rattle.authn_core.specs.Views.{wants_presence, wants_key, wants_signature}
 use Rattle.token_session.specs.declared.input.Input.{Input, TheVariants.Packet, TheVariants.Tick, TheVariants.Presence}
 use Rattle.token_session.specs.declared.input.Input.TheVariants.{Key, Signature}
-use Rattle.token_session.specs.Noise.{is_ignored, is_noise_among, is_turned_away_by}
+use Rattle.token_session.specs.Noise.{is_ignored, is_noise_among, is_ignored_or_rejected}
 use Rattle.std.specs.Prelude.{not}
 
 -- a reply is ignored just where the waiting work doesn't need it
@@ -25,7 +25,7 @@ signature_taken : (u : Setup) (s : State) (t : ℕ) (sig : Option (List ℕ))
 signature_taken u s t sig = unfold turn in grind arith
 
 pub noise_turned_away : (a : Assembly) (core : CoreState) (now : ℕ) (i : Input)
-    → is_noise_among a.given a.current core i ≡ is_turned_away_by a core now i
+    → is_noise_among a.given a.current core i ≡ is_ignored_or_rejected a core now i
 noise_turned_away a core now (Packet p) = noise_turned a (working_channel core) (fields p.0)
 noise_turned_away a core now (Presence reply) = presence_taken core.setup core.state now reply
 noise_turned_away a core now (Key key) = key_taken core.setup core.state now key

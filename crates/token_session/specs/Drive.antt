@@ -31,8 +31,8 @@ abbrev pub drive_number : DriveFault → ℕ
 drive_number (Full done) = 1
 
 -- The number of an error of driving two sessions, as programs print it.
-abbrev pub both_number : BothFault → ℕ
-both_number (BothFull first second) = 1
+abbrev pub drive_both_number : BothFault → ℕ
+drive_both_number (BothFull first second) = 1
 
 -- How many of the `n` inputs were processed.
 abbrev pub inputs_done : {A : Type 0} → ℕ → Result A DriveFault → ℕ
@@ -40,14 +40,14 @@ inputs_done n (Ok x) = n
 inputs_done n (Err (Full done)) = done
 
 -- How many of the `n` inputs were processed in the first run.
-abbrev pub first_done : {A : Type 0} → ℕ → Result A BothFault → ℕ
-first_done n (Ok x) = n
-first_done n (Err (BothFull first second)) = first
+abbrev pub first_inputs_done : {A : Type 0} → ℕ → Result A BothFault → ℕ
+first_inputs_done n (Ok x) = n
+first_inputs_done n (Err (BothFull first second)) = first
 
 -- How many of the `n` inputs were processed in the second run.
-abbrev pub second_done : {A : Type 0} → ℕ → Result A BothFault → ℕ
-second_done n (Ok x) = n
-second_done n (Err (BothFull first second)) = second
+abbrev pub second_inputs_done : {A : Type 0} → ℕ → Result A BothFault → ℕ
+second_inputs_done n (Ok x) = n
+second_inputs_done n (Err (BothFull first second)) = second
 
 -- Before each of the first `done` inputs, the list had capacity for 130 more packets.
 abbrev pub HadCapacity : ℕ → List (ℕ × List ℕ) → SessionState → List Timed → ℕ → Type 0

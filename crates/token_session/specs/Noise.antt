@@ -43,12 +43,12 @@ is_ignored Ignored = true
 is_ignored answer = false
 
 -- Whether an input is ignored, or refused because of its channel. This describes noise by its result.
-abbrev pub is_turned_away_by : Assembly → CoreState → (now : ℕ) → Input → Bool
-is_turned_away_by a core now (Packet p) = is_noise_verdict (verdict a (working_channel core) (fields p.0))
-is_turned_away_by a core now (Presence reply) = is_ignored (core_answer core now (PresenceIs reply))
-is_turned_away_by a core now (Key key) = is_ignored (core_answer core now (KeyIs key))
-is_turned_away_by a core now (Signature signature) = is_ignored (core_answer core now (SignatureIs signature))
-is_turned_away_by a core now Tick = false
+abbrev pub is_ignored_or_rejected : Assembly → CoreState → (now : ℕ) → Input → Bool
+is_ignored_or_rejected a core now (Packet p) = is_noise_verdict (verdict a (working_channel core) (fields p.0))
+is_ignored_or_rejected a core now (Presence reply) = is_ignored (core_answer core now (PresenceIs reply))
+is_ignored_or_rejected a core now (Key key) = is_ignored (core_answer core now (KeyIs key))
+is_ignored_or_rejected a core now (Signature signature) = is_ignored (core_answer core now (SignatureIs signature))
+is_ignored_or_rejected a core now Tick = false
 
 -- A tick at this time.
 abbrev pub tick_at : ℕ → Timed

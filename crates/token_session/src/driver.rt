@@ -4,7 +4,7 @@ ghost use Rattle.arrayvec.specs.ArrayVec.{array_vec_len};
 ghost use Rattle.authn_core.specs.Turn.{Start};
 ghost use Rattle.token_session.specs.declared.input.Timed.{Timed as OneInput};
 ghost use Rattle.token_session.specs.Carried.{ArriveWithFullPackets, HasFullPacket};
-ghost use Rattle.token_session.specs.Drive.{numbered_packet, packet_of, both_number, drive_number, inputs_done, first_done, second_done, HadCapacity, IsDriven};
+ghost use Rattle.token_session.specs.Drive.{numbered_packet, packet_of, drive_both_number, drive_number, inputs_done, first_inputs_done, second_inputs_done, HadCapacity, IsDriven};
 ghost use Rattle.token_session.specs.Headline.{IsAnswered, IsBounded, start_of};
 ghost use Rattle.token_session.specs.Answered.{packets_sent_from};
 ghost use Rattle.token_session.specs.Law.{with_input_number, append_inputs, sent_from};
@@ -53,7 +53,7 @@ pub enum BothFault {
 impl BothFault {
     /// Returns the number of the error.
     pub fn number(&self) -> u8
-        ensures { result ≡ both_number self.now }
+        ensures { result ≡ drive_both_number self.now }
     {
         match self {
             BothFault::Full { .. } => 1,
@@ -181,15 +181,15 @@ pub fn drive_both<const C: usize, const N: usize>(
 ) -> Result<(Meters, Meters), BothFault>
     // The contract of `drive` holds for both runs.
     ensures first { IsDriven N first.old first.new (map numbered_packet sent.old.items) (map numbered_packet sent.new.items)
-        inputs.now (first_done (length inputs.now) result) }
+        inputs.now (first_inputs_done (length inputs.now) result) }
     ensures second { IsDriven N second.old second.new (map numbered_packet quiet_sent.old.items)
-        (map numbered_packet quiet_sent.new.items) quiet.now (second_done (length quiet.now) result) }
+        (map numbered_packet quiet_sent.new.items) quiet.now (second_inputs_done (length quiet.now) result) }
     ensures meters { IfOk result (λ meters. (meters.0 ≡ first.new.meters) × (meters.1 ≡ second.new.meters)) }
     // The call fails if and only if one of the two runs fails. If the first one fails, the second one isn't begun.
     ensures full { IfErr result (λ e.
-        ((first_done 0 result < length inputs.now) × (N < array_vec_len sent.new + OUTBOX_CAPACITY)
-        × (second_done 0 result ≡ 0))
-        ⊎ ((first_done 0 result ≡ length inputs.now) × (second_done 0 result < length quiet.now)
+        ((first_inputs_done 0 result < length inputs.now) × (N < array_vec_len sent.new + OUTBOX_CAPACITY)
+        × (second_inputs_done 0 result ≡ 0))
+        ⊎ ((first_inputs_done 0 result ≡ length inputs.now) × (second_inputs_done 0 result < length quiet.now)
         × (N < array_vec_len quiet_sent.new + OUTBOX_CAPACITY))) }
     // If the second of two histories with the same start has ticks in place of ignored inputs before the run, the same
     // is true after the run.

@@ -31,7 +31,7 @@ ghost use Rattle.token_session.specs.Signing.{latest_requests, IsAnsweredBy};
 ghost use Rattle.token_session.specs.Answered.{AgreesWithExchanges, exchanges_of, pending_work_of};
 ghost use Rattle.token_session.specs.Headline.{IsAnswered, IsBounded};
 ghost use Rattle.token_session.specs.Meters.{SessionState, meters_of, session_of, stepped};
-ghost use Rattle.token_session.specs.Noise.{HasTicksForNoise, is_noise_among, is_turned_away_by, is_noise_at, is_noise_after, quiet_from, quiet_sent, tick_at};
+ghost use Rattle.token_session.specs.Noise.{HasTicksForNoise, is_noise_among, is_ignored_or_rejected, is_noise_at, is_noise_after, quiet_from, quiet_sent, tick_at};
 ghost use Rattle.hid_packet.specs.Limits.{MAX_STORED_LEN, OUTBOX_CAPACITY};
 
 use authn_core::laws::{
@@ -140,7 +140,7 @@ pub fn noise_is_a_tick()
     // An input is ignored if and only if it is a packet for which no packet or only an ERROR packet "invalid channel"
     // or "channel busy" is sent, or a reply that the authenticator ignores. A tick isn't.
     ensures answered { (a : Assembly) (core : CoreState) (now : ℕ) (i : Input)
-        → is_noise_among a.given a.current core i ≡ is_turned_away_by a core now i }
+        → is_noise_among a.given a.current core i ≡ is_ignored_or_rejected a core now i }
     ensures packets { (s : MachineState) (at : ℕ) → (turn s (tick_at at)).packets ≡ (time_passed s (max s.now at)).packets }
     ensures named { (s : MachineState) (start : Start) (h : List OneInput) (x : OneInput) → IsMachineAfter s start h
         → is_noise_at s x ≡ is_noise_after start (received_after start h x) (received start h) }

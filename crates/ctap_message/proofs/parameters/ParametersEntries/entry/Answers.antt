@@ -1,6 +1,6 @@
 use Rattle.std.proofs.Common.{◌≡◌, ◌-◌, ◌&&◌, ◌||◌, refl, ap, rules}
 use Rattle.ctap_message.specs.{Members.map_of, Descriptors.parameter_types}
-use Rattle.ctap_message.specs.Fields.{parameter_in, is_whole_parameter, names_es256, parameters_in}
+use Rattle.ctap_message.specs.Fields.{parameter_in, is_whole_parameter, is_for_es256, parameters_in}
 use Rattle.ctap_message.specs.Collected.{to_parameter, to_parameters}
 use Rattle.ctap_message.proofs.Collecting.{adds_entry, map_read}
 use Rattle.ctap_message.proofs.Growing.{parameter_start, parameters_more}
@@ -14,7 +14,7 @@ returns c =
     let p = to_parameter c.read_members.new.members in
     let w : c.if-is_some.self ≡ is_whole_parameter p = elim c.if-is_some.branch
     [ then-is_some w ↦ search rules | else-is_some w ↦ search rules ] in
-    let s : c.if-eq.self ≡ names_es256 p = elim c.if-eq.branch [ then-eq w ↦ search rules | else-eq w ↦ search rules ]
+    let s : c.if-eq.self ≡ is_for_es256 p = elim c.if-eq.branch [ then-eq w ↦ search rules | else-eq w ↦ search rules ]
     in
     adds_entry to_parameters (map_of parameter_types) parameters_in (5 - c.args.level) c.in_ok-typed.typed
     c.args.self.now _ h.0 c.args.cursor.now c.read_members.new.cursor h.1 (ap (λ x. x.0) h.2)
