@@ -135,11 +135,11 @@ pub record FailsAtValue (levels n : ℕ) (old new : Reading) (at : ℕ) (kind : 
   pub takes : TakesKey last between at_value key
   pub halts : Fails levels at_value new at kind
 
--- The cursor reads some `n` pairs of a map.
+-- The cursor reads `n` pairs of a map, with any keys and values.
 abbrev pub PassesSomePairs : ℕ → ℕ → Reading → Reading → Type 0
 PassesSomePairs levels n old new = (ps : Pairs) × (last : Option (List ℕ)) × PassesPairs levels n ps last old new
 
--- The cursor reads some item with its content.
+-- The cursor reads any item with its content.
 abbrev pub PassesOne : ℕ → Reading → Reading → Type 0
 PassesOne levels old new = (t : Tree) × Passes levels t old new
 
@@ -153,7 +153,7 @@ part_of_tree (Map ps) = OpensMap (count_pairs ps)
 abbrev pub PassesHead : ℕ → Part → Reading → Reading → Type 0
 PassesHead levels part old new = (t : Tree) × Passes levels t old new × (part ≡ part_of_tree t)
 
--- The cursor reads some `n` items with their content.
+-- The cursor reads any `n` items with their content.
 abbrev pub PassesSome : ℕ → ℕ → Reading → Reading → Type 0
 PassesSome levels n old new = (ts : Trees) × PassesAll levels n ts old new
 

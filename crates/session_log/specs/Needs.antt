@@ -16,18 +16,18 @@ signed_line bytes = codes "# signed " ++ encode_lower bytes
 abbrev pub signature_line : List ℕ → List ℕ
 signature_line id = codes "# need signature " ++ encode_lower id
 
--- The lines for a need. For a signature, there are lines with the bytes to sign, 96 bytes per line, before the line
--- with the need.
+-- The lines about what the key needs. For a signature, lines with the bytes to sign, 96 bytes per line, come before the
+-- line that states the need.
 abbrev pub need_lines : Needed → List (List ℕ)
 need_lines nothing = codes "# need nothing" ∷ []
 need_lines presence = codes "# need presence" ∷ []
 need_lines key = codes "# need key" ∷ []
 need_lines (sign id signed) = map signed_line (pieces_of signed) ++ signature_line id ∷ []
 
--- Whether a comment is the line with a need.
+-- Whether a comment is the line that states what the key needs.
 abbrev pub reports_need : List ℕ → Bool
 reports_need line = starts_with ◌==◌ line (codes "# need ")
 
--- Whether a comment is one of the lines for a need.
+-- Whether a comment is a line about what the key needs, including a line with bytes to sign.
 abbrev pub is_need_line : List ℕ → Bool
 is_need_line line = reports_need line || starts_with ◌==◌ line (codes "# signed ")

@@ -17,7 +17,7 @@ pub record HasLine (n : ℕ) (window : List ℕ) (end : ℕ) : Type 0 where
   pub short : length window ≤ 256
   pub counted : n < 2 ^ 32
 
--- The error for which line `n` can't be read from the window.
+-- Line `n` can't be read from the window because of this error.
 abbrev pub Stops : ℕ → List ℕ → LogFault → Type 0
 Stops n window TooManyLines = (2 ^ 32 ≤ n) × (0 < length window) × (length window ≤ 256)
 Stops n window (TooLong m) = (m ≡ n) × (n < 2 ^ 32) × (position is_line_feed window ≡ None) × (length window ≡ 256)

@@ -18,7 +18,7 @@ state_of start h = record {
   keepalive_at = last_keepalive start h;
 }
 
--- The state is the one that the history defines, as `state_of` does.
+-- The state is the one that `state_of` defines for the history.
 abbrev pub IsMachineAfter : MachineState → Start → List Timed → Type 0
 IsMachineAfter s start h = s ≡ state_of start (received start h)
 
