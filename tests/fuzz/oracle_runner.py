@@ -22,10 +22,12 @@ def check_logs(
     judge: Callable[[Task], Judged],
     summary: str,
     lines_of: Optional[Callable[[str, int], list[str]]] = None,
+    always: tuple[int, ...] = (),
 ) -> int:
     """Checks the logs selected by the command line, and returns the exit status. Prints the first findings and the
     summary, which has the numbers of logs, items checked and logs with a finding. With --only, prints the log's lines
-    first if `lines_of` is given."""
+    first if `lines_of` is given. With the seed 1, the logs of the numbers in `always` are checked whatever the count.
+    """
     parser = argparse.ArgumentParser(description=about.split("\n", maxsplit=1)[0])
     parser.add_argument("--seed", default="1")
     parser.add_argument("--count", type=int, default=1000)
@@ -34,7 +36,8 @@ def check_logs(
     parser.add_argument("--executor", default="", metavar="dask://HOST:PORT", help="a Dask scheduler's workers judge")
     parser.add_argument("--program", default=os.path.join(TOP, "release", "hidlog"))
     asked = parser.parse_args()
-    numbers = range(asked.count) if asked.only is None else [asked.only]
+    more = [number for number in always if asked.seed == "1" and number >= asked.count]
+    numbers = [*range(asked.count), *more] if asked.only is None else [asked.only]
     if asked.only is not None and lines_of:
         print("\n".join(lines_of(asked.seed, asked.only)))
     found = looked_at = 0

@@ -33,6 +33,9 @@ from oracle_runner import check_logs
 from other_key import ASSERT, CANCEL, CBOR, ENDS_BY_OTHER_MESSAGE, INFO, INIT, MAKE, MSG, PING, SILENT, TOUCHED
 from other_key import UNANSWERED_ENDS, WINK, Key, Log, Message
 
+# Logs of the seed 1 in which an earlier version identified a packet wrongly.
+FORMERLY_WRONG = (2317, 2817, 5995, 7011, 7531)
+
 
 def make_host_packets(chance: random.Random, channel: int) -> list[bytes]:
     """Returns the packets of one message, some of which may be lost or sent twice."""
@@ -179,6 +182,7 @@ def main() -> int:
         check_log,
         "{} logs, {} packets and messages identified, {} logs with a wrong result",
         lambda seed, number: simulate(random.Random(f"{seed}/{number}")).lines,
+        FORMERLY_WRONG,
     )
 
 

@@ -1,5 +1,5 @@
--- The tracked channels after a packet: which one makes way for another, and what the device's packet on one of them means
--- for the others (CTAP 2.1, sections 6.3 and 11.2.9.1.3).
+-- The tracked channels after a packet: which channel is evicted for another one, and how a packet of the device on one
+-- channel changes the others (CTAP 2.1, sections 6.3 and 11.2.9.1.3).
 use Rattle.std.specs.Prelude.{◌≡◌, ◌<◌, ℕ, Bool, true, false, not, ◌&&◌, ◌||◌, ◌==◌, nat_lt, List, [], ◌∷◌, ◌++◌, map, fold}
 use Rattle.std.specs.List.{list_any}
 use Rattle.std.specs.Prelude.{option_map, slice_get, slice_set, Option, Some, None, is_none, if◌then◌else◌}
@@ -40,11 +40,11 @@ open_transactions c =
     response_in_progress c ++ (map (λ g. open_end (open_init c.number g)) c.pending_inits.items
     ++ (open_message c.current ++ open_message c.contender))
 
--- The ended transactions, with these that are tracked no longer.
+-- The ended transactions, together with transactions that are no longer tracked.
 abbrev pub with_forgotten : List Ended → List Ended → List Ended
 with_forgotten ended tracked = fold (λ ends m. with_end ends m.exchange Forgotten) ended tracked
 
--- The ended transactions, with these that the INIT on a line drops.
+-- The ended transactions, together with transactions that the INIT on a line drops.
 abbrev pub with_dropped : ℕ → List Ended → List Ended → List Ended
 with_dropped line ended tracked = fold (λ ends m. with_end ends m.exchange (Dropped line)) ended tracked
 
@@ -62,7 +62,7 @@ fresh_channel number line = record {
   has_ambiguous_keepalive = false;
   ambiguous_count = 0;
   last_lost_line = 0;
-  last_packet_at = 0;
+  last_active_at = 0;
   last_keepalive_at = 0;
   last_response = record {
     line = 0;
@@ -73,24 +73,31 @@ fresh_channel number line = record {
   last_asserted_rp = no_rp_id;
 }
 
--- One of two channels makes way sooner: the idle one, if only one is idle, and else the one that was used earlier.
+-- A channel whose first tracked packet is on this line, at time `now`. If a channel with an open transaction was evicted,
+-- this may be it: then the device may be processing an unidentified message.
+abbrev pub tracked_channel : (has_forgotten : Bool) → (now number line : ℕ) → Channel
+tracked_channel true now number line = record (fresh_channel number line) { ambiguous_count = 1; last_active_at = now }
+tracked_channel false now number line = fresh_channel number line
+
+-- The first of two channels is evicted before the second: it alone is idle, or both or neither are idle and it was used
+-- earlier.
 abbrev pub is_sooner : (is_idle : Bool) → (used : ℕ) → (is_other_idle : Bool) → (other_used : ℕ) → Bool
 is_sooner true used true other = nat_lt used other
 is_sooner true used false other = true
 is_sooner false used true other = false
 is_sooner false used false other = nat_lt used other
 
--- A channel makes way sooner than another.
+-- A channel is evicted before another.
 abbrev pub makes_way_before : Channel → Channel → Bool
 makes_way_before c other = is_sooner (is_idle c) c.used (is_idle other) other.used
 
--- The first of two channels, if there are both, makes way sooner.
+-- There are two channels, and the first one is evicted before the second.
 abbrev pub yields : Option Channel → Option Channel → Bool
 yields None other = false
 yields (Some c) None = false
 yields (Some c) (Some other) = makes_way_before c other
 
--- No channel makes way sooner than the one at an index.
+-- No channel is evicted before the one at an index.
 abbrev pub MakesWay : ℕ → List Channel → Type 0
 MakesWay place channels = (i : ℕ) → i < 6 → yields (slice_get channels i) (slice_get channels place) ≡ false
 
@@ -123,7 +130,8 @@ ends_by_allocation number line channels ended =
 abbrev pub without_assertion : Channel → Channel
 without_assertion c = record c { last_asserted_rp = no_rp_id }
 
--- Every channel whose index differs, or every one, has no assertion to continue; the others are unchanged.
+-- No channel has an assertion to continue, except the one at an index if the packet's transaction is known. Nothing else
+-- changes.
 abbrev pub AreWithoutAssertion : (place : ℕ) → (is_unknown : Bool) → (old new : List Channel) → Type 0
 AreWithoutAssertion place is_unknown old new = (i : ℕ) → slice_get new i
     ≡ option_map (λ c. if is_unknown || not (i == place) then without_assertion c else c) (slice_get old i)

@@ -51,7 +51,8 @@ end_of_current false contender current = Unknown
 -- The channel after its current message ended.
 abbrev pub without_current : Bool → OpenTransaction → Channel → Channel
 without_current true current c = record c { is_ambiguous = false }
-without_current false current c = with_unidentified current.transaction.line (record c { is_ambiguous = false })
+without_current false current c =
+    with_unidentified current.transaction.line (record c { is_ambiguous = false; last_active_at = max c.last_active_at current.at })
 
 -- The contender becomes the channel's current message.
 abbrev pub with_contender_accepted : Bool → OpenTransaction → Option OpenTransaction → Channel → Channel
@@ -110,7 +111,7 @@ IDLE_TIMEOUT_MS = 500
 
 -- The channel after a packet of the host. After half a second without packets, no unidentified message is pending.
 abbrev pub after_idle : ℕ → Channel → Channel
-after_idle at c = record c { last_was_stray = false; ambiguous_count = if nat_le IDLE_TIMEOUT_MS (at - c.last_packet_at) then 0 else c.ambiguous_count }
+after_idle at c = record c { last_was_stray = false; ambiguous_count = if nat_le IDLE_TIMEOUT_MS (at - c.last_active_at) then 0 else c.ambiguous_count }
 
 -- The channel after a message began.
 abbrev pub channel_with_message : OpenTransaction → Channel → Channel

@@ -33,7 +33,7 @@ pub record PacketResult : Type 0 where
 
 -- The device may be processing an unidentified message.
 abbrev pub may_be_processing : ℕ → Channel → Bool
-may_be_processing now c = is_owner_unknown c && nat_lt (now - c.last_packet_at) IDLE_TIMEOUT_MS
+may_be_processing now c = is_owner_unknown c && nat_lt (now - c.last_active_at) IDLE_TIMEOUT_MS
 
 -- No RP ID and no credentials.
 abbrev pub no_names : RequestNames
@@ -144,7 +144,7 @@ refused_start code is_undecided c =
     else if is_undecided || c.last_was_init then None
     else c.contender
 
--- The channel without that message.
+-- The channel without the message that began last, if an ERROR refuses it.
 abbrev pub without_refused_start : ℕ → (is_undecided : Bool) → Channel → Channel
 without_refused_start code is_undecided c =
     let place = refused_init code c in
@@ -211,7 +211,7 @@ pub record StartResult : Type 0 where
   pub transaction : Option Transaction
   pub deferred : Bool
 
--- The same with the transaction alone.
+-- The result of a device packet, with the transaction of its message.
 abbrev pub to_start_result : PacketResult → StartResult
 to_start_result r =
     record { channel = r.channel; ended = r.ended; transaction = transaction_of r.transaction; deferred = r.deferred }
@@ -402,7 +402,7 @@ is_idle c = is_none c.current && (is_none c.contender && ((length c.pending_init
 -- that one is pending; a response to no known transaction, that one fewer is.
 unfoldable pub after_device_packet : ResponseStart → ℕ → (is_known : Bool) → Channel → Channel
 after_device_packet answer now is_known before =
-    let c = record before { last_packet_at = now; has_ambiguous_keepalive = (answer.command == KEEPALIVE) && not is_known } in
+    let c = record before { last_active_at = now; has_ambiguous_keepalive = (answer.command == KEEPALIVE) && not is_known } in
     if is_known then c
     else if answer.command == KEEPALIVE then (if is_idle c then with_unidentified answer.line c else c)
     else if (answer.command == ERROR) || (answer.command == INIT) then c

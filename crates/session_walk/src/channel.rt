@@ -5,7 +5,7 @@ ghost use Rattle.session_walk.specs.Owners.{cancelled_transaction, channel_cance
 ghost use Rattle.session_walk.specs.Owners.{continued_message, continuation_match, with_continuation, is_owner_unknown, with_unidentified, channel_with_message};
 ghost use Rattle.session_walk.specs.Owners.{nonce_of, ends_by_contender, after_idle, message_after_continuation, transaction_of};
 ghost use Rattle.hid_packet.specs.Commands.{INIT as INIT_COMMAND};
-ghost use Rattle.session_walk.specs.Channels.{fresh_channel, makes_way_before, open_transactions, with_dropped, with_forgotten};
+ghost use Rattle.session_walk.specs.Channels.{fresh_channel, makes_way_before, open_transactions, tracked_channel, with_dropped, with_forgotten};
 ghost use Rattle.session_walk.specs.Extents.{is_whole};
 ghost use Rattle.std.specs.Prelude.{length, not};
 ghost use Rattle.session_walk.specs.Walks.{packet_time_of, may_wait};
@@ -40,7 +40,7 @@ pub struct PendingInit {
 }
 
 impl PendingInit {
-    /// Returns whether it has this nonce or, without one, a wrong length.
+    /// Returns whether the INIT has this nonce; without a nonce, whether its length is wrong.
     pub fn matches(&self, nonce: Option<u64>) -> bool
         ensures { result ≡ matches_nonce nonce self.now }
     {
@@ -146,10 +146,11 @@ pub struct Channel {
     pub has_ambiguous_keepalive: bool,
     /// Number of further messages, of unknown transactions, that may still be pending here.
     pub ambiguous_count: u8,
-    /// Line of the last of these messages, or of the packet that shows that there is one.
+    /// Line of the last such message, or of the packet that shows that there is one.
     pub last_lost_line: u64,
-    /// Timestamp of the device's last packet.
-    pub last_packet_at: u64,
+    /// Timestamp of the device's last packet, or of the last packet of an unidentified message if that is later. If an
+    /// unidentified message may be older than the first tracked packet, at least the timestamp of that packet.
+    pub last_active_at: u64,
     /// Timestamp of the last KEEPALIVE.
     pub last_keepalive_at: u64,
     /// The device's last message.
@@ -169,6 +170,19 @@ impl Channel {
             last_asserted_rp: RpId::default(),
             ..Channel::default()
         }
+    }
+
+    /// Returns a channel whose first tracked packet is on this line. If a channel with an open transaction was evicted,
+    /// this may be it: then the device may be processing an unidentified message.
+    pub fn tracked(number: u32, line: u64, now: u64, has_forgotten: bool) -> Self
+        ensures { result ≡ tracked_channel has_forgotten now number line }
+    {
+        let mut channel = Channel::fresh(number, line);
+        if has_forgotten {
+            channel.ambiguous_count = 1;
+            channel.last_active_at = now;
+        }
+        channel
     }
 
     /// Returns whether no transaction is open.
@@ -193,7 +207,7 @@ impl Channel {
     pub fn may_be_processing(&self, now: u64) -> bool
         ensures { result ≡ may_be_processing now self.now }
     {
-        self.is_unclear() && now.saturating_sub(self.last_packet_at) < IDLE_TIMEOUT_MS
+        self.is_unclear() && now.saturating_sub(self.last_active_at) < IDLE_TIMEOUT_MS
     }
 
     /// Returns the role of a packet outside any open message: `role`, unless it may belong to an unidentified one.
@@ -256,8 +270,8 @@ impl Channel {
         }
     }
 
-    /// Returns whether it makes way for another channel sooner than `other`: the idle one, if only one is idle, or else
-    /// the least recently used one.
+    /// Returns whether this channel is evicted before `other`: the idle one, if only one is idle, or else the least
+    /// recently used one.
     pub fn makes_way_before(&self, other: &Channel) -> bool
         ensures { result ≡ makes_way_before self.now other.now }
     {
@@ -280,7 +294,7 @@ impl Channel {
             → ended.new.0.items ≡ ends_by_init begun self.old ended.old.0.items }
     {
         self.last_was_stray = false;
-        if begun.at.saturating_sub(self.last_packet_at) >= IDLE_TIMEOUT_MS {
+        if begun.at.saturating_sub(self.last_active_at) >= IDLE_TIMEOUT_MS {
             self.ambiguous_count = 0;
         }
         self.accept_contender(false, ended);

@@ -1,10 +1,10 @@
-//! The tracked channels of a log, a few at a time.
+//! The channels of a log that are tracked at the same time.
 ghost use Rattle.session_walk.specs.declared.channel.Channel.{Channel as AnyChannel};
 ghost use Rattle.session_walk.specs.Walks.{channel_on, is_on, index_on, may_wait};
 ghost use Rattle.std.specs.Prelude.{ℕ, count_by, false, is_none, option_map, position, slice_get, true, None, Some, ◌≡◌, ◌<◌, IfSome, if◌then◌else◌};
 ghost use Rattle.std.specs.Option.{option_copied};
 ghost use Rattle.session_walk.specs.Channels.{AreWithoutAssertion, MakesWay, after_allocation, allocating_line, ends_by_allocation};
-ghost use Rattle.session_walk.specs.Channels.{first_open_after, fresh_channel, may_any_be_processing, open_transactions, replaces_assertion, with_forgotten};
+ghost use Rattle.session_walk.specs.Channels.{first_open_after, may_any_be_processing, open_transactions, replaces_assertion, tracked_channel, with_forgotten};
 ghost use Rattle.session_walk.specs.Replies.{allocated_channel};
 ghost use Rattle.session_walk.specs.Whole.{has_unfinished_response, is_idle, last_transaction};
 ghost use Rattle.session_walk.specs.declared.entry.Role.TheVariants.{Owned};
@@ -32,18 +32,22 @@ pub struct Channels {
 }
 
 impl Channels {
-    /// Returns the index of a channel and records its use on a line. A new channel evicts the least recently used one,
-    /// preferring idle ones.
-    pub fn place(&mut self, number: u32, line: u64, ended: &mut EndedList) -> usize
+    /// Returns the index of a channel and records its use on a line at time `now`. A new channel evicts the least recently
+    /// used one, preferring idle ones.
+    pub fn place(&mut self, number: u32, line: u64, now: u64, ended: &mut EndedList) -> usize
         ensures within { result < 6 }
         ensures found { (c : AnyChannel) → channel_on number self.old.list ≡ Some c
             → slice_get self.new.list result ≡ Some (record c { used = line }) }
         ensures others { (i : ℕ) → (i ≡ result → ⊥) → slice_get self.new.list i ≡ slice_get self.old.list i }
         ensures evicted { index_on number self.old.list ≡ None → MakesWay result self.old.list }
         ensures fresh { index_on number self.old.list ≡ None
-            → slice_get self.new.list result ≡ Some (fresh_channel number line) }
+            → slice_get self.new.list result ≡ Some (tracked_channel self.old.has_forgotten now number line) }
         ensures kept { (c : AnyChannel) → channel_on number self.old.list ≡ Some c
             → ended.new ≡ ended.old }
+        ensures forgotten { (c : AnyChannel) → index_on number self.old.list ≡ None → slice_get self.old.list result ≡ Some c
+            → self.new.has_forgotten ≡ (if is_idle c then self.old.has_forgotten else true) }
+        ensures known { (c : AnyChannel) → channel_on number self.old.list ≡ Some c
+            → self.new.has_forgotten ≡ self.old.has_forgotten }
         ensures ended { (c : AnyChannel) → index_on number self.old.list ≡ None
             → slice_get self.old.list result ≡ Some c
             → ended.new.0.items ≡ (if is_idle c then ended.old.0.items else with_forgotten ended.old.0.items (open_transactions c)) }
@@ -53,11 +57,12 @@ impl Channels {
             return place;
         }
         let place = self.oldest();
+        let has_forgotten = self.has_forgotten;
         if !self.list[place].is_idle() {
             self.has_forgotten = true;
             self.list[place].end_untracked(ended);
         }
-        self.list[place] = Channel::fresh(number, line);
+        self.list[place] = Channel::tracked(number, line, now, has_forgotten);
         place
     }
 
@@ -150,7 +155,7 @@ impl Channels {
         }
     }
 
-    /// Updates all other channels after the initialization packet of a response.
+    /// Updates the other channels after the initialization packet of a response.
     pub fn update_after_response(
         &mut self,
         place: usize,

@@ -51,6 +51,7 @@ impl Channel {
             self.is_ambiguous = false;
             let end = if !is_shown {
                 self.record_ambiguous(current.transaction.line);
+                self.last_active_at = self.last_active_at.max(current.at);
                 End::Unknown
             } else if let Some(line) = current.cancelled {
                 End::Dropped(line)

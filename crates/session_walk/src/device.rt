@@ -123,12 +123,13 @@ impl Channel {
         }
     }
 
-    /// Records a device packet at time `now`. One of no known transaction shows that a message is pending, or no longer.
+    /// Records a device packet at time `now`. If its transaction is unknown, it shows that an unidentified message is
+    /// pending, or that one is no longer pending.
     #[tactic(auto, unfolding(crate::specs::Whole::after_device_packet))]
     fn record_device_packet(&mut self, answer: &ResponseStart<'_>, now: u64, is_known: bool)
         ensures { self.new ≡ after_device_packet answer.now now is_known self.old }
     {
-        self.last_packet_at = now;
+        self.last_active_at = now;
         self.has_ambiguous_keepalive = answer.command == KEEPALIVE && !is_known;
         if is_known {
             return;

@@ -179,8 +179,8 @@ impl Channel {
         self.end_refused_by(code, is_undecided, &start, ended)
     }
 
-    /// Handles an ERROR that refuses the message that began last, if any; or else the current one, if it is known to be
-    /// for that.
+    /// Handles an ERROR that refuses the message that began last, if any. Otherwise it refuses the current message, if
+    /// that is known to be the one.
     fn end_refused_by(
         &mut self,
         code: u8,
@@ -238,7 +238,7 @@ impl Channel {
         }
     }
 
-    /// Handles an ERROR for the current message. Such a request isn't refused with some codes after its KEEPALIVE.
+    /// Handles an ERROR for the current message. After a KEEPALIVE, a request isn't refused with the codes listed below.
     fn end_refused_current(&mut self, code: u8, ended: &mut EndedList) -> Option<Transaction>
         ensures state { self.new ≡ (current_refused code self.old.current self.old ended.old.0.items).channel }
         ensures ended { ended.new.0.items ≡ (current_refused code self.old.current self.old ended.old.0.items).ended }

@@ -32,7 +32,9 @@ impl TransactionTracker {
         ensures settles { self.new.ambiguous ≡ None }
     {
         let channel = channel_of(packet);
-        let place = self.channels.place(channel, number, &mut self.ended);
+        let place = self
+            .channels
+            .place(channel, number, self.now, &mut self.ended);
         match packet.view() {
             View::Start { cmd, len, part, .. } => {
                 self.data_len = part.len().min(usize::from(len));

@@ -48,14 +48,14 @@ impl RpId {
         rp_id
     }
 
-    /// Returns its bytes, empty if there is none.
+    /// Returns the bytes of the RP ID, or none if there is no RP ID.
     pub fn bytes(&self) -> &[u8]
         ensures { result.now ≡ rp_id_bytes self.now }
     {
         self.bytes.get(..self.len).unwrap_or(b"")
     }
 
-    /// Returns it as text, if any.
+    /// Returns the RP ID as text, if there is one.
     pub fn text(&self) -> Option<&str>
         ensures { IfSome result (λ text. text.now ≡ rp_id_bytes self.now) }
     {

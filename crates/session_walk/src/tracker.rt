@@ -197,7 +197,9 @@ impl TransactionTracker {
             → self.new.message_start ≡ host_message number (fields packet.now.0) self.old.now c }
     {
         let channel = channel_of(packet);
-        let place = self.channels.place(channel, number, &mut self.ended);
+        let place = self
+            .channels
+            .place(channel, number, self.now, &mut self.ended);
         match packet.view() {
             View::Start { cmd, len, part, .. } => {
                 self.data_len = part.len().min(usize::from(len));

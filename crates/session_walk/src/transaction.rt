@@ -106,8 +106,8 @@ pub struct RequestNames {
     pub account: Option<HashedId>,
     /// Whether the request needs no user presence: its option `up` is false.
     pub is_silent: bool,
-    /// Whether it may name a credential from before the log: one of its list, or any if authenticatorGetAssertion has
-    /// no list.
+    /// Whether the request may name a credential from before the log: one of its list, or any if an
+    /// authenticatorGetAssertion has no list.
     pub may_name_prior: bool,
 }
 
