@@ -82,6 +82,8 @@ fn to_abilities(bits: u32) -> Abilities {
         verification,
         is_platform: bits & 4 != 0,
         has_resident_key: bits & 8 != 0,
+        has_cred_protect: bits & 16 != 0,
+        has_large_blob: bits & 32 != 0,
     }
 }
 

@@ -1,12 +1,15 @@
-//! Client extensions. The authenticator supports no extension, so each one is rejected, ignored, or answered as
-//! unsupported, as in Chromium.
+//! Client extensions. The authenticator's core supports no extension, so each one is rejected, ignored, or answered as
+//! unsupported, as in Chromium. `Abilities` has the extensions that the caller supports outside the core.
 
 ghost use Rattle.std.specs.Prelude.{◌≡◌};
 ghost use Rattle.webauthn_client.specs.declared.rejection.DomError.TheVariants.{NotSupported};
 
 use crate::json::{Kind, inside, kind_of, member, next_value};
 use crate::number::boolean;
-use crate::options::{decode_member, dictionary, optional_dictionary, required};
+use crate::options::{
+    Abilities, decode_member, dictionary, is_public_key, optional_dictionary, public_key_count,
+    required,
+};
 use crate::rejection::{DomError, Rejection, not_allowed, type_error};
 use crate::relying_party::{Origin, check_site};
 use crate::text::{is_word, to_string_value};
@@ -120,6 +123,7 @@ pub fn check_extension_bytes(extensions: Option<&[u8]>) -> Result<(), Rejection>
 fn check_protection(
     extensions: Option<&[u8]>,
     verification: Option<&[u8]>,
+    abilities: Abilities,
 ) -> Result<(), Rejection> {
     let Some(policy) = extension(extensions, "credentialProtectionPolicy") else {
         return Ok(());
@@ -141,10 +145,20 @@ fn check_protection(
             "it is inconsistent with userVerification",
         ));
     }
-    if is_true(extensions, "enforceCredentialProtectionPolicy") && !is_optional {
-        return Err(not_allowed("credProtect is enforced, but the key does not support it"));
+    if !is_true(extensions, "enforceCredentialProtectionPolicy") {
+        return Ok(());
     }
-    Ok(())
+    if is_optional {
+        return Err(unsupported(
+            "credentialProtectionPolicy",
+            "userVerificationOptional cannot be enforced",
+        ));
+    }
+    if abilities.has_cred_protect {
+        Ok(())
+    } else {
+        Err(not_allowed("credProtect is enforced, but the key does not support it"))
+    }
 }
 
 /// Checks that the URL of the extension `appid` has the same site as the page.
@@ -164,17 +178,22 @@ pub fn check_creation(
     extensions: Option<&[u8]>,
     verification: Option<&[u8]>,
     origin: &Origin,
+    abilities: Abilities,
 ) -> Result<(), Rejection> {
     if extension(extensions, "appid").is_some() {
         return Err(unsupported("appid", "it is only valid when requesting an assertion"));
     }
     check_app_id(extension(extensions, "appidExclude"), origin)?;
-    if boolean(inner_member(extensions, "largeBlob", "read").unwrap_or(b"false"))
-        || is_nonempty_string(inner_member(extensions, "largeBlob", "write"))
-    {
+    if inner_member(extensions, "largeBlob", "read").is_some() {
         return Err(unsupported(
             "largeBlob",
-            "reading and writing are only valid when requesting an assertion",
+            "read is only valid when requesting an assertion",
+        ));
+    }
+    if inner_member(extensions, "largeBlob", "write").is_some() {
+        return Err(unsupported(
+            "largeBlob",
+            "write is only valid when requesting an assertion",
         ));
     }
     if inner_member(extensions, "prf", "evalByCredential").is_some() {
@@ -183,28 +202,54 @@ pub fn check_creation(
             "evalByCredential cannot be set when creating a credential",
         ));
     }
-    check_protection(extensions, verification)?;
-    if is_word(
-        inner_member(extensions, "largeBlob", "support").unwrap_or(b"null"),
-        "required",
-    ) {
+    check_protection(extensions, verification, abilities)?;
+    if requires_large_blob(extensions) && !abilities.has_large_blob {
         return Err(not_allowed("largeBlob is required, but the key does not support it"));
     }
     Ok(())
 }
 
-/// Returns whether a value is a non-empty string.
-fn is_nonempty_string(value: Option<&[u8]>) -> bool {
-    match value {
-        Some(value) => !is_word(value, ""),
-        None => false,
-    }
+/// Returns whether a registration requires a large blob.
+fn requires_large_blob(extensions: Option<&[u8]>) -> bool {
+    is_word(
+        inner_member(extensions, "largeBlob", "support").unwrap_or(b"null"),
+        "required",
+    )
 }
 
-/// Returns whether a record has members, and whether all their names are base64url.
-fn credential_names(record: &[u8]) -> (bool, bool) {
+/// Checks that a credential with a required large blob is discoverable.
+pub fn check_large_blob(extensions: Option<&[u8]>, is_discoverable: bool) -> Result<(), Rejection> {
+    if requires_large_blob(extensions) && !is_discoverable {
+        return Err(not_allowed("largeBlob is required, but the credential is not discoverable"));
+    }
+    Ok(())
+}
+
+/// Returns whether a list of credential descriptors has this credential ID.
+fn is_listed(id: &[u8], list: &[u8]) -> bool {
+    let mut rest = inside(list);
+    for _ in 0..list.len() {
+        let Some((item, after)) = next_value(rest) else {
+            break;
+        };
+        if is_public_key(item)
+            && let Some(value) = member(item, "id")
+            && let Ok(listed) = decode_member(value, "")
+            && listed.as_slice() == id
+        {
+            return true;
+        }
+        rest = after;
+    }
+    false
+}
+
+/// Checks that each name in `evalByCredential` is the ID of a listed credential, as base64url.
+fn check_credential_names(record: &[u8], list: &[u8]) -> Result<(), Rejection> {
+    if public_key_count(list) == 0 {
+        return Err(unsupported("prf", "evalByCredential needs a non-empty allowCredentials"));
+    }
     let mut rest = inside(record);
-    let mut has_any = false;
     for _ in 0..record.len() {
         let Some((key, after_key)) = next_value(rest) else {
             break;
@@ -212,19 +257,33 @@ fn credential_names(record: &[u8]) -> (bool, bool) {
         let Some((_, after)) = next_value(after_key) else {
             break;
         };
-        has_any = true;
-        if is_word(key, "") || decode_member(key, "").is_err() {
-            return (true, false);
+        let id = match decode_member(key, "") {
+            Ok(id) if !id.is_empty() => id,
+            _ => return Err(invalid_name("evalByCredential has a name that isn't base64url")),
+        };
+        if !is_listed(id.as_slice(), list) {
+            return Err(invalid_name(
+                "evalByCredential has the ID of a credential that isn't in allowCredentials",
+            ));
         }
         rest = after;
     }
-    (has_any, true)
+    Ok(())
 }
 
-/// Checks the extensions of an authentication.
+/// Returns the error for an invalid name in `evalByCredential`.
+fn invalid_name(reason: &'static str) -> Rejection {
+    Rejection {
+        error: DomError::Syntax,
+        member: "prf",
+        reason,
+    }
+}
+
+/// Checks the extensions of an authentication with this `allowCredentials`.
 pub fn check_request(
     extensions: Option<&[u8]>,
-    has_list: bool,
+    allowed: &[u8],
     origin: &Origin,
 ) -> Result<(), Rejection> {
     if extension(extensions, "credProps").is_some() {
@@ -243,20 +302,14 @@ pub fn check_request(
             "only one of read and write is allowed at a time",
         ));
     }
-    let (has_any, are_ids) = credential_names(inner_member(
-        extensions,
-        "prf",
-        "evalByCredential",
-    ).unwrap_or(b""));
-    if has_any && !has_list {
-        return Err(unsupported("prf", "evalByCredential needs a non-empty allowCredentials"));
+    if has_write && public_key_count(allowed) != 1 {
+        return Err(unsupported(
+            "largeBlob",
+            "write needs exactly one credential in allowCredentials",
+        ));
     }
-    if !are_ids {
-        return Err(Rejection {
-            error: DomError::Syntax,
-            member: "prf",
-            reason: "evalByCredential has a name that isn't base64url",
-        });
+    if let Some(record) = inner_member(extensions, "prf", "evalByCredential") {
+        check_credential_names(record, allowed)?;
     }
     check_app_id(extension(extensions, "appid"), origin)
 }

@@ -25,6 +25,10 @@ pub struct Abilities {
     pub verification: Verification,
     pub is_platform: bool,
     pub has_resident_key: bool,
+    /// Whether it supports the extension `credProtect` (CTAP 2.1, section 12.1).
+    pub has_cred_protect: bool,
+    /// Whether its discoverable credentials have large blobs.
+    pub has_large_blob: bool,
 }
 
 impl Abilities {

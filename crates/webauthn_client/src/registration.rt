@@ -4,7 +4,9 @@ ghost use Rattle.std.specs.Prelude.{◌≡◌, IfOk, IsTrue};
 ghost use Rattle.webauthn_client.specs.declared.options.Verification.TheVariants.{Verified};
 
 use crate::client_data::{Ceremony, ClientData, write_client_data};
-use crate::extensions::{check_creation, check_extension_bytes, check_extension_types};
+use crate::extensions::{
+    check_creation, check_extension_bytes, check_extension_types, check_large_blob,
+};
 use crate::json::{inside, member, next_value};
 use crate::message::{Message, put, put_bytes, put_head, put_long, put_text};
 use crate::number::{boolean, count, unsigned_long};
@@ -163,7 +165,7 @@ fn put_entities(message: &mut Message, options: &[u8], rp_id: &[u8]) -> Result<(
 }
 
 /// Checks the values of the options, as browsers do before they check the RP ID.
-fn check_values(options: &[u8], origin: &Origin) -> Result<(), Rejection> {
+fn check_values(options: &[u8], origin: &Origin, abilities: Abilities) -> Result<(), Rejection> {
     if decode_member(required(required(options, "user")?, "id")?, "user.id")?.len() > 64 {
         return Err(type_error("user.id", "User handle exceeds 64 bytes"));
     }
@@ -180,6 +182,7 @@ fn check_values(options: &[u8], origin: &Origin) -> Result<(), Rejection> {
         member(options, "extensions"),
         selection(options, "userVerification"),
         origin,
+        abilities,
     )
 }
 
@@ -208,7 +211,7 @@ pub fn encode_request(
     abilities: Abilities,
     message: &mut Message,
 ) -> Result<(), Rejection> {
-    check_values(options, origin)?;
+    check_values(options, origin, abilities)?;
     let given = match member(required(options, "rp")?, "id") {
         Some(id) => Some(to_string_value(id)?),
         None => None,
@@ -220,6 +223,7 @@ pub fn encode_request(
     check_abilities(options, abilities)?;
     requests_verification(options, abilities)?;
     let is_discoverable = is_discoverable(options, abilities)?;
+    check_large_blob(member(options, "extensions"), is_discoverable)?;
     let excluded = member(options, "excludeCredentials").unwrap_or(b"");
     let has_excluded = public_key_count(excluded) > 0;
     let members = 4 + u64::from(has_excluded) + u64::from(is_discoverable);

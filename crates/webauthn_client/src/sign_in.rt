@@ -114,7 +114,7 @@ pub fn encode_request(
     let allowed = member(options, "allowCredentials").unwrap_or(b"");
     check_length(Some(allowed), "allowCredentials")?;
     let has_list = public_key_count(allowed) > 0;
-    check_request(member(options, "extensions"), has_list, origin)?;
+    check_request(member(options, "extensions"), allowed, origin)?;
     let given = match member(options, "rpId") {
         Some(id) => Some(to_string_value(id)?),
         None => None,
