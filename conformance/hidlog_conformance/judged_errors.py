@@ -1,4 +1,4 @@
-"""Checks the key's ERRORs in a recorded log: which message each belongs to, and its code."""
+"""Checks the key's ERRORs in a recorded log: the message that each refuses, and its code."""
 
 from __future__ import annotations
 
@@ -10,7 +10,8 @@ from hidlog_conformance.init_response import NMSG, WINK
 from hidlog_conformance.judged_log import SHOULD, seen
 from hidlog_conformance.judged_statuses import JITTER_MS
 from hidlog_conformance.quantity import quantity
-from hidlog_conformance.transactions import BUSY, INVALID_COMMAND, NO_TIME_OUT, TIMED_OUT, Entry, Transaction
+from hidlog_conformance.transactions import BUSY, INVALID_CHANNEL, INVALID_COMMAND, NO_TIME_OUT, TIMED_OUT
+from hidlog_conformance.transactions import Entry, Transaction
 
 if TYPE_CHECKING:
     from hidlog_conformance.judged_key import KeyJudge
@@ -28,7 +29,7 @@ class ErrorJudge:
 
     def __init__(self, key: "KeyJudge") -> None:
         self.key = key
-        # The channel that has the lock, until when it certainly has it, and until when it may have it.
+        # The channel that has the lock; the time until which it certainly has the lock, and until which it may have it.
         self.locked: Tuple[int, int, int] = (0, 0, 0)
         self.was_locked = False
 
@@ -93,6 +94,9 @@ class ErrorJudge:
         if busy and owner.command != hid.INIT:
             optional = (INVALID_COMMAND,) if owner.command in OPTIONAL else ()
             return (*busy, *strange, *optional, *self.codes_of_unfinished(owner, entry))
+        if strange and self.key.is_from_before(owner.channel):
+            # The log does not show whether the channel was allocated.
+            return strange if entry.packet[7] == INVALID_CHANNEL else self.codes_of_unfinished(owner, entry)
         if strange and owner.command in OPTIONAL:
             return (*strange, INVALID_COMMAND)
         return strange or self.codes_of_unfinished(owner, entry)
@@ -140,9 +144,13 @@ class ErrorJudge:
     def check_refusal(self, entry: Entry, transaction: Transaction) -> None:
         """Checks an ERROR for which the log shows no reason."""
         code = entry.packet[7]
-        if code == OTHER_ERROR or (
-            code == BUSY and (self.key.recording.is_single_client or self.is_locked_out(transaction))
-        ):
+        if code == OTHER_ERROR:
+            return
+        if code == BUSY and (self.key.recording.is_single_client or self.is_locked_out(transaction)):
+            return
+        if code == BUSY and self.key.lacks_start and not self.key.answered_request:
+            # A request from before the log may be in progress, perhaps on this channel.
+            self.key.unsure.add(entry.packet[:4])
             return
         if transaction.command == hid.LOCK and code == BUSY and self.was_locked:
             self.key.find(entry.line, rules.LOCK, "a response, since no other channel has the lock", "ERROR 06")
@@ -158,8 +166,8 @@ class ErrorJudge:
             self.key.find(entry.line, section, "a response", f"ERROR {code:02x}")
 
     def check_capability(self, transaction: Transaction, code: Optional[int]) -> None:
-        """Checks that MSG and WINK are supported as INIT's capabilities say. `code`: of the ERROR, or None if they
-        worked."""
+        """Checks that MSG and WINK are supported as INIT's capabilities say. `code` is that of the ERROR, or None for
+        another response."""
         capabilities = self.key.capabilities.get(transaction.channel)
         if capabilities is None or transaction.command == hid.LOCK or (code is not None and code != INVALID_COMMAND):
             return

@@ -31,7 +31,7 @@ class HostJudge:
 
     def __init__(self, recording: Recording) -> None:
         self.recording = recording
-        # By channel: the last message, the one in progress, and the last refused one.
+        # By channel: the last message, the message in progress, and the last refused message.
         self.begun: Dict[bytes, Transaction] = {}
         self.open: Dict[bytes, Transaction] = {}
         self.refused: Dict[bytes, Transaction] = {}
@@ -117,11 +117,13 @@ class HostJudge:
             self.find_gap(entry.line, rules.BUSY, "a response first, or CANCEL or INIT", actual)
 
     def check_continuation(self, entry: Entry, channel: bytes) -> None:
-        """Checks a continuation packet outside any message. The rest of a message that was just refused is allowed."""
+        """Checks a continuation packet outside any message. It may be part of a message that was just refused."""
         number = entry.packet[4]
         refused = self.refused.get(channel)
         if refused is not None and not refused.whole and number == refused.next:
             refused.add(entry.packet[5:], entry.line)
+            return
+        if entry.part == "stray" and self.is_of_earlier_message(channel):
             return
         if entry.part == "stray" and not self.timed_out(channel, number):
             self.find_gap(entry.line, rules.SEQUENCE, "an initialization packet first", f"continuation packet {number}")
@@ -129,13 +131,17 @@ class HostJudge:
             expected = f"continuation packet {len(self.numbered(entry)) - 1}"
             self.find_gap(entry.line, rules.SEQUENCE, expected, f"continuation packet {number}")
 
+    def is_of_earlier_message(self, channel: bytes) -> bool:
+        """Returns whether a continuation packet may belong to a message that began before the log."""
+        return self.recording.begins_within and channel not in self.begun and channel not in self.allocated
+
     def timed_out(self, channel: bytes, number: int) -> bool:
-        """Returns whether a message timed out just before its next packet came, so the host could not know."""
+        """Returns whether a continuation packet belongs to a message that timed out before the host sent the packet."""
         last = self.begun.get(channel)
         return last is not None and last.end == "timed out" and number >= last.next
 
     def numbered(self, entry: Entry) -> Set[int]:
-        """Returns the lines of an entry's message up to the entry."""
+        """Returns the lines of the packets before an entry in its message."""
         lines = entry.transaction.lines if entry.transaction is not None else []
         return {line for line in lines if line < entry.line}
 

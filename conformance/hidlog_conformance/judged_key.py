@@ -35,7 +35,7 @@ class KeyJudge:
         self.allocated: Dict[int, int] = {}
         self.capabilities: Dict[int, int] = {}
         self.is_first = True
-        # Whether CBOR was answered, and INIT responses without the capability CBOR, with their lines.
+        # Whether the key responded to CBOR; and INIT responses without the capability CBOR, with their lines.
         self.serves_cbor = False
         self.without_cbor: List[Tuple[int, Transaction, hid.Message]] = []
         # Unfinished transactions, oldest first.
@@ -43,7 +43,7 @@ class KeyJudge:
         # The host's last packet by channel.
         self.last: Dict[bytes, Entry] = {}
         self.input: Optional[Entry] = None
-        # Packets with a wrong sequence number that the key has not responded to yet, by the message's first line.
+        # Packets with a wrong sequence number to which the key has not responded yet, one per message.
         self.wrong: List[Entry] = []
         self.disturbed: Set[int] = set()
         # The first lines of messages with a CANCEL between their packets.
@@ -51,8 +51,12 @@ class KeyJudge:
         # The last packet of each unfinished message of the key, by channel.
         self.parts: Dict[int, Entry] = {}
         self.missed: Set[int] = set()
-        # Channels on which it is unknown which request was answered.
+        # Channels on which a response may belong to another request than the last one.
         self.unsure: Set[bytes] = set()
+        # Whether a power cycle came. Whether the key responded to an INIT of the log, and to another request of it; and
+        # the channels on which the key began a message. They limit which packets may depend on the time before the log.
+        self.was_cycled = self.answered_init = self.answered_request = False
+        self.sent_on: Set[bytes] = set()
         # The time of the key's last packet.
         self.sent_at: Optional[int] = None
         # The time of the last KEEPALIVE, by the first line of its unfinished transaction.
@@ -77,8 +81,25 @@ class KeyJudge:
         else:
             self.take_sent(entry)
 
+    @property
+    def lacks_start(self) -> bool:
+        """Whether earlier packets, which the log lacks, may matter: it begins within a session, and no power cycle
+        came."""
+        return self.recording.begins_within and not self.was_cycled
+
+    def is_from_before(self, channel: int) -> bool:
+        """Returns whether a channel may have been allocated before the log began."""
+        return self.lacks_start and channel not in self.allocated and channel not in (0, hid.BROADCAST)
+
+    def note_channel(self, channel: bytes) -> None:
+        """Processes the key's use of a channel. If the log does not have the channel's allocation, it begins within a
+        session."""
+        if int.from_bytes(channel, "big") not in (*self.allocated, 0, hid.BROADCAST):
+            self.recording.begins_within = True
+
     def power_cycle(self, at: int) -> None:
         """Resets the state that a power cycle clears."""
+        self.was_cycled = True
         self.forget()
         self.answers.power_cycle(at)
 
@@ -90,6 +111,10 @@ class KeyJudge:
 
     def take_input(self, entry: Entry) -> None:
         """Records a packet of the host."""
+        if entry.part in ("stray", "cancel") and entry.transaction is None and entry.packet[:4] not in self.last:
+            if self.is_from_before(int.from_bytes(entry.packet[:4], "big")):
+                # It continues or cancels a message from before the log, which may still be answered.
+                self.unsure.add(entry.packet[:4])
         self.last[entry.packet[:4]] = self.input = entry
         if entry.part == "start" and entry.transaction is not None:
             self.open.append(entry.transaction)
@@ -121,6 +146,12 @@ class KeyJudge:
                 self.answers.unanswered(entry.transaction)
         self.close(entry)
         self.is_first, self.sent_at = False, entry.at
+        if entry.packet[4] & 0x80:
+            self.sent_on.add(entry.packet[:4])
+        if entry.transaction is not None and entry.part == "answer":
+            self.note_channel(entry.packet[:4])
+            self.answered_init = self.answered_init or entry.transaction.command == hid.INIT
+            self.answered_request = self.answered_request or entry.transaction.command != hid.INIT
 
     def check_packet(self, entry: Entry) -> None:
         """Checks a packet of the key within its message."""
@@ -132,6 +163,9 @@ class KeyJudge:
             if len(self.parts) > MAX_OPEN:
                 del self.parts[list(self.parts)[0]]
         elif message.problem:
+            if entry.packet[4] < 0x80 and self.is_from_before(channel) and entry.packet[:4] not in self.sent_on:
+                # It continues a response that began before the log.
+                return
             expected, actual = "the packets of a message in order", message.problem
             self.find_gap(entry.line, rules.PACKETS, expected, actual, MUST, rules.SEQUENCE)
         elif any(message.padding):
@@ -144,8 +178,8 @@ class KeyJudge:
             self.check_first_packet(entry)
 
     def close(self, entry: Entry) -> None:
-        """Removes transactions that ended with a packet of the key or before it; except those that a new message of the
-        host ended, which the key may not have received."""
+        """Removes transactions that ended before a packet of the key or with it. Those that a new message of the host
+        ended stay, since the key may not have received that message."""
         self.open = [one for one in self.open if one.by is None or one.by > entry.line or self.is_ousted(one)]
         ended = entry.transaction
         if ended is not None and ended.by == entry.line:
@@ -155,7 +189,7 @@ class KeyJudge:
                 self.close_channel(ended)
 
     def close_channel(self, init: Transaction) -> None:
-        """Ends the transactions on a channel at an INIT; an INIT that failed may not have done so."""
+        """Ends the transactions on a channel at an INIT, unless the INIT failed."""
         if init.end == "answered":
             self.open = [one for one in self.open if one.channel != init.channel]
         else:
@@ -176,6 +210,7 @@ class KeyJudge:
             expected = "a KEEPALIVE of one byte, 01 or 02, for a request"
             self.find(entry.line, rules.KEEPALIVE, expected, f"KEEPALIVE {data[:8].hex()}")
         elif entry.transaction is None:
+            self.note_channel(entry.packet[:4])
             if not self.is_late_start(entry) and entry.packet[:4] not in self.unsure:
                 section = rules.ABORT if self.was_aborted(entry) else rules.KEEPALIVE
                 expected = "a KEEPALIVE of a pending request"
@@ -250,6 +285,9 @@ class KeyJudge:
             )
             return
         if self.recording.is_single_client and (last is None or command == hid.INIT):
+            return
+        if command == hid.INIT and self.lacks_start and not self.answered_init:
+            # It responds to an INIT from before the log.
             return
         if command == hid.INIT:
             waiting = [item for item in self.open if item.command == hid.INIT]
@@ -332,8 +370,8 @@ class KeyJudge:
             self.check_without_cbor()
 
     def check_restart(self, entry: Entry, channel: int) -> None:
-        """Assumes that the key was plugged in again before it allocated a channel, if it was silent for long enough;
-        certain if the channel was allocated before."""
+        """Processes the allocation of a channel: the key may have been plugged in again before it, if it was silent for
+        long enough, and certainly was if it had allocated the channel before."""
         away = self.recording.has_no_timestamps or self.sent_at is None or entry.at - self.sent_at >= MIN_UNPLUGGED_MS
         if away and channel in self.allocated:
             self.forget()
@@ -416,7 +454,7 @@ class KeyJudge:
     def missing(self, owner: Transaction) -> None:
         """Adds a finding about a missing response."""
         section, expected, level = self.missing_response(owner)
-        # A late response is only a missing KEEPALIVE: the standard sets no time limit.
+        # If the response comes late, only KEEPALIVEs are missing, since the standard sets no time limit.
         level = SHOULD if owner.end in ("answered", "refused", "timed out") else level
         self.find_gap(owner.lines[-1], section, expected, "nothing", level)
 

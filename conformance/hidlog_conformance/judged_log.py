@@ -1,7 +1,7 @@
-"""Checks a recorded log: which rules of CTAP 2.1 its packets violate, on the key's side and on the host's.
+"""Checks a recorded log against the rules of CTAP 2.1 for the key and for the host.
 
-The runner plays test cases; this checks a session of any key and client. What packets do not show is not checked: what
-the user did, what the key stored before the log began, what is encrypted.
+The runner plays test cases; this checks a session of any key and client. It does not check anything that packets do not
+show: what the user did, what the key stored before the log began, and encrypted data.
 """
 
 from __future__ import annotations
@@ -24,7 +24,7 @@ if TYPE_CHECKING:
 TITLES = {title.split(" ")[0]: "CTAP 2.1, " + title for title in SECTIONS.values()}
 KEY, HOST = "key", "host"
 MUST, SHOULD = "must", "should"
-# Milliseconds of silence after which a response, or the rest of one, is missing; ten KEEPALIVEs would have come.
+# Milliseconds of silence after which a response, or the rest of a response, is missing. KEEPALIVEs come every 100 ms.
 SILENCE_MS = 1000
 POWER_CYCLE = b"# power cycle"
 TRUNCATED = b"# note: the capture is truncated in its last record"
@@ -35,7 +35,7 @@ _CUT = re.compile(rb"# cut to \d+ bytes: ([<>]) (\d{1,20}) ((?:[0-9a-f]{2}){8,63
 
 @dataclass
 class Finding:
-    """A violated rule: its line and side, and what was expected and found."""
+    """A violated rule: its line and side, and the expected and the actual packet."""
 
     line: int
     side: str
@@ -43,12 +43,12 @@ class Finding:
     section: str
     expected: str
     actual: str
-    # Another section with the same rule, about encodings or sequence numbers.
+    # Another section that has the same rule, about encodings or sequence numbers.
     also: str = ""
 
     @property
     def rule(self) -> str:
-        """The titles of the section and of the other section with the same rule."""
+        """The title of the section, and that of another section with the same rule."""
         title = TITLES.get(self.section, f"CTAP 2.1, {self.section}")
         return title + (f"; also {TITLES[self.also].partition(', ')[2]}" if self.also else "")
 
@@ -69,11 +69,12 @@ class Recording:
         self.unread: List[int] = []
         # The line and time of each power cycle that is not processed yet.
         self.power_cycles: List[Tuple[int, int]] = []
-        # Whether the log has neither timestamps nor KEEPALIVEs, as a client's debug output.
+        # Whether the log has neither timestamps nor KEEPALIVEs, since it was made from a client's debug output.
         self.has_no_timestamps = False
-        # Whether it has only one client's packets.
+        # Whether the log has the packets of only one client.
         self.is_single_client = False
-        # Whether it was imported from a capture, which may end early, and whether the recorder lost packets.
+        # Whether the log was imported from a capture, whether the capture is truncated, and whether the recorder lost
+        # packets.
         self.is_imported = False
         self.is_truncated = False
         self.has_lost = False
@@ -83,16 +84,22 @@ class Recording:
         self.cut: Set[int] = set()
         self.start: Optional[int] = None
         self.lines = 0
+        # Whether the log begins within a session, so that it lacks packets: its first packet is not an INIT request on
+        # the broadcast channel.
+        self.begins_within = False
 
     def take(self, number: int, line: bytes, owners: Owners) -> None:
         """Processes a line."""
         self.lines = number
         kind = line[:1]
         if kind == b"<":
+            self.begins_within = self.begins_within or not self.walk.packets
             self.walk.device(number, bytes.fromhex(line[2:].decode()), owners.of(number))
         elif kind == b">":
             moment, _, digits = line[2:].partition(b" ")
-            self.walk.host(number, int(moment), bytes.fromhex(digits.decode()), owners.of(number))
+            packet = bytes.fromhex(digits.decode())
+            self.begins_within = self.begins_within or (not self.walk.packets and not is_first_init(packet))
+            self.walk.host(number, int(moment), packet, owners.of(number))
         elif kind == b"#":
             self.take_comment(number, line, owners)
             return
@@ -128,6 +135,7 @@ class Recording:
     def take_cut(self, number: int, is_host: bool, at: int, packet: bytes, owners: Owners) -> None:
         """Processes a truncated packet, of which only the header is known."""
         self.cut.add(number)
+        self.begins_within = self.begins_within or (not self.walk.packets and not (is_host and is_first_init(packet)))
         if is_host:
             self.walk.host(number, at, packet, owners.of(number))
             return
@@ -151,14 +159,14 @@ class Recording:
     def find_gap(
         self, line: int, side: str, section: str, expected: str, actual: str, level: str = MUST, also: str = ""
     ) -> None:
-        """Adds a finding about missing or misordered packets: a SHOULD violation if the recorder may have lost them. A
-        client's debug output has all packets it sent, but may lack received ones."""
+        """Adds a finding about missing or misordered packets: a SHOULD violation if the recorder may have lost them.
+        The debug output of a client has all packets that it sent, but may lack packets that it received."""
         lost = self.has_lost or (self.is_single_client and side == KEY)
         self.gap = line if self.gap is None else self.gap
         self.find(line, side, section, expected, actual, SHOULD if lost else level, also)
 
     def judged(self, seen: rules.Seen, line: int, differs: Mismatch, level: str = MUST) -> None:
-        """Adds a finding for a `Mismatch`, under the rule that the runner would name."""
+        """Adds a finding for a `Mismatch`, under the rule that the conformance tests name for it."""
         encoding = "canonical CBOR" in differs.expected or differs.expected == "a map"
         self.find(
             line,
@@ -171,8 +179,13 @@ class Recording:
         )
 
     def was_unread(self, line: int) -> bool:
-        """Returns whether packets at a line may be late, because no program read from the key before."""
+        """Returns whether a packet may be late because no program had read from the key before."""
         return bool(self.unread) and self.unread[0] < line
+
+
+def is_first_init(packet: bytes) -> bool:
+    """Returns whether a host's packet is an INIT request on the broadcast channel, with which sessions begin."""
+    return packet[:5] == b"\xff" * 4 + bytes([0x80 | hid.INIT])
 
 
 def padded(digits: bytes) -> bytes:
@@ -181,7 +194,7 @@ def padded(digits: bytes) -> bytes:
 
 
 def message_of(answer: Answer) -> Message:
-    """Converts a device's message."""
+    """Returns a device's message, without its lines."""
     return Message(answer.channel, answer.command, answer.data, padding=answer.padding)
 
 
@@ -195,7 +208,7 @@ def section_of(transaction: Transaction) -> str:
 def seen(
     transaction: Optional[Transaction], expected: str, actual: Optional[Message], own: str = "", partial: bool = False
 ) -> rules.Seen:
-    """Returns the arguments of `rules.broken`."""
+    """Returns the difference between an expectation and a response to a transaction."""
     request = transaction.data if transaction is not None and transaction.command == hid.CBOR else b""
     section = own or (section_of(transaction) if transaction is not None else rules.PACKETS)
     cancelled = transaction is not None and transaction.cancelled is not None
@@ -203,8 +216,7 @@ def seen(
 
 
 def walked(log: bytes) -> bytes:
-    """Returns the log for `hidlog_transactions`, with the same line numbers: truncated packets are padded, and only the
-    part after the last power cycle counts."""
+    """Returns a log as `hidlog_transactions` reads it, with the same line numbers: truncated packets are padded."""
     if b"# cut to " not in log:
         return log
     return b"\n".join([whole_line(line) for line in log.split(b"\n")])
@@ -250,7 +262,7 @@ def judge_parts(parts: Iterable[bytes], walk: Callable[[bytes], bytes]) -> Recor
 
 
 def check_entries(recording: Recording, host: "HostJudge", key: "KeyJudge") -> None:
-    """Checks and drops the pending packets, about which nothing more can become known."""
+    """Checks the packets of finished transactions, and drops them."""
     for entry in recording.walk.take_entries():
         host.take(entry)
         key.take(entry)

@@ -5,6 +5,7 @@ from __future__ import annotations
 import itertools
 import json
 import random
+import re
 import subprocess
 import sys
 from collections.abc import Callable
@@ -29,6 +30,10 @@ PROGRAM = TOP / "release" / "hidlog"
 CAPTURES = sorted(path for path in DATA.iterdir() if path.suffix != ".log")
 # Clients' sessions with this project's key; the logs have only the host's side.
 RECORDED = sorted((TOP / "conformance" / "recorded").glob("*.log"))
+# Logs that are also judged from each line on, and numbers of lines in what is expected.
+BEGUN_EARLIER = [TOP / "examples" / name for name in ("sign_in.log", "time_out.log", "two_hosts.log")]
+BEGUN_EARLIER += [TOP / "examples" / "failing" / "busy_channel.log", DATA / "killed.log", DATA / "two_clients.log"]
+LINE_NUMBER = re.compile(r"line \d+")
 Broken = list[tuple[int, str, str, str]]
 
 
@@ -161,6 +166,29 @@ CASES: dict[str, tuple[list[str], Broken]] = {
 def test_what_is_broken(name: str) -> None:
     lines, wanted = CASES[name]
     assert find_violations("\n".join([*INIT, *lines, ""]).encode()) == wanted
+
+
+@pytest.mark.parametrize("path", BEGUN_EARLIER, ids=str)
+def test_a_log_that_begins_within_a_session(path: Path) -> None:
+    """The end of a log, from any line on, has no MUST violation that the whole log does not have."""
+    lines = path.read_bytes().split(b"\n")
+    whole = {LINE_NUMBER.sub("line", f"{item.section} {item.expected}") for item in judge(b"\n".join(lines))}
+    for start in range(1, len(lines)):
+        found = [item for item in judge(b"\n".join(lines[start:])) if item.level == "must"]
+        sections = [LINE_NUMBER.sub("line", f"{item.section} {item.expected}") for item in found]
+        assert set(sections) <= whole, f"from line {start + 1}: {found}"
+
+
+@pytest.mark.parametrize("code, head, wanted", [
+    (5, [], []), (6, [], []), (4, [], ["11.2.5.4"]), (5, ["# power cycle"], ["11.2.3"]), (6, ["# power cycle"], ["11.2.3"])
+])  # fmt: skip
+def test_an_error_on_a_channel_allocated_before_the_log(code: int, head: list[str], wanted: list[str]) -> None:
+    """A message may time out, and the device may be busy; but no sequence number was wrong. After a power cycle no channel
+    is allocated."""
+    length = 99 if code == 5 else 57
+    lines = [f"> 0 {format_continuation(7, 1)}", *head, f"> 100 {format_packet(7, 0x01, bytes(57), length)}", "t 900"]
+    log = "\n".join([*lines, f"< {format_packet(7, 0x3F, bytes([code]))}", ""]).encode()
+    assert [section for _, side, _, section in find_must_violations(log) if side == "key"] == wanted
 
 
 def test_a_wrong_signature_is_found() -> None:
