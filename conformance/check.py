@@ -1,12 +1,12 @@
 #!/usr/bin/env python3
 """Checks the corpus itself.
 
-    conformance/check.py faults [WORD ..]       faulty authenticators are found, under the section that they violate
+    conformance/check.py faults [WORD ..]       the cases detect faulty authenticators, under the violated section
     conformance/check.py lawful [WORD ..]       conforming authenticators have no violation, in the cases and in a walk
-    conformance/check.py others                 an authenticator that shares no code with this project
-    conformance/check.py judged [WORD ..]       recordings of authenticators, by the rules of `hidlog judge`
-    conformance/check.py judged --clients       recordings of clients
-    conformance/check.py clients                python-fido2 and libfido2 play the sessions for clients
+    conformance/check.py others                 an authenticator that shares no code with this project fails listed cases
+    conformance/check.py judged [WORD ..]       `hidlog judge` detects faults in recordings of authenticators
+    conformance/check.py judged --clients       and in recordings of clients
+    conformance/check.py clients                python-fido2 and libfido2 fail the listed sessions for clients
     conformance/check.py clients --pin          and use the PIN of the reference authenticator
 
 `conformance/check.py NAME --help` lists further options of faults, lawful and judged.
@@ -23,7 +23,7 @@ HERE = os.path.dirname(os.path.abspath(__file__))
 sys.path.insert(0, os.path.join(HERE, "checks"))
 
 NAMES = ("faults", "lawful", "others", "judged", "clients")
-# Modules of two names with an option.
+# The modules of checks with an option, by name and option.
 WITH_OPTION = {("judged", "--clients"): "judged_clients", ("clients", "--pin"): "pin_clients"}
 
 

@@ -1,8 +1,8 @@
 #!/usr/bin/env python3
-"""Tests the ways to a device, the reports, and how the runner handles broken devices and clients.
+"""Tests the connections to a device, the reports, and how the runner handles broken devices and clients.
 
-    conformance/self_test.py          all tests, in parallel processes, since they mostly wait
-    conformance/self_test.py WORD ..  the tests whose names contain a word, in this process
+    conformance/self_test.py          run all tests, in parallel processes, since they mostly wait
+    conformance/self_test.py WORD ..  run the tests whose names contain a word, in this process
 
 Each test of a broken device or client is run again with the tested code disabled, and must then fail.
 """
@@ -42,7 +42,7 @@ TESTS = {
 }
 
 
-# The number of parallel processes; the ways to a device, in real time, are one of them.
+# The number of parallel processes. One of them runs the tests of ways.py, which measure real time.
 JOBS = 6
 REAL_TIME = "ways/"
 

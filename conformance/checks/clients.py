@@ -1,6 +1,6 @@
 """Runs the client tests against python-fido2 and libfido2, and compares their failures with the lists.
 
-    conformance/check.py clients    fail if other sessions fail than listed in clients/NAME.failed
+    conformance/check.py clients    fail unless exactly the sessions in clients/NAME.failed fail
 
 SHOULD violations count as failures here.
 """

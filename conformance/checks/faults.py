@@ -3,10 +3,10 @@
     conformance/check.py faults [--jobs N]          all
     conformance/check.py faults [--jobs N] WORD ..  those whose names contain a word
 
-Faults are filters between the runner and hidlog live: all cases are run without the choices of the profile, and cases
-of other rules may not fail, except those in `implies`. Mutants are wrong methods of the reference authenticator: cases
-are run until two fail under the violated rule; with `--whole` all are run, and the failed ones counted by rule. Each
-must be detected by two cases, or is listed with the reason. Mutants with a fault of state are detected by two walks.
+A fault is a filter between the runner and hidlog live. All cases run, without the choices of the profile; none may fail
+under another rule, except the rules in `implies`. A mutant is the reference authenticator with a wrong method. Cases
+run until two fail under the violated rule; with `--whole` all run, and failed cases are counted by rule. Two cases must
+detect each fault and mutant, unless it is listed with the reason. Two walks must detect each mutant that needs state.
 """
 
 from __future__ import annotations
@@ -110,7 +110,7 @@ def main(arguments: List[str]) -> int:
     options = parser.parse_args(arguments)
     names: Dict[str, Callable[[], Tuple[bool, str]]] = {name: functools.partial(judge_fault, name) for name in FAULTS}
     for name in MUTANTS:
-        # Some exist both as a filter and as a mutant.
+        # A filter and a mutant may have the same name.
         other = name if name not in names else f"{name}_of_reference"
         kept = functools.partial(run_kept_mutant, name)
         names[other] = kept if options.kept else functools.partial(run_mutant, name, whole=options.whole)

@@ -1,10 +1,10 @@
 """Records authenticators during the conformance tests, and checks the recordings with the rules of `hidlog judge`.
 
-    conformance/check.py judged [--jobs N] [WORD ..]                faulty ones, by packets and timestamps alone
-    conformance/check.py judged --conforming [--jobs N] [WORD ..]   conforming ones: no MUST violation is allowed
+    conformance/check.py judged [--jobs N] [WORD ..]                each faulty authenticator must be detected
+    conformance/check.py judged --conforming [--jobs N] [WORD ..]   no conforming one may have a MUST violation
 
-A faulty one is detected if a recording of a session that detects it violates its section. `conformance/judged.known`
-lists those that packets do not show, with reasons.
+A faulty authenticator is detected if the recording of a case that it fails has a violation of the same section.
+`conformance/judged.known` lists faults that packets and timestamps do not show, with reasons.
 """
 
 from __future__ import annotations
@@ -45,7 +45,7 @@ from proved_walk import judge  # noqa: E402
 FAULTS: Dict[str, Fault] = {fault.name: fault for fault in WIRE_FAULTS + CBOR_FAULTS}
 # Milliseconds that a host waits for a response, as the runner does with a real-time device.
 WAIT_MS = 3000
-# Those whose INIT response is so wrong that the runner does not start: they are played as if it had.
+# Faults of the INIT response that end a run before its first case. Their cases are recorded without the runner.
 INVALID_INIT_FAULTS = ("packet_short", "length_of_packets", "init_short")
 # The maximum of recordings per fault.
 MAX_RECORDINGS = 24
@@ -120,7 +120,7 @@ class Recorder:
 
 
 class FullPlayer(Player):
-    """Plays a session to its end, whatever differs; the first difference is the outcome."""
+    """Plays a session to its end; the first difference is the outcome."""
 
     def __init__(self, *words: Any) -> None:
         super().__init__(*words)

@@ -2,9 +2,9 @@
 
     conformance/check.py judged --clients     python-fido2, and libfido2 if gcc and its header are installed
 
-Recordings of nonconforming devices must violate the session's section, whatever the client did. Those that packets do
-not show are in `conformance/judged_clients.known` and `judged_libfido2.known`, with reasons. Recordings of conforming
-devices may have no MUST violation by the key.
+A recording of a nonconforming device must have a violation of the session's section, whatever the client did.
+`conformance/judged_clients.known` and `judged_libfido2.known` list the violations that packets do not show, with
+reasons. A recording of a conforming device may have no MUST violation by the key.
 """
 
 from __future__ import annotations

@@ -1,9 +1,9 @@
 """Runs the conformance tests against others/python_key.py, which shares no code with the core, by the log's clock.
 
-    conformance/check.py others             fail if other cases fail than listed in others/python_key.failed
+    conformance/check.py others             fail unless exactly the cases in others/python_key.failed fail
     conformance/check.py others --report    print the report of each failed case
 
-Choices of the profile and SHOULD violations do not count, as for any other authenticator.
+Choices of the profile and SHOULD violations are not failures, as for any other authenticator.
 """
 
 from __future__ import annotations

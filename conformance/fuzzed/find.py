@@ -1,11 +1,11 @@
 #!/usr/bin/env python3
-"""Lets the fuzzer of tests/fuzz detect faulty authenticators, and minimizes each finding.
+"""Finds logs that detect faulty authenticators by the fuzzer of tests/fuzz, and minimizes them.
 
     conformance/fuzzed/find.py FOLDER [--count N] [WORD ..]    write FOLDER/FAULT.log for the faults that match
 
 A finding is a malformed log for which the packets with and without the fault differ. It is minimized as by `hidlog
-shrink`, while the first difference is of the same kind. The logs in conformance/fuzzed were found by it, and compared
-with the standard before they became cases.
+shrink`, as long as the first difference is of the same kind. The logs in conformance/fuzzed are such findings, which
+were compared with the standard before they became cases.
 """
 
 from __future__ import annotations

@@ -46,22 +46,22 @@ class Credential:
 
 @dataclass
 class DeviceFacts:
-    """What is known of a device, from its getInfo and its responses."""
+    """Facts about a device, from getInfo and its other responses."""
 
     aaguid: bytes = b""
     algorithms: List[int] = field(default_factory=list)
-    # Whether it supports no version from FIDO_2_1 on, and whether it shows accounts on a display.
+    # Whether it supports only versions before FIDO_2_1, and whether it shows accounts on a display.
     old: bool = False
     display: bool = False
-    # The signed data by r of each ES256 signature; r never repeats.
+    # For each value r of an ES256 signature, the signed data. No two signatures may have the same r.
     halves: Dict[bytes, bytes] = field(default_factory=dict)
-    # The highest credProtect level that the device set unasked, and minPINLength of its getInfo.
+    # The highest credProtect level that the device set without a request, and minPINLength of getInfo.
     protection: int = 1
     min_pin_length: int = 4
 
 
 def is_before_ctap_2_1(versions: List[Any]) -> bool:
-    """Returns whether a device supports no version from FIDO_2_1 on; FIDO_2_1_PRE is a draft of it."""
+    """Returns whether a device supports only versions before FIDO_2_1, such as its draft FIDO_2_1_PRE."""
     return not any(
         name.startswith("FIDO_2_") and name not in EARLIER_VERSIONS for name in versions if isinstance(name, str)
     )

@@ -18,7 +18,7 @@ def hash_of(rp: str) -> bytes:
 
 
 class Listing:
-    """What a device has enumerated so far; nothing may come twice."""
+    """The RPs and credentials that a device has enumerated so far; none may come twice."""
 
     def __init__(self, is_complete: bool = True) -> None:
         # Whether all credentials of the device are known; otherwise there may be more.

@@ -14,7 +14,7 @@ from hidlog_conformance.skipped import CaseSkipped
 # Members of the responses of authenticatorBioEnrollment (6.7).
 MODALITY, KIND, MAX_SAMPLES, TEMPLATE_ID, SAMPLE_STATUS, REMAINING, TEMPLATES = 1, 2, 3, 4, 5, 6, 7
 FINGERPRINT, KINDS, TEMPLATE_NAME = 1, (1, 2), 2
-# The status words of U2F: success, and that a touch is missing; and the bytes of its messages.
+# The status words SW_NO_ERROR and SW_CONDITIONS_NOT_SATISFIED of U2F, and the lengths of parts of its messages.
 SUCCESS, NO_TOUCH = b"\x90\0", b"\x69\x85"
 POINT, PRESENT = 65, 1
 PAUSE = 0.2
@@ -60,8 +60,8 @@ class SettingsReader(ResponseReader):
         check(item.get(MODALITY) == FINGERPRINT, "the modality 1, fingerprint", item)
 
     def check_sensor(self, words: List[str], channel: int, expected: str) -> None:
-        """`sensor`: the kind of sensor and the number of samples (6.7.3); `sensor 3`: skips a case with three samples if
-        the device needs another number."""
+        """`sensor`: fingerprintKind and maxCaptureSamplesRequiredForEnroll (6.7.3); `sensor 3` skips the case if the
+        device needs another number of samples."""
         item = answers.decode_map(self.whole(hid.CBOR, channel, expected))
         check(item.get(KIND) in KINDS, "a fingerprintKind of 1 or 2", item)
         self.samples = get_member(item, MAX_SAMPLES, int, "maxCaptureSamplesRequiredForEnroll")

@@ -21,7 +21,7 @@ Rules = Dict[str, List[List[str]]]
 
 @dataclass
 class Reply:
-    """A response being modified: its map, bytes, packets, and what is sent before them."""
+    """A response that rules modify: its map, its bytes, its packets, and the packets before them."""
 
     channel: int
     command: int
@@ -92,7 +92,7 @@ class ClientDevice:
         return reply.before + [(0, piece) for piece in reply.packets]
 
     def conforming(self, message: hid.Message) -> Tuple[str, Reply]:
-        """Returns the kind of a request and the response of a conforming device."""
+        """Returns the kind of a request, and the response that a conforming device sends."""
         reply = Reply(message.channel, message.command)
         if message.command == hid.INIT:
             self.channel = int("".join(self.words("init", "channel") or ["11223344"]), 16)

@@ -25,7 +25,7 @@ Played = Tuple[Outcome, List[str]]
 HEADS = ("rule", "requirement", "why", "device", "task", "client", "result", "level")
 # Seconds after which a silent client counts as waiting: at the start, and later.
 STARTING, PATIENCE = 30.0, 3.0
-# The last words of clients, and the runner's own verdicts, which no session expects.
+# The first words of a client's last line, and verdicts of the runner, which no session expects.
 RESULT_WORDS = ("ok", "refused", "skipped")
 RUNNER_VERDICTS = {"ok": "takes", "refused": "refuses"}
 

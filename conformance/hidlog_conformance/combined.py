@@ -1,8 +1,9 @@
 """Saves touches: plays several cases as one, and each alone only if that does not pass.
 
 Two kinds of cases can be combined. Registrations whose requests differ from a plain one in different members become one
-request with all these members. Cases that send something while the same request is pending become one with a single
-pending request. A device that passes the whole passes each part, since all that is accepted or refused in a part is in it.
+request with all these members. Cases that send packets while a registration is pending become one case with one pending
+registration. A device that passes the combined case passes each part, since the combined case has all packets of each
+part and expects the same responses.
 """
 
 from __future__ import annotations
@@ -21,7 +22,7 @@ from hidlog_conformance.reset_tours import RESET_TOURS
 from hidlog_conformance.tours import TOURS
 
 TOURS_BY_SIZE = RESET_TOURS + TOURS
-# Cases about pending requests, and what a device sends for one of the second host.
+# Cases about pending requests, and a device's response to a request of the second host.
 ABOUT_PENDING = ("cancel/", "fuzzed/cancel", "hosts/", "keepalive/", "order/")
 OTHER_ASKED = ["keepalive 02 on 2"]
 # The packets' channels 1 and 2.
@@ -34,12 +35,13 @@ class Combined:
 
     whole: Session
     parts: List[Session]
-    # What came of it, once it was played; and of its parts, if they were played by themselves.
+    # The outcome, once it was played; and the outcomes of its parts, if they were played by themselves.
     outcome: Optional[Outcome] = None
     of_parts: List[Outcome] = field(default_factory=list)
 
     def add_part(self, outcome: Outcome) -> Outcome:
-        """Adds the outcome of a part; returns it, or what to report if the whole failed and each part passed."""
+        """Adds the outcome of a part. Returns it, or an unstable outcome if the combined case failed and all parts
+        pass."""
         self.of_parts.append(outcome)
         whole = self.outcome
         is_last = len(self.of_parts) == len(self.parts)
@@ -53,7 +55,7 @@ class Combined:
 
 
 def get_key(step: Step) -> Tuple[Any, ...]:
-    """Returns what two equal steps have in common."""
+    """Returns a key that is equal for equal steps."""
     packets = [packet for _, packet in step.packets]
     return step.kind, tuple(step.words), tuple(packets), tuple(step.expects)
 
@@ -61,7 +63,7 @@ def get_key(step: Step) -> Tuple[Any, ...]:
 def make_whole(
     parts: List[Session], steps: List[Step], more: Optional[Dict[bytes, Tuple[str, bytes]]] = None
 ) -> Combined:
-    """Returns cases combined to these steps; `more` are derived IDs beside theirs."""
+    """Returns the combined case of `parts` with these steps; `more` are derived IDs that no part has."""
     first = parts[0]
     head = {**first.head, "requirement": " ".join(part.head["requirement"] for part in parts)}
     needs, uses = (sorted({word for part in parts for word in getattr(part, kind)}) for kind in ("needs", "uses"))
@@ -110,7 +112,7 @@ def swap_channels(step: Step) -> Step:
     expects = []
     for text in step.expects:
         text, _, channel = text.partition(" on ")
-        # Those without a channel are of the first, except an INIT response on the broadcast channel.
+        # Expectations without a channel are for channel 1, except that of an INIT response on the broadcast channel.
         number = int(channel or ("ffffffff" if text.startswith("init ") else "1"), 16)
         number = {1: 2, 2: 1}.get(number, number)
         is_default = number == 1 or (text.startswith("init ") and not channel)
@@ -162,7 +164,7 @@ def join_pending(parts: List[Pending]) -> Combined:
 
 
 def renew_times(steps: List[Step]) -> List[Step]:
-    """Returns the steps with times that never go back; the pauses before ticks stay."""
+    """Returns the steps with ascending times; the pauses before ticks stay the same."""
     found: List[Step] = []
     at = before = 0
     for step in steps:
@@ -176,8 +178,8 @@ def renew_times(steps: List[Step]) -> List[Step]:
 
 
 def combine_registrations(sessions: List[Session]) -> List[Combined]:
-    """Combines cases of one registration each whose requests differ from a plain one in different members. They begin as
-    the one with the longest beginning does."""
+    """Combines cases with one registration each, whose requests differ from a plain one in different members. The
+    combined case has the longest of their beginnings."""
     groups: List[Tuple[bool, Tuple[Any, ...], Dict[Any, Any], List[Session]]] = []
     for session in sessions:
         asked = read_registration(session)
@@ -196,7 +198,7 @@ def combine_registrations(sessions: List[Session]) -> List[Combined]:
 
 
 def join_registrations(asked: Dict[Any, Any], parts: List[Session]) -> Combined:
-    """Returns cases as one registration with all their members, which expects what each of them expects."""
+    """Returns one registration with the members and the expectations of all cases."""
     steps = list(max(parts, key=lambda part: len(part.steps)).steps)
     place = len(steps) - len(REGISTRATION)
     at, first = steps[place].packets[0]

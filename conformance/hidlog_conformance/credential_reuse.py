@@ -10,7 +10,7 @@ from hidlog_conformance.outline import CHANGE_PIN, MAX_REGISTRATIONS, PIN, REGIS
 from hidlog_conformance.outline import decode_parameters, get_cbor_request
 from hidlog_conformance.session_file import Session
 
-# What a registration has to expect so that its credential serves for any.
+# The expectation of registrations whose credential other cases can reuse.
 PLAIN = ["made", "up"]
 # Features whose commands see all credentials, so that those of other cases would interfere.
 GLOBAL_FEATURES = ("credMgmt", "largeBlobs", "no protection")
@@ -31,8 +31,8 @@ def prefix_rp_id(request: bytes, front: str) -> bytes:
 
 
 def without_values(asked: Dict[Any, Any]) -> Dict[Any, Any]:
-    """Returns the parameters of a registration without its challenge, and without the user ID if it is not
-    discoverable, which makes no difference then."""
+    """Returns the parameters of a registration without clientDataHash, and without the user ID if the credential is not
+    discoverable, since they do not matter to other cases."""
     user, found = asked.get(3), dict(asked)
     found[1] = b""
     is_discoverable = isinstance(asked.get(7), dict) and bool(asked[7].get("rk"))
@@ -47,7 +47,7 @@ def sets_pin(request: bytes) -> bool:
 
 
 def may_have_own_rps(session: Session) -> bool:
-    """Returns whether RPs of its own can replace an authenticator without credentials."""
+    """Returns whether a case that needs an authenticator without credentials can use RP IDs of its own instead."""
     requests = [get_cbor_request(step) for step in session.steps]
     makes = sum(request[:1] == bytes([MAKE]) for request in requests)
     alone = "reset" not in session.needs or "capacity 64" in session.needs or makes > MAX_REGISTRATIONS or not makes
@@ -62,8 +62,8 @@ class CredentialReuse:
         self.made: Dict[bytes, List[Credential]] = {}
 
     def leaves(self, session: Session, number: int) -> bytes:
-        """Returns the request of a registration whose credential later cases can reuse, without values that make no
-        difference; empty for other steps."""
+        """Returns the request of a registration whose credential later cases can reuse, without values that do not
+        matter; empty for other steps."""
         request = get_cbor_request(session.steps[number])
         if request[:1] != bytes([MAKE]) or "reset" in session.needs:
             return b""
@@ -77,8 +77,8 @@ class CredentialReuse:
         return b""
 
     def serves(self, session: Session, number: int) -> bytes:
-        """Returns the same of a registration that a reused credential can replace: one that was made with the same
-        request and expectation, and is not the last step of the case."""
+        """Returns the request, as `leaves` does, of a registration that a reused credential can replace: it has the
+        same request and expectation, and is not the last step of the case."""
         steps = session.steps[number : number + len(REGISTRATION)]
         if tuple(step.kind for step in steps) != REGISTRATION or any(step.expects for step in steps[:-1]):
             return b""

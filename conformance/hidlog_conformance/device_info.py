@@ -1,4 +1,4 @@
-"""Finds out what a device supports, so that other cases are skipped with a reason."""
+"""Asks a device for the features that it supports, so that cases that need others are skipped with a reason."""
 
 from __future__ import annotations
 
@@ -14,7 +14,7 @@ from hidlog_conformance.platform_side import MIN_PIN_LENGTH, PADDED_PIN
 from hidlog_conformance.session_file import Session
 
 NONCE = b"offersof"
-# Seconds to wait for a response: since the last KEEPALIVE, and in all. And for the first response of a run, since the
+# Seconds to wait for a response: after the last KEEPALIVE, in total, and for the first response of a run, since the
 # command may be starting on a busy machine.
 ANSWER, LAST, STARTING = 3.0, 30.0, 10.0
 
@@ -22,8 +22,8 @@ ANSWER, LAST, STARTING = 3.0, 30.0, 10.0
 def ask(
     device: Device, channel: int, command: int, data: bytes, seconds: float = ANSWER, until_asked: bool = False
 ) -> Optional[hid.Message]:
-    """Sends a message and returns the response; ignores KEEPALIVEs and packets on other channels. With `until_asked`,
-    also returns a KEEPALIVE that asks for user presence."""
+    """Sends a message and returns the response; ignores KEEPALIVEs and packets on other channels. With `until_asked`, a
+    KEEPALIVE that asks for user presence is returned, too."""
     for packet in hid.fragment_message(channel, command, data):
         device.send(0, packet)
     return read_message(device, channel, data if command == hid.INIT else b"", seconds, until_asked)
@@ -72,8 +72,8 @@ def reset(device: Device) -> Optional[hid.Message]:
 
 
 def prepare(device: Device, again: bool) -> str:
-    """Resets a device, after a power cycle if it refuses at first; returns why that failed, or an empty string.
-    `again`: the session resets, too, so power cycles the device once more."""
+    """Resets a device, after a power cycle if it refuses at first; returns the reason of a failure, or an empty string.
+    With `again` the device is power cycled afterwards, since the session resets it once more."""
     try:
         answer = reset(device)
         if answer is not None and answer.data == b"\x30" and "power cycle" in device.features:
@@ -114,14 +114,14 @@ def decode_parameters(request: bytes) -> Dict[Any, Any]:
 
 @dataclass
 class DeviceInfo:
-    """What a device reports about itself."""
+    """The features of a device, as it reports them."""
 
     capabilities: int = 0
-    # The highest credProtect level that it set unasked.
+    # The highest credProtect level that the device set without a request.
     protection: int = 1
     greeting: bytes = b""
     selects: bool = False
-    # Whether CTAPHID_LOCK is supported, which no capability says.
+    # Whether CTAPHID_LOCK is supported, for which there is no capability.
     locks: bool = False
     info: Dict[Any, Any] = field(default_factory=dict)
     # Why getInfo could not be read, and whether --display was given.
@@ -143,7 +143,7 @@ class DeviceInfo:
             device_info.selects = answer is not None and answer.command == hid.KEEPALIVE
             if device_info.selects:
                 ask(device, channel, hid.CANCEL, b"", 1.0)
-            # Zero seconds: it ends a lock.
+            # A LOCK of zero seconds releases a lock.
             answer = ask(device, channel, hid.LOCK, b"\0")
             device_info.locks = answer is not None and answer.command == hid.LOCK
         finally:
@@ -204,7 +204,7 @@ class DeviceInfo:
         return self.options.get("clientPin") is True or self.options.get("uv") is True
 
     def facts(self) -> answers.DeviceFacts:
-        """Returns what responses are compared with."""
+        """Returns the facts with which responses are compared."""
         aaguid = self.info.get(3)
         return answers.DeviceFacts(
             aaguid=aaguid if isinstance(aaguid, bytes) else b"",
@@ -236,7 +236,7 @@ class DeviceInfo:
         return None
 
     def has_feature(self, use: str) -> bool:
-        """Returns whether the device supports a feature without a name in getInfo."""
+        """Returns whether the device supports a feature that getInfo does not name."""
         algorithms = self.algorithms or [-7]
         known = {
             "rk": self.options.get("rk") is True,
@@ -272,7 +272,7 @@ class DeviceInfo:
         return bool(known[use])
 
     def unsuited(self, session: Session) -> str:
-        """Returns what in a session this device may refuse by the standard, or an empty string."""
+        """Returns the part of a session that the standard lets this device refuse, or an empty string."""
         for request in list_requests(session):
             asked = decode_parameters(request)
             reason = self.too_long(asked.get(5 if request[0] == 1 else 3)) or self.wants_user(
@@ -292,8 +292,8 @@ class DeviceInfo:
         return ""
 
     def wants_user(self, command: int, asked: Dict[Any, Any], session: Session) -> str:
-        """Returns why the device refuses a request: it needs user verification (CTAP 2.1, 6.1.2, steps 6 to 8, and
-        6.2.2), or does not support discoverable credentials."""
+        """Returns why the device refuses a request, or an empty string: it requires user verification (CTAP 2.1, 6.1.2,
+        steps 6 to 8, and 6.2.2), or does not support discoverable credentials."""
         options = asked.get(7 if command == 1 else 5)
         options = options if isinstance(options, dict) else {}
         discoverable = command == 1 and options.get("rk") is True

@@ -17,7 +17,7 @@ from hidlog_conformance.keys import KeyMaker
 from hidlog_conformance.paths import PROGRAM
 from hidlog_conformance.skipped import CaseSkipped
 
-# Steps that are not log lines: a power cycle, and one that deletes the credentials, as no device should.
+# Steps that are not log lines: a power cycle, and a power cycle that deletes the credentials, which is a fault.
 POWER_CYCLE, POWER_LOSS = "power cycle", "power loss"
 
 
@@ -25,8 +25,8 @@ class InputNotReadError(OSError):
     """A command does not read its input."""
 
 
-# The longest line that a command may write; and how many packets, and for how many seconds, are discarded before a
-# case.
+# The maximum length of a command's line, and the maximum number of packets, and of seconds, that are discarded before
+# a case.
 MAX_LINE, MAX_LEFT_OVER, CLEARING = 1024, 1000, 2.0
 # Seconds that a command may leave its input unread.
 READING = 10.0
@@ -91,7 +91,7 @@ def write_to_command(process: "subprocess.Popen[bytes]", data: bytes, deadline: 
 class Device:
     """A device under test. Real devices ignore the user's replies of the session."""
 
-    # Whether time is that of the log: packets come at once or not at all.
+    # Whether the device runs by the log's clock, so that packets come at once or not at all.
     virtual = False
     # Whether each session begins without credentials.
     fresh = False
@@ -99,20 +99,20 @@ class Device:
     makes_keys = True
     # The `needs` of sessions that this kind of device provides.
     features: Tuple[str, ...] = ("touch", "two channels")
-    # Whether it is the same device in the next session.
+    # Whether the device keeps running between sessions.
     lasting = False
-    # Whether the next session needs state to survive a power cycle.
+    # Whether the next session needs a device that keeps its state across power cycles.
     saves = False
-    # The exit status of the session's command, once it ended.
+    # The exit status of the command in the last session, or None if it was running.
     status: Optional[int] = None
-    # When the runner started or power cycled it.
+    # The time at which the runner started or power cycled the device.
     powered_at = 0.0
-    # The runner's worst delay of an input in this session, in seconds: the device may have timed out.
+    # The maximum delay of an input in this session, in seconds. After a long delay the device may have timed out.
     late = 0.0
 
     @property
     def powered_for(self) -> float:
-        """The seconds since it was powered up, or at least."""
+        """The number of seconds since power-up, or a lower bound."""
         return time.monotonic() - self.powered_at if self.powered_at else 0.0
 
     def start(self) -> None:
@@ -142,7 +142,7 @@ class Device:
         """Provides a signature, or refuses one."""
 
     def provide(self, at: int) -> None:
-        """Provides the key pairs and signatures that the device asks for, in sessions without k and s lines."""
+        """Provides the key pairs and signatures that the device needs, in sessions without k and s lines."""
 
     def read(self, seconds: float) -> Optional[bytes]:
         """Returns the next packet, or None after `seconds`."""
@@ -150,7 +150,7 @@ class Device:
 
 
 class LiveDevice(Device):
-    """`hidlog live`: time is that of the log, and this class makes keys and signatures."""
+    """`hidlog live`, which runs by the log's clock. This class makes its keys and signatures."""
 
     virtual = True
     fresh = True
@@ -213,7 +213,7 @@ class LiveDevice(Device):
             self.process = None
 
     def exchange(self, line: str) -> List[str]:
-        """Writes an input line and returns the output lines; the last names what the key needs."""
+        """Writes an input line and returns the output lines; the last one is a `# need` comment."""
         if line in (POWER_CYCLE, POWER_LOSS):
             self.close()
             self.run(load=line == POWER_CYCLE)
@@ -290,7 +290,7 @@ class RealTimeDevice(Device):
 
     def __init__(self, prompt_touch: bool) -> None:
         self.prompt_touch = prompt_touch
-        # The line that is a touch in a command's input.
+        # The line of a command's input that means a touch.
         self.touch_line = b""
         self.latest: Optional[int] = None
         # The time of the last input.

@@ -1,7 +1,7 @@
 """Runs tasks on the workers of a Dask scheduler, `dask://HOST:PORT`.
 
-Debian: apt-get install python3-distributed. The workers need this repository and the device's program at the same
-paths, for example in a shared folder. Dask retries the tasks of a worker that dies.
+Needs the package distributed (Debian: python3-distributed). The workers need this repository and the device's program
+at the same paths, for example in a shared folder. Dask repeats the tasks of a worker that dies.
 """
 
 from __future__ import annotations

@@ -27,7 +27,7 @@ def fragment_message(channel: int, command: int, data: bytes, length: Optional[i
 
 @dataclass
 class Message:
-    """A complete message, or what is wrong with a packet (`problem`)."""
+    """A complete message, or a packet with a `problem`."""
 
     channel: int
     command: int
@@ -55,14 +55,14 @@ class Part:
 
 
 class Collector:
-    """Reassembles messages by channel. A host may start over within a message, a device may not."""
+    """Reassembles messages by channel. A host may begin a message within another one, a device may not."""
 
     def __init__(self, of_host: bool = False) -> None:
         self.open: Dict[int, Part] = {}
         self.of_host = of_host
 
     def feed(self, packet: bytes) -> Optional[Message]:
-        """Processes a packet; returns the message that it completes, or what is wrong with the packet."""
+        """Processes a packet; returns the message that it completes, a message with a `problem`, or None."""
         if len(packet) != 64:
             return Message(0, 0, b"", f"a packet of {quantity(len(packet), 'byte')}")
         channel = int.from_bytes(packet[:4], "big")
@@ -94,7 +94,7 @@ class Collector:
         return self.ended(channel, part)
 
     def ended(self, channel: int, part: Part) -> Optional[Message]:
-        """Returns the message if it is complete."""
+        """Returns the message if it is complete, or None."""
         if len(part.data) < part.length:
             return None
         del self.open[channel]

@@ -1,4 +1,4 @@
-"""SIGINT and SIGTERM: they end a run, whose report then has the cases so far."""
+"""Handles SIGINT and SIGTERM: they end a run, and the report has the cases played so far."""
 
 from __future__ import annotations
 
@@ -37,14 +37,14 @@ def install() -> None:
 
 
 def wait_for_end(status: Optional[int]) -> None:
-    """Waits if a command has this exit status because a signal for the whole process group reached it as it started:
-    the run is about to end, and without this case."""
+    """Waits for the end of the run if a command has this exit status because a signal to the process group killed it.
+    The report then does not have this case."""
     if status is not None and -status in SIGNALS:
         time.sleep(SAME)
 
 
 def hold() -> None:
-    """Ignores the signals from now on, if they were handled, so that the report is written completely."""
+    """Ignores the signals from now on, so that the report is written completely."""
     for number in SIGNALS:
         if isinstance(signal.getsignal(number), Interrupts):
             signal.signal(number, signal.SIG_IGN)

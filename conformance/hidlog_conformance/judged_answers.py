@@ -1,4 +1,4 @@
-"""Checks the authenticator's responses in a recorded log, also against what the log shows about the key."""
+"""Checks the responses to CBOR requests in a recorded log, also against earlier packets of the log."""
 
 from __future__ import annotations
 
@@ -35,14 +35,14 @@ from hidlog_conformance.judged_u2f import U2fJudge
 from hidlog_conformance.requests import PIN, find_fault, decode_parameters
 from hidlog_conformance.transactions import Entry, Transaction
 
-# Milliseconds within which no credential is deleted outside the log (on the key, or through NFC).
+# Milliseconds within which nobody deletes a credential without a packet in the log (on the key, or through NFC).
 MIN_DELETION_MS = 1000
 SETTINGS = (BIO, CONFIG)
 EXPECTED = {MAKE: "made", GET: "asserted", NEXT: "asserted", INFO: "info"}
 
 
 def describe_error(fault: Exception) -> str:
-    """Describes a response with an unexpected structure."""
+    """Describes the unexpected structure of a response."""
     return f"no member {ctap_cbor.to_diagnostic(fault.args[0])}" if isinstance(fault, KeyError) else "another structure"
 
 
@@ -51,13 +51,13 @@ class AnswerJudge:
 
     def __init__(self, recording: Recording) -> None:
         self.recording = recording
-        # CTAP 2.0 applies until getInfo names 2.1.
+        # CTAP 2.0 applies until getInfo has the version FIDO_2_1.
         self.facts = DeviceFacts(old=True)
         self.info: Dict[Any, Any] = {}
         self.kept = KnownCredentials()
         self.forgotten: Set[bytes] = set()
         self.replaced: Set[bytes] = set()
-        # Credentials from before the log, with their last counters.
+        # Credentials that were registered before the log began, with their last counters.
         self.strangers: Dict[Tuple[str, bytes], Credential] = {}
         self.pending: Optional[Pending] = None
         self.pins = Pins()
@@ -67,7 +67,7 @@ class AnswerJudge:
         self.statuses = StatusJudge(self)
         # Whether the log has all credentials of the key, since a reset.
         self.is_complete = False
-        # Whether the key has no display: it returned numberOfCredentials, so the user does not select on the key.
+        # Whether the key has no display to select accounts on, as numberOfCredentials in a response shows.
         self.no_display = False
         # The time of the last power cycle.
         self.powered: Optional[int] = None
@@ -82,7 +82,7 @@ class AnswerJudge:
         self.powered = at
 
     def restart(self, at: int, is_likely: bool) -> None:
-        """Assumes that the key was plugged in again, as the second allocation of a channel shows."""
+        """Processes that the key may have been plugged in again; with `is_likely`, it allocated a channel again."""
         self.powered = at
         self.pins.restart()
         if is_likely:
@@ -96,7 +96,7 @@ class AnswerJudge:
         self.pins, self.stored, self.settings = Pins(), StoredJudge(), SettingsJudge()
 
     def unanswered(self, transaction: Transaction) -> None:
-        """Processes a request whose effects are unknown."""
+        """Processes a request without a response, or with an unreadable one: its effects are unknown."""
         if transaction.command == hid.MSG:
             self.is_complete = False
         if transaction.command != hid.CBOR or not transaction.data or self.recording.is_cut(transaction):
@@ -130,11 +130,12 @@ class AnswerJudge:
         self.u2f.judge(request, data, transaction.last, is_sure)
 
     def is_recent(self, at: int, transaction: Transaction) -> bool:
-        """Returns whether nothing outside the log can have changed what the key showed at a time."""
+        """Returns whether the state that a response showed at a time is still certain: without a packet in the log, it
+        can only change later than this."""
         return not self.recording.has_no_timestamps and transaction.last - at < MIN_DELETION_MS
 
     def is_fresh(self, kept: KnownCredential, transaction: Transaction) -> bool:
-        """Returns whether the key showed the credential so recently that it cannot have been deleted since."""
+        """Returns whether a response showed the credential so recently that it cannot have been deleted since."""
         return self.is_recent(kept.shown, transaction)
 
     def user_needed(self, entry: Entry, transaction: Transaction) -> None:
@@ -236,7 +237,7 @@ class AnswerJudge:
             self.kept.remove(named_credential_id(asked))
 
     def seen(self, transaction: Transaction, expected: str, message: hid.Message) -> rules.Seen:
-        """Returns the arguments of `rules.broken`; the section is the command's if the request has no error."""
+        """Returns the difference of a response; its section is that of the request's error, or of the command."""
         fault = find_fault(transaction.data)
         own = fault.section if fault is not None and fault.section else ""
         if self.passed_over:
@@ -278,7 +279,7 @@ class AnswerJudge:
         answers.check_certificate(answers.decode_map(data))
 
     def check_setting_use(self, transaction: Transaction, asked: Dict[Any, Any], data: bytes) -> None:
-        """Checks what settings change in a registration or sign-in, of a key with CTAP 2.1."""
+        """Checks the effects of settings on a registration or sign-in, if the key supports CTAP 2.1."""
         if not self.facts.old:
             is_sure = self.is_recent(self.settings.shown, transaction)
             self.settings.check_use(transaction.data, asked, data, is_sure)
@@ -297,12 +298,13 @@ class AnswerJudge:
                 self.kept.remove(name)
 
     def has_no_verification(self, request: bytes) -> bool:
-        """Returns whether the key cannot have verified the user: it has no built-in method, and no PIN was used."""
+        """Returns whether the key cannot have verified the user: it has no built-in user verification, and the request
+        has no pinUvAuthParam."""
         asked = answers.decode_parameters(request)
         return bool(self.info) and not self.info.get(4, {}).get("uv") and not {8, 6} & set(asked)
 
     def check_asserted(self, transaction: Transaction, data: bytes) -> None:
-        """Checks an assertion; everything but the signature if the credential is not in the log."""
+        """Checks an assertion. The signature is not checked if the log does not have the credential's registration."""
         follows = transaction.data[0] == NEXT
         request = self.pending.request if follows and self.pending else transaction.data
         if not request or request[0] != GET:
@@ -387,7 +389,7 @@ class AnswerJudge:
         """Checks the user and the number of accounts, if the log shows them."""
         asked = decode_parameters(transaction.data) or {}
         if item.get(5) == 1:
-            # CTAP 2.0 requires it with several accounts, and does not define it with one.
+            # CTAP 2.0 requires numberOfCredentials with several accounts, and does not define it with one.
             kind = UncertainMismatch if self.facts.old else Mismatch
             raise kind("no numberOfCredentials of 1", ctap_cbor.to_diagnostic(item))
         if follows or asked.get(3):
@@ -422,7 +424,7 @@ class AnswerJudge:
         command, status = transaction.data[0], data[0]
         if command == RESET and status == 0:
             self.forgotten.update(list(self.kept.by_id))
-            # CTAP 2.0 does not say that a reset deletes U2F credentials.
+            # CTAP 2.0 does not require that a reset deletes U2F credentials.
             self.kept, self.is_complete = KnownCredentials(), not self.facts.old and not self.recording.has_lost
             self.pins, self.pending = Pins(is_set=False), Pending(b"", 0, entry.at)
             self.stored.reset()

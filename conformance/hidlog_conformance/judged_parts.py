@@ -1,4 +1,4 @@
-"""Checks parts of recorded responses: extension outputs, and authenticatorClientPIN."""
+"""Checks extension outputs and responses to authenticatorClientPIN in recorded logs."""
 
 from __future__ import annotations
 
@@ -16,19 +16,19 @@ USER_TOKEN, GET_USER_RETRIES = 6, 7
 # The number of consecutive wrong PINs after which a power cycle is needed (6.5.5.7).
 WRONG_IN_A_ROW = 3
 PIN_INVALID, USER_INVALID, POLICY = 0x31, 0x3F, 0x37
-# Why a credential may be missing.
+# Added to the expectation of a credential that may have been deleted without a packet in the log.
 OTHERWISE = "unless it was deleted on the key"
 
 
 @dataclass
 class Pending:
-    """The pending assertions of authenticatorGetNextAssertion: how many are left, and since when."""
+    """Assertions that are pending for authenticatorGetNextAssertion: their number, and the time of the last one."""
 
     request: bytes
     left: int
     at: int
     channel: int = 0
-    # Whether they are certainly still pending, and which credentials signed.
+    # Whether they are certainly still pending, and the credentials that signed.
     is_sure: bool = True
     signed: List[bytes] = field(default_factory=list)
     flags: int = 0
@@ -36,14 +36,14 @@ class Pending:
 
 @dataclass
 class KnownCredential:
-    """What the log shows about a credential."""
+    """A credential that the log shows."""
 
     credential: Credential
     discoverable: bool
     extensions: Dict[str, Any] = field(default_factory=dict)
     # The user name, if it was changed.
     name: Optional[str] = None
-    # The last time at which the key showed that it has the credential.
+    # The time of the last response that showed that the key has the credential.
     shown: int = 0
 
 
@@ -110,21 +110,21 @@ def read_credential_id(data: bytes) -> bytes:
 
 
 class ExtensionMismatch(Mismatch):
-    """A violation of another section than the command's, such as an extension's."""
+    """A violation of a section other than the command's, for example an extension's."""
 
     def __init__(self, section: str, expected: str, actual: str, is_sure: bool = True) -> None:
         super().__init__(expected, actual)
         self.section = section
-        # Whether nothing outside the log may explain it.
+        # Whether it is a violation whatever happened without packets in the log.
         self.is_sure = is_sure
 
 
 class UncertainMismatch(Mismatch):
-    """A difference that something outside the log may explain: a SHOULD violation."""
+    """A difference that something without packets in the log may explain: it is reported as a SHOULD violation."""
 
 
 def describe_retries(count: Optional[int]) -> str:
-    """Describes a number of retries; unknown counts as none."""
+    """Describes a number of retries; None counts as 0."""
     return quantity(count or 0, "retry", "retries")
 
 
@@ -189,7 +189,7 @@ def check_extension(section: str, condition: bool, expected: str, actual: Any) -
 
 @dataclass
 class Pins:
-    """What the log shows about the PIN: whether it is set, its retries, and what the last token permits."""
+    """The state of the PIN that the log shows: whether it is set, its retries, and the last token's permissions."""
 
     is_set: Optional[bool] = None
     retries: Optional[int] = None
@@ -204,14 +204,13 @@ class Pins:
     rp: Optional[str] = None
 
     def judge(self, request: bytes, data: bytes, may_be_forced: bool) -> None:
-        """Checks a response to authenticatorClientPIN. With `may_be_forced` the PIN may have to be changed before the key
-        issues a token (forcePINChange)."""
+        """Checks a response to authenticatorClientPIN. With `may_be_forced`, forcePINChange of getInfo may be true."""
         asked = decode_parameters(request)
         if asked is None or not isinstance(asked.get(2), int):
             return
         kind, status = asked[2], data[0]
         if status == PIN_INVALID and may_be_forced and kind in TOKENS:
-            # The PIN may be wrong, or right and to be changed: then the retries are at their maximum again.
+            # Either the PIN is wrong, or it is right, which restores the retries, and must be changed.
             self.retries, self.wrong = None, 0
         elif status == PIN_INVALID:
             self.wrong += 1
@@ -223,7 +222,7 @@ class Pins:
         elif status in (0x32, 0x33, 0x34):
             self.retries = None
         elif status == POLICY:
-            # The PIN may have been right, and must be changed, or the new one is invalid.
+            # The PIN is right, and must be changed, or the new PIN is invalid.
             self.retries, self.wrong = None, 0
         elif status == 0:
             self.take(kind, asked, data)

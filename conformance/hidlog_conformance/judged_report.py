@@ -11,7 +11,7 @@ from hidlog_conformance.keys import AVAILABLE
 from hidlog_conformance.quantity import quantity
 from hidlog_conformance.sanitize import escape_text
 
-# The version of the JSON members, and the names that format 1 had for members of a finding. This version writes both.
+# The version of the JSON format, and the former names of members of a finding, in version 1. Both names are written.
 FORMAT = 2
 OLD_NAMES = {"relatedSections": "also", "expected": "due", "actual": "came"}
 SIDES = {KEY: "the key", "host": "the host"}
@@ -31,7 +31,7 @@ def format_total(recording: Recording) -> str:
 
 
 def list_notes(recording: Recording) -> List[str]:
-    """Returns notes on what was not checked, and on what the recorder may have caused."""
+    """Returns notes on rules that were not checked, and on violations that the recorder may have caused."""
     notes = []
     if recording.has_lost:
         notes.append("the recorder lost packets: missing or misordered packets count as SHOULD violations")
@@ -73,14 +73,14 @@ def format_recording(recording: Recording) -> str:
 
 
 def to_text(judged: List[Tuple[str, Recording]]) -> str:
-    """Returns text; the name of each recording above it, if there are several."""
+    """Returns the report as text; if there are several recordings, each begins with its name."""
     if len(judged) == 1:
         return format_recording(judged[0][1])
     return "\n".join(f"{escape_text(name)}\n{format_recording(recording)}" for name, recording in judged)
 
 
 def to_finding_object(finding: Finding) -> Dict[str, object]:
-    """Returns a finding as an object."""
+    """Returns a finding as a JSON object."""
     return {
         "line": finding.line,
         "side": finding.side,
@@ -94,12 +94,12 @@ def to_finding_object(finding: Finding) -> Dict[str, object]:
 
 
 def add_old_names(members: Dict[str, object]) -> Dict[str, object]:
-    """Returns a finding's members, with those that had another name in format 1 under that name, too."""
+    """Returns a finding's members, also under their names in version 1."""
     return {**members, **{old: members[name] for name, old in OLD_NAMES.items()}}
 
 
 def to_recording_object(name: str, recording: Recording) -> Dict[str, object]:
-    """Returns the findings of a recording as an object."""
+    """Returns a recording's findings as a JSON object."""
     return {
         "format": FORMAT,
         "log": name,
@@ -111,7 +111,7 @@ def to_recording_object(name: str, recording: Recording) -> Dict[str, object]:
 
 
 def to_json(judged: List[Tuple[str, Recording]]) -> str:
-    """Returns one object, or an array of several."""
+    """Returns JSON: one object, or an array if there are several recordings."""
     objects = [to_recording_object(name, recording) for name, recording in judged]
     return json.dumps(objects[0] if len(objects) == 1 else objects, indent=1) + "\n"
 

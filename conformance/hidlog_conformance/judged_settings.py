@@ -30,38 +30,38 @@ EXTENSION = "minPinLength"
 
 
 class SettingsJudge:
-    """What the log shows about settings and fingerprints. None is unknown."""
+    """The settings and fingerprint templates that the log shows; None if unknown."""
 
     def __init__(self) -> None:
         self.length: Optional[int] = None
         self.is_forced: Optional[bool] = None
         self.is_enterprise: Optional[bool] = None
         self.always_uv: Optional[bool] = None
-        # Whether getInfo did not come since a reset; the RPs that are told minPINLength.
+        # Whether the device was reset since the last getInfo; the RPs that are authorized to get minPINLength.
         self.is_reset = False
-        self.told: Optional[List[str]] = None
-        # Templates by ID with their names, an empty one if unknown; whether these are all; and others that are not there.
+        self.authorized_rps: Optional[List[str]] = None
+        # The names of templates by ID, empty if unknown; whether there are no others; and IDs of removed templates.
         self.templates: Dict[bytes, str] = {}
         self.is_complete = False
         self.gone: Set[bytes] = set()
-        # The template that is being enrolled, and the samples that it needs.
+        # The template that is being enrolled, and remainingSamples.
         self.coming, self.remaining = b"", 0
-        # Discoverable credentials that fit, and how many were made since.
+        # remainingDiscoverableCredentials of the last getInfo, and the number of registrations since.
         self.left: Optional[int] = None
         self.made = 0
-        # The last time at which the settings or templates were shown or changed.
+        # The time of the last response that showed or changed settings or templates.
         self.shown = 0
 
     def reset(self, at: int) -> None:
         """Processes a reset."""
         self.length = self.always_uv = self.left = None
-        self.is_forced, self.is_enterprise, self.is_reset, self.told = None, False, True, []
+        self.is_forced, self.is_enterprise, self.is_reset, self.authorized_rps = None, False, True, []
         self.gone.update(list(self.templates))
         self.templates, self.is_complete, self.coming = {}, True, b""
         self.shown = at
 
     def power_cycle(self) -> None:
-        """Resets the state that a power cycle clears: an enrolment that was not completed."""
+        """Forgets an enrolment that was not completed, as the device does at a power cycle."""
         self.coming = b""
 
     def judge(self, asked: Dict[Any, Any], request: bytes, data: bytes, pins: Pins, info: Dict[Any, Any]) -> None:
@@ -105,7 +105,7 @@ class SettingsJudge:
         is_raised = before is None or new is None or new > before
         self.is_forced = True if parameters.get(FORCE_CHANGE) is True else self.is_forced if not is_raised else None
         rps = parameters.get(RP_IDS)
-        self.told = list(rps) if isinstance(rps, list) else self.told
+        self.authorized_rps = list(rps) if isinstance(rps, list) else self.authorized_rps
         if isinstance(before, int) and isinstance(new, int):
             check(new >= before, f"status 37, since minPINLength is {before}", "status 00")
         is_supported = not info or EXTENSION in info.get(2, [])
@@ -141,13 +141,13 @@ class SettingsJudge:
             raise UncertainMismatch(f"remainingDiscoverableCredentials below {before}, after a registration", actual)
 
     def check_issued(self, asked: Dict[Any, Any], status: int) -> None:
-        """Checks that no token is issued before a PIN is changed that must be (6.5.5.7), and records the change."""
+        """Checks that no token is issued while the PIN must be changed (6.5.5.7), and records a change."""
         if self.is_forced and asked.get(2) in (5, 9) and status == 0:
             raise ExtensionMismatch("6.5", "status 37, since the PIN must be changed first", "status 00")
         if asked.get(2) in (3, 4) and status == 0:
             self.is_forced = False
 
-    # What the settings change in registrations and sign-ins (6.1.2, 6.2.2, 12.4).
+    # Effects of the settings on registrations and sign-ins (6.1.2, 6.2.2, 12.4).
 
     def check_use(self, request: bytes, asked: Dict[Any, Any], data: bytes, is_sure: bool) -> None:
         """Checks alwaysUv, enterprise attestation and minPinLength in a registration or sign-in."""
@@ -159,7 +159,7 @@ class SettingsJudge:
             raise Mismatch("status 36 or flag UV set, since alwaysUv is true", f"flags {auth[32]:02x}")
         if request[0] == MAKE:
             self.check_enterprise(asked, item, is_sure)
-            self.check_told(asked, auth)
+            self.check_min_pin_length(asked, auth)
 
     def check_enterprise(self, asked: Dict[Any, Any], item: Dict[Any, Any], is_sure: bool) -> None:
         """Checks enterprise attestation (6.1.2, step 9)."""
@@ -180,12 +180,12 @@ class SettingsJudge:
             expected = "no status 02, since enterprise attestation is enabled"
             raise ExtensionMismatch("6.1.2", expected, "status 02", False)
 
-    def check_told(self, asked: Dict[Any, Any], auth: bytes) -> None:
+    def check_min_pin_length(self, asked: Dict[Any, Any], auth: bytes) -> None:
         """Checks the extension minPinLength (12.4)."""
         found, requested = decode_outputs(auth), asked.get(6, {}).get(EXTENSION) is True
-        is_told = requested and self.told is not None and asked[2]["id"] in self.told
+        is_authorized = requested and self.authorized_rps is not None and asked[2]["id"] in self.authorized_rps
         if EXTENSION not in found:
-            if is_told:
+            if is_authorized:
                 raise ExtensionMismatch("12.4", f"minPinLength: {self.length}", "no output")
             return
         actual = str(found[EXTENSION])
@@ -193,8 +193,8 @@ class SettingsJudge:
             raise ExtensionMismatch("12.4", "no output of minPinLength, which was not requested", actual)
         if self.length is not None and found[EXTENSION] != self.length:
             raise ExtensionMismatch("12.4", f"minPinLength: {self.length}", actual)
-        if self.told is not None and not is_told:
-            # It may be one that the key always tells.
+        if self.authorized_rps is not None and not is_authorized:
+            # The key may always authorize this RP.
             raise ExtensionMismatch("12.4", "no output of minPinLength, since the RP was not chosen", actual, False)
 
     # authenticatorBioEnrollment (6.7).

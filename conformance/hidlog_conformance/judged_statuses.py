@@ -1,4 +1,4 @@
-"""Checks the statuses of responses in a recorded log, against what the log shows about the key."""
+"""Checks the statuses of responses in a recorded log, against earlier packets of the log."""
 
 from __future__ import annotations
 
@@ -50,7 +50,7 @@ class StatusJudge:
         self.answers = answers
 
     def check_status(self, entry: Entry, transaction: Transaction, data: bytes) -> None:
-        """Checks that the status fits what the log shows."""
+        """Checks that a status does not contradict the log."""
         command, status = transaction.data[0], data[0]
         check(status == 0 or len(data) == 1, "only a status", f"{quantity(len(data), 'byte')} with status {status:02x}")
         fault = find_fault(transaction.data)
@@ -82,7 +82,7 @@ class StatusJudge:
                 )
 
     def check_user_presence(self, entry: Entry, transaction: Transaction, data: bytes) -> None:
-        """Checks that a touch was requested before a response that needs it, as KEEPALIVEs show."""
+        """Checks that a KEEPALIVE requested a touch before a response that requires user presence."""
         command, status = transaction.data[0], data[0]
         asked = decode_parameters(transaction.data) or {}
         needs = command in (RESET, SELECTION) and status == 0
@@ -113,7 +113,7 @@ class StatusJudge:
 
     def check_refusal(self, command: int, fault: Fault, status: int) -> None:
         """Checks that an invalid request fails, with the right status."""
-        # A key need not support every command.
+        # A key may not support every command.
         unknown = () if command in (MAKE, GET, INFO) else (0x01,)
         if fault.kind == MISSING and status not in (0, 0x14, *unknown, *ANY_REQUEST_STATUSES):
             raise Mismatch(f"status 14, since {fault.expected} is missing", f"status {status:02x}")
@@ -126,7 +126,7 @@ class StatusJudge:
         )
 
     def check_form(self, transaction: Transaction, status: int) -> None:
-        """Checks that a valid request does not fail as a malformed one."""
+        """Checks that a valid request is not refused as malformed."""
         asked = decode_parameters(transaction.data) or {}
         options = asked.get(7 if transaction.data[0] == MAKE else 5, {})
         wrong = self.wrong_option(transaction.data[0], asked, options)
@@ -156,7 +156,7 @@ class StatusJudge:
         return len(listed) > count or any(length is None or len(entry["id"]) > length for entry in listed)
 
     def wrong_option(self, command: int, asked: Dict[Any, Any], options: Dict[str, Any]) -> str:
-        """Returns an invalid option, or empty: rk at a sign-in, up false at a registration, uv if not supported."""
+        """Returns an invalid option (rk in a sign-in, up false in a registration, uv if not supported), or empty."""
         if command == GET and "rk" in options:
             return "rk"
         if command == MAKE and options.get("up") is False:
@@ -203,7 +203,7 @@ class StatusJudge:
         return any(one is not None and "credProtect" in one.extensions for one in found)
 
     def lacks_enterprise(self) -> bool:
-        """Returns whether the key must refuse enterprise attestation (6.1.2, step 9); CTAP 2.0 ignores the member."""
+        """Returns whether the key must refuse enterprise attestation (6.1.2, step 9). Keys with CTAP 2.0 ignore it."""
         return bool(self.answers.info) and not self.answers.facts.old and not self.answers.info.get(4, {}).get("ep")
 
     def check_capabilities(self, asked: Dict[Any, Any], status: int) -> None:

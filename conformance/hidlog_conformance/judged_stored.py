@@ -46,12 +46,12 @@ EMPTY_ARRAY = append_hash(b"\x80")
 
 
 class StoredJudge:
-    """What the log shows about the large-blob array and deleted credentials."""
+    """The large-blob array and the deleted credentials, as the log shows them."""
 
     def __init__(self) -> None:
         self.listing = Listing(False)
         self.rp = b""
-        # The array, if known; the fragments of a new one so far, and its length.
+        # The array, or None if unknown; the fragments of a new array so far, and its length.
         self.array: Optional[bytes] = None
         self.coming: Optional[bytes] = None
         self.expected = 0
@@ -108,7 +108,7 @@ class StoredJudge:
             check(self.listing.left[key] != 0, "status 30, since the enumeration is complete", "status 00")
 
     def check_token(self, asked: Dict[Any, Any], param: int, permission: int, pins: Pins) -> None:
-        """Checks that there was a token that permits this."""
+        """Checks that the last token has a permission, if the request succeeded."""
         check(param in asked, "status 36, since pinUvAuthParam is missing", "status 00")
         permitted = pins.permissions is None or bool(pins.permissions & permission)
         check(permitted, "status 33, since the token does not permit this", "status 00")
@@ -215,7 +215,7 @@ class StoredJudge:
         return not right
 
     def check_key(self, data: bytes, extensions: Dict[Any, Any], identity: bytes, key: int, made: bool) -> None:
-        """Checks the large blob key in a response; `made`: whether the credential has one."""
+        """Checks the large blob key in a response; with `made`, the credential has one."""
         has_it = extensions.get(BLOB_KEY) is True and made
         words = ["blob-key", identity.hex()] if has_it else ["no-blob-key"]
         try:

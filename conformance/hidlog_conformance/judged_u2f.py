@@ -12,7 +12,8 @@ SECTION = "10"
 REGISTER, SIGN, VERSION, VENDOR = 1, 2, 3, 0xC0
 CHECK_ONLY, ENFORCE = 0x07, 0x03
 OK, NOT_SATISFIED, WRONG_DATA, WRONG_CLASS = b"\x90\0", b"\x69\x85", b"\x6a\x80", b"\x6e\0"
-# The lengths of the challenge and application, of both, and of a point; and where the key handle's length is.
+# The lengths of the challenge and of the application, of both, and of a point; and the index of the key handle's
+# length.
 HASH, HASHES, POINT = 32, 64, 65
 
 
@@ -29,17 +30,16 @@ class U2fJudge:
     """The U2F registrations of a log."""
 
     def __init__(self) -> None:
-        # By key handle: the application, the public key, the last counter, and when the key last showed it.
+        # By key handle: the application, the public key, the last counter, and the time of the last response about it.
         self.made: Dict[bytes, Tuple[bytes, bytes, int, int]] = {}
 
     def when_shown(self, request: bytes) -> int:
-        """Returns when the key last showed the registration of a request, or 0."""
+        """Returns the time of the last response about the key handle in a request, or 0."""
         known = self.made.get(read_data(request)[HASHES + 1 :])
         return known[3] if known is not None else 0
 
     def judge(self, request: bytes, data: bytes, at: int, is_sure: bool) -> None:
-        """Checks a response; `is_sure`: whether nothing outside the log can have deleted a registration since the key
-        last showed it."""
+        """Checks a response; with `is_sure`, the key certainly still has the registration."""
         if len(request) < 4 or len(data) < 2:
             check(len(request) < 4, "a status word", data)
             return

@@ -1,4 +1,4 @@
-"""Checks responses against what the host of a session knows beyond the packets: PINs, tokens, and all values so far."""
+"""Checks responses against the secrets of the host, which packets do not show: PINs, tokens, and decrypted values."""
 
 from __future__ import annotations
 
@@ -33,14 +33,15 @@ from hidlog_conformance.transactions import Entry, Transaction
 PIN_INVALID, PIN_BLOCKED, AUTH_INVALID, AUTH_BLOCKED, NOT_SET = 0x31, 0x32, 0x33, 0x34, 0x35
 # Permissions mc and ga (6.5.5.7).
 MAKES, GETS = 1, 2
-# Milliseconds for which a token is certainly valid: the initial usage time limit is 30 s for USB (6.5.2.1).
+# Milliseconds for which a token is certainly valid. The initial usage time limit is 30 seconds for USB (6.5.2.1).
 FRESH = 20000
 VECTOR = 16
 
 
 @dataclass
 class Token:
-    """The valid token: its index among the platform's, permissions, RP ID, and since when."""
+    """The valid token: its index in `Platform.tokens`, its permissions, its RP ID, and the time at which it was
+    issued."""
 
     index: int
     permissions: int
@@ -51,19 +52,20 @@ class Token:
 
 
 class Secrets:
-    """What the host knows of the device's PIN: None if it does not know the PIN, empty if none is set."""
+    """The device's PIN and token, as the host knows them. `pin` is None if it is unknown, and empty if no PIN is
+    set."""
 
     def __init__(self, most: int = MAX_RETRIES) -> None:
         self.pin: Optional[bytes] = None
         # The PIN before the last change, or empty.
         self.former = b""
-        # The retries after the right PIN, and those left.
+        # The maximum of PIN retries, and the number of retries left.
         self.most = self.retries = most
         self.in_a_row = 0
         self.token: Optional[Token] = None
 
     def use(self, pin: bytes) -> int:
-        """Records that a PIN is tried; returns the status that must come (6.5.5.7)."""
+        """Records the use of a PIN; returns the expected status (6.5.5.7)."""
         if not self.pin:
             return NOT_SET
         if not self.retries:
@@ -80,14 +82,15 @@ class Secrets:
 
 
 class KnownAnswers(AnswerJudge):
-    """Checks responses to a host that alone uses the device."""
+    """Checks responses to the only host that uses the device."""
 
     def __init__(self, recording: Recording, platform: Platform) -> None:
         super().__init__(recording)
         self.platform = platform
         self.secrets = Secrets()
         self.filled: Dict[bytes, Filled] = {}
-        # Values that must never repeat, by kind; whether the retries of a new PIN are known; the last key agreement key.
+        # Values that must never repeat, by kind; whether the maximum of PIN retries is known; the last key agreement
+        # key.
         self.values: Dict[str, Set[bytes]] = {}
         self.knows_retries = False
         self.shared: bytes = b""
@@ -96,7 +99,7 @@ class KnownAnswers(AnswerJudge):
         self.is_forced: Optional[bool] = None
 
     def is_recent(self, at: int, transaction: Transaction) -> bool:
-        """Returns True: nothing else deletes credentials, or changes settings."""
+        """Returns True, since only this host deletes credentials and changes settings."""
         return True
 
     def power_cycle(self, at: int) -> None:
@@ -108,7 +111,7 @@ class KnownAnswers(AnswerJudge):
         self.shared = b""
 
     def find_known(self, entry: Entry, command: int, expected: str, actual: str) -> None:
-        """Adds a finding about what the host knows."""
+        """Adds a finding that depends on the host's secrets."""
         self.recording.find(entry.line, KEY, rules.COMMANDS[command], expected, actual)
 
     def judge(self, entry: Entry, transaction: Transaction, message: hid.Message) -> None:
@@ -124,7 +127,7 @@ class KnownAnswers(AnswerJudge):
             elif request[0] in (MAKE, GET):
                 self.check_token_use(entry, transaction, filled, data)
             elif request[0] == CONFIG and data[0] == 0 and self.secrets.token is not None:
-                # A demand to change the PIN ends tokens.
+                # setMinPINLength may invalidate the token.
                 self.secrets.token.is_sure = False
             if request[0] == MAKE and data[0] == 0:
                 self.check_new(entry, MAKE, "credential ID", read_credential_id(data))
@@ -132,7 +135,7 @@ class KnownAnswers(AnswerJudge):
                 cose, _ = read_cose_key(auth[55 + int.from_bytes(auth[53:55], "big") :])
                 self.check_new(entry, MAKE, "key pair", ctap_cbor.encode(cose))
         except (KeyError, TypeError, ValueError, IndexError, Mismatch):
-            # The structure is wrong, which was found above.
+            # `super().judge` has reported the wrong structure.
             pass
         if request[0] == RESET and data[0] == 0:
             self.secrets = Secrets(self.secrets.most)
@@ -141,7 +144,7 @@ class KnownAnswers(AnswerJudge):
             self.secrets.token = None
 
     def check_new(self, entry: Entry, command: int, kind: str, value: bytes) -> None:
-        """Checks that a value never came before, not even before a power cycle or a reset."""
+        """Checks that a value is new, also since before power cycles and resets."""
         if value in self.values.setdefault(kind, set()):
             self.find_known(entry, command, f"a new {kind}", value.hex())
         self.values[kind].add(value)
@@ -193,8 +196,8 @@ class KnownAnswers(AnswerJudge):
         self.find_known(entry, PIN, f"status {allowed[0]:02x}, since {why}", f"status {status:02x}")
 
     def after_right_pin(self, kind: int, filled: Filled) -> Tuple[Tuple[int, ...], str]:
-        """Returns the possible statuses of a request with the right PIN, and why: the PIN may have to be changed, or the
-        new one may be too short (6.5.5.6, 6.5.5.7)."""
+        """Returns the possible statuses of a request with the right PIN, and why: the PIN may have to be changed, or
+        the new one may be too short (6.5.5.6, 6.5.5.7)."""
         why, policy = "the PIN is right", (POLICY, PIN_INVALID) if kind == GET_TOKEN else (POLICY,)
         if kind == CHANGE_PIN:
             is_same, length = filled.new_pin == self.secrets.pin, len(
@@ -230,7 +233,7 @@ class KnownAnswers(AnswerJudge):
         makes = request[0] == MAKE
         if filled.token is None or self.secrets.pin is None:
             if self.secrets.token is not None and status == 0:
-                # A user presence test of any request may take the permissions.
+                # The user presence test of another request may clear the token's permissions.
                 self.secrets.token.is_sure = False
             self.check_unverified(entry, request, asked, data)
             return
@@ -255,7 +258,7 @@ class KnownAnswers(AnswerJudge):
             self.find_known(entry, request[0], "flag UV not set", f"flags {auth[32]:02x}")
 
     def unusable(self, filled: Filled, needed: int, rp: str, now: int) -> Tuple[str, bool]:
-        """Returns why pinUvAuthParam must be refused, or empty; and whether it must be accepted."""
+        """Returns why the device must refuse pinUvAuthParam, or empty; and whether it must accept it otherwise."""
         token = self.secrets.token
         if not filled.is_whole:
             return "pinUvAuthParam is cut", True

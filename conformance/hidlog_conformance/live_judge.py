@@ -1,8 +1,7 @@
 """Checks the log of a test run line by line while it runs, by the rules of `hidlog judge`.
 
-It can check more than that command, since only the test runner uses the device: the device's state is known from the
-log, also after power cycles. The runner sends one request at a time on each channel, so it is known which request each
-response belongs to.
+It finds more than that command, since only the test runner uses the device: the log shows the device's state, also
+after power cycles, and the request of each response, since the runner sends one request at a time on each channel.
 """
 
 from __future__ import annotations
@@ -21,7 +20,7 @@ ANSWERED = ord("s")
 
 
 class SentOwners(Owners):
-    """The transactions of a log's lines, by the host that sent the requests one after another on each channel."""
+    """The transactions of a log's lines, for a host that sends one request at a time on each channel."""
 
     def __init__(self) -> None:
         super().__init__(b"")
@@ -72,7 +71,7 @@ class SentOwners(Owners):
 
 
 class LiveJudge:
-    """Judges the lines of a session as they come."""
+    """Checks the lines of a session as they are written."""
 
     def __init__(self, platform: Platform) -> None:
         self.recording = Recording()
@@ -83,7 +82,7 @@ class LiveJudge:
         self.seen = 0
 
     def sent(self, request: bytes, filled: Filled) -> None:
-        """Records what the placeholders of a request stood for."""
+        """Records the values of a request's placeholders."""
         if filled != Filled():
             self.answers.filled[request] = filled
 

@@ -11,14 +11,14 @@ from hidlog_conformance.cases.corpus import registration_parameters
 from hidlog_conformance.outline import REGISTRATION, decode_parameters, get_cbor_request
 from hidlog_conformance.session_file import Session, parse_session
 
-# The longest merged request in bytes, for any maxMsgSize; a PIN's parameters are not among its members.
+# The maximum length of a merged request in bytes, for any maxMsgSize. Members for PINs are not merged.
 LONGEST = 1000
 RP, EXCLUDE_LIST, MERGED = 2, 5, (6, 7)
 IGNORED = ("cbor/taken_", "make/two_unknown_options")
 
 
 def read_registration(session: Session) -> Optional[Dict[Any, Any]]:
-    """Returns the parameters of the only registration of a case, which succeeds and is all that the case has."""
+    """Returns the parameters of the registration of a case that only registers, with success; None for other cases."""
     steps = [step for step in session.steps if not (step.expects[:1] and step.expects[0].startswith("init "))]
     if tuple(step.kind for step in steps) not in (REGISTRATION, REGISTRATION * 2) or "reset" in session.needs:
         return None
@@ -35,7 +35,8 @@ def read_registration(session: Session) -> Optional[Dict[Any, Any]]:
 
 
 def merge(asked: Dict[Any, Any], other: Dict[Any, Any]) -> Optional[Dict[Any, Any]]:
-    """Returns a request with the members of both that a plain one does not have; None if they differ in one."""
+    """Returns a plain request with the additional members of both requests; None if they have different values for
+    one."""
     plain, found = registration_parameters(), dict(asked)
     for key, value in other.items():
         if value == plain.get(key) or value == found.get(key):

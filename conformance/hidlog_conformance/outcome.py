@@ -8,7 +8,7 @@ from typing import List
 from hidlog_conformance.session_file import Session
 
 
-# The status of a case that failed, and passed when it was played again; and those that fail a run.
+# The status of a case that failed, and passed when it was repeated; and the statuses that fail a run.
 UNSTABLE = "unstable"
 FAILED = ("not ok", UNSTABLE)
 
@@ -23,13 +23,13 @@ class Outcome:
     expected: str = ""
     actual: str = ""
     line: int = 0
-    # The section whose rule is violated; may differ from the session's section.
+    # The violated section, which may differ from the session's.
     broken: str = ""
     # Whether the case reached its deadline.
     hung: bool = False
-    # Whether the packets violate a MUST, whatever the session expects.
+    # Whether the packets violate a MUST by the rules of `hidlog judge`.
     is_violation: bool = False
-    # The packets of each time that the case was played, as a log.
+    # A log of the packets for each time that the case was played.
     recordings: List[str] = field(default_factory=list)
 
 

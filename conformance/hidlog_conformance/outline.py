@@ -1,4 +1,5 @@
-"""What a case needs at its beginning, and what it leaves on the device, so that cases can share registrations and PINs."""
+"""The outline of a case: the state that it needs at its beginning, and the state that it leaves on the device. Cases
+with the same beginning can share registrations and PINs."""
 
 from __future__ import annotations
 
@@ -11,13 +12,13 @@ from hidlog_conformance.answers import GET, MAKE, NEXT, RESET
 from hidlog_conformance.session_file import Session, Step
 
 PIN, ENROLL, MANAGE, BLOBS, CONFIG = 0x06, 0x09, 0x0A, 0x0C, 0x0D
-# A PIN of a device that the runner does not know, or that other settings came with.
+# A PIN that the runner does not know, or that was set together with other settings.
 UNKNOWN = b"?"
 GET_RETRIES, GET_AGREEMENT, SET_PIN, CHANGE_PIN, GET_TOKEN, NEW_TOKEN = 1, 2, 3, 4, 5, 9
 DELETE, UPDATE = 6, 7
 # The steps of a registration: request, touch, key pair, signature.
 REGISTRATION = (">", "p", "k", "s")
-# The placeholders of a new PIN and of a PIN.
+# The placeholders for a new PIN and for the hash of a PIN.
 ENCRYPT, HASH = b"=encrypt:", b"=hash:"
 # A case with more registrations needs an authenticator without other credentials.
 MAX_REGISTRATIONS = 6
@@ -46,7 +47,7 @@ def count_touches(session: Session) -> int:
 
 
 def count_step_touches(step: Step) -> int:
-    """Returns how many touches a step needs: one that is asked for, or that a device may ask for."""
+    """Returns the number of touches of a step: 1 if the device asks for a touch, or may ask for one."""
     is_touch = step.kind == "p" and step.words[:1] == ["granted"]
     return int(is_touch or any(expected.endswith(" or touch") for expected in step.expects))
 
@@ -63,21 +64,21 @@ class Registration:
 
 @dataclass
 class Outline:
-    """What a case needs at its beginning, and what the rest of it does."""
+    """The state that a case needs at its beginning, and the effects of the rest of the case."""
 
     session: Session
     registrations: List[Registration] = field(default_factory=list)
-    # The PIN that is set at the beginning, and by which step.
+    # The PIN that is set at the beginning, and the number of the step that sets it.
     pin: bytes = b""
     pin_step: int = -1
-    # The touches of the rest; whether the case sees all credentials, and whether it uses large blobs.
+    # The number of touches of the rest; whether it depends on all credentials, and whether it uses large blobs.
     touches: int = 0
     is_global: bool = False
     uses_blobs: bool = False
-    # Whether the rest resets the device, and a PIN makes no difference until then.
+    # Whether the rest resets the device, and whether a PIN has no effect until then.
     resets: bool = False
     ignores_pin: bool = False
-    # Whether the rest leaves another PIN and which, wrong PINs, further discoverable credentials, or large blobs.
+    # The effects of the rest: another PIN, and which one; wrong PINs; further discoverable credentials; large blobs.
     changes_pin: bool = False
     left_pin: bytes = b""
     guesses: bool = False
@@ -89,7 +90,7 @@ class Outline:
 
     @property
     def is_combined(self) -> bool:
-        """Whether several cases are played as this one."""
+        """Whether this is a combination of several cases."""
         return self.session.cases > 1
 
     @property
@@ -99,7 +100,7 @@ class Outline:
 
     @property
     def spoils(self) -> bool:
-        """Whether other cases cannot use the registrations afterwards."""
+        """Whether other cases cannot reuse the registrations after this case."""
         lost = self.resets or self.changes_pin or self.stores or bool(self.deleted)
         return lost or self.guesses or self.writes
 
@@ -138,7 +139,7 @@ class OutlineReader:
         return next((number for number in resets if self.expected_of(number) == "status 00"), len(self.steps))
 
     def tolerates_pin(self, end: int) -> bool:
-        """Returns whether a PIN that is set makes no difference up to the reset of the case."""
+        """Returns whether a PIN that is set has no effect up to the reset of the case."""
         commands = [request[0] for request in self.requests[end:] if request]
         before = commands[: commands.index(RESET)] if RESET in commands else [MAKE]
         return set(before) <= {GET, NEXT}
@@ -164,7 +165,7 @@ class OutlineReader:
         return number
 
     def read_registration(self, number: int, request: bytes, asked: Dict[Any, Any]) -> bool:
-        """Reads a successful registration that depends on no other one; returns whether it is one."""
+        """Reads a registration; returns whether it succeeds and depends on no other registration."""
         steps = self.steps[number : number + len(REGISTRATION)]
         is_whole = tuple(step.kind for step in steps) == REGISTRATION and not any(step.expects for step in steps[:-1])
         has_token = asked.get(8) == b"=token:1"
@@ -180,7 +181,7 @@ class OutlineReader:
         return True
 
     def read_pin(self, number: int) -> bool:
-        """Reads the two steps that set a PIN; returns whether they do."""
+        """Reads two steps; returns whether they set a PIN."""
         if number + 1 >= len(self.steps) or self.outline.pin:
             return False
         asked, sets = decode_parameters(self.requests[number]), decode_parameters(self.requests[number + 1])
@@ -199,7 +200,7 @@ class OutlineReader:
         return is_right and self.steps[number + 1].expects == ["token"]
 
     def has_subject(self, end: int) -> bool:
-        """Returns whether the steps after the beginning have a request that the case can be about."""
+        """Returns whether the steps from `end` on have a request that the case can test."""
         for request in filter(None, self.requests[end:]):
             if request[0] in (MAKE, GET, MANAGE, BLOBS, RESET, CONFIG, ENROLL):
                 return True
@@ -218,7 +219,7 @@ class OutlineReader:
         return ""
 
     def read_rest(self, number: int) -> None:
-        """Reads what a step of the rest changes."""
+        """Reads the effects of a step of the rest."""
         step, request, found = self.steps[number], self.requests[number], self.outline
         found.touches += count_step_touches(step)
         if not request:
@@ -242,7 +243,7 @@ class OutlineReader:
             (found.deleted if asked[1] == DELETE else found.updated).append(asked[2][2]["id"])
 
     def read_pin_rest(self, asked: Dict[Any, Any], is_done: bool) -> None:
-        """Reads what a request of authenticatorClientPIN changes."""
+        """Reads the effects of a request of authenticatorClientPIN in the rest."""
         found = self.outline
         if asked.get(2) in (SET_PIN, CHANGE_PIN) and is_done:
             found.changes_pin, found.left_pin = True, asked[5][len(ENCRYPT) :].rstrip(b"\0")

@@ -1,4 +1,4 @@
-"""Paths of the data: next to the package in the repository, inside it if installed."""
+"""Paths of the data: in the repository next to the package, and inside an installed package."""
 
 from __future__ import annotations
 

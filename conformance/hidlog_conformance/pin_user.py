@@ -1,4 +1,4 @@
-"""Verifies the user by a PIN that the device already has (--pin), before each request that needs it."""
+"""Verifies the user by the PIN of --pin, before each request that requires user verification."""
 
 from __future__ import annotations
 
@@ -18,11 +18,11 @@ from hidlog_conformance.session_file import Session, Step, sends_reset
 from hidlog_conformance.skipped import CaseSkipped
 
 GET_AGREEMENT, SET_PIN, GET_TOKEN, NEW_TOKEN = 2, 3, 5, 9
-# The placeholders of a new PIN and of a PIN in sessions, and what sessions with tokens use.
+# The placeholders for a new PIN and for the hash of a PIN, and entries of `uses` in sessions with tokens.
 ENCRYPT, HASH, TOKENS_USED = b"=encrypt:", b"=hash:", "pin token"
 # The permission cm of a token.
 MANAGES = 4
-# The keys of pinUvAuthParam and of what it covers, by command; and the permissions mc and ga.
+# By command, the keys of pinUvAuthParam and of the member that it authenticates; and the permissions mc and ga.
 KEYS = {answers.MAKE: (8, 1), answers.GET: (6, 2)}
 PERMISSIONS = {answers.MAKE: 1, answers.GET: 2}
 # Sends a request and returns the response.
@@ -41,8 +41,8 @@ class PinUser:
         self.device_info = device_info
 
     def required_rp(self, request: bytes) -> Optional[str]:
-        """Returns the RP ID of a request that needs user verification and does not have it; None for others, and for
-        invalid ones, which the device refuses first."""
+        """Returns the RP ID of a request that lacks required user verification. Returns None for other requests, and
+        for invalid ones, which the device refuses first."""
         if request[:1] not in (bytes([answers.MAKE]), bytes([answers.GET])) or find_fault(request) is not None:
             return None
         command, asked = request[0], decode_parameters(request)
@@ -52,7 +52,7 @@ class PinUser:
         return str(rp)
 
     def can_replace(self, session: Session) -> bool:
-        """Returns whether this device's PIN can replace the one that a session sets: it uses no other."""
+        """Returns whether the device's PIN can replace the one that a session sets: the session uses no other PIN."""
         requests = [request for request in map(get_cbor_request, session.steps) if request]
         asked = [decode_parameters(request) for request in requests if request[0] == PIN]
         pins = [item[5][len(ENCRYPT) :].rstrip(b"\0") for item in asked if item.get(2) == SET_PIN]
@@ -64,22 +64,23 @@ class PinUser:
         return TOKENS_USED in session.uses and not others and not kinds and is_same and is_successful
 
     def without_own_pin(self, session: Session) -> Session:
-        """Returns the session as one that needs no device without a PIN, if this device's PIN can replace its own."""
+        """Returns the session without the requirement of a device without a PIN, if the device's PIN can replace its
+        own."""
         if not self.can_replace(session):
             return session
         return replace(session, uses=[use for use in session.uses if use != TOKENS_USED])
 
     def sets_pin(self, step: Step) -> bool:
-        """Returns whether a step sets a PIN; it is left out, since the device has one."""
+        """Returns whether a step sets a PIN. Such steps are left out, since the device has a PIN."""
         request = get_cbor_request(step)
         return request[:1] == bytes([PIN]) and decode_parameters(request).get(2) == SET_PIN
 
     def unsuited(self, session: Session) -> str:
-        """Returns why a session cannot be played by tokens, or empty."""
+        """Returns why a session cannot be played with tokens of --pin, or empty."""
         if any(map(sends_reset, session.steps)):
             return "a reset removes the PIN of --pin"
         if any(map(self.sets_pin, session.steps)):
-            # It adds its tokens itself, before the PIN is set none.
+            # The session gets its own tokens, and has sign-ins before it sets the PIN.
             signs_in = any(
                 request[0] == answers.GET and self.required_rp(request) for request in list_requests(session)
             )
@@ -93,8 +94,8 @@ class PinUser:
         return ""
 
     def front(self, session: Session) -> str:
-        """Returns a prefix of RP IDs for a session that needs an authenticator without credentials, which are deleted
-        afterwards; empty if that is not possible."""
+        """Returns a prefix for the RP IDs of a session that needs an authenticator without credentials, or empty if a
+        prefix does not suffice. The session's credentials are deleted afterwards."""
         may_stay = may_have_own_rps(session) or self.can_replace(session)
         if self.device_info.options.get("credMgmt") is not True or not may_stay:
             return ""
@@ -110,7 +111,7 @@ class PinUser:
             exchange(bytes([MANAGE]) + ctap_cbor.encode(asked))
 
     def get_token(self, exchange: Exchange, permission: int, rp: str) -> Platform:
-        """Gets a token for one request; returns the platform's side with it."""
+        """Gets a token for one request; returns the platform that has it."""
         platform = Platform()
         protocol = self.device_info.info.get(6, [1])[0]
         asked: Dict[int, Any] = {1: protocol, 2: GET_AGREEMENT}
@@ -127,7 +128,8 @@ class PinUser:
         return platform
 
     def add_token(self, request: bytes, exchange: Exchange) -> Tuple[bytes, bool]:
-        """Returns the request, with pinUvAuthParam if it needs user verification, and whether it has it."""
+        """Returns the request, with pinUvAuthParam if it requires user verification; and whether pinUvAuthParam was
+        added."""
         rp = self.required_rp(request)
         if rp is None:
             return request, False

@@ -1,9 +1,10 @@
-"""The platform's side of PINs, tokens and hmac-secret (CTAP 2.1, 6.5 and 12.5): fills in what depends on keys.
+"""The platform's side of PINs, tokens and hmac-secret (CTAP 2.1, 6.5 and 12.5): replaces placeholders in requests.
 
-Byte strings in a session's request are placeholders: `=agreement`, the platform's key; `=encrypt:BYTES`; `=hash:PIN`,
+Byte strings that depend on keys are placeholders: `=agreement`, the platform's key; `=encrypt:BYTES`; `=hash:PIN`,
 the encrypted PIN hash; `=auth:5+6`, pinUvAuthParam of members by the shared secret; `=token:1`, of a member by the
 token, `=former:1`, by the token before it, and `=cut:8:1`, the first 8 bytes of that by the token; `=manage`, of a
-subcommand with its parameters, `=config` and `=enroll` the same of the other commands; `=blob`, of a large-blob fragment.
+subcommand with its parameters, `=config` and `=enroll` the same of the other commands; `=blob`, of a large-blob
+fragment.
 """
 
 from __future__ import annotations
@@ -25,8 +26,8 @@ except ImportError:
     pass
 
 
-# What pinUvAuthParam of a command with subcommands covers (6.8, 6.11, 6.7): the bytes before the subcommand, and the keys
-# of the subcommand and its parameters.
+# The data that pinUvAuthParam authenticates in commands with subcommands (6.8, 6.11, 6.7): the bytes before the
+# subcommand, and the keys of the subcommand and its parameters.
 COMMAND_PLACEHOLDERS = {
     b"=manage": (b"", 1, 2),
     b"=config": (b"\xff" * 32 + b"\x0d", 1, 2),
@@ -37,7 +38,8 @@ MIN_PIN_LENGTH, PADDED_PIN = 4, 64
 
 
 def adapt_pin(pin: bytes, minimum: int) -> bytes:
-    """Returns a session's PIN for a device with this minimum length: of the minimum, or as much below it as before."""
+    """Returns a session's PIN, adapted to a device's minimum length. A valid PIN is padded to that length; a PIN that
+    is too short by the standard stays too short by as many characters."""
     length = len(pin.decode())
     if not length or length >= minimum:
         return pin
@@ -52,11 +54,11 @@ def derive_hkdf(secret: bytes, info: bytes) -> bytes:
 
 @dataclass
 class Filled:
-    """What the placeholders of a request stood for, which its bytes do not show."""
+    """The values of a request's placeholders, which its bytes do not show."""
 
     pin: Optional[bytes] = None
     new_pin: Optional[bytes] = None
-    # The index in `tokens` of the token that made pinUvAuthParam, and whether all bytes of it were sent.
+    # The index in `Platform.tokens` of the token for pinUvAuthParam, and whether pinUvAuthParam has its full length.
     token: Optional[int] = None
     is_whole: bool = True
 
@@ -70,7 +72,7 @@ class Platform:
         self.protocol = 0
         self.for_auth = b""
         self.for_encryption = b""
-        # The last token, all so far, and what the last request was made of.
+        # The last token, all tokens so far, and the values of the last request's placeholders.
         self.token = b""
         self.tokens: List[bytes] = []
         self.last_filled = Filled()
@@ -126,7 +128,8 @@ class Platform:
         self.tokens.append(self.token)
 
     def take_secret(self, name: str, encrypted: Any) -> None:
-        """Checks hmac-secret outputs: the same under the same name, different from others. `one+two` are two."""
+        """Checks hmac-secret outputs: equal for the same name, different for different names. `one+two` names two
+        outputs."""
         check(isinstance(encrypted, bytes), "an encrypted secret", encrypted)
         found = self.decrypt(encrypted)
         check(len(found) in (32, 64), "one or two secrets of 32 bytes", quantity(len(found), "byte"))
@@ -150,7 +153,8 @@ class Platform:
         return request if filled == item else request[:1] + ctap_cbor.encode(filled)
 
     def filled(self, item: Any) -> Any:
-        """Returns an item with its placeholders filled in: encryption first, since authentication covers it."""
+        """Returns an item with its placeholders replaced: those for encryption first, since their values are
+        authenticated."""
         if isinstance(item, list):
             return [self.filled(part) for part in item]
         if not isinstance(item, dict):
@@ -175,13 +179,13 @@ class Platform:
         return value
 
     def suited_data(self, data: bytes) -> bytes:
-        """Returns data to encrypt: a padded PIN for this device's minimum length, anything else unchanged."""
+        """Returns data to encrypt: a padded PIN is adapted to the device's minimum length, other data is unchanged."""
         if len(data) != PADDED_PIN or data[-1]:
             return data
         return adapt_pin(data.rstrip(b"\0"), self.min_pin_length).ljust(PADDED_PIN, b"\0")
 
     def authentic(self, value: bytes, item: Dict[Any, Any]) -> bytes:
-        """Returns the pinUvAuthParam of a placeholder, or another byte string unchanged."""
+        """Returns the value of a placeholder for pinUvAuthParam; other byte strings are unchanged."""
         if value.startswith(b"=auth:"):
             parts = [item[int(part)] for part in value[6:].split(b"+")]
             return self.authenticate(self.for_auth, b"".join(parts))
@@ -197,7 +201,7 @@ class Platform:
         return value
 
     def by_token(self, words: List[bytes], item: Dict[Any, Any]) -> bytes:
-        """Returns the pinUvAuthParam of a member by the last token or the one before it, whole or cut."""
+        """Returns the pinUvAuthParam of a member by the last token or the one before it, perhaps truncated."""
         index = len(self.tokens) - (2 if words[0] == b"former" else 1)
         token = self.tokens[index] if index >= 0 else bytes(32)
         whole = self.authenticate(token, item[int(words[-1])])

@@ -17,7 +17,7 @@ from hidlog_conformance.session_file import Session
 from hidlog_conformance.silent import without_needless_touches
 from hidlog_conformance.touch_plan import order_by_state
 
-# In `uses`: the session sets a PIN.
+# The entry of `uses` in sessions that set a PIN.
 PINS = "pin token"
 
 
@@ -27,14 +27,14 @@ def asks_person(options: argparse.Namespace) -> bool:
 
 
 def saves_touches(device: Device, options: argparse.Namespace) -> bool:
-    """Returns whether cases share registrations, to save a person's touches."""
+    """Returns whether cases share registrations, so that a person touches the device less often."""
     return asks_person(options) and device.lasting and not options.isolated and not options.pin
 
 
 def find_combined(
     device: Device, sessions: List[Session], options: argparse.Namespace, device_info: DeviceInfo
 ) -> List[Combined]:
-    """Returns the cases that are played as one to save touches."""
+    """Returns the combined cases that save touches."""
     if not saves_touches(device, options):
         return []
     return combine(sessions, lambda one: not device_info.lacking(one, device, options.touch, options.reset))
@@ -43,8 +43,8 @@ def find_combined(
 def order_sessions(
     device: Device, sessions: List[Session], options: argparse.Namespace, device_info: DeviceInfo
 ) -> List[Session]:
-    """Returns sessions in the order to play them: those that set a PIN last if the device keeps it; and if a person
-    touches, in the order that needs the fewest touches, which are counted."""
+    """Returns sessions in the order to play them. If the device keeps its PIN, sessions that set a PIN come last. If a
+    person touches the device, the order needs the fewest touches, and their number is printed."""
     if not asks_person(options):
         return sorted(sessions, key=lambda session: bool(device.lasting and PINS in session.uses))
     saves = saves_touches(device, options)
@@ -56,7 +56,7 @@ def order_sessions(
     alone.sort(key=count_touches)
     most = sum(count_touches(one) for one in replace_parts(played, combined))
     if saves:
-        # Those that serve for others first.
+        # First the cases whose credentials others can reuse.
         alone.sort(key=lambda one: (count_touches(one) > 0, not makes_credentials(one)))
         names = {one.name for one in replace_parts(played, combined)}
         shared = [one for one in alone if "reset" in one.needs and one.name in names]
@@ -81,7 +81,7 @@ def replace_parts(sessions: List[Session], combined: List[Combined]) -> List[Ses
 
 
 def count_reused(sessions: List[Session]) -> int:
-    """Returns how many registrations of cases that need no reset are replaced by those of earlier ones."""
+    """Returns the number of registrations that earlier cases replace, in cases that need no reset."""
     reuse, made, count = CredentialReuse(), Counter[bytes](), 0
     for session in sessions:
         taken = Counter[bytes]()
@@ -96,14 +96,14 @@ def count_reused(sessions: List[Session]) -> int:
 
 
 def makes_credentials(session: Session) -> bool:
-    """Returns whether a case that needs no reset is about a registration whose credential others can reuse."""
+    """Returns whether a case needs no reset, and others can reuse the credential that it registers."""
     reuse = CredentialReuse()
     numbers = range(len(session.steps))
     return any(reuse.leaves(session, number) and not reuse.serves(session, number) for number in numbers)
 
 
 def print_touches(played: List[Session], most: int) -> None:
-    """Prints how many touches the cases need that the device supports."""
+    """Prints the maximum number of touches of the cases that the device supports."""
     first = quantity(sum(not count_touches(one) for one in played), "case")
     asking = sum(bool(count_touches(one)) for one in played)
     print(f"{first} without a touch, and {asking} with at most {quantity(most, 'touch', 'touches')}", file=sys.stderr)

@@ -27,12 +27,12 @@ from hidlog_conformance.outline import REGISTRATION
 
 # Milliseconds after power-up in which a device accepts a reset.
 RESET_TIME = 10000
-# How the reason of a case begins that was skipped since no credential fits.
+# The beginning of the reason for skipping a case because the device is full.
 FULL = "the device is full (28)"
 
 
 def check_further_extensions(auth: bytes, words: List[str]) -> None:
-    """Checks the extension outputs that words name, of authenticator data whose form was checked."""
+    """Checks the extension outputs that an expectation names after the first one; the authenticator data is valid."""
     behind = auth[37:]
     if auth[32] & answers.AT:
         behind = answers.read_cose_key(auth[55 + int.from_bytes(auth[53:55], "big") :])[1]
@@ -60,10 +60,10 @@ class Player(SettingsReader):
                 self.do(step)
                 for expected in step.expects:
                     self.judge(expected)
-                # Devices that make their own keys, or are full, respond before the session's k and s lines.
+                # Devices that make their own keys, and full devices, respond before the session's k and s lines.
                 answers_now = self.device.makes_keys or "capacity 64" in self.session.needs
                 early = answers_now and after is not None and after.kind in ("k", "s")
-                # A user who was present for a token need not touch again.
+                # A device may count the user presence of a token, and respond before the touch.
                 early = early or ("uv token" in self.session.uses and after is not None and after.kind == "p")
                 if self.device.virtual and not early:
                     self.check_remaining_packets()
@@ -88,7 +88,8 @@ class Player(SettingsReader):
         return Outcome(self.session, "ok")
 
     def reused_steps(self, number: int) -> int:
-        """Replaces a registration by a credential of another case, if possible; returns the number of skipped steps."""
+        """Reuses a credential of another case instead of a registration, if possible; returns the number of steps to
+        skip."""
         shared = self.sharing.find_credential(number) if self.sharing is not None else None
         if self.sharing is not None and shared is not None:
             self.known[self.sharing.name_of(number)] = shared
@@ -129,8 +130,8 @@ class Player(SettingsReader):
         return Outcome(self.session, "not ok", "", expected, actual, line, broken, expected == IN_TIME)
 
     def judge_choice(self, outcome: Outcome) -> Outcome:
-        """Returns the outcome of a session about a choice, which a device may make otherwise: a violation of the rules
-        of `hidlog judge` if its packets have one. When an incomplete message times out is such a choice."""
+        """Returns the outcome of a failed session about a choice that the standard leaves open. It is a failure only if
+        the packets violate a MUST by the rules of `hidlog judge`. The time of a timeout is such a choice."""
         if any(step.packets and step.packets[-1][0] - step.packets[0][0] >= NO_TIME_OUT for step in self.session.steps):
             return outcome
         self.live.take(self.log)
@@ -143,14 +144,14 @@ class Player(SettingsReader):
         )
 
     def is_hidden_by_cred_protect(self) -> bool:
-        """Returns whether a sign-in found no credential because the device applies credProtect unasked."""
+        """Returns whether a sign-in found no credential because the device sets credProtect without a request."""
         found = self.actual is not None and self.actual.command == hid.CBOR and self.actual.data == b"\x2e"
         if not found or self.request[:1] != b"\2" or self.facts.protection < 2:
             return False
         return self.facts.protection >= (3 if answers.decode_parameters(self.request).get(3) else 2)
 
     def excuse(self) -> str:
-        """Returns why a difference is not the device's fault, or empty."""
+        """Returns why a difference is not a failure of the device, or empty."""
         if self.is_hidden_by_cred_protect():
             return "the device applies credProtect unasked"
         if self.is_late_reset():
@@ -177,7 +178,7 @@ class Player(SettingsReader):
             pass
 
     def delete_credentials(self) -> None:
-        """Deletes what the session stored on a device with --pin, which is not reset."""
+        """Deletes the session's discoverable credentials from a device with --pin, which is not reset."""
         stored = [one for one in self.known.values() if one.discoverable and one not in self.reused]
         if self.pin_user is None or not stored or not self.allocated:
             return
@@ -198,7 +199,7 @@ class Player(SettingsReader):
         check(not self.guest.open, "complete messages", "an incomplete message")
 
     def check_end(self) -> None:
-        """Checks that a real-time device sends nothing more."""
+        """Checks that a device in real time sends no further message."""
         self.expected = "rest"
         message = self.message(REST)
         check(
@@ -216,7 +217,7 @@ class Player(SettingsReader):
             number = int(words[place + 1], 16)
             del words[place : place + 2]
         if self.has_token and words[0] in ("made", "asserted"):
-            # The user was verified, other than in the session.
+            # The request has a token of --pin, which the session does not expect.
             words = [word for word in words if word not in ("no-uv", "no-name")]
         getattr(self, "check_" + words[0])(words[1:], self.channel(number), expected)
 
@@ -374,7 +375,8 @@ class Player(SettingsReader):
         self.platform.take_token(answers.decode_map(self.whole(hid.CBOR, channel, expected)))
 
     def check_retries(self, words: List[str], channel: int, expected: str) -> None:
-        """`retries 7`: the PIN retries left, of 8; shifted for a device with fewer."""
+        """`retries 7`: the PIN retries left of 8. For a device with a lower maximum, the difference from the maximum is
+        compared."""
         left = answers.get_member(answers.decode_map(self.whole(hid.CBOR, channel, expected)), 3, int, "the retries")
         self.most_retries = self.most_retries or left
         check(
@@ -414,8 +416,8 @@ class Player(SettingsReader):
         check_fragment(answers.decode_map(self.whole(hid.CBOR, channel, expected)), bytes.fromhex("".join(words)))
 
     def check_judged(self, words: List[str], channel: int, expected: str) -> None:
-        """`judged`, `judged as NAME`: a response that the rules of `hidlog judge` accept after all that came before. The
-        user touches if the device asks; NAME stands for the ID of a credential or template that was made."""
+        """`judged`, `judged as NAME`: a response that the rules of `hidlog judge` accept after all that came before.
+        The user touches if the device asks; NAME stands for the ID of a credential or template that was made."""
         self.device.provide(self.at)
         message = self.answer(expected)
         self.live.take(self.log)

@@ -63,7 +63,7 @@ def format_totals(outcomes: List[Outcome]) -> str:
 
 
 def get_title(outcome: Outcome) -> str:
-    """Returns the rule that a case found violated, or the rule it is about."""
+    """Returns the rule that the device violated, or the case's rule."""
     broken = outcome.broken
     return TITLES[broken] if broken and broken != outcome.session.section else outcome.session.head["rule"]
 
@@ -87,7 +87,7 @@ def format_details(outcome: Outcome) -> List[str]:
 
 
 def print_failure(outcome: Outcome) -> None:
-    """Writes a failure or a warning to standard error when its case ends; the report has it again."""
+    """Writes a failure or a warning to standard error when the case ends. It is also in the report."""
     if outcome.status in (*FAILED, "warn"):
         text = f"{report_page.STATUS_WORDS[outcome.status]} {outcome.session.name}"
         print(
@@ -105,7 +105,7 @@ def count_violated_rules(outcomes: List[Outcome]) -> List[str]:
 
 
 def describe_no_case(only: str, skip: List[str]) -> str:
-    """Returns the error that --only and --skip leave no case."""
+    """Returns the error message if --only and --skip exclude all cases."""
     excluded = " and ".join(f"--skip {word!r}" for word in skip)
     if only and skip:
         return f"no case contains --only {only!r} and not {excluded}"
@@ -113,8 +113,8 @@ def describe_no_case(only: str, skip: List[str]) -> str:
 
 
 def rank_severity(outcome: Outcome) -> int:
-    """Returns the place of an outcome in the report: first a device that stopped, other violations of a MUST, unstable
-    results, violations of a SHOULD, and cases that were skipped."""
+    """Returns a key to sort outcomes by: a device that stopped, other MUST violations, unstable results, SHOULD
+    violations, skipped cases."""
     if outcome.status == "not ok":
         return 0 if outcome.hung or outcome.expected in (GOES_ON, IN_TIME) else 1
     return {UNSTABLE: 2, "warn": 3, "skip": 4}.get(outcome.status, 5)

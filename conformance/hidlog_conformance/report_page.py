@@ -8,14 +8,14 @@ from typing import Dict, List, NamedTuple
 
 from hidlog_conformance.outcome import UNSTABLE
 
-# The version of the JSON report's members; 1 had `said` for `details`. This version writes both.
+# The version of the JSON report. Version 1 had `said` for `details`; both members are written.
 FORMAT = 2
 STATUS_WORDS = {"ok": "passed", "not ok": "failed", UNSTABLE: "unstable", "warn": "warned", "skip": "skipped"}
 
 
 class Row(NamedTuple):
-    """A case: its name, its rule, its status, the reason of a failure or skip, and recordings if it is unstable; of a
-    failure also the file and line of the step, what was expected, and what came."""
+    """A case: its name, its rule, its status, and the reason of a failure or skip. A failure also has the file and line
+    of the step, and the expected and the actual response; an unstable case has its recordings."""
 
     name: str
     rule: str

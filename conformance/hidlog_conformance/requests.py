@@ -27,7 +27,8 @@ MISSING, UNKNOWN, FORM = "missing", "unknown", "form"
 
 @dataclass
 class Fault:
-    """An error in a request: its kind, its section if not the command's, and what was expected and found."""
+    """An error in a request: its kind, its section unless it is the command's, and the expected and the actual
+    value."""
 
     kind: str
     expected: str

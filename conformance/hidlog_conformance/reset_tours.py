@@ -1,4 +1,4 @@
-"""Saves touches: tours of cases that reset a device, or need one without other credentials (tours.py)."""
+"""Saves touches: tours (tours.py) of cases that reset a device, or need a device without other credentials."""
 
 from __future__ import annotations
 
@@ -44,11 +44,11 @@ class TourCase(Blobs, ManageCase):
     def __init__(self, is_first: bool = True) -> None:
         super().__init__("tour", "", 1)
         if not is_first:
-            # The channel is that of the part before.
+            # The part continues on the channel of the part before it.
             self.lines = self.lines[:1]
 
     def by(self, protocol: int) -> "TourCase":
-        """Chooses the PIN protocol of what follows."""
+        """Sets the PIN protocol of the following requests."""
         self.protocol = protocol
         return self
 
@@ -69,7 +69,7 @@ class TourCase(Blobs, ManageCase):
 
 
 def reset_in_time(tour: TourCase, rp: str = "example.com", hidden: bytes = descriptor(5)["id"]) -> TourCase:
-    """Resets a device with credentials, assertions that are pending, and large blobs, too late and in time."""
+    """Resets a device that has credentials, pending assertions and large blobs: first too late, then in time."""
     tour.wait(10500).cbor(RESET).expect("status 30")
     tour.starts_again().get(p5=SILENT).asserted("no-up user 04 number 4", presence=False)
     tour.cbor(NEXT).asserted("no-up user 03", presence=False)
@@ -130,19 +130,19 @@ def resets_with_pin(case: Case, made: List[bytes]) -> Case:
 
 
 def all_stored(case: Case, made: List[bytes]) -> Case:
-    """What is stored before all resets, but for a credential of Firefox's and the PIN."""
+    """Stores credentials, fingerprints and large blobs before the resets, all but Firefox's credential and the PIN."""
     return store_everything(TourCase(), False)
 
 
 def all_resets(case: Case, made: List[bytes]) -> Case:
-    """A reset of all that is stored, and of a PIN."""
+    """A reset of everything that is stored, and of a PIN."""
     tour = TourCase(False)
     tour.with_pin().cbor(INFO).expect("option clientPin true")
     return reset_in_time(tour, "localhost", made[-1]).shows_no_pin()
 
 
 def all_pins(case: Case, made: List[bytes]) -> Case:
-    """What python-fido2 registered is served; then PINs of both protocols are reset, set and blocked."""
+    """Sign-ins with the credential of python-fido2; then PINs of both protocols are reset, set and blocked."""
     tour = TourCase(False)
     serve_again(tour, "relying.example", made[-1]).by(2).with_pin().cbor(INFO).expect("option clientPin true")
     for protocol in (1, 2):
@@ -154,7 +154,7 @@ def all_pins(case: Case, made: List[bytes]) -> Case:
 
 
 def touches_of_libfido2(case: Case, made: List[bytes]) -> Case:
-    """Sign-ins with and without touches, after one of libfido2's."""
+    """Sign-ins with and without touches, after a sign-in of libfido2."""
     rp, allow = "relying.example", [{"id": made[-1], "type": KIND}]
     for options, words in ((SILENT, "no-up"), ({"up": True, "uv": False}, "up no-uv"), (SILENT, "no-up")):
         case.get(p1=rp, p3=allow, p5=options)
@@ -182,8 +182,8 @@ def find_credentials(case: Case, rp: str, words: str) -> Case:
 def same_users(
     case: Case, made: List[bytes], is_long: bool = True, has_eddsa: bool = True, has_protection: bool = True
 ) -> Case:
-    """Credentials of Firefox's user and of others, discoverable and not, of two RPs. Some are replaced or excluded, and
-    each registration has other unusual members."""
+    """Credentials of two RPs for Firefox's user and for others, discoverable and not. Some are replaced or excluded,
+    and each registration has different unusual members."""
     first, com, org = (
         {"id": made[0], "type": KIND},
         {"id": "localhost", "name": "x"},
@@ -215,7 +215,7 @@ def same_users(
 
 
 def case_of_two(case: Case, first: Dict[str, Any], com: Dict[str, str]) -> Case:
-    """Registers a second user, with an exclude list of what is not excluded."""
+    """Registers a second user, with an exclude list that has no credential of this RP."""
     similar = [case.alike(5, kind) for kind in ("changed", "longer", "shorter")]
     others = [descriptor(9), descriptor(5, "other"), descriptor(5, "")]
     user_id: bytes = user_of(64)["id"]

@@ -21,22 +21,22 @@ from hidlog_conformance.session_file import Session, Step
 from hidlog_conformance.credential_reuse import CredentialReuse, prefix_rp_id
 from hidlog_conformance.touch_saver import Sharing
 
-# Expectations of any session.
+# Expectations that apply to every session.
 GOES_ON = "a device that keeps running"
 IN_TIME = "the end of the case before its deadline"
-# The base of channels that sessions use without having allocated them.
+# The first of the channels that stand for unallocated ones in sessions.
 STRANGE = 0x7EAD0000
 
-# Seconds to wait for a response: the first one, since the device may be starting; later ones; and if a person must
-# touch. Each KEEPALIVE restarts the wait.
+# Seconds to wait for the first response, since the device may be starting; for later responses; and for responses that
+# need a person's touch. Each KEEPALIVE restarts the wait.
 START, ANSWER, PERSON = 30.0, 3.0, 40.0
 # The time limit of a case in seconds, beyond its own timestamps; and the maximum number of packets from the device.
 CASE_SECONDS, MAX_PACKETS = 60.0, 5000
-# The most cases whose time a session of several cases has.
+# The maximum factor by which the time limit of a combined session is longer.
 MAX_SHARE = 10
 # Seconds to read from a real-time device after a case.
 REST = 0.1
-# Each device has at least this number of channels.
+# The number of channels that every device has.
 MIN_CHANNELS = 4
 
 
@@ -62,9 +62,9 @@ class ResponseReader:
         reuse: Optional[CredentialReuse] = None,
         front: str = "",
     ) -> None:
-        # Credentials of other cases, and a prefix of each RP ID that keeps this case apart from them.
+        # Credentials of other cases, and a prefix for RP IDs that separates this case from them.
         self.reuse, self.front = reuse, front
-        # The number of reused credentials by request, and the request whose credential other cases may reuse.
+        # The number of reused credentials by request; and the current registration, if others may reuse its credential.
         self.taken: Dict[bytes, int] = {}
         self.keeps = b""
         self.reused: List[Credential] = []
@@ -74,10 +74,10 @@ class ResponseReader:
         self.strict = strict
         self.platform = Platform(self.facts.min_pin_length)
         self.listing = Listing()
-        # Who gets tokens for requests that need them, and whether the last registration or sign-in has one.
+        # Gets tokens with --pin for requests that need them; and whether the last registration or sign-in has a token.
         self.pin_user: Optional[PinUser] = None
         self.has_token = False
-        # What the case shares with others on the device, and the number of the current step.
+        # The credentials and the PIN that the case shares with others, and the number of the current step.
         self.sharing: Optional[Sharing] = None
         self.number = 0
         # The judge of sessions with `expect judged`, and the section that it found violated.
@@ -87,7 +87,7 @@ class ResponseReader:
         self.user_retries = 0
         # The RP ID hash whose credentials are being enumerated.
         self.listed_rp = b""
-        # A session of several cases has the time and packets of as many, but not longer than a person waits.
+        # A combined session has the time and packets of its cases, up to a maximum.
         share = min(session.cases, MAX_SHARE)
         self.max_packets = MAX_PACKETS * share
         self.deadline = time.monotonic() + seconds * share + (session.steps[-1].at if session.steps else 0) / 1000
@@ -108,7 +108,7 @@ class ResponseReader:
         self.known: Dict[bytes, Credential] = {}
         # The device's IDs of fingerprint templates and U2F key handles, by those of the session.
         self.other_ids: Dict[bytes, bytes] = {}
-        # Numbers of getInfo by member, how many samples an enrolment needs, and of U2F the points and counters.
+        # Numbers for later comparisons: of getInfo by member, of samples, and the points and counters of U2F.
         self.numbers: Dict[int, Any] = {}
         self.samples = 0
         self.points: Dict[bytes, bytes] = {}
@@ -117,7 +117,7 @@ class ResponseReader:
         self.sent: Dict[int, Message] = {}
         # The last request by channel and command.
         self.asked: Dict[Tuple[int, int], bytes] = {}
-        # The number of pending requests by channel, and the command of its last message.
+        # By channel, the number of pending requests, and the command of the last message.
         self.working: Dict[int, int] = {}
         self.newest: Dict[int, int] = {}
         self.host = hid.Collector(of_host=True)
@@ -128,7 +128,7 @@ class ResponseReader:
         self.actual: Optional[Message] = None
         # The packets so far, as lines of a log.
         self.log: List[str] = []
-        # The last request by channel, and the last of all.
+        # The last request by channel, and the last request.
         self.requests: Dict[int, bytes] = {}
         self.request = b""
         self.cancelled = False
@@ -169,7 +169,7 @@ class ResponseReader:
             self.device.signature(step.at, step.words)
 
     def until_asked(self) -> None:
-        """Waits until a real-time device asks for a touch; keeps responses that come before."""
+        """Waits until a device in real time asks for a touch; keeps responses that it sends before."""
         if self.device.virtual:
             return
         end = time.monotonic() + ANSWER
@@ -182,7 +182,7 @@ class ResponseReader:
             end = time.monotonic() + ANSWER
 
     def switch_on_again(self, at: int) -> None:
-        """Power cycles the device; nothing is pending afterwards."""
+        """Power cycles the device, after which no request is pending."""
         self.device.power_cycle(at)
         self.has_answered = False
         self.former, self.allocated = self.allocated or self.former, []
@@ -356,8 +356,8 @@ class ResponseReader:
             return message
 
     def may_touch_first(self, expected: str) -> bool:
-        """Returns whether a device may ask for a touch before it responds: if the expectation says so, and without a
-        credential if it supports only FIDO_2_0."""
+        """Returns whether a device may ask for a touch before the response: the expectation allows it, or the device
+        supports only FIDO_2_0 and has no credential."""
         if expected.endswith(" or touch") or expected.startswith("judged"):
             return True
         return self.facts.old and not self.strict and expected.startswith("status 2e") and self.request[:1] == b"\2"

@@ -16,7 +16,7 @@ MEMBERS = ("status", "reason", "expected", "actual", "line", "broken", "hung", "
 
 
 class ResultFile:
-    """A file of JSON lines: what was tested, and then an outcome in each line."""
+    """A file of JSON lines: the first line names the tested device and sessions, each other line has an outcome."""
 
     def __init__(self, path: str, header: Dict[str, Any], sessions: List[Session]) -> None:
         self.path = path
@@ -36,11 +36,11 @@ class ResultFile:
             try:
                 self.write(header)
             except OSError as fault:
-                # An error of a write does not have the file's name.
+                # The error of a write does not have the file's name.
                 raise OSError(fault.errno, fault.strerror, path) from None
 
     def read_lines(self) -> List[Dict[str, Any]]:
-        """Returns the lines of the file; removes a last one that was not written whole."""
+        """Returns the lines of the file; removes the last line if it is incomplete."""
         if not os.path.exists(self.path):
             return []
         if not os.path.isfile(self.path):
@@ -63,8 +63,8 @@ class ResultFile:
             file.write(json.dumps(members) + "\n")
 
     def add(self, outcome: Outcome) -> None:
-        """Appends an outcome; the packets only of an unstable one, whose report has them. If the file cannot be written
-        any more, the run goes on, and its report has all results."""
+        """Appends an outcome; with its packets only if it is unstable, since the report has them. After an error of a
+        write the run continues without the file, and its report has all results."""
         if self.is_broken:
             return
         members = {name: getattr(outcome, name) for name in MEMBERS}

@@ -1,4 +1,4 @@
-"""Collects the results of cases as each ends, so that an interrupted run has those so far."""
+"""Collects the results of cases when they end, so that an interrupted run has the results so far."""
 
 from __future__ import annotations
 
@@ -21,7 +21,7 @@ class Results(Generic[Result]):
         self.is_closed = False
 
     def add(self, number: int, result: Result) -> None:
-        """Adds a result, unless an interrupt came before, which may have changed it."""
+        """Adds a result, unless the run was interrupted before, since an interrupt may change a result."""
         with self.lock:
             if not self.is_closed:
                 self.by_number[number] = result
@@ -36,8 +36,8 @@ class Results(Generic[Result]):
 
 
 def collect(play: Callable[[Item], Result], items: Sequence[Item], threads: int, results: Results[Result]) -> None:
-    """Adds the result of each item, of which several are played at once. After an interrupt of the main thread the
-    other threads do not keep the process from ending."""
+    """Plays items in parallel threads, and adds their results. After an interrupt of the main thread the other threads
+    do not keep the process from ending."""
     waiting: Deque[Tuple[int, Item]] = deque(enumerate(items))
     failures: List[BaseException] = []
 

@@ -1,4 +1,4 @@
-"""Finds the rule that a difference violates, which may not be the one that the session is about."""
+"""Finds the rule that a difference violates, which may be another than the session's rule."""
 
 from __future__ import annotations
 
@@ -12,7 +12,7 @@ CHANNELS, PACKETS, BUSY, TIMEOUT, SEQUENCE = "11.2.3", "11.2.4", "11.2.5.1", "11
 ABORT = "11.2.5.3"
 CBOR, INIT, PING, CANCEL = "11.2.9.1.2", "11.2.9.1.3", "11.2.9.1.4", "11.2.9.1.5"
 ERROR, KEEPALIVE = "11.2.9.1.6", "11.2.9.1.7"
-# The rule by the code of an ERROR, and by the command of a request.
+# The sections about the code of an ERROR, and about the command of a request.
 CODES = {"01": ERROR, "03": PACKETS, "0b": CHANNELS, "04": SEQUENCE, "05": TIMEOUT, "06": BUSY}
 COMMANDS: Dict[int, str] = {
     0x01: "6.1.2",
@@ -52,7 +52,7 @@ REPLY_COMMANDS = (hid.CBOR, hid.ERROR, hid.KEEPALIVE)
 class Seen:
     """An expectation, and the actual response."""
 
-    # The rule that the session is about.
+    # The section of the session.
     own: str
     expected: str
     actual: Optional[Message]
@@ -117,7 +117,7 @@ def find_response_section(kind: str, seen: Seen) -> str:
     if seen.own.startswith("12.") and {"extension", "no-extension", "secret", "blob-key", "no-blob-key"} & words:
         return seen.own
     if seen.own == RESET and (kind in ("managed", "piece") or "no-extension" in words):
-        # Something survived a reset.
+        # A credential or a setting was not reset.
         return seen.own
     if kind == "keepalive":
         return seen.of_request if seen.answered else KEEPALIVE if seen.actual is None else seen.own

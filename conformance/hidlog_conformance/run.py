@@ -1,9 +1,9 @@
 """Runs the conformance tests against an authenticator or a client, and reports violations of CTAP 2.1.
 
-    hidlog-conformance --device "COMMAND .." --touch-line touch   a command that reads and writes packets as hex lines
-    hidlog-conformance --device /dev/hidraw3 --touch              a Linux hidraw device
-    hidlog-conformance --client "COMMAND .."                      a client, to which this plays the device
-    hidlog-conformance walk ..                                    a generated history, judged as a whole
+    hidlog-conformance --device "COMMAND .." --touch-line touch   test a command that reads and writes packets as lines
+    hidlog-conformance --device /dev/hidraw3 --touch              test a Linux hidraw device
+    hidlog-conformance --client "COMMAND .."                      test a client
+    hidlog-conformance walk ..                                    test a device with one long generated session
 
 The last line is `N passed, N failed, N warned, N skipped`. The exit status is 1 if a case failed, and 2 if the
 arguments are invalid or the device does not respond to INIT.
@@ -70,8 +70,8 @@ def all_sessions(only: str = "", paths: Tuple[str, ...] = (), skip: Tuple[str, .
 
 
 def is_choice(session: Session, options: argparse.Namespace, device_info: DeviceInfo) -> bool:
-    """Returns whether a session is about what a device may do otherwise: a choice of this project's profile, or a rule
-    that is new in CTAP 2.1."""
+    """Returns whether a device may respond otherwise than a session expects: the session is about a choice of this
+    project's profile, or about a rule that is new in CTAP 2.1."""
     is_new = bool(session.head.get("since")) and device_info.old
     return not options.profile_choices and (bool(session.head.get("profile")) or is_new)
 
@@ -101,7 +101,7 @@ def may_be_late(device: Device, outcome: Outcome, options: argparse.Namespace) -
 
 
 def mark_unstable(first: Outcome, second: Outcome, late: float) -> Outcome:
-    """Returns the outcome of a case that differed and then did not: a failure is unstable, with both recordings."""
+    """Returns the outcome of a case that failed and passed when it was repeated: unstable, with both recordings."""
     if first.status == "not ok":
         first.status = UNSTABLE
         first.recordings = [*first.recordings, *second.recordings]
@@ -110,14 +110,14 @@ def mark_unstable(first: Outcome, second: Outcome, late: float) -> Outcome:
 
 
 def make_pin_user(session: Session, options: argparse.Namespace, device_info: DeviceInfo) -> Optional[PinUser]:
-    """Returns who gets tokens in a session by --pin; None in a session that is about requests without them."""
+    """Returns the user who gets tokens with --pin; None in a session that is about requests without tokens."""
     if not options.pin or "verified registrations" in session.uses:
         return None
     return PinUser(options.pin, device_info)
 
 
 def check_pin(device: Device, options: argparse.Namespace, device_info: DeviceInfo) -> None:
-    """Checks --pin once, before any case: a wrong PIN takes a retry."""
+    """Checks --pin before the first case, since each use of a wrong PIN decrements the retries."""
     if options.reset:
         raise ValueError("--pin is for a device that keeps its PIN: leave out --reset")
     if not keys.AVAILABLE:
@@ -145,7 +145,8 @@ def answer_of(message: Optional[hid.Message]) -> bytes:
 def prepare_case(
     device: Device, session: Session, options: argparse.Namespace, saver: Optional[TouchSaver], front: str
 ) -> Tuple[str, Optional[Sharing]]:
-    """Resets a device if the case needs it; returns why the case cannot be played, or empty, and what it shares."""
+    """Resets a device if the case needs it. Returns why the case cannot be played, or empty; and the state that it
+    shares with other cases."""
     if saver is not None and options.reset:
         return saver.begin(session)
     if "reset" not in session.needs or device.fresh or front:
@@ -162,8 +163,9 @@ def play_one(
     saver: Optional[TouchSaver] = None,
     again: bool = True,
 ) -> Outcome:
-    """Plays a session, or skips it with a reason. With `saver` it may use credentials of earlier cases and not reset.
-    A case that failed while the runner was late is played once more, and is unstable if it then passes."""
+    """Plays a session, or skips it with a reason. With `saver` the session may reuse credentials of earlier cases
+    instead of a reset. A case that failed while the runner was late is repeated once, and is unstable if it then
+    passes."""
     pin_user = make_pin_user(session, options, device_info)
     front = pin_user.front(session) if pin_user is not None and not device.fresh else ""
     needed = pin_user.without_own_pin(session) if pin_user is not None else session
@@ -193,7 +195,7 @@ def play_one(
         first = adjust_outcome(outcome, options, device_info)
         return second if second.status in FAILED else mark_unstable(first, second, late)
     if sharing is not None and outcome.status == "skip" and outcome.reason.startswith(FULL) and again:
-        # Because of other cases' credentials.
+        # The device is full because of other cases' credentials.
         saver = None if saver is None else saver.forget()
         return play_one(device, session, options, device_info, saver, False)
     return adjust_outcome(outcome, options, device_info)
@@ -223,7 +225,7 @@ def play_alone(
     device: Device,
     results: Results[Outcome],
 ) -> None:
-    """Plays sessions one after another; combined ones as one, and each by itself if that does not pass."""
+    """Plays sessions one after another. Combined sessions are played as one, and each by itself if that fails."""
     wholes = {part.name: one for one in combined for part in one.parts}
     for number, session in enumerate(sessions):
         whole = wholes.get(session.name)
@@ -243,8 +245,8 @@ def play_all(
     device_info: DeviceInfo,
     results: Results[Outcome],
 ) -> None:
-    """Plays sessions one after another, or in parallel against commands that share no state and ask nobody. Adds each
-    outcome when its case ends."""
+    """Plays sessions one after another, or in parallel if each starts a command that needs no person. Adds each outcome
+    when its case ends."""
     hangs, lock = [0], threading.Lock()
     asks = asks_person(options)
     saver = TouchSaver(device, device_info) if asks and device.lasting and not options.isolated else None
@@ -253,7 +255,7 @@ def play_all(
         if hangs[0] >= MAX_HANGS:
             return Outcome(session, "not ok", "", IN_TIME, f"not played: {MAX_HANGS} cases reached their deadline")
         if options.device and options.report == "text":
-            # One write, since other threads write lines, too.
+            # A single write keeps the line together, since other threads write lines, too.
             sys.stderr.write(f"playing {session.name}\n")
         outcome = play_one(own, session, options, device_info, saver)
         interrupts.wait_for_end(own.status)
@@ -329,7 +331,7 @@ def parse_options(arguments: List[str]) -> argparse.Namespace:
 
 
 def results_so_far(results: "Results[Result]") -> "List[Result]":
-    """Returns the results, of an interrupted run those so far. Signals are ignored from now on, for the report."""
+    """Returns the results so far, and ignores signals from now on, so that the report is written completely."""
     interrupts.hold()
     found = results.close()
     kill_running()
@@ -388,7 +390,7 @@ def print_list(options: argparse.Namespace) -> int:
 
 
 def open_result_file(sessions: List[Session], options: argparse.Namespace, device_info: DeviceInfo) -> ResultFile:
-    """Opens the file of --resume; raises ValueError if it is of another device or of other options."""
+    """Opens the file of --resume; raises ValueError if it was written for another device or with other options."""
     header = report.make_device_header(options.device or "", device_info)
     whole: Dict[str, object] = {name: header[name] for name in ("corpus", "device", "AAGUID", "versions")}
     whole.update({name: getattr(options, name) for name in ("touch", "reset", "warnings_as_errors", "profile_choices")})
@@ -401,8 +403,8 @@ def is_done(session: Session, done: List[Outcome]) -> bool:
 
 
 def ask_device(device: Device, options: argparse.Namespace) -> DeviceInfo:
-    """Asks what a device supports. With --reset a PIN is removed first, perhaps that of an interrupted run, since cases
-    set one."""
+    """Asks a device for its features. With --reset the device is reset first if a PIN is set, for example by an
+    interrupted run, since cases set their own."""
     device_info = DeviceInfo.ask(device, options.touch, options.display)
     if options.reset and options.touch and not device.fresh and device_info.options.get("clientPin") is True:
         print("resetting the device to remove its PIN", file=sys.stderr)
@@ -455,7 +457,7 @@ def main(arguments: List[str]) -> int:
         if options.list:
             return print_list(options)
         if options.expected_failures:
-            # Before the run, since a wrong name is found at its end otherwise.
+            # An error in the list is reported before the run instead of after it.
             parse_list(options.expected_failures)
         return play_to_client(options) if options.client else play_to_device(options)
     except BrokenPipeError:

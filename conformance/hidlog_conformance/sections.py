@@ -1,4 +1,4 @@
-"""The sections of CTAP 2.1 that cases are about."""
+"""The sections of CTAP 2.1 that have cases."""
 
 from __future__ import annotations
 

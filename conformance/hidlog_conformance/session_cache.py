@@ -1,8 +1,8 @@
 """Generates the session files on first use in a clone; an installed package has them.
 
-They are in conformance/out/sessions-HASH, where HASH is that of their sources. conformance/sessions is a copy for people
-to read, and no link, since `rt ci` refuses a repository with links. Several processes may do this at once. A read-only
-clone uses a temporary folder instead.
+They are written to conformance/out/sessions-HASH, where HASH is the hash of their sources. conformance/sessions is a
+copy for people to read. It is not a link, since `rt ci` refuses repositories with links. Several processes may generate
+the files at once. If the clone is read-only, they are written to a temporary folder.
 """
 
 from __future__ import annotations
@@ -21,11 +21,11 @@ from typing import List
 from hidlog_conformance.paths import DATA, INSTALLED, PACKAGE
 
 SESSIONS = os.path.join(DATA, "sessions")
-# A file of conformance/sessions with the name of the folder that it is a copy of.
+# A file in conformance/sessions with the name of the folder from which the files were copied.
 COPY_OF = ".copy-of"
 CACHE = os.path.join(DATA, "out")
 PREFIX = "sessions-"
-# Seconds after its last use when a folder of other sources is removed.
+# Seconds after its last use after which a folder for other sources is removed.
 KEPT_SECONDS = 3600
 
 
@@ -54,7 +54,7 @@ def is_readable(folder: str) -> bool:
 
 
 def generate(folder: str) -> None:
-    """Writes the sessions into a new folder, which other processes see with all files or not at all."""
+    """Writes the sessions to a new folder, which is renamed when it is complete."""
     from hidlog_conformance.cases.all_cases import write_sessions
 
     work = os.path.join(CACHE, f".{PREFIX}{secrets.token_hex(8)}")
@@ -64,7 +64,7 @@ def generate(folder: str) -> None:
         try:
             os.rename(work, folder)
         except OSError:
-            # Another process was first.
+            # Another process has generated the folder.
             if not is_readable(folder):
                 raise
     finally:
@@ -97,7 +97,7 @@ def is_current_copy(folder: str) -> bool:
 
 
 def copy_sessions(folder: str) -> None:
-    """Replaces conformance/sessions by a copy of the folder, unless it is one."""
+    """Replaces conformance/sessions by a copy of the folder, unless it is up to date."""
     if is_current_copy(folder):
         return
     work = os.path.join(CACHE, f".{PREFIX}{secrets.token_hex(8)}")
@@ -115,7 +115,7 @@ def copy_sessions(folder: str) -> None:
 
 
 def remove_unused(used: str) -> None:
-    """Removes folders of other sources that no process has used for a while."""
+    """Removes folders for other sources that no process has used for some time."""
     for name in os.listdir(CACHE):
         path = os.path.join(CACHE, name)
         is_old = path != used and time.time() - os.stat(path).st_mtime > KEPT_SECONDS
@@ -125,7 +125,7 @@ def remove_unused(used: str) -> None:
 
 @functools.lru_cache(maxsize=None)
 def sessions_folder() -> str:
-    """Returns the folder of the session files, and writes them first if they are not there."""
+    """Returns the folder of the session files; generates them if necessary."""
     if INSTALLED:
         return SESSIONS
     folder = os.path.join(CACHE, PREFIX + compute_hash())
@@ -148,6 +148,6 @@ def session_name(path: str) -> str:
 
 
 def session_path(path: str) -> str:
-    """Returns the path of a session file that was named as one of conformance/sessions, or any other path unchanged."""
+    """Returns the path of a session file given by its path in conformance/sessions; other paths are unchanged."""
     name = session_name(path)
     return path if name.startswith(os.pardir) else os.path.join(sessions_folder(), name + ".log")

@@ -1,4 +1,4 @@
-"""Reads the session files: logs whose comments say what is expected."""
+"""Reads session files: logs with the expected responses in comments."""
 
 from __future__ import annotations
 
@@ -23,7 +23,7 @@ class SessionSyntaxError(ValueError):
 
 @dataclass
 class Step:
-    """An input (the packets of a message are one input), and what is expected after it."""
+    """An input, and the expectations after it. All packets of a message are one input."""
 
     kind: str
     at: int
@@ -43,9 +43,9 @@ class Session:
     uses: List[str]
     steps: List[Step]
     file: str = ""
-    # IDs derived from credential IDs: the kind of change, and the credential ID.
+    # By derived ID: the kind of change, and the credential ID that it is derived from.
     derived: Dict[bytes, Tuple[str, bytes]] = field(default_factory=dict)
-    # The number of cases that it is played in place of.
+    # The number of cases that this session replaces.
     cases: int = 1
 
     @property
@@ -55,7 +55,7 @@ class Session:
 
     @property
     def lenient(self) -> str:
-        """Why a difference is not a failure of another device, or empty."""
+        """Why a difference is not a failure of other makers' devices, or empty."""
         if self.head.get("profile"):
             return "a choice of this project's profile: " + self.head["profile"]
         return "the standard says should" if self.head.get("level") == "should" else ""

@@ -1,4 +1,4 @@
-"""Saves touches: sends a sign-in with the option up false if the case is not about user presence."""
+"""Saves touches: sets the option up of sign-ins to false if the case is not about user presence."""
 
 from __future__ import annotations
 
@@ -11,15 +11,15 @@ from hidlog_conformance.answers import GET, NEXT
 from hidlog_conformance.outline import decode_parameters, get_cbor_request
 from hidlog_conformance.session_file import Session, Step
 
-# Cases about user presence, and about the time until a touch. Of the sign-ins that clients sent, one without an
-# allow list; those with one are like that of get/up_true.
+# Cases about user presence, and about the time before a touch; and a client's sign-in without an allow list. Clients'
+# sign-ins with an allow list test the same as get/up_true.
 ABOUT_TOUCHES = tuple(
     "cancel/ fuzzed/ hosts/ keepalive/ order/ pin/signs_in_ recorded/libfido2_discoverable selection/ time/ user/".split()
 )
 WORDS_OF_TOUCHES = ("touch", "presence", "up_true")
-# Those of them whose sign-ins are not about touches.
+# Cases among these whose sign-ins are not about touches.
 OTHERS = ("cancel/then_again", "fuzzed/nothing_pending_after_a_list", "hosts/sign_in_after_another_registered")
-# A longer request might not fit a message with the option, unless the case is about long messages.
+# The maximum length of a request to which the option is added; and cases about long messages, with their maximum.
 LONGEST, LONG_MESSAGES, LONGEST_OF_THEM = 900, "messages of 2048", 2000
 
 
@@ -30,7 +30,7 @@ def is_about_touches(session: Session) -> bool:
 
 
 def can_be_silent(steps: List[Step], number: int, longest: int) -> bool:
-    """Returns whether a step is a sign-in with a touch that succeeds, without hmac-secret, which needs the touch
+    """Returns whether a step is a successful sign-in with a touch, and without hmac-secret, which requires the touch
     (12.5)."""
     request, after = get_cbor_request(steps[number]), steps[number + 1 : number + 3]
     asked = decode_parameters(request)
@@ -62,7 +62,7 @@ def expect_silent(step: Step) -> Step:
 
 
 def without_needless_touches(session: Session) -> Session:
-    """Returns the session with up false in sign-ins whose touch is not what the case is about."""
+    """Returns the session with up false in the sign-ins whose touch the case does not test."""
     if is_about_touches(session):
         return session
     found: List[Step] = []

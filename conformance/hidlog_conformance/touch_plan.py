@@ -1,8 +1,8 @@
-"""Saves touches where a person tests a device that keeps its state: cases share registrations, PINs and resets.
+"""Saves touches when a person tests a device that keeps its state: cases share registrations, PINs and resets.
 
-Each case still sends all requests that it is about. What is shared is a beginning: the same registrations with the same
-expectations, in the same order, and the same PIN. The order of the cases follows from what each leaves on the device, so
-that the touches are known before the run.
+Each case still sends all requests that it tests. Cases can share their beginnings: the same registrations with the same
+expectations, in the same order, and the same PIN. The order of the cases depends on the state that each leaves on the
+device, so the number of touches is known before the run.
 """
 
 from __future__ import annotations
@@ -14,14 +14,14 @@ from hidlog_conformance.answers import Credential
 from hidlog_conformance.outline import UNKNOWN, Outline, Registration, decode_parameters, read_outline
 from hidlog_conformance.session_file import Session
 
-# The member of authenticatorMakeCredential with extensions, and of the PIN
-# protocol; and extensions that make no difference unless they are asked for.
+# The members extensions and pinUvAuthProtocol of authenticatorMakeCredential; and extensions that have no effect unless
+# a sign-in requests them.
 EXTENSIONS, PROTOCOL, HARMLESS = 6, 9, {"credBlob", "hmac-secret", "largeBlobKey"}
 
 
 @dataclass
 class Item:
-    """A registration that a device has: its request with the expectation, and its credential, None in a plan."""
+    """A registration on the device: its request with the expectation, and its credential, or None in a plan."""
 
     key: Tuple[bytes, str]
     is_discoverable: bool
@@ -29,29 +29,28 @@ class Item:
 
 
 def is_enough(made: Tuple[bytes, str], wanted: Tuple[bytes, str]) -> bool:
-    """Returns whether a registration that was made, with its expectation, serves for one that is wanted: all that is
-    expected was, and it was the same request, or had further extensions, which make no difference unless they are asked
-    for."""
+    """Returns whether the registration `made` can replace `wanted`: it had the same request, perhaps with additional
+    extensions that have no effect unless a sign-in requests them, and at least the same expectations."""
     if not set(wanted[1].split(" ")) <= set(made[1].split(" ")):
         return False
     asked, other = decode_parameters(made[0]), decode_parameters(wanted[0])
     extensions, wished = dict(asked.pop(EXTENSIONS, {})), dict(other.pop(EXTENSIONS, {}))
     is_harmless = set(extensions) - set(wished) <= HARMLESS
-    # The protocol of a token makes no difference afterwards.
+    # The PIN protocol of a registration's token has no effect on its credential.
     is_same = {**asked, PROTOCOL: None} == {**other, PROTOCOL: None}
     return is_harmless and is_same and {**extensions, **wished} == extensions
 
 
 @dataclass
 class Group:
-    """The registrations that cases share, in order, below one prefix of RP IDs."""
+    """Registrations that cases share, in order, with a common prefix of their RP IDs."""
 
     front: str
     items: List[Item] = field(default_factory=list)
     is_spoiled: bool = False
 
     def begins(self, registrations: List[Registration]) -> bool:
-        """Returns whether these serve for the first of a case's registrations."""
+        """Returns whether these can replace the first registrations of a case."""
         if self.is_spoiled or len(self.items) > len(registrations):
             return False
         return all(is_enough(item.key, one.key) for item, one in zip(self.items, registrations))
@@ -59,21 +58,21 @@ class Group:
 
 @dataclass
 class Visit:
-    """How a case begins on the device as it is."""
+    """The preparation of the device for a case, in its current state."""
 
     group: Optional[Group]
-    # Whether the device is reset first, an empty large-blob array is written, and wrong PINs are made up for.
+    # Whether the device is reset first, whether an empty large-blob array is written, and whether retries are restored.
     resets: bool = False
     cleans_blobs: bool = False
     restores_retries: bool = False
-    # The number of registrations that are there already, and whether the PIN is.
+    # The number of registrations that are reused, and whether the PIN is.
     reused: int = 0
     has_pin: bool = False
     touches: int = 0
 
 
 class DeviceState:
-    """What the runner knows of the device's state, or plans."""
+    """The state of the device in a run, or in a plan."""
 
     def __init__(self) -> None:
         self.pin = b""
@@ -90,7 +89,7 @@ class DeviceState:
         self.has_others = self.has_blobs = self.was_guessed = False
 
     def find_group(self, outline: Outline) -> Optional[Group]:
-        """Returns the group that a case can begin with, or a new one; None if the device must be reset."""
+        """Returns the group that a case can reuse, or a new group; None if the device must be reset."""
         stored = [group for group in self.groups if any(item.is_discoverable for item in group.items)]
         groups = self.groups
         if outline.is_global:
@@ -105,7 +104,7 @@ class DeviceState:
         return Group(f"c{self.fronts + 1}.")
 
     def plan(self, outline: Outline) -> Visit:
-        """Returns how a case begins; changes nothing."""
+        """Returns the preparation for a case, without changing the state."""
         is_same = self.pin == outline.pin or (bool(outline.pin) and not self.pin)
         is_same = is_same or (outline.ignores_pin and self.pin != UNKNOWN)
         group = self.find_group(outline) if is_same else None
@@ -150,7 +149,7 @@ class DeviceState:
         self.was_guessed = self.was_guessed or outline.guesses
 
     def doubt(self, outline: Outline, visit: Visit) -> None:
-        """Processes the end of a case that did not pass: it may have left anything."""
+        """Processes the end of a case that did not pass: the state of the device is unknown."""
         if visit.group is not None:
             visit.group.is_spoiled = True
         self.has_others = self.has_blobs = self.was_guessed = True
@@ -158,8 +157,8 @@ class DeviceState:
 
 
 def rank(state: DeviceState, outline: Outline, visit: Visit, pins: List[bytes]) -> Tuple[int, int, int]:
-    """Returns the order of a case among those left: first what leaves the device as it is, then what resets a device
-    without a PIN, last what needs a reset."""
+    """Returns a key to choose the next case by: first cases that leave the device's state unchanged, then cases that
+    reset a device without a PIN, last cases that need a reset."""
     added = len(outline.registrations) - visit.reused
     if visit.resets and not outline.resets:
         level = 8
@@ -170,11 +169,11 @@ def rank(state: DeviceState, outline: Outline, visit: Visit, pins: List[bytes]) 
     elif outline.pin and not state.pin:
         level = 5
     elif outline.is_combined and not (outline.is_global and outline.spoils):
-        # Their registrations serve for other cases.
+        # Other cases can reuse their registrations.
         level = 2 if outline.spoils else 1
     else:
         level = 3 if outline.spoils or added else 0
-    # A reset ends what cases share, so the first is of the case that uses most of it.
+    # A reset deletes what cases share, so the case that reuses most comes first.
     is_later = outline.changes_pin if outline.resets else not outline.changes_pin
     return level, int(is_later), added - 2 * visit.reused * outline.resets + int(visit.resets)
 

@@ -20,19 +20,19 @@ from hidlog_conformance.touch_plan import DeviceState, Visit
 
 # The permission lbw of a token.
 WRITES = 0x10
-# What a device's refusal or invalid response raises.
+# Exceptions after a device's refusal or an invalid response.
 REFUSED = (Mismatch, OSError, ValueError, KeyError, TypeError, IndexError)
 
 
 @dataclass
 class Sharing:
-    """What a case finds on the device: credentials for its first registrations, and its PIN."""
+    """The state that a case reuses: credentials for its first registrations, and its PIN."""
 
     outline: Outline
     front: str = ""
     credentials: List[Credential] = field(default_factory=list)
     has_pin: bool = False
-    # Who gets tokens for registrations at the beginning if a PIN is set.
+    # Gets tokens for the registrations at the beginning if a PIN is set.
     user: Optional[PinUser] = None
 
     def find_credential(self, number: int) -> Optional[Credential]:
@@ -46,11 +46,11 @@ class Sharing:
         return next(one.name for one in self.outline.registrations if one.number == number)
 
     def leaves_out(self, number: int) -> bool:
-        """Returns whether a step sets the PIN that is set already."""
+        """Returns whether a step is left out, since it sets the PIN that the device has."""
         return self.has_pin and number == self.outline.pin_step
 
     def with_token(self, number: int, data: bytes, exchange: Any) -> bytes:
-        """Returns a registration of the beginning with a token, if a PIN is set."""
+        """Returns the request of a registration at the beginning, with a token if a PIN is set."""
         asked = decode_parameters(data)
         is_own = any(one.number == number for one in self.outline.registrations)
         if self.user is None or not is_own or data[:1] != bytes([MAKE]) or 8 in asked:
@@ -78,7 +78,8 @@ class TouchSaver:
         return self.outlines[session.name]
 
     def begin(self, session: Session) -> "tuple[str, Optional[Sharing]]":
-        """Prepares the device for a case; returns why it cannot be played, or empty, and what it shares."""
+        """Prepares the device for a case. Returns why the case cannot be played, or empty; and the state that it
+        reuses."""
         outline = self.outline(session)
         if not outline.needs_empty:
             return (self.reset(session) if self.state.pin else ""), None
@@ -97,7 +98,7 @@ class TouchSaver:
         return "", Sharing(outline, visit.group.front, credentials, visit.has_pin, user)
 
     def cleans(self, visit: Visit) -> bool:
-        """Makes up for what earlier cases left; returns whether the device let it."""
+        """Undoes changes of earlier cases; returns whether that succeeded."""
         try:
             if visit.restores_retries:
                 self.restore_retries()
@@ -118,7 +119,7 @@ class TouchSaver:
         return reason
 
     def end(self, session: Session, passed: bool, known: Dict[bytes, Credential]) -> None:
-        """Follows what a case left on the device."""
+        """Records the state that a case left on the device."""
         outline = self.outline(session)
         if any(map(sends_reset, session.steps)):
             self.pool.made = {}
@@ -137,12 +138,12 @@ class TouchSaver:
                 self.state.doubt(outline, self.visit)
 
     def forget(self) -> TouchSaver:
-        """Processes that the device is full: the next case that needs it is played after a reset."""
+        """Processes that the device is full: it is reset before the next case that registers."""
         self.state.pin, self.state.has_others = UNKNOWN, True
         return self
 
     def pin_user(self) -> PinUser:
-        """Returns who knows the PIN that is set."""
+        """Returns the user with the PIN that is set, or None."""
         pin = adapt_pin(self.state.pin, self.device_info.min_pin_length)
         return PinUser(pin.decode(), self.device_info)
 
@@ -158,7 +159,7 @@ class TouchSaver:
         return exchange
 
     def restore_retries(self) -> None:
-        """Makes up for wrong PINs: a power cycle allows further ones, and the right one restores the retries."""
+        """Restores the PIN retries: after a power cycle, which allows further PINs, the right PIN restores them."""
         if "power cycle" in self.device.features:
             self.device.power_cycle(0)
         if self.state.pin:
@@ -176,7 +177,7 @@ class TouchSaver:
         self.device.close()
 
     def restore_user(self, outline: Outline, name: bytes, credential: Credential) -> bool:
-        """Updates a credential to the user of its registration again; returns whether that succeeded."""
+        """Restores the user of a credential's registration by an update; returns whether that succeeded."""
         requests = [one.key[0] for one in outline.registrations if one.name == name]
         if not requests:
             return False

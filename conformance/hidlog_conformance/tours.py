@@ -1,8 +1,8 @@
-"""Saves touches: sessions that are played in place of several cases each, written by hand.
+"""Saves touches: tours, which are sessions written by hand that each replace several cases.
 
-A tour sends what its cases are about, with each touch once: a registration has the members of several requests, and one
-touch ends what several cases begin with. A device that passes a tour passes each of its cases; if it does not, they are
-played by themselves. `check.py faults --kept` plays wrong authenticators in this way.
+A tour tests the same as its cases with fewer touches: a registration has the members of several requests, and the first
+steps that several cases have in common come once. A device that passes a tour passes each of its cases. If it fails,
+the cases are played by themselves. `check.py faults --kept` plays tours to faulty authenticators.
 """
 
 from __future__ import annotations
@@ -28,23 +28,23 @@ POWER = "power"
 LONG_NAMES = {"name": "xx" + "€" * 63, "displayName": "𝄞" * 14}
 
 
-# A part of a tour: the name of a case, or what writes it, by the IDs of the credentials that earlier parts registered.
+# A part of a tour: the name of a case, or a function that writes the part, given the credential IDs of earlier parts.
 Part = Union[str, Callable[[Case, List[bytes]], Case]]
 
 
 @dataclass(frozen=True)
 class Tour:
-    """A session of several parts, and the names of the cases that it is played in place of."""
+    """A session of several parts, and the names of the cases that it replaces."""
 
     parts: Tuple[Part, ...]
     covers: Tuple[str, ...]
     # The cases without which a device cannot pass it.
     required: Tuple[str, ...] = ()
-    # Whether it is also played in place of some of the cases, if the device does not support all.
+    # Whether the tour is also played if the device does not support all of the cases.
     is_partial: bool = False
 
     def build_session(self, known: Dict[str, Session]) -> Session:
-        """Returns the session, with the parts that are cases from those known."""
+        """Returns the session; `known` has the cases by name."""
         steps: List[Step] = []
         derived: Dict[bytes, Tuple[str, bytes]] = {}
         for part in self.parts:
@@ -63,7 +63,7 @@ class Tour:
 
 
 def shift_time(step: Step, milliseconds: int) -> Step:
-    """Returns the step that much later."""
+    """Returns the step with a later time."""
     packets = [(at + milliseconds, packet) for at, packet in step.packets]
     return replace(step, at=step.at + milliseconds, packets=packets)
 
@@ -100,7 +100,7 @@ def useless_touch(case: Case, made: List[bytes]) -> Case:
 
 
 def selection(case: Case, made: List[bytes]) -> Case:
-    """A selection with all that is to be seen of it."""
+    """A selection, with everything that cases expect of it."""
     case.greet().register(1).cbor(SELECTION).expect("keepalive 02").tick(100).expect("nothing")
     case.presence().expect("status 00").tick(200).expect("silence").alive()
     return sign_in_silently(case, 1)

@@ -1,8 +1,8 @@
 """Assembles the packets of a log into messages and transactions, by the output of `hidlog_transactions`.
 
-`hidlog_transactions` of the C library (crates/hidlog_c/hidlog.h) writes a line for each packet, tick and reply: which
-transaction it belongs to, by CTAP 2.1, 11.2, so it works for any key. This reads that text and the log line by line,
-and keeps only what is unfinished.
+`hidlog_transactions` of the C library (crates/hidlog_c/hidlog.h) writes a line for each packet, tick and reply, with
+the transaction that it belongs to by CTAP 2.1, 11.2. This works for any key. This module reads that text and the log
+line by line, and keeps only unfinished transactions.
 """
 
 from __future__ import annotations
@@ -37,7 +37,7 @@ class Part:
     length: int
     parts: List[bytes]
     lines: List[int]
-    # The joined data, once it was needed.
+    # A cache of `data`.
     joined: Optional[bytes] = None
 
     @property
@@ -147,8 +147,8 @@ class Ending:
 
 @dataclass
 class Owned:
-    """The transaction of a line: the first lines of its transaction and its message (or 0), and transactions that
-    ended."""
+    """The line numbers of a packet's transaction and message (their first lines, or 0), and the transactions that it
+    ends."""
 
     transaction: int = 0
     message: int = 0
@@ -233,7 +233,7 @@ class Transactions:
         return not self.open and not self.answering
 
     def restart(self) -> None:
-        """Forgets what is unfinished: the device lost power."""
+        """Drops unfinished transactions: the device lost power."""
         self.open, self.answering, self.input = {}, {}, None
 
     def take_entries(self) -> List[Entry]:
@@ -358,7 +358,7 @@ class Transactions:
             owner.end, owner.by = ENDS[word.letter], word.number or entry.line
 
     def leave_late(self, line: int) -> None:
-        """Removes the last input, a continuation packet, from a message that had timed out before."""
+        """Removes the last input, a continuation packet that came after the timeout of its message."""
         entry = self.input
         if entry is None or entry.line != line or entry.transaction is None:
             return

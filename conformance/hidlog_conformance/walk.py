@@ -1,4 +1,4 @@
-"""Plays a generated history to a device until a response violates a rule, and shortens it."""
+"""Plays generated steps to a device until a response violates a rule, and shortens the list of steps."""
 
 from __future__ import annotations
 
@@ -19,21 +19,21 @@ from hidlog_conformance.walk_steps import Block
 
 # Seconds for one step of a device in real time.
 STEP_SECONDS = 60.0
-# The most milliseconds between the steps of a shortened walk, and the maximum number of replays to shorten it.
+# The maximum of milliseconds between the steps of a shortened walk, and of replays to shorten it.
 MAX_PAUSE, MAX_REPLAYS = 50, 400
 ANY = "Any history of valid and invalid requests has the responses that the standard requires."
 
 
 @dataclass
 class Walked:
-    """The end of a walk: the steps that were played, and the violation, if any."""
+    """The steps of a walk, and the violation that ended it, if any."""
 
     blocks: List[Block]
     outcome: Optional[Outcome] = None
 
     @property
     def failure(self) -> str:
-        """What a shorter walk must fail with: the section, and the expectation without values."""
+        """The section and the expectation without values, which are the same for a shortened walk."""
         if self.outcome is None:
             return ""
         words = self.outcome.expected.split(" ")
@@ -101,7 +101,7 @@ def play_blocks(device: Device, device_info: DeviceInfo, blocks: Iterable[Block]
 
 
 class Walk:
-    """A walk of generated steps; `blocks` has those so far, also after an interrupt."""
+    """A walk of generated steps; `blocks` has the steps so far, also after an interrupt."""
 
     def __init__(self, device: Device, device_info: DeviceInfo, seed: int) -> None:
         self.device, self.device_info = device, device_info
@@ -134,7 +134,7 @@ def walk(device: Device, device_info: DeviceInfo, seed: int, count: int) -> Walk
 
 
 def retime(blocks: List[Block]) -> List[Block]:
-    """Returns steps that follow one another without the time of those removed between them."""
+    """Returns the steps with the pauses limited to MAX_PAUSE, so that removed steps leave no long pause."""
     found: List[Block] = []
     now = 0
     for block in blocks:
@@ -147,7 +147,7 @@ def retime(blocks: List[Block]) -> List[Block]:
 
 
 def move_line(text: str, by: int) -> str:
-    """Returns a line with another time."""
+    """Returns a line with its time changed by some milliseconds."""
     if text.startswith("#"):
         return text
     kind, at, *rest = text.split(" ", 2)
@@ -155,7 +155,7 @@ def move_line(text: str, by: int) -> str:
 
 
 def shrink(device: Device, device_info: DeviceInfo, whole: Walked) -> Walked:
-    """Returns the shortest walk found that fails in the same way: removes steps, many at a time at first."""
+    """Returns the shortest walk found that fails in the same way: removes blocks of steps, the largest first."""
     best = Walked(retime(whole.blocks), whole.outcome)
     size, replays = max(1, len(best.blocks) // 2), 0
     while size and replays < MAX_REPLAYS:

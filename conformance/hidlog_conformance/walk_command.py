@@ -1,4 +1,4 @@
-"""The command `hidlog-conformance walk`: plays a generated history to a device, and reports the first violation.
+"""The command `hidlog-conformance walk`: plays generated steps to a device, and reports the first violation.
 
     hidlog-conformance walk --device "COMMAND .." --touch-line touch --persistent --reset --steps 1000 --seed 7
 
@@ -96,7 +96,7 @@ def run_walk(options: argparse.Namespace) -> int:
             with open(path, "w", encoding="utf-8") as file:
                 file.write(session)
         except OSError as fault:
-            # The walk may have taken an hour.
+            # The file cannot be written; after a long walk the steps must not be lost.
             print_violation(walked, options.seed, f"below, since it cannot be written ({describe_fault(fault)})")
             print(session, end="")
             return 1

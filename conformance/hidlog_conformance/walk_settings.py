@@ -1,4 +1,4 @@
-"""Steps of a walk about settings and fingerprints, if the device has them: authenticatorConfig, and enrolments."""
+"""Generates steps of a walk for devices with authenticatorConfig or fingerprint enrolment."""
 
 from __future__ import annotations
 
@@ -29,7 +29,7 @@ from hidlog_conformance.judged_settings import (
 from hidlog_conformance.known_answers import MAKES
 from hidlog_conformance.walk_steps import NEW_TOKEN, PIN_LENGTH, RPS, Block, Steps
 
-# How long a PIN may become, and the milliseconds that a device waits for a sample.
+# The maximum of minPINLength in walks, and the timeout of a sample in milliseconds.
 LONGEST_PIN, SAMPLE_TIME = 12, 10000
 FINGERPRINT, NAMES = 1, ("left", "right", "thumb")
 
@@ -43,7 +43,7 @@ class SettingSteps(Steps):
     """Steps that also change settings and fingerprints."""
 
     def __init__(self, seed: int, device_info: DeviceInfo) -> None:
-        # The minimum PIN length that the device was told last, the templates, and whether alwaysUv was turned on.
+        # The last minPINLength that was sent, the number of enrolments, and whether alwaysUv was turned on.
         self.shortest = device_info.min_pin_length
         self.enrolled = 0
         self.always_uv = bool(device_info.options.get("alwaysUv"))
@@ -78,7 +78,7 @@ class SettingSteps(Steps):
         return super().make_request(rp, more)
 
     def with_permission(self, permission: int) -> Block:
-        """Gets a token with a permission, rarely another one."""
+        """Gets a token with a permission; rarely with another one instead."""
         if self.chance(0.1):
             return self.asks_token(self.block(), self.secrets.pin or b"", MAKES, RPS[0])
         members = {"p3": b"=agreement", "p6": b"=hash:" + (self.secrets.pin or b""), "p9": permission}
@@ -98,7 +98,7 @@ class SettingSteps(Steps):
         return self.add_config(self.with_permission(MAY_CONFIGURE), SET_MIN_PIN_LENGTH, self.length_parameters())
 
     def length_parameters(self) -> Dict[int, Any]:
-        """Returns parameters of setMinPINLength: a longer or a shorter one, or RPs."""
+        """Returns parameters of setMinPINLength: a higher or a lower minPINLength, or minPinLengthRPIDs."""
         if EXTENSION in self.device_info.extensions and self.chance(0.6):
             return {RP_IDS: self.random.sample(RPS, self.random.randrange(3))}
         if self.shortest >= LONGEST_PIN or self.chance(0.3):
@@ -116,7 +116,7 @@ class SettingSteps(Steps):
         return block.ask(bytes([CONFIG]) + encode(asked)).ask(INFO)
 
     def force(self) -> Block:
-        """Demands another PIN, tries the old one, and changes it, perhaps after a power cycle."""
+        """Sets forceChangePin, tries the old PIN, and changes the PIN; perhaps after a power cycle."""
         pin = self.secrets.pin
         if not pin:
             return self.info()
@@ -138,7 +138,7 @@ class SettingSteps(Steps):
         more: str = "",
         part: float = 0.95,
     ) -> Block:
-        """Adds a subcommand, in this part of the cases with a token."""
+        """Adds a subcommand; `part` is the probability of a token."""
         asked: Dict[int, Any] = {1: FINGERPRINT, 2: command}
         if parameters is not None:
             asked[3] = parameters
@@ -147,7 +147,7 @@ class SettingSteps(Steps):
         return block.ask(bytes([BIO]) + encode(asked), more)
 
     def enroll(self) -> Block:
-        """Begins an enrolment, and completes it, cancels it, or cuts the device's power within it."""
+        """Begins an enrolment, and completes it, cancels it, or power cycles the device during it."""
         if not self.secrets.pin:
             return self.info()
         self.enrolled += 1
@@ -165,7 +165,7 @@ class SettingSteps(Steps):
         return self.add_bio(block, ENUMERATE).ask(INFO)
 
     def change_template(self) -> Block:
-        """Renames or removes a template, which may be gone, and lists the others."""
+        """Renames or removes a template, which may have been removed before, and lists the templates."""
         if not self.secrets.pin or not self.enrolled:
             return self.list_templates()
         name = walk_template(self.random.randrange(max(1, self.enrolled - 3), self.enrolled + 1))

@@ -1,4 +1,5 @@
-"""Generates the steps of a walk: requests of several RPs, users and hosts, right and wrong PINs and tokens, power cycles."""
+"""Generates the steps of a walk: requests of several RPs, users and hosts, right and wrong PINs and tokens, power
+cycles."""
 
 from __future__ import annotations
 
@@ -22,9 +23,9 @@ HOSTS = 2
 # getPinUvAuthTokenUsingPinWithPermissions.
 NEW_TOKEN = 9
 PIN_LENGTH = 6
-# Milliseconds between steps; after a longer wait, and one that ends pending assertions.
+# Milliseconds between steps; a longer wait, and a wait that ends pending assertions.
 PAUSES, LONG, LONGER = (1, 5, 40), 3000, 31000
-# The maximum of credentials before the next reset, and of entries in a list.
+# The number of credentials after which the device is reset, and the maximum of entries in a list.
 FULL, MAX_LISTED = 20, 3
 
 
@@ -43,7 +44,7 @@ class Block(Case):
         return self
 
     def ask(self, data: bytes, more: str = "") -> Block:
-        """Sends a request, and lets its response be judged."""
+        """Sends a request, and expects a response that the judge accepts."""
         self.cbor(data, self.channel)
         return self.judged(more)
 
@@ -68,17 +69,17 @@ def make_colliding_pin(pin: bytes, source: random.Random) -> bytes:
 
 
 class Steps:
-    """Chooses steps for a device, by a seed and by what the host knows."""
+    """Generates steps for a device, by a seed, and by the host's secrets."""
 
     def __init__(self, seed: int, device_info: DeviceInfo) -> None:
         self.random = random.Random(seed)
         self.device_info = device_info
         self.at = 0
         self.made = 0
-        # The RP of each credential by its number; those since the last reset.
+        # The RP of each credential by its number; and the numbers of credentials since the last reset.
         self.rps: Dict[int, str] = {}
         self.present: List[int] = []
-        # The user of each of those that is discoverable.
+        # The users of discoverable credentials since the last reset, by number.
         self.users: Dict[int, bytes] = {}
         protocols = device_info.info.get(6) if isinstance(device_info.info.get(6), list) else []
         self.protocol = self.random.choice(protocols) if protocols else 0
@@ -105,7 +106,7 @@ class Steps:
 
     @property
     def has_pin(self) -> bool:
-        """Whether the device has PINs that this runner can use."""
+        """Whether the device supports PINs."""
         return bool(self.protocol) and self.device_info.options.get("clientPin") is not None
 
     def block(self) -> Block:
@@ -114,7 +115,7 @@ class Steps:
         return Block(self.at, self.random.choice((1, 1, HOSTS)))
 
     def choose(self, secrets: Secrets) -> Block:
-        """Returns the next step; `secrets` is what the host knows of the PIN."""
+        """Returns the next step; `secrets` are the PIN and the token."""
         self.secrets = secrets
         is_blocked = self.has_pin and not secrets.retries
         if len(self.present) >= FULL or (is_blocked and self.chance(0.3)) or self.chance(0.004):
@@ -126,13 +127,14 @@ class Steps:
         return block
 
     def chance(self, part: float) -> bool:
-        """Returns True in this part of the cases."""
+        """Returns True with the probability `part`."""
         return self.random.random() < part
 
     # Steps without a credential.
 
     def reset(self) -> Block:
-        """Resets the device right after a power cycle. The first step: then the host knows all that the device has."""
+        """Resets the device right after a power cycle. This is the first step, after which the device's state is
+        known."""
         self.present = []
         self.users = {}
         block = self.power_cycle()
@@ -147,7 +149,7 @@ class Steps:
         return block.greet_hosts()
 
     def outdated(self) -> Block:
-        """Uses pending assertions or a token of before a power cycle."""
+        """Uses pending assertions, or a token, after a power cycle."""
         rp = self.random.choice(RPS)
         if self.secrets.pin and self.chance(0.6):
             before = self.asks_token(self.block(), self.secrets.pin, MAKES | GETS, rp)
@@ -197,7 +199,7 @@ class Steps:
     # Registrations and sign-ins.
 
     def listed(self, rp: str) -> Optional[List[Dict[str, Any]]]:
-        """Returns a list of credentials: of this RP, of another one, from before a reset, unknown; or none."""
+        """Returns a list of credentials of this RP, of another RP, from before a reset, or unknown ones; or None."""
         if self.chance(0.45):
             return None
         own = [number for number in self.present if self.rps[number] == rp]
@@ -212,7 +214,8 @@ class Steps:
         return [{"id": identity, "type": KIND} for identity in dict.fromkeys(chosen)][:count]
 
     def param(self, key: int) -> Dict[int, Any]:
-        """Returns pinUvAuthParam and its protocol, under these keys: of the token, of the token before, or cut."""
+        """Returns pinUvAuthParam, with this key, and its protocol: by the last token, by the token before it, or
+        truncated."""
         kind = self.random.choice((b"=token:", b"=token:", b"=token:", b"=former:", b"=cut:"))
         length = self.random.choice((1, 4, 8, 15, 16 if self.protocol == 2 else 12))
         word = kind + (b"%d:" % length if kind == b"=cut:" else b"")
@@ -230,13 +233,13 @@ class Steps:
         }
         if self.device_info.options.get("rk") and self.chance(0.6):
             asked[7] = {"rk": True}
-            # Its number is that of the next credential.
+            # `new_credential` counts the credential.
             self.users[self.made + 1] = user
             self.rps[self.made + 1] = rp
         return MAKE + encode(asked)
 
     def new_credential(self, rp: str) -> str:
-        """Returns the words of an expectation that name a new credential."""
+        """Counts a new credential; returns the words of the expectation that name it."""
         self.made += 1
         self.rps[self.made] = rp
         self.present.append(self.made)
@@ -265,7 +268,7 @@ class Steps:
         return self.add_get(self.block(), rp)
 
     def add_get(self, block: Block, rp: str, silent: float = 0.2) -> Block:
-        """Adds a sign-in, in this part of the cases without a touch."""
+        """Adds a sign-in; `silent` is the probability of the option up false."""
         asked: Dict[int, Any] = {1: rp, 2: self.random.randbytes(32)}
         listed = self.listed(rp)
         if listed is not None:
@@ -279,7 +282,7 @@ class Steps:
     # PINs and tokens.
 
     def pin_request(self, command: int, **members: Any) -> bytes:
-        """Returns a request of authenticatorClientPIN with members p3, p4 .."""
+        """Returns a request of authenticatorClientPIN; the arguments p3, p4 .. are its members 3, 4 .."""
         more = {int(name[1:]): value for name, value in members.items()}
         return PIN + encode({1: self.protocol, 2: command, **more})
 
@@ -288,7 +291,7 @@ class Steps:
         return block.ask(self.pin_request(GET_AGREEMENT))
 
     def guessed_pin(self) -> bytes:
-        """Returns a PIN to try: mostly the right one; else one that collides, or another one."""
+        """Returns a PIN to use: mostly the right one; else the former PIN, a colliding PIN, or another wrong one."""
         pin = self.secrets.pin
         if not pin:
             return b"1234567"
@@ -316,7 +319,7 @@ class Steps:
         return self.asks_token(self.block(), self.guessed_pin(), permissions, self.random.choice(RPS))
 
     def two_uses(self) -> Block:
-        """Uses one token twice, and before that perhaps after a change of the PIN."""
+        """Uses a token twice, perhaps after a change of the PIN."""
         rp, pin = self.random.choice(RPS), self.secrets.pin
         block = self.asks_token(self.block(), pin or b"", MAKES | GETS, rp)
         if pin and self.chance(0.3):
@@ -330,7 +333,7 @@ class Steps:
         return self.block().ask(self.pin_request(GET_RETRIES))
 
     def guess(self) -> Block:
-        """Tries a wrong PIN, and asks for the retries before and after a power cycle."""
+        """Tries a wrong PIN, and asks for the retries, perhaps also after a power cycle."""
         pin = self.secrets.pin
         if not pin or self.secrets.retries < MAX_RETRIES - 4:
             return self.token()

@@ -55,7 +55,8 @@ def compare_allow_list_ids(same: Any) -> Any:
 
 
 def compare_exclude_list(same: Any) -> Any:
-    """Returns a change that compares exclude lists by a function of the entry, the credential and the RP of the request."""
+    """Returns a change that compares exclude lists by a function of the entry, the credential and the RP of the
+    request."""
 
     def excluded(key: Any, asked: Any) -> bool:
         rp, listed = asked.item[2]["id"], asked.item.get(5, [])

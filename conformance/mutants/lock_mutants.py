@@ -14,7 +14,7 @@ from mutant import Mutant, change_member, replace_method, wrap_method
 
 LOCK, CONFIG, LENGTH, RESET, INFO = "11.2.9.2.2", "6.11", "12.4", "6.6", "6.4"
 LOCKING = DeviceTraits(lock=True)
-TELLING = DeviceTraits(config=True, extensions=("hmac-secret", "minPinLength"))
+WITH_MIN_PIN_LENGTH = DeviceTraits(config=True, extensions=("hmac-secret", "minPinLength"))
 
 
 def lock_longer(key: Any, channel: int, data: bytes) -> None:
@@ -65,44 +65,44 @@ def excludes_requests_alone(key: Any, channel: int, command: int, length: int, d
         key.transport.locked = before
 
 
-def tell_default(key: Any, old: Any, asked: Any, new: Any) -> Dict[str, Any]:
-    """Tells always the standard's minimum."""
+def return_default(key: Any, old: Any, asked: Any, new: Any) -> Dict[str, Any]:
+    """Always returns the default minimum PIN length."""
     found = dict(old(asked, new))
     return {name: SHORTEST_PIN if name == "minPinLength" else value for name, value in found.items()}
 
 
-def tell_unasked(key: Any, old: Any, asked: Any, new: Any) -> Dict[str, Any]:
-    """Tells a chosen RP also without the extension."""
+def return_unrequested(key: Any, old: Any, asked: Any, new: Any) -> Dict[str, Any]:
+    """Returns minPINLength to an authorized RP without a request, too."""
     found = dict(old(asked, new))
-    return {**found, "minPinLength": key.pin.shortest} if key.config.is_told(new.rp) else found
+    return {**found, "minPinLength": key.pin.shortest} if key.config.is_authorized(new.rp) else found
 
 
 def add_rps(key: Any, asked: Dict[int, Any]) -> None:
-    """Adds RPs to the earlier ones."""
+    """Adds RPs to those authorized before."""
     key.config.rps += asked.get(2, [])
 
 
-def choose_with_length(key: Any, asked: Dict[int, Any]) -> None:
-    """Chooses RPs only together with a new minPINLength."""
+def authorize_with_length_only(key: Any, asked: Dict[int, Any]) -> None:
+    """Authorizes RPs only together with a new minPINLength."""
     if 1 in asked:
-        Config.choose_rps(key.config, asked)
+        Config.authorize_rps(key.config, asked)
 
 
 def keep_rps(key: Any, old: Any) -> None:
-    """Resets, but keeps the chosen RPs."""
+    """Resets, but keeps the authorized RPs."""
     rps = key.config.rps
     old()
     key.config.rps = rps
 
 
 def lose_rps(key: Any, old: Any) -> None:
-    """Forgets the chosen RPs at a power cycle."""
+    """Forgets the authorized RPs at a power cycle."""
     old()
     key.config.rps = []
 
 
-def take_rps_unasked(key: Any, old: Any, asked: Dict[int, Any]) -> None:
-    """Ignores the chosen RPs without the extension."""
+def ignore_rps_without_extension(key: Any, old: Any, asked: Dict[int, Any]) -> None:
+    """Ignores minPinLengthRPIDs without the extension."""
     old({name: value for name, value in asked.items() if name != 2})
 
 
@@ -145,45 +145,73 @@ LOCK_MUTANTS: List[Mutant] = [
         LOCKING,
     ),
     Mutant(
-        "told_to_all",
+        "min_pin_length_for_all",
         LENGTH,
-        "Each RP is told minPINLength.",
-        replace_method("config.is_told", lambda key, rp: True),
-        TELLING,
+        "Every RP gets minPINLength.",
+        replace_method("config.is_authorized", lambda key, rp: True),
+        WITH_MIN_PIN_LENGTH,
     ),
     Mutant(
-        "told_to_none",
+        "min_pin_length_for_none",
         LENGTH,
-        "No RP is told minPINLength.",
-        replace_method("config.is_told", lambda key, rp: False),
-        TELLING,
+        "No RP gets minPINLength.",
+        replace_method("config.is_authorized", lambda key, rp: False),
+        WITH_MIN_PIN_LENGTH,
     ),
     Mutant(
-        "told_default", LENGTH, "RPs are told the default.", wrap_method("extensions.of_make", tell_default), TELLING
-    ),
-    Mutant("told_unasked", LENGTH, "RPs are told unasked.", wrap_method("extensions.of_make", tell_unasked), TELLING),
-    Mutant("told_rps_added", LENGTH, "RPs are added to others.", replace_method("config.choose_rps", add_rps), TELLING),
-    Mutant(
-        "told_with_length_alone",
+        "min_pin_length_default",
         LENGTH,
-        "RPs are chosen only with a minPINLength.",
-        replace_method("config.choose_rps", choose_with_length),
-        TELLING,
+        "RPs get the default minimum.",
+        wrap_method("extensions.of_make", return_default),
+        WITH_MIN_PIN_LENGTH,
     ),
     Mutant(
-        "told_after_reset", RESET + "|" + LENGTH, "A reset keeps the RPs.", wrap_method("forget", keep_rps), TELLING
+        "min_pin_length_unrequested",
+        LENGTH,
+        "RPs get minPINLength without a request.",
+        wrap_method("extensions.of_make", return_unrequested),
+        WITH_MIN_PIN_LENGTH,
     ),
     Mutant(
-        "told_until_unplugged", LENGTH, "A power cycle forgets the RPs.", wrap_method("power_cycle", lose_rps), TELLING
+        "rp_ids_added",
+        LENGTH,
+        "minPinLengthRPIDs adds RPs.",
+        replace_method("config.authorize_rps", add_rps),
+        WITH_MIN_PIN_LENGTH,
     ),
     Mutant(
-        "told_without_extension",
+        "rp_ids_with_length_alone",
+        LENGTH,
+        "RPs are authorized only together with a new minPINLength.",
+        replace_method("config.authorize_rps", authorize_with_length_only),
+        WITH_MIN_PIN_LENGTH,
+    ),
+    Mutant(
+        "rp_ids_after_reset",
+        RESET + "|" + LENGTH,
+        "A reset keeps the authorized RPs.",
+        wrap_method("forget", keep_rps),
+        WITH_MIN_PIN_LENGTH,
+    ),
+    Mutant(
+        "rp_ids_until_unplugged",
+        LENGTH,
+        "A power cycle forgets the authorized RPs.",
+        wrap_method("power_cycle", lose_rps),
+        WITH_MIN_PIN_LENGTH,
+    ),
+    Mutant(
+        "rp_ids_without_extension",
         CONFIG,
-        "RPs are chosen without the extension.",
-        wrap_method("config.set_min_pin_length", take_rps_unasked),
+        "minPinLengthRPIDs is accepted without the extension.",
+        wrap_method("config.set_min_pin_length", ignore_rps_without_extension),
         DeviceTraits(config=True),
     ),
     Mutant(
-        "told_number_unsaid", INFO, "maxRPIDsForSetMinPINLength is missing.", change_member("info", 16, None), TELLING
+        "max_rp_ids_missing",
+        INFO,
+        "maxRPIDsForSetMinPINLength is missing.",
+        change_member("info", 16, None),
+        WITH_MIN_PIN_LENGTH,
     ),
 ]

@@ -13,7 +13,7 @@ from mutant import Mutant, replace_method, wrap_method
 
 CONFIG, BIO, PIN, LENGTH, INFO, RESET = "6.11", "6.7", "6.5", "12.4", "6.4", "6.6"
 SETTINGS = DeviceTraits(config=True, bio=True)
-TELLING = DeviceTraits(config=True, extensions=("minPinLength",))
+WITH_MIN_PIN_LENGTH = DeviceTraits(config=True, extensions=("minPinLength",))
 
 
 def power_cycle_and(change: Any) -> Any:
@@ -46,8 +46,8 @@ def forget_always_uv(key: Any) -> None:
     key.config.always_uv = False
 
 
-def forget_told(key: Any) -> None:
-    """Forgets the RPs that are told minPINLength."""
+def forget_rps(key: Any) -> None:
+    """Forgets the RPs that are authorized to get minPINLength."""
     key.config.rps = []
 
 
@@ -135,7 +135,13 @@ SETTING_STATE_MUTANTS: List[Mutant] = [
         power_cycle_and(forget_always_uv),
         SETTINGS,
     ),
-    Mutant("told_later_no_more", LENGTH, "A power cycle forgets RPs.", power_cycle_and(forget_told), TELLING),
+    Mutant(
+        "rp_ids_lost",
+        LENGTH,
+        "A power cycle forgets the authorized RPs.",
+        power_cycle_and(forget_rps),
+        WITH_MIN_PIN_LENGTH,
+    ),
     Mutant(
         "forced_once",
         CONFIG + "|" + PIN,

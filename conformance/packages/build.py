@@ -153,7 +153,7 @@ def build_deb(folder: str) -> str:
 
 
 def main(words: List[str]) -> int:
-    """Makes both."""
+    """Builds both packages."""
     if len(words) != 1:
         print(__doc__, file=sys.stderr)
         return 2

@@ -1,6 +1,7 @@
 #!/usr/bin/env python3
-"""python-fido2 sets a PIN, registers and signs in with it: python_client.py PROTOCOL. Writes and reads packets as
-lines, and ends with a line `ok` or `refused`."""
+"""Sets a PIN, registers and signs in with python-fido2: python_client.py PROTOCOL
+
+Writes and reads packets as lines, and ends with a line `ok` or `refused`."""
 
 from __future__ import annotations
 

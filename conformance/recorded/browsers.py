@@ -38,7 +38,7 @@ TOUCH_AFTER = 0.3
 SECONDS = 60
 # Seconds without a packet after which a browser waits for a person to close its dialog.
 IDLE_SECONDS = 7.0
-# The steps of the page, by name; each has a new browser and key.
+# The steps of the page in each run. Each run has a new browser and a new key.
 RUNS = {
     "excluded": "register,sign_in,excluded",
     "discoverable": "discoverable,found",

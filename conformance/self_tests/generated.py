@@ -1,4 +1,5 @@
-"""Tests that a clone generates its sessions on first use: whole, current, in several processes, and if it is read-only."""
+"""Tests of session_cache.py: a clone generates all sessions on first use, also in several processes, and if it is
+read-only."""
 
 from __future__ import annotations
 
@@ -14,7 +15,7 @@ from trying import Test
 
 CORPUS = os.path.join(os.path.dirname(os.path.abspath(__file__)), "..")
 COPIED = ("hidlog_conformance", "fuzzed", "recorded", "run.py", "make.py", "sessions.sha256", "clients")
-# Prints the folder and how many sessions it has.
+# Prints the folder of the sessions and their number.
 COUNT = "import glob\nfrom hidlog_conformance.session_cache import sessions_folder\n"
 COUNT += "print(sessions_folder(), len(glob.glob(sessions_folder() + '/*/*.log')))"
 
@@ -46,7 +47,7 @@ class Clone:
         return text
 
     def folders(self) -> List[str]:
-        """Returns the names of what the cache has."""
+        """Returns the names of the cache's folders."""
         return sorted(os.listdir(os.path.join(self.folder, "out")))
 
 
@@ -75,7 +76,7 @@ def test_new_clone() -> None:
 
 
 def test_changed_table() -> None:
-    """A change of a case table is in the next run, and make.py --check names the session."""
+    """A change of a case table changes the session of the next run, and make.py --check names the session."""
     with tempfile.TemporaryDirectory() as room:
         clone = Clone(room)
         first = clone.output("-c", COUNT).split()[0]
@@ -111,7 +112,7 @@ def test_read_only_clone() -> None:
     """A clone that cannot be written to has its sessions in a temporary folder, which is removed."""
     with tempfile.TemporaryDirectory() as room:
         clone = Clone(room)
-        # As root, permissions do not apply: a file is in the place of the cache.
+        # Permissions do not apply to root, so a file with the cache's name keeps it from being created.
         open(os.path.join(clone.folder, "out"), "w", encoding="utf-8").close()
         folder, count = clone.output("-c", COUNT).split()
         assert (

@@ -17,7 +17,7 @@ from trying import HERE, Test, make_device_arguments
 
 RUN = [sys.executable, os.path.join(HERE, "..", "run.py")]
 CLIENT = os.path.join(HERE, "..", "clients", "python_fido2.py")
-# A word in the arguments of this process's devices, by which it finds those that are left; other tests run beside it.
+# A word in the arguments of this process's devices, by which it finds them among those of other tests.
 MARK = f"an_interrupted_run_{os.getpid()}"
 ENDED = 130
 
@@ -79,7 +79,7 @@ def test_text_report() -> None:
 
 
 def test_other_reports() -> None:
-    """The JSON and JUnit reports of an interrupted run are whole; so is that of this repository's program."""
+    """The JSON and JUnit reports of an interrupted run are complete, also for this repository's program."""
     no_device: List[str] = []
     for device in (make_device_arguments(f"plain {MARK}"), no_device):
         status, out, heard = interrupt([*device, "--report", "json"], 4)

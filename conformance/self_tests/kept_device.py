@@ -72,7 +72,7 @@ def test_slow_person() -> None:
 
 
 def refuse_member(authenticator: Authenticator) -> None:
-    """Refuses requests with one unknown member, as no device should."""
+    """Makes an authenticator refuse requests with an unknown member, which is a fault."""
     read = authenticator.requests.read
 
     def refuse(data: bytes, types: Types) -> Dict[Any, Any]:
@@ -86,7 +86,7 @@ def refuse_member(authenticator: Authenticator) -> None:
 
 
 def test_combined_failure() -> None:
-    """If cases that are played as one do not pass, each is played by itself, and only the wrong ones fail."""
+    """If a combined case fails, its cases are played by themselves, and only those about the fault fail."""
     shared, device, _ = run_cases(["--only", "cbor/taken"], refuse_member)
     alone, _, _ = run_cases(["--only", "cbor/taken", "--isolated"], refuse_member)
     failed = [name for name, status in shared.items() if status == "not ok"]
@@ -94,7 +94,7 @@ def test_combined_failure() -> None:
 
 
 def test_unexplained_failure() -> None:
-    """If cases fail as one session, and each of them passes by itself, the failure is reported as unstable."""
+    """If a combined case fails, and each of its cases passes by itself, the failure is reported as unstable."""
     setattr(run, "play_one", fail_whole)
     try:
         outcomes, _, _ = run_cases(["--only", "cbor/taken"])
@@ -116,7 +116,7 @@ def pass_whole(device: Any, session: Session, *words: Any) -> Outcome:
 
 
 def test_pin() -> None:
-    """With --pin most cases are played to a key that has a PIN and is not reset, and nothing is left on it."""
+    """With --pin most cases are played to a key that has a PIN and is not reset, and no credential is left on it."""
     for least, always_uv in ((850, False), (800, True)):
         outcomes, device, _ = run_cases(["--pin", "123456"], pin="123456", always_uv=always_uv)
         played = {name: status for name, status in outcomes.items() if status != "skip"}

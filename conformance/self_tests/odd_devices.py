@@ -56,7 +56,7 @@ def test_keepalive_first() -> None:
 
 
 def test_skip_reason() -> None:
-    """A case skipped for a missing feature names it; the getInfo response is in the report's header alone."""
+    """The reason for skipping a case names the missing feature; only the report's header has the getInfo response."""
     _, out, _ = run_command([*make_device_arguments("plain"), "--only", "ping/bytes_7609"])
     assert "does not support: messages of 7609\n" in out and out.count("{1: ") == 1, out
 

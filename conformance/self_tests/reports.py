@@ -1,4 +1,4 @@
-"""Tests of the reports: their order, the members of a failure, which cases are left, and faults that come rarely."""
+"""Tests of the reports: order, members of a failure, selection of cases, and faults that occur rarely."""
 
 from __future__ import annotations
 
@@ -22,7 +22,7 @@ from hidlog_conformance.response_reader import GOES_ON
 from mutant import replace_method
 from trying import Test, check_detected, run_command
 
-# A fault comes at one start in this number; and how often a case is played.
+# A fault occurs at one of this number of starts; and the number of times that a case is played.
 ONE_IN, STARTS = 50, 150
 # The status and section of an error with data.
 WITH_DATA = ("not ok", "11.2.9.1.2")
@@ -98,7 +98,7 @@ class RareFault(ReferenceDevice):
 
 
 def test_rare_fault() -> None:
-    """A fault at one start in fifty is never a passed case, also if the runner is late."""
+    """A case that fails at one start in fifty is never reported as passed, even if the runner is late."""
     options: argparse.Namespace = run.parse_options(["--device", "reference", "--touch-line", "touch", "--reset"])
     device = RareFault(DeviceTraits())
     device_info = DeviceInfo.ask(device, True)
@@ -124,8 +124,8 @@ def refuse_with_data(key: Authenticator, command: int, status: int) -> bytes:
 
 
 def test_other_choice() -> None:
-    """A case about a choice of the profile is skipped if the device chooses otherwise, and fails if what it sends is
-    wrong in any case."""
+    """A case about a choice of the profile is skipped if the device chooses otherwise, and fails if its response
+    violates a MUST."""
     options: argparse.Namespace = run.parse_options(["--device", "reference", "--touch-line", "touch", "--reset"])
     (session,) = run.all_sessions("make/hash_of_31")
     traits, change = DeviceTraits(wrong_length=0x02), replace_method("refusal", refuse_with_data)
@@ -155,7 +155,7 @@ def test_full_disk() -> None:
 
 @contextmanager
 def limit_file_size(size: int) -> Iterator[None]:
-    """Lets no file become longer, like a full disk."""
+    """Limits the size of files, like a full disk."""
     before = resource.getrlimit(resource.RLIMIT_FSIZE)
     handler = signal.signal(signal.SIGXFSZ, signal.SIG_IGN)
     resource.setrlimit(resource.RLIMIT_FSIZE, (size, before[1]))

@@ -1,8 +1,8 @@
-"""An independent implementation of transactions, for comparison with the verified one: which transaction each packet
-belongs to, and how each transaction ends.
+"""An independent implementation of transactions, for comparison with the verified one: it finds the transaction of each
+packet, and the end of each transaction.
 
-It decides by packets, order and timestamps (CTAP 2.1, 11.2). If packets do not show the transaction it guesses, so it
-is only compared with hidlog_transactions where that is sure.
+It decides by packets, order and timestamps (CTAP 2.1, 11.2). If packets do not show a transaction, it guesses; such
+transactions, which hidlog_transactions reports as unknown, are not compared.
 """
 
 from __future__ import annotations

@@ -1,4 +1,4 @@
-"""Tests of `hidlog-conformance walk`: what it finds, the session file of a violation, and its errors."""
+"""Tests of `hidlog-conformance walk`: the faults it finds, the session file of a violation, and its error messages."""
 
 from __future__ import annotations
 
@@ -23,21 +23,21 @@ from hidlog_conformance.walk_settings import SettingSteps  # noqa: E402
 from hidlog_conformance.walk_steps import RPS  # noqa: E402
 from run_mutant import STATEFUL, walk_mutant  # noqa: E402
 
-# Faults, and the number of steps within which the walk with the first seed finds each.
+# Faults, and the number of steps within which a walk with the first seed finds each.
 QUICK = ["retries_restored", "pin_by_one_byte", "param_by_prefix", "token_registers_twice", "vector_of_zeros"]
 QUICK += ["random_restarts", "rp_hash_of_previous", "allow_list_stays", "pin_lost", "token_of_always"]
 QUICK_STEPS, MAX_STEPS = 400, 6
 
 
 def test_found() -> None:
-    """A walk finds faults that need state, each by its section."""
+    """A walk finds faults that need state, under the violated section."""
     for name in QUICK:
         is_found, text = walk_mutant(name, QUICK_STEPS)
         assert is_found, text
 
 
 def test_conforming() -> None:
-    """A walk finds nothing in the reference authenticator, nor in this project's."""
+    """A walk finds no violation of the reference authenticator, nor of this project's."""
     device = ReferenceDevice(DeviceTraits())
     outcome = walk.walk(device, DeviceInfo.ask(device, True), 3, 300).outcome
     assert outcome is None, f"{outcome.expected}; actual: {outcome.actual}"

@@ -1,4 +1,4 @@
-"""Tests the ways to a device, and the reports.
+"""Tests the connections to a device (pipe and hidraw), and the reports.
 
 A terminal without line editing replaces /dev/hidrawN, and others/python_key.py the device behind it. Report descriptors
 and the kernel's driver are not tested.

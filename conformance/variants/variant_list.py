@@ -1,4 +1,4 @@
-"""Conforming variants of the reference authenticator: what differs, and where the standard allows it."""
+"""Conforming variants of the reference authenticator, with the section that allows the difference."""
 
 from __future__ import annotations
 
@@ -8,7 +8,7 @@ from hidlog_conformance.reference.traits import EDDSA, ES256, DeviceTraits
 
 
 class Variant(NamedTuple):
-    """Sends a variant."""
+    """A variant: its description and its traits."""
 
     says: str
     traits: DeviceTraits
@@ -22,7 +22,7 @@ def make_variant(says: str, **traits: Any) -> Variant:
 WITHOUT: Dict[str, Any] = {"extensions": (), "management": False, "large_blobs": False}
 OLD: Dict[str, Any] = {"versions": ("U2F_V2", "FIDO_2_0"), "selection": False, **WITHOUT}
 BARE: Dict[str, Any] = {"has_pin": False, "u2f": False, **WITHOUT}
-TELLING = ("credBlob", "credProtect", "hmac-secret", "largeBlobKey", "minPinLength")
+WITH_MIN_PIN_LENGTH = ("credBlob", "credProtect", "hmac-secret", "largeBlobKey", "minPinLength")
 
 SLOW: Dict[str, Variant] = {
     "slow": make_variant("Each request takes five seconds (11.2.9.1.7).", work_time=5000),
@@ -37,9 +37,13 @@ SLOW: Dict[str, Variant] = {
 MIXED: Dict[str, Variant] = {
     "configurable": make_variant("authenticatorConfig is served (6.11).", config=True),
     "configurable_pin_of_6": make_variant("The same with minPINLength 6.", config=True, shortest_pin=6),
-    "pin_length_told": make_variant("minPinLength is served (12.4).", config=True, extensions=TELLING),
-    "pin_length_told_of_6": make_variant(
-        "The same with minPINLength 6, and two RPs.", config=True, extensions=TELLING, shortest_pin=6, told_rps=2
+    "min_pin_length": make_variant("minPinLength is served (12.4).", config=True, extensions=WITH_MIN_PIN_LENGTH),
+    "min_pin_length_of_6": make_variant(
+        "The same with minPINLength 6, and two RPs.",
+        config=True,
+        extensions=WITH_MIN_PIN_LENGTH,
+        shortest_pin=6,
+        max_rp_ids=2,
     ),
     "fingerprints": make_variant("Fingerprints can be enrolled (6.7).", bio=True),
     "fingerprints_and_config": make_variant("Both.", bio=True, config=True, says_remaining=True),

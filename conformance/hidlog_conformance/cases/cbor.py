@@ -1,4 +1,5 @@
-"""Cases about CTAP2 canonical CBOR: what must be refused, by kind and depth, and what accepted (CTAP 2.1, 8)."""
+"""Cases about CTAP2 canonical CBOR (CTAP 2.1, 8): invalid items at each depth, which a device refuses, and valid
+ones."""
 
 from __future__ import annotations
 

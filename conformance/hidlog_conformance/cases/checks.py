@@ -24,7 +24,8 @@ LENGTH_STATUS = "the standard does not define the status for a wrong length"
 
 
 class Check(NamedTuple):
-    """A check: its position, name and status, a change that makes it fail, and what the standard leaves open."""
+    """A check: its position, name and status, a change that makes it fail, and the choice that the standard leaves
+    open."""
 
     name: str
     status: str
@@ -47,7 +48,7 @@ def set_parameter(key: Any, value: Any) -> Callable[[Asked], None]:
     return spoil
 
 
-# In the order of the algorithm; one of each position, for the pairs.
+# The checks in the order of the algorithm. A pair of checks has two different positions.
 MAKE_ORDER = [
     Check("type", "11", set_parameter(6, 1)),
     Check("missing", "14", set_parameter(3, None)),

@@ -1,4 +1,4 @@
-"""Builds a session file: its head, its inputs, and what is expected after them."""
+"""Builds a session file: its head, its inputs, and the expectations after them."""
 
 from __future__ import annotations
 
@@ -27,7 +27,7 @@ def descriptor(number: int, kind: str = KIND) -> Dict[str, Any]:
 
 
 def similar_name(number: int, kind: str) -> bytes:
-    """Returns the ID that sessions use for one similar to credential `number`: with a changed bit, longer or
+    """Returns the ID that sessions use for an ID similar to that of credential `number`: with a changed bit, longer, or
     shorter."""
     return (
         credential_name(number)[:-2]
@@ -37,7 +37,7 @@ def similar_name(number: int, kind: str) -> bytes:
 
 
 def user(number: int) -> Dict[str, Any]:
-    """Returns a user; the first registers unless the case names another one."""
+    """Returns user `number`; registrations are for the first one unless a case names another."""
     return {"id": bytes([number]), "name": f"user{number}", "displayName": f"User {number}"}
 
 
@@ -146,7 +146,7 @@ class Case:
         return self
 
     def power_cycle(self) -> Self:
-        """Adds a power cycle; the next channel is number 1 again."""
+        """Adds a power cycle, after which channels count from 1 again."""
         self.lines.append("# power cycle")
         return self
 

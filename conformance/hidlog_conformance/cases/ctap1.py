@@ -13,7 +13,7 @@ if TYPE_CHECKING:
 CHALLENGE, APPLICATION, OTHER = b"\x11" * 32, b"\x22" * 32, b"\x33" * 32
 HANDLE = b"a key handle of the session....."
 REGISTER, AUTHENTICATE = 1, 2
-# The control bytes of a sign-in: only check the key handle, sign with a touch.
+# The control bytes check-only and enforce-user-presence-and-sign.
 CHECK_ONLY, ENFORCE = 7, 3
 WRONG_DATA, WRONG_LENGTH, NO_TOUCH = "6a80", "6700", "6985"
 

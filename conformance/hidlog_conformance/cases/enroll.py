@@ -18,7 +18,7 @@ NAME = "right"
 
 
 class EnrollCase(PinCase):
-    """A case with subcommands of fingerprint enrolment by a protocol. The device takes three samples."""
+    """A case about authenticatorBioEnrollment by a PIN protocol, for devices that take three samples."""
 
     def __init__(self, name: str, requirement: str, protocol: int) -> None:
         super().__init__(f"enroll/{name}", "bio", requirement, protocol)

@@ -1,6 +1,6 @@
 """Cases that the fuzzer found in faulty authenticators, minimized by fuzzed/find.py and `hidlog shrink`.
 
-The expectations were written by hand, by line of the finding.
+The expectations were written by hand, each for a line of the log.
 """
 
 from __future__ import annotations
@@ -17,7 +17,7 @@ PROFILE_CHOICE = "the standard does not say which of two errors is reported"
 
 
 class FuzzedCase(NamedTuple):
-    """A finding: its rule, the fault it detects, and the expectations by line."""
+    """A finding of the fuzzer: its rule, the fault that it detects, and the expectations by line."""
 
     name: str
     fault: str

@@ -10,7 +10,7 @@ from hidlog_conformance.cases.corpus import INFO, Case
 if TYPE_CHECKING:
     from typing_extensions import Self
 
-# Seconds of a lock: short ones, since the next case of a device that fails has to wait for their end; and the maximum.
+# Seconds of a lock: short ones, since the next case has to wait for their end if the device fails; and the maximum.
 SHORT, LONGER, MAX_LOCK = 1, 2, 10
 OTHER = 2
 
@@ -32,11 +32,11 @@ class LockCase(Case):
         return self.lock(seconds).expect("message 04 none")
 
     def released(self) -> Self:
-        """Releases the lock, so that the next case finds none."""
+        """Releases the lock before the next case."""
         return self.lock(0).expect("message 04 none")
 
     def other_is_refused(self) -> Self:
-        """Sends a PING of the other host, which the lock excludes."""
+        """Sends a PING of the other host, which gets the error 06."""
         self.send(OTHER, hid.PING, b"let me in").expect(f"error 06 on {OTHER:08x}")
         return self
 

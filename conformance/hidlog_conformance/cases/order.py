@@ -1,4 +1,4 @@
-"""Cases about packets with two errors, or sent to a busy device: which ERROR is returned."""
+"""Cases about the order of checks in the transport: packets with two errors, and packets to a busy device."""
 
 from __future__ import annotations
 
@@ -17,7 +17,7 @@ STATES: Dict[str, Callable[[Case], Case]] = {
     "other_work": lambda case: case.make(2).expect("keepalive 02 on 2"),
 }
 
-# State, packet, response (empty for none), what continues, whether the standard defines it, section.
+# State, packet, response (empty for none), the message that continues, whether the standard defines it, section.
 Row = Tuple[str, str, str, str, bool, str]
 ROWS: List[Row] = [
     ("own_work", "cancel", "status 2d", "", True, "cancel"),
@@ -105,7 +105,7 @@ def add_packet(case: Case, what: str) -> None:
 
 
 def expect_afterwards(case: Case, state: str, goes_on: str) -> None:
-    """Adds expectations about what continues after the packet."""
+    """Adds the expectation that a message continues after the packet, or that none does."""
     channel = 2 if state.startswith("other") else 1
     if goes_on == "message":
         case.go_on(channel).expect(f"echo on {channel}")

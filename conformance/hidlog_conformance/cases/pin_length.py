@@ -1,4 +1,4 @@
-"""Cases about the extension minPinLength, which tells chosen RPs the minimum PIN length (CTAP 2.1, 12.4)."""
+"""Cases about the extension minPinLength, by which authorized RPs get the minimum PIN length (CTAP 2.1, 12.4)."""
 
 from __future__ import annotations
 
@@ -11,21 +11,21 @@ if TYPE_CHECKING:
     from typing_extensions import Self
 
 EXTENSION, RP, OTHER_RP = "minPinLength", "example.com", "example.org"
-TOLD, UNTOLD = f"up uv extension {EXTENSION} {RAISED:02x}", f"up uv no-extension {EXTENSION}"
+LENGTH_OUTPUT, NO_LENGTH_OUTPUT = f"up uv extension {EXTENSION} {RAISED:02x}", f"up uv no-extension {EXTENSION}"
 # The member maxRPIDsForSetMinPINLength of getInfo.
 MAX_RP_IDS = "10"
 
 
 class LengthCase(ConfigCase):
-    """A case with RPs that are told the minimum PIN length."""
+    """A case with RPs that are authorized to get the minimum PIN length."""
 
     def __init__(self, name: str, requirement: str, protocol: int, section: str = "pin length") -> None:
-        super().__init__(f"told_{name}", requirement, protocol, section, "setMinPINLength")
+        super().__init__(f"rp_ids_{name}", requirement, protocol, section, "setMinPINLength")
         self.comment(f"uses: minPINLength {RAISED - 1}")
         self.comment(f"uses: extension {EXTENSION}")
 
-    def tell(self, *rps: str) -> Self:
-        """Sets a PIN and minPINLength, and the RPs that are told it."""
+    def authorize_rps(self, *rps: str) -> Self:
+        """Sets a PIN, minPINLength and minPinLengthRPIDs."""
         self.with_pin(LONG_PIN).token(pin=LONG_PIN, permissions=0x20, rp="")
         return self.configure(MIN_PIN_LENGTH, {1: RAISED, 2: list(rps)}).expect("status 00")
 
@@ -43,30 +43,32 @@ def cases_of(protocol: int) -> List[Case]:
         cases.append(LengthCase(name, requirement, protocol, section))
         return cases[-1]
 
-    add("chosen", "A chosen RP is told minPINLength.").tell(RP).ask(TOLD)
-    add("one_of_two", "Each chosen RP is told minPINLength.").tell(OTHER_RP, RP).ask(TOLD)
-    add("not_chosen", "Another RP is not told minPINLength.").tell(OTHER_RP).ask(UNTOLD)
-    case = add("not_asked", "minPINLength is told only if the extension is requested.").tell(RP)
-    case.token(pin=LONG_PIN).register_with_token().made(1, UNTOLD)
-    case = add("chosen_anew", "Later RPs take the place of the earlier ones (6.11.4).").tell(RP)
+    add("authorized", "An authorized RP gets minPINLength.").authorize_rps(RP).ask(LENGTH_OUTPUT)
+    add("one_of_two", "Each authorized RP gets minPINLength.").authorize_rps(OTHER_RP, RP).ask(LENGTH_OUTPUT)
+    add("not_authorized", "Another RP does not get minPINLength.").authorize_rps(OTHER_RP).ask(NO_LENGTH_OUTPUT)
+    case = add("not_requested", "minPINLength is returned only if the extension is requested.").authorize_rps(RP)
+    case.token(pin=LONG_PIN).register_with_token().made(1, NO_LENGTH_OUTPUT)
+    case = add("replaced", "A later minPinLengthRPIDs replaces the earlier one (6.11.4).").authorize_rps(RP)
     case.token(pin=LONG_PIN, permissions=0x20, rp="").configure(MIN_PIN_LENGTH, {2: [OTHER_RP]}).expect("status 00")
-    case.ask(UNTOLD)
-    case = add("chosen_later", "RPs can be chosen without a new minPINLength (6.11.4).").tell(OTHER_RP)
-    case.token(pin=LONG_PIN, permissions=0x20, rp="").configure(MIN_PIN_LENGTH, {2: [RP]}).expect("status 00").ask(TOLD)
-    case = add("kept", "The chosen RPs survive a power cycle.")
+    case.ask(NO_LENGTH_OUTPUT)
+    case = add("set_alone", "minPinLengthRPIDs can be set without a new minPINLength (6.11.4).").authorize_rps(OTHER_RP)
+    case.token(pin=LONG_PIN, permissions=0x20, rp="").configure(MIN_PIN_LENGTH, {2: [RP]}).expect("status 00").ask(
+        LENGTH_OUTPUT
+    )
+    case = add("kept", "The authorized RPs survive a power cycle.")
     case.comment("needs: power cycle")
-    case.tell(RP).power_cycle().greet().ask(TOLD)
-    case = add("reset", "A reset restores the RPs that are told minPINLength (6.6).", "reset").tell(RP)
-    case.cbor(RESET).presence().expect("status 00").with_pin(LONG_PIN).ask(UNTOLD)
+    case.authorize_rps(RP).power_cycle().greet().ask(LENGTH_OUTPUT)
+    case = add("reset", "A reset restores the authorized RPs (6.6).", "reset").authorize_rps(RP)
+    case.cbor(RESET).presence().expect("status 00").with_pin(LONG_PIN).ask(NO_LENGTH_OUTPUT)
     case = add("shown", "With the extension getInfo has maxRPIDsForSetMinPINLength (6.4, member 10).", "info")
     case.shows(f"member {MAX_RP_IDS} any")
     return list(cases)
 
 
 def cases_without(protocol: int) -> List[Case]:
-    """RPs cannot be chosen without the extension (6.11.4, step 2)."""
-    requirement = "Without the extension minPinLength no RPs can be chosen (6.11.4)."
-    case = ConfigCase("rps_without_extension", requirement, protocol, "config", "setMinPINLength")
+    """minPinLengthRPIDs is refused without the extension (6.11.4, step 2)."""
+    requirement = "minPinLengthRPIDs is refused without the extension minPinLength (6.11.4)."
+    case = ConfigCase("rp_ids_without_extension", requirement, protocol, "config", "setMinPINLength")
     case.comment(f"uses: no extension {EXTENSION}")
     case.with_pin().configuring().configure(MIN_PIN_LENGTH, {2: [RP]}).expect("refused 02").alive()
     return [case]

@@ -1,4 +1,4 @@
-"""Cases about power cycles: what survives them, and what is lost."""
+"""Cases about power cycles: the state that a device keeps, and the state that it loses."""
 
 from __future__ import annotations
 

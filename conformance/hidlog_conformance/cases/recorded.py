@@ -1,6 +1,6 @@
 """Recordings of clients, with expectations written by hand from the standard.
 
-The recordings are of tests/clients/record.sh and conformance/recorded/browsers.py.
+tests/clients/record.sh and conformance/recorded/browsers.py make the recordings.
 """
 
 from __future__ import annotations

@@ -36,8 +36,8 @@ def format_cases(patterns: str) -> str:
 
 
 def format_sentence_table(rules: Dict[str, str], choices: Set[str]) -> str:
-    """Returns the table, one row per requirement, and how many have a case. Marks requirements whose cases are all
-    choices of this project's profile."""
+    """Returns the table with a row for each requirement, and the number of requirements with cases. Requirements are
+    marked if all of their cases are choices of this project's profile."""
     check_sentences(rules)
     lines: List[str] = ["| Section | Requirement | Cases |", "|---|---|---|"]
     count = [0, 0]

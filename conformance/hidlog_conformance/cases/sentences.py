@@ -271,7 +271,7 @@ AUTHENTICATOR: Dict[str, Rows] = {
         ("versions, AAGUID, options, sizes and algorithms by their shape", "info/* client:info/* client:plain/info"),
         ("members 2, 6 to 9 and 11 to 21", ""),
         ("commands that no option names are not supported, and numbers are true", "truth/*"),
-        ("maxRPIDsForSetMinPINLength, with minPinLength", "config/told_shown_*"),
+        ("maxRPIDsForSetMinPINLength, with minPinLength", "config/rp_ids_shown_*"),
     ],
     "6.5 authenticatorClientPIN": [
         ("the key agreement key, both protocols", "pin/set_[12] pin/wrong_authentication_*"),
@@ -296,7 +296,7 @@ AUTHENTICATOR: Dict[str, Rows] = {
         ("PIN and large blobs are deleted", "blobs/reset* manage/count_after_reset_*"),
         (
             "configuration and a blocked PIN are reset",
-            "config/reset_* config/told_reset_* config/enterprise_reset_* blocked/reset_*",
+            "config/reset_* config/rp_ids_reset_* config/enterprise_reset_* blocked/reset_*",
         ),
     ],
     "6.7 authenticatorBioEnrollment": [
@@ -344,7 +344,10 @@ AUTHENTICATOR: Dict[str, Rows] = {
             "minPINLength is raised",
             "config/min_pin_length_[12] config/min_pin_length_not_l* config/short_* config/forced_w*",
         ),
-        ("RPs are chosen that are told it", "config/told_chosen_* config/rps_*"),
+        (
+            "minPinLengthRPIDs are authorized to get it",
+            "config/rp_ids_authorized_* config/rp_ids_replaced_* config/rp_ids_set_* config/rp_ids_without_*",
+        ),
         (
             "each needs a token with the permission acfg",
             "config/*_token_* config/*_not_authentic_* config/*_not_permitted_*",
@@ -400,8 +403,11 @@ AUTHENTICATOR: Dict[str, Rows] = {
         ("it must be true, for discoverable credentials", "blobkey/false blobkey/not_discoverable"),
     ],
     "12.4 Minimum PIN Length Extension": [
-        ("chosen RPs are told minPINLength", "config/told_chosen_* config/told_one_* config/told_kept_*"),
-        ("others are not", "config/told_not_*"),
+        (
+            "authorized RPs get minPINLength",
+            "config/rp_ids_au* config/rp_ids_replaced_* config/rp_ids_set_* config/rp_ids_one_* config/rp_ids_kept_*",
+        ),
+        ("other RPs do not", "config/rp_ids_not_*"),
     ],
     "12.5 HMAC Secret Extension": [
         ("a registration returns true", "secret/made* secret/not_asked"),

@@ -1,11 +1,11 @@
-"""The steps of the standard's algorithms that cases are about, by section and name."""
+"""The steps of the standard's algorithms that cases test, by section and name."""
 
 from __future__ import annotations
 
 from fnmatch import fnmatchcase
 from typing import Dict, List, Tuple
 
-# The first pattern that matches a case of the section is that of its step.
+# By section: patterns of case names, each with its step. The first pattern that matches a case applies.
 STEPS: Dict[str, List[Tuple[str, str]]] = {
     "6.1.2": [
         ("make/pin_of_no_bytes", "step 1"),
@@ -41,7 +41,7 @@ STEPS: Dict[str, List[Tuple[str, str]]] = {
 
 
 def find_step(section: str, name: str) -> str:
-    """Returns the step that a case is about, or empty."""
+    """Returns the step that a case tests, or empty."""
     for patterns, step in STEPS.get(section, []):
         if any(fnmatchcase(name, pattern) for pattern in patterns.split()):
             return step

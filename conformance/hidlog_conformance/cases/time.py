@@ -86,7 +86,7 @@ def keepalive_cases() -> List[Case]:
 
 
 def keepalive_end_cases() -> List[Case]:
-    """Which KEEPALIVEs come, where they go, and when they end."""
+    """The channel and status of KEEPALIVEs, and their end."""
     cases = []
     case = Case("keepalive/status_changes", "keepalive", "A KEEPALIVE is sent when the status changes.")
     case.comment("needs: exact time")
@@ -185,7 +185,7 @@ def host_cases() -> List[Case]:
 
 
 def later_host_cases() -> List[Case]:
-    """Hosts that send after others."""
+    """Hosts that send after another host."""
     cases = []
     case = Case("hosts/served_after_the_wait", "busy", "After the transaction another host can send.")
     case.greet(2).begin(1).send(2, hid.PING, b"a").expect("error 06 on 2").go_on(1).expect("echo")

@@ -1,4 +1,4 @@
-"""Cases about what getInfo says: a command that an option does not name is refused, and numbers are true (6.4)."""
+"""Cases about the truth of getInfo (6.4): commands are refused if their option is missing, and numbers are right."""
 
 from __future__ import annotations
 
@@ -7,7 +7,7 @@ from typing import Any, Dict, List, Tuple
 from hidlog_conformance.cases.corpus import INFO, Case, user
 from hidlog_conformance.ctap_cbor import encode
 
-# By option: a request of its command.
+# By option: the command and its parameters.
 COMMANDS: Dict[str, Tuple[int, Dict[int, Any]]] = {
     "authnrCfg": (0x0D, {1: 2}),
     "bioEnroll": (0x09, {6: True}),

@@ -1,4 +1,4 @@
-"""Second cases of rules that otherwise have one: another list, RP, number or order."""
+"""Second cases for rules that have one elsewhere, with another list, RP, number or order."""
 
 from __future__ import annotations
 

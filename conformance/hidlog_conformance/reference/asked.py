@@ -8,7 +8,7 @@ from hidlog_conformance.reference.credential import Credential
 
 
 class Asked:
-    """A request in progress: user presence, and user verification."""
+    """A request in progress, and whether the user was present and verified."""
 
     def __init__(self, at: int, channel: int, item: Dict[Any, Any], options: Dict[str, Any]) -> None:
         self.at = at

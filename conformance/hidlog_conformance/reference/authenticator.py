@@ -31,7 +31,7 @@ ALGORITHM, DENIED, FULL, UNSUPPORTED, INVALID_OPTION = 0x26, 0x27, 0x28, 0x2B, 0
 NO_CREDENTIALS, TIMEOUT, NOT_ALLOWED, PIN_REQUIRED = 0x2E, 0x2F, 0x30, 0x36
 UP, UV, AT, ED = 0x01, 0x04, 0x40, 0x80
 RESET_TIME = 10000
-# The first and last vendor command (6), and authenticatorCredentialManagementPreview of before CTAP 2.1.
+# The first and the last vendor command (6); and authenticatorCredentialManagementPreview, which precedes CTAP 2.1.
 VENDOR, LAST_VENDOR, PREVIEW = 0x40, 0xBF, 0x41
 
 
@@ -58,7 +58,7 @@ class Authenticator:
         self.is_enterprise = False
 
     def new_pin(self, pin: str) -> Pin:
-        """Returns a PIN whose tokens may have all supported permissions."""
+        """Returns the PIN state; its tokens may have all supported permissions."""
         traits = self.traits
         more = (MANAGE if traits.management else 0) | (WRITE if traits.large_blobs else 0)
         more |= (CONFIGURE if traits.config else 0) | (ENROLL if traits.bio else 0)
@@ -131,7 +131,7 @@ class Authenticator:
         return Asked(at, channel, item, item.get(place, {}))
 
     def consent(self, late: int = DENIED) -> Work:
-        """Requests a touch; ends the request without it."""
+        """Requests a touch, and raises `RequestError` without it."""
         reply = yield
         if reply != "granted":
             raise RequestError(late if reply == "timeout" else DENIED)
@@ -192,7 +192,7 @@ class Authenticator:
         if "credBlob" in traits.extensions:
             answer[15] = 32
         if "minPinLength" in traits.extensions:
-            answer[16] = traits.told_rps
+            answer[16] = traits.max_rp_ids
         if traits.says_remaining:
             answer[20] = traits.capacity - len(self.credentials)
         answer.update(traits.more_info)
@@ -228,13 +228,13 @@ class Authenticator:
             raise RequestError(INVALID_OPTION)
 
     def use_token(self, asked: Asked) -> None:
-        """Takes the token's permissions after a user presence test (6.1.2, step 14; 6.2.2, step 9), which CTAP 2.0 does
-        not."""
+        """Clears the token's permissions after a user presence test (6.1.2, step 14; 6.2.2, step 9), except in CTAP
+        2.0."""
         if asked.verified and not is_before_ctap_2_1(list(self.traits.versions)):
             self.pin.used()
 
     def pin_asks_for_touch(self, asked: Asked, key: int) -> Work:
-        """Responds to an empty pinUvAuthParam after a touch: whether a PIN is set."""
+        """Responds to an empty pinUvAuthParam after a touch: the status says whether a PIN is set."""
         if asked.item.get(key) == b"" and self.traits.has_pin:
             yield from self.consent()
             raise RequestError(0x31 if self.pin.hash else NOT_SET)
@@ -287,7 +287,7 @@ class Authenticator:
             asked.verified = True
 
     def exclude(self, asked: Asked) -> Work:
-        """Ends an excluded registration, after a touch."""
+        """Refuses an excluded registration, after a touch."""
         if self.excluded(asked):
             yield
             raise RequestError(EXCLUDED)
@@ -430,11 +430,11 @@ class Authenticator:
         return [one for one in found if self.shown(asked, one, bool(listed))]
 
     def shown(self, asked: Asked, one: Credential, listed: bool) -> bool:
-        """Returns whether credProtect permits to use a credential."""
+        """Returns whether credProtect permits the use of a credential."""
         return asked.verified or one.protection < (3 if listed else 2)
 
     def first(self, asked: Asked, found: List[Credential]) -> Dict[int, Any]:
-        """Signs with the first credential; without a list the others are pending."""
+        """Signs with the first credential; without an allow list the others become pending."""
         listed = bool(asked.item.get(3))
         if listed and not self.traits.number_with_list:
             found = found[-1:] if self.traits.last_of_list else found[:1]

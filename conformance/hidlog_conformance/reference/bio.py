@@ -1,4 +1,4 @@
-"""Fingerprint enrolment of the reference authenticator (CTAP 2.1, 6.7). A touch is a sample of a finger."""
+"""Fingerprint enrolment of the reference authenticator (CTAP 2.1, 6.7). Each touch counts as a sample of a finger."""
 
 from __future__ import annotations
 
@@ -31,7 +31,7 @@ class BioEnrollment:
     def __init__(self, authenticator: Authenticator) -> None:
         self.authenticator = authenticator
         self.templates: Dict[bytes, str] = {}
-        # The template that is being enrolled, and the samples that it still needs.
+        # The template that is being enrolled, and remainingSamples.
         self.coming, self.remaining = b"", 0
 
     def forget(self) -> None:
@@ -39,7 +39,7 @@ class BioEnrollment:
         self.templates, self.coming = {}, b""
 
     def serve(self, asked: Dict[int, Any]) -> Any:
-        """Serves a subcommand, or the modality."""
+        """Serves a subcommand, or getModality."""
         if asked.get(6):
             return {1: FINGERPRINT}
         if 1 not in asked or 2 not in asked:

@@ -26,13 +26,13 @@ LONGEST_PIN = 63
 
 
 class Config:
-    """Serves authenticatorConfig, and keeps what it sets until a reset."""
+    """Serves authenticatorConfig, and keeps its settings until a reset."""
 
     def __init__(self, authenticator: Authenticator) -> None:
         self.authenticator = authenticator
         self.is_enterprise = False
         self.always_uv = authenticator.traits.always_uv
-        # The RPs that are told minPINLength.
+        # The RPs that are authorized to get minPINLength (minPinLengthRPIDs).
         self.rps: List[str] = []
 
     def forget(self) -> None:
@@ -74,7 +74,7 @@ class Config:
         self.always_uv = not self.always_uv
 
     def set_min_pin_length(self, asked: Dict[int, Any]) -> None:
-        """Sets a longer minimum PIN length, and may demand another PIN (6.11.4)."""
+        """Sets minPINLength, minPinLengthRPIDs and forceChangePin (6.11.4)."""
         pin = self.authenticator.pin
         new = asked.get(NEW_LENGTH, pin.shortest)
         if RP_IDS in asked and EXTENSION not in self.authenticator.traits.extensions:
@@ -83,22 +83,22 @@ class Config:
             raise RequestError(POLICY)
         if asked.get(FORCE_CHANGE) and not pin.hash:
             raise RequestError(NOT_SET)
-        self.choose_rps(asked)
+        self.authorize_rps(asked)
         pin.shortest = new
         if asked.get(FORCE_CHANGE) or (pin.hash and pin.length < new):
             pin.must_change = True
             self.end_tokens()
 
-    def choose_rps(self, asked: Dict[int, Any]) -> None:
-        """Sets the RPs that are told minPINLength, in place of the earlier ones."""
-        if len(asked.get(RP_IDS, [])) > self.authenticator.traits.told_rps:
+    def authorize_rps(self, asked: Dict[int, Any]) -> None:
+        """Replaces the RPs that are authorized to get minPINLength."""
+        if len(asked.get(RP_IDS, [])) > self.authenticator.traits.max_rp_ids:
             raise RequestError(FULL)
         self.rps = list(asked.get(RP_IDS, self.rps))
 
-    def is_told(self, rp: str) -> bool:
-        """Returns whether an RP is told minPINLength (12.4)."""
+    def is_authorized(self, rp: str) -> bool:
+        """Returns whether an RP is authorized to get minPINLength (12.4)."""
         return rp in self.rps
 
     def end_tokens(self) -> None:
-        """Ends the token, since the PIN must be changed first."""
+        """Invalidates the token, since the PIN must be changed first."""
         self.authenticator.pin.permissions = 0

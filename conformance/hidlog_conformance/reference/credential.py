@@ -35,7 +35,7 @@ class Credential:
     protection: int = 1
     blob: Optional[bytes] = None
     blob_key: Optional[bytes] = None
-    # The keys of hmac-secret, without and with user verification.
+    # CredRandomWithoutUV and CredRandomWithUV of hmac-secret.
     random: bytes = field(default_factory=lambda: os.urandom(32))
     random_verified: bytes = field(default_factory=lambda: os.urandom(32))
 
@@ -78,7 +78,7 @@ class Attestor:
     def certify(
         self, subject: Dict[Any, str], aaguid: bytes = b"", is_ca: bool = False, is_critical: bool = False
     ) -> bytes:
-        """Returns a certificate; with an AAGUID its extension has it."""
+        """Returns a certificate; if `aaguid` is not empty, its extension id-fido-gen-ce-aaguid has it."""
         name = x509.Name([x509.NameAttribute(kind, value) for kind, value in subject.items()])
         day = datetime.datetime(2026, 1, 1)
         builder = x509.CertificateBuilder(name, name, self.private.public_key(), 1, day, day.replace(year=2056))

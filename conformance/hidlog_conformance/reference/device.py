@@ -1,4 +1,4 @@
-"""The reference authenticator as a device under test in this process, with the time of the log."""
+"""The reference authenticator as a device under test in this process, which runs by the log's clock."""
 
 from __future__ import annotations
 
@@ -38,11 +38,11 @@ class ReferenceDevice(Device):
 
     @property
     def powered_for(self) -> float:
-        """The seconds since the authenticator was powered up, by its clock."""
+        """The number of seconds since power-up, by the authenticator's clock."""
         return self.authenticator.transport.at / 1000
 
     def advance(self, milliseconds: int) -> None:
-        """Lets the authenticator's clock run ahead of the session's, which it does while it works or a user waits."""
+        """Advances only the authenticator's clock, for the time in which it works or waits for the user."""
         step = max(1, self.authenticator.traits.keepalive)
         for passed in range(0, milliseconds, step):
             self.base -= min(step, milliseconds - passed)

@@ -40,7 +40,7 @@ class Extensions:
             outputs["credBlob"] = self.keep_blob(new, inputs["credBlob"])
         if inputs.get("hmac-secret") is True:
             outputs["hmac-secret"] = True
-        if inputs.get("minPinLength") is True and self.authenticator.config.is_told(new.rp):
+        if inputs.get("minPinLength") is True and self.authenticator.config.is_authorized(new.rp):
             outputs["minPinLength"] = self.authenticator.pin.shortest
         if "largeBlobKey" in inputs:
             self.blob_key_wanted(inputs["largeBlobKey"], new.discoverable)
@@ -48,7 +48,7 @@ class Extensions:
         return outputs
 
     def first(self, asked: Asked) -> None:
-        """Refuses before a touch, if the device does so."""
+        """Checks largeBlobKey before the touch, if the device has this trait."""
         inputs = self.asked_for(asked, 6)
         if self.authenticator.traits.blob_key_first and "largeBlobKey" in inputs:
             self.blob_key_wanted(inputs["largeBlobKey"], bool(asked.options.get("rk")))

@@ -1,4 +1,4 @@
-"""The reference authenticator as a key that keeps its state across cases, like a hardware key; counts touches."""
+"""The reference authenticator as a key that keeps its state across cases, like a hardware key. It counts touches."""
 
 from __future__ import annotations
 
@@ -10,7 +10,7 @@ from hidlog_conformance.reference.u2f import RECENT
 
 
 class KeptKey(ReferenceDevice):
-    """The reference authenticator, whose state only a reset clears."""
+    """The reference authenticator, whose state only authenticatorReset clears."""
 
     lasting = True
     fresh = False
@@ -24,11 +24,11 @@ class KeptKey(ReferenceDevice):
         super().start()
 
     def start(self) -> None:
-        """Begins a session, at the end time of the last one."""
+        """Begins a session at the time at which the last session ended."""
         self.packets.clear()
         self.at = 0
         self.base = -self.authenticator.transport.at
-        # A person takes more time between two cases than a touch counts.
+        # Between two cases a person takes longer than the time for which a touch counts.
         self.authenticator.u2f.touched = -RECENT
 
     def power_cycle(self, at: int) -> None:

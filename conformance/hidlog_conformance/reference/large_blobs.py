@@ -12,7 +12,8 @@ if TYPE_CHECKING:
 
 INVALID_LENGTH, INVALID_SEQUENCE, PIN_REQUIRED, INTEGRITY, FULL = 0x03, 0x04, 0x36, 0x3D, 0x42
 READ, SET, OFFSET, LENGTH, PARAM, PROTOCOL = 1, 2, 3, 4, 5, 6
-# The constant bytes in what pinUvAuthParam authenticates, and the bytes of a message around a fragment.
+# The bytes before the offset in the data that pinUvAuthParam authenticates; and the bytes of a message besides a
+# fragment.
 FRONT, AROUND = b"\xff" * 32 + b"\x0c\0", 64
 HASH = 16
 

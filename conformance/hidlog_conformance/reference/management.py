@@ -64,7 +64,7 @@ class Management:
             raise RequestError(AUTH_INVALID)
 
     def of_token(self, command: int, asked: Dict[int, Any], rp: str) -> bool:
-        """Returns whether the token's RP ID permits this: a token for one RP may only manage that RP."""
+        """Returns whether the token's RP ID permits the subcommand: a token for an RP may only manage that RP."""
         if not rp or command in (METADATA, RPS):
             return not rp
         if command == OF_RP:

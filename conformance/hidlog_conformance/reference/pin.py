@@ -18,14 +18,14 @@ NOT_ALLOWED, INVALID_SUBCOMMAND = 0x30, 0x3E
 USER_INVALID, USER_BLOCKED, USER_TIMEOUT = 0x3F, 0x3C, 0x2F
 MAKE, GET, MANAGE, ENROLL, WRITE, CONFIGURE = 0x01, 0x02, 0x04, 0x08, 0x10, 0x20
 RETRIES, IN_A_ROW, USER_RETRIES = 8, 3, 5
-# The minimum length of a PIN in characters, unless getInfo has another.
+# The minimum length of a PIN in characters, unless getInfo has minPINLength.
 SHORTEST_PIN = 4
 # The subcommands getPinUvAuthTokenUsingUvWithPermissions and getUVRetries.
 USER_TOKEN, GET_USER_RETRIES = 6, 7
 
 
 class RequestError(Exception):
-    """Ends a request with a status."""
+    """Ends a request with an error status."""
 
     def __init__(self, status: int) -> None:
         super().__init__(status)
@@ -113,14 +113,14 @@ class Pin:
         self.present = False
 
     def power_cycle(self) -> None:
-        """Makes new key agreement keys and a new token, as at each start (6.5.5.1); allows wrong PINs again."""
+        """Makes new key agreement keys and a new token, and resets the count of consecutive wrong PINs (6.5.5.1)."""
         self.in_a_row = 0
         self.token, self.permissions = os.urandom(32), 0
         for protocol in self.protocols.values():
             protocol.renew()
 
     def used(self) -> None:
-        """Takes all permissions of the token but lbw (6.5.2.1)."""
+        """Clears all permissions of the token except lbw (6.5.2.1)."""
         self.permissions &= WRITE
 
     def protocol(self, asked: Dict[int, Any], key: int) -> Protocol:
@@ -217,7 +217,7 @@ class Pin:
         self.retries, self.in_a_row = RETRIES, 0
 
     def same(self, param: bytes) -> bool:
-        """Returns whether a hash is that of the PIN."""
+        """Returns whether a hash is the stored PIN hash."""
         return hmac.compare_digest(param, self.hash)
 
     def grant(self, protocol: Protocol, key: bytes, permissions: int, rp: str) -> Dict[int, Any]:
@@ -255,7 +255,7 @@ class Pin:
         return self.grant(protocol, key, asked[9], asked.get(10, ""))
 
     def permissible(self, asked: Dict[int, Any]) -> None:
-        """Refuses unknown permissions, and those that need an RP ID without one."""
+        """Refuses unsupported permissions, and mc and ga without an RP ID."""
         permissions = asked[9]
         if not permissions or permissions & (MAKE | GET) and 10 not in asked:
             raise RequestError(INVALID_PARAMETER if not permissions else MISSING)

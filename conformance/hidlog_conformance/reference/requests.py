@@ -50,14 +50,14 @@ ENROLLMENT.update({6: (bool, False)})
 
 
 class LooseReader(ctap_cbor.Reader):
-    """Decodes well-formed items that are not canonical."""
+    """Decodes well-formed CBOR that may not be canonical."""
 
     def read_head(self) -> Tuple[int, int, int]:
         """Returns an item's head, which may be too long."""
         return self.read_any_head()
 
     def read(self, level: int = 1) -> Any:
-        """Returns the next item: a tag's content, or None for a float."""
+        """Returns the next item; for a tag its content, for a float None."""
         start = self.place
         major, _, _ = self.read_head()
         if major == 6:
@@ -72,7 +72,7 @@ class LooseReader(ctap_cbor.Reader):
         return self.take(length).decode("utf-8", "replace")
 
     def map(self, count: int, level: int) -> Dict[Any, Any]:
-        """Returns a map in any order; the last of equal keys counts."""
+        """Returns a map with its keys in any order; of duplicate keys the last one counts."""
         found: Dict[Any, Any] = {}
         for _ in range(count):
             key = self.read(level + 1)

@@ -1,4 +1,4 @@
-"""What may differ between conforming authenticators."""
+"""Traits in which conforming authenticators may differ."""
 
 from __future__ import annotations
 
@@ -11,7 +11,7 @@ AAGUID = bytes.fromhex("7265666572656e6365206b6579202e20")
 
 @dataclass
 class DeviceTraits:
-    """The choices of an authenticator where the standard leaves one."""
+    """The traits of an authenticator: features, limits, and choices that the standard leaves open."""
 
     # getInfo.
     versions: Tuple[str, ...] = ("U2F_V2", "FIDO_2_0", "FIDO_2_1")
@@ -40,9 +40,9 @@ class DeviceTraits:
     large_blobs: bool = True
     largest_array: int = 2048
     u2f: bool = True
-    # authenticatorConfig, fingerprint enrolment, and how many RPs may be told minPINLength.
+    # authenticatorConfig, fingerprint enrolment, and maxRPIDsForSetMinPINLength.
     config: bool = False
-    told_rps: int = 8
+    max_rp_ids: int = 8
     bio: bool = False
     wink: bool = False
     lock: bool = False
@@ -64,7 +64,7 @@ class DeviceTraits:
     # Differences of CTAP 2.0.
     touch_before_none: bool = False
     number_with_list: bool = False
-    # Statuses that the standard does not define, or that differ from most devices'.
+    # Statuses that the standard leaves open, or that most devices do not use.
     wrong_type: int = 0x11
     malformed: int = 0x12
     wrong_length: int = 0x03
@@ -84,7 +84,7 @@ class DeviceTraits:
     begins_anew: bool = False
     padding: int = 0
     patience: int = 30000
-    # Milliseconds that a request takes, and until the user touches.
+    # Milliseconds for which a request is processed, and before the user touches.
     work_time: int = 0
     touch_time: int = 0
     pending_time: int = 30000

@@ -16,12 +16,13 @@ VENDOR = 0x40
 INVALID_PARAMETER, LONGEST_LOCK = 2, 10
 LONGEST = 7609
 
-# A request in progress: each yield requests a touch, and evaluates to granted, denied or timeout. Returns the response.
+# A request in progress. Each yield requests a touch and evaluates to granted, denied or timeout; the result is the
+# response.
 Work = Generator[None, str, bytes]
 
 
 class Transaction:
-    """An incoming message, and then the request in progress."""
+    """A message of the host, and the request in progress once it is complete."""
 
     def __init__(self, channel: int, command: int, length: int, at: int) -> None:
         self.channel = channel
@@ -33,12 +34,12 @@ class Transaction:
         self.work: Optional[Work] = None
         self.began = at
         self.alive_at = at
-        # When a slow authenticator begins to serve the request; None once it did.
+        # The time at which a slow authenticator serves the request; None afterwards.
         self.ready_at: Optional[int] = None
 
 
 class Transport:
-    """The transport. Each behavior that a mutant changes is a method."""
+    """Processes packets. Each behavior that a mutant changes is a method."""
 
     def __init__(self, traits: DeviceTraits, serve: Callable[[int, int, bytes], Work]) -> None:
         self.traits = traits
@@ -47,12 +48,12 @@ class Transport:
         self.out: List[bytes] = []
         self.channels: List[int] = []
         self.now: Optional[Transaction] = None
-        # The channel that has the lock, and until when.
+        # The channel that has the lock, and the time at which the lock ends.
         self.locked: Tuple[int, int] = (BROADCAST, 0)
         self.at = 0
 
     def packets(self, channel: int, command: int, data: bytes) -> List[bytes]:
-        """Cuts a message."""
+        """Splits a message into packets."""
         front = channel.to_bytes(4, "big")
         pieces = [front + bytes([0x80 | command]) + len(data).to_bytes(2, "big") + data[:57]]
         for number, start in enumerate(range(57, len(data), 59)):
@@ -156,7 +157,7 @@ class Transport:
         return (self.traits.first_channel + len(self.channels) * self.traits.channel_step) & 0xFFFFFFFF
 
     def init(self, channel: int, length: int, nonce: bytes) -> None:
-        """Allocates a channel, or starts over on one."""
+        """Allocates a channel, or resynchronizes one."""
         if length != 8:
             self.error(channel, INVALID_LENGTH)
         elif channel != BROADCAST:
@@ -210,7 +211,7 @@ class Transport:
             self.error(channel, INVALID_LENGTH)
 
     def work_on(self, reply: str = "") -> None:
-        """Runs the request until it requests a touch or is done."""
+        """Runs the request until it requests a touch or has a response."""
         assert self.now is not None and self.now.work is not None
         try:
             if reply:
@@ -255,7 +256,7 @@ class Transport:
             self.send(now.channel, KEEPALIVE, b"\2")
 
     def work_slowly(self, now: Transaction, ready_at: int) -> None:
-        """Sends KEEPALIVEs until a slow authenticator serves the request."""
+        """Sends KEEPALIVEs until a slow authenticator serves the request, and then serves it."""
         if self.at >= ready_at:
             now.ready_at = None
             self.work_on()

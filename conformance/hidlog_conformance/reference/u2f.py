@@ -12,7 +12,7 @@ if TYPE_CHECKING:
 
 OK, NOT_SATISFIED, WRONG_DATA, WRONG_LENGTH = b"\x90\0", b"\x69\x85", b"\x6a\x80", b"\x67\0"
 NO_CLASS, NO_INSTRUCTION = b"\x6e\0", b"\x6d\0"
-# Milliseconds for which a touch counts.
+# Milliseconds after a touch within which a U2F request may use it.
 RECENT = 10000
 
 
@@ -24,7 +24,7 @@ class U2f:
         self.touched = -RECENT
 
     def present(self, at: int) -> bool:
-        """Returns whether the user touched; a touch counts once."""
+        """Returns whether the user touched recently; each touch counts once."""
         recent = at - self.touched < RECENT
         self.touched = -RECENT
         return recent
@@ -68,7 +68,7 @@ class U2f:
         return False, Credential(b"", "", {}, False, ES256, None)
 
     def sign(self, at: int, control: int, data: bytes) -> bytes:
-        """Signs, or returns whether it could."""
+        """Signs; with check-only, returns whether the key handle is known."""
         if len(data) < 66:
             return WRONG_LENGTH
         there, one = self.found(data)
