@@ -21,9 +21,9 @@ from pathlib import Path
 
 TOP = Path(__file__).resolve().parent.parent
 PROGRAM = str(Path(sys.argv[1]).resolve() if len(sys.argv) > 1 else TOP / "release/hidlog")
-# Only a hanging shell takes this long.
+# A timeout in seconds. Only a shell that hangs takes this long.
 TIMEOUT_SECONDS = 120
-# Texts typed before Tab, and the expected lines after it, by the program's help.
+# For each program's help: the texts typed before Tab, and the expected lines after Tab.
 COMPLETIONS = (
     ("hidlog rep", "hidlog replay"),
     ("hidlog qu", "hidlog quiet"),
@@ -63,7 +63,7 @@ class Terminal:
         return text in self.seen
 
     def type_text(self, text: str) -> None:
-        """Types a text, and discards earlier output."""
+        """Types a text. Output before it is discarded."""
         self.seen = ""
         os.write(self.file, text.encode())
 
@@ -79,7 +79,7 @@ def find_errors(words: list[str], work_dir: Path, start: str) -> list[str]:
     assert terminal.read_until("ready"), f"{words[0]} doesn't begin: {terminal.seen}"
     for typed, wanted in COMPLETIONS:
         terminal.type_text(typed + "\t")
-        # A complete line is run after Tab; the program has exited by then.
+        # A complete line is run after Tab. By then, the program has exited.
         if not terminal.read_until(wanted[len(typed) :]) or not terminal.read_until(wanted.rpartition(" ")[2][-3:]):
             wrong.append(f"{typed!r} is not completed to {wanted!r}: {terminal.seen!r}")
         terminal.type_text("\x15")
@@ -96,7 +96,7 @@ def test_zsh(folder: Path, work_dir: Path) -> list[str]:
 
 
 def complete_in_fish(folder: Path, work_dir: Path) -> list[str]:
-    """Returns fish's completions, without a terminal."""
+    """Returns the completions of fish, which needs no terminal."""
     wrong = []
     for typed, wanted in COMPLETIONS:
         script = f"source {folder}/hidlog.fish; complete --do-complete '{typed}'"

@@ -20,9 +20,9 @@ from pathlib import Path
 
 TOP = Path(__file__).resolve().parent.parent
 BLOCK = re.compile(r"^( *)(?:unsafe )?(?:impl(?:<.*?>)? ([\w:<>', ]+ for )?(\w+)|pub trait (\w+)).*\{$")
-# In a trait, and in an impl of a trait, functions have no `pub`.
+# In a trait, and in an impl of a trait, public functions have no `pub`.
 FUNCTION = re.compile(r"^( *)(pub )?(?:unsafe )?(?:extern \"C\" )?fn (\w+)")
-# A line of crates.txt: the crate's name, and for the C library what is built from it.
+# A line of crates.txt: the name of a crate and, for the C library, the kind of library that is built from it.
 CRATE = re.compile(r"^(\w+)(?: \w+)?:", re.MULTILINE)
 CLAUSE = re.compile(r"^\s+(ensures|requires)\b ?(\w+)?(?= \{)", re.MULTILINE)
 
@@ -36,14 +36,14 @@ class Contract:
     contract: list[str]
 
     def clauses(self) -> list[str]:
-        """Returns the names of its clauses; `ensures` for one without a name."""
+        """Returns the names of the contract's clauses. A clause without a name is listed as `ensures`."""
         found = CLAUSE.findall("\n".join(self.contract))
         return list(dict.fromkeys(name or kind for kind, name in found if kind == "ensures" or not name))
 
 
 @dataclass
 class Block:
-    """The type or trait that contains functions, and whether they are public without `pub`."""
+    """The type or trait that contains functions, and whether its functions are public without `pub`."""
 
     indent: str = ""
     of: str = ""

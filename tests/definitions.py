@@ -25,7 +25,7 @@ state it. docs/believe/READING.md has those that the headline needs in an order 
 
 @dataclass
 class Entry:
-    """A section's part of one file: the whole file, or some of its definitions."""
+    """The entry of a section for one file: the whole file, or some of its definitions."""
 
     whole: bool = False
     names: list[str] = field(default_factory=list)
@@ -35,7 +35,7 @@ Index = dict[tuple[str, str], dict[Path, Entry]]
 
 
 def find_sections(text: str) -> list[tuple[str, str]]:
-    """Returns the sections that a text cites, each with its standard."""
+    """Returns the sections that a text cites, each with the standard."""
     joined = " ".join(text.split())
     found = [(match[1], number) for match in CITATION.finditer(joined) for number in re.findall(NUMBER, match[2])]
     return found + ([("CTAP 2.1", "8")] if ENCODING.search(joined) else [])
@@ -52,7 +52,8 @@ def read_top_comment(text: str) -> str:
 
 
 def index_sections(comments: dict[Path, dict[str, str]]) -> Index:
-    """Returns the files and definitions of each section. `comments` has those of a file's definitions by name."""
+    """Returns the files and definitions of each section. `comments` contains the comments of a file's definitions by
+    name."""
     found: Index = defaultdict(lambda: defaultdict(Entry))
     for path, names in sorted(comments.items()):
         for section in find_sections(read_top_comment(path.read_text(encoding="utf-8"))):
@@ -64,7 +65,7 @@ def index_sections(comments: dict[Path, dict[str, str]]) -> Index:
 
 
 def section_key(section: str) -> list[int]:
-    """Returns a section's numbers, for sorting."""
+    """Returns the numbers of a section, by which sections are sorted."""
     return [int(word) for word in section.split(".")]
 
 
@@ -80,7 +81,7 @@ def format_row(section: str, entries: dict[Path, Entry]) -> str:
 
 
 def build_page(comments: dict[Path, dict[str, str]]) -> str:
-    """Returns the text of the page."""
+    """Returns the text of the index page."""
     text, found = PAGE_HEAD, index_sections(comments)
     for standard in STANDARDS:
         text += f"\n## {standard}\n\n| Section | Where |\n|---|---|\n"

@@ -54,7 +54,7 @@ NOT_RUN = re.compile(r"<!-- not run: .+ -->")
 
 @dataclass
 class Shown:
-    """A command of a page, its line number, and its expected output, if shown."""
+    """A command of a page, its line number, and its expected output, if the page shows any."""
 
     line: int
     command: str
@@ -73,7 +73,7 @@ class Shown:
         return re.escape(line.removesuffix(" ..")) + r".*" if line.endswith(" ..") else re.escape(line)
 
     def describe_failure(self, status: int, text: str) -> str:
-        """Returns the difference from the page, or an empty string."""
+        """Returns how the command's result differs from the page, or an empty string."""
         printed = text.splitlines()
         if self.has_to_succeed and status:
             return f"line {self.line}: status {status}: {text[-600:]}"
@@ -91,7 +91,7 @@ class Reader:
         self.fence: str | None = None
         self.heading = ""
         self.blank = 0
-        # Whether code lines are output of the last command; whether this block need not be run.
+        # Whether code lines are output of the last command, and whether this block is excluded from being run.
         self.is_open = self.is_excused = False
 
     def read_line(self, number: int, line: str) -> None:
@@ -124,18 +124,18 @@ class Reader:
             self.found[-1].is_compared = True
 
     def read_code(self, number: int, code: str) -> None:
-        """Processes a line of another block."""
+        """Processes a line of a block without fences."""
         if code.startswith("$ "):
             self.found.append(Shown(number, code[2:], heading=self.heading))
             self.is_open = True
         elif self.is_open:
-            # An empty line does not end an indented block that continues after it.
+            # An indented block may continue after an empty line.
             self.found[-1].output += [""] * self.blank + [code]
         elif self.fence in (None, "") and not self.is_excused and COMMAND.match(code):
             self.faults.append(f"line {number}: not run, and without a comment `not run` above: {code}")
 
     def read_prose(self, number: int, line: str) -> None:
-        """Processes a line that is not code."""
+        """Processes a line outside code."""
         self.is_open, self.is_excused = False, NOT_RUN.fullmatch(line) is not None
         if hidden := re.fullmatch(r"<!-- run: (.*) -->", line):
             self.found.append(Shown(number, hidden[1], False, True, self.heading))
@@ -162,7 +162,8 @@ def copy_repository(folder: Path) -> None:
 
 
 def make_environment(installed: Path) -> dict[str, str]:
-    """Returns environment variables with which packages unpacked there are found as if installed."""
+    """Returns environment variables with which programs find the packages unpacked in a folder as if they were
+    installed."""
     usr = installed / "usr"
     programs = [str(TOP / "tests" / "installer"), str(usr / "bin"), "/usr/bin", "/bin", os.environ.get("PATH", "")]
     return {
@@ -177,13 +178,13 @@ def make_environment(installed: Path) -> dict[str, str]:
     }
 
 
-# A line that starts servers and then sleeps until they listen.
+# A line that starts servers and then sleeps until the servers listen.
 BACKGROUND_SERVER = re.compile(r"^(.*(?:--port|http\.server) \d+.*)& sleep \d+$", re.MULTILINE)
 
 
 def wait_for_servers(command: str) -> str:
-    """Returns a command that waits until servers listen on their ports instead of sleeping, since the machine may be
-    busy."""
+    """Returns a command that waits until the servers listen on their ports, instead of sleeping, because the machine
+    may be busy."""
 
     def line(found: re.Match[str]) -> str:
         ports = re.findall(r"(?:--port|http\.server) (\d+)", found[1])
@@ -194,7 +195,7 @@ def wait_for_servers(command: str) -> str:
 
 
 def run_command(command: str, folder: Path, installed: Path | None = None) -> tuple[int, str]:
-    """Runs a command in a folder; returns its exit status and output. Kills the processes that it leaves."""
+    """Runs a command in a folder. Returns its exit status and output. Kills the processes that the command leaves."""
     with (
         tempfile.TemporaryFile() as printed,
         subprocess.Popen(
@@ -246,7 +247,7 @@ def run_page(found: list[Shown], work_dir: Path) -> Result:
 
 
 def find_broken_links(page: Path) -> list[str]:
-    """Returns the links and paths of a page that do not exist."""
+    """Returns the links and paths on a page that don't exist."""
     text = page.read_text(encoding="utf-8")
     targets = [target for target in LINK.findall(text) if "://" not in target]
     found = [f"no file {target}" for target in targets if not (page.parent / target).exists()]

@@ -39,7 +39,7 @@ LANGUAGES = {
 SKIPPED_PATHS = re.compile(
     r"^crates/\w+/proofs/|^bindings/web/dist/|^release/|^examples/failing/|/data/|^tests/(?:edits|mutants)/"
 )
-# Of the definitions only specs/, which the theorem's statement uses.
+# Of the definitions, only those in specs/, on which the theorem depends.
 SPECS = re.compile(r"^crates/\w+/specs/")
 GENERATED_MARK = re.compile(r"[Gg]enerated by|DO NOT EDIT|[Mm]ade by (?!hand)")
 # Calls and statements whose text is an error message.

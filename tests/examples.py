@@ -19,12 +19,12 @@ TOP = Path(__file__).resolve().parents[1]
 FILE_ROW = re.compile(r"^\| ([A-Z]) \| (crates/\S+) \|$", re.MULTILINE)
 TABLE_ROW = re.compile(r"^\| (?!---)(?!Row )(.+) \| (.+) \|$", re.MULTILINE)
 EXAMPLE_REFERENCE = re.compile(r"\b([A-Z]) ([a-z][\w-]*)")
-# An example is a name with a computed proof: one `refl`, several, or a record of them.
+# An example is a name with a computed proof: one `refl`, several, or a record of `refl`s.
 COMPUTED = re.compile(r"^([a-z][\w-]*) = (?:unfold [\w.-][\w. -]* in )?(?:refl$|\(+refl|record \{$)", re.MULTILINE)
 
 
 def read_examples(path: str) -> set[str]:
-    """Returns the names of a file's examples: those with a statement, except abbreviations."""
+    """Returns the names of the examples in a file: those with a statement, except abbreviations."""
     text = (TOP / path).read_text(encoding="utf-8")
     return {name for name in COMPUTED.findall(text) if re.search(rf"^{re.escape(name)} :", text, re.MULTILINE)}
 
@@ -51,7 +51,7 @@ def main() -> int:
 
 
 def is_documented(examples: str) -> bool:
-    """Returns whether a row names an example, or states that there is none."""
+    """Returns whether a row gives an example, or states that there is none."""
     return bool(EXAMPLE_REFERENCE.search(examples)) or examples.startswith("none: ")
 
 

@@ -20,7 +20,7 @@ from pathlib import Path
 TOP = Path(__file__).resolve().parent.parent
 EXAMPLE_LINK = re.compile(r"An example, which the gate runs \(`([^`]+)`\):")
 BLOCK = re.compile(r"(?<=//! ```text\n)(?://!.*\n)*?(?=//! ```\n)")
-# A test function: its body is between the opening brace and a line with only the closing one.
+# A test function. Its body is between the opening brace and a line that consists of the closing brace.
 TEST = re.compile(r"#\[test\]\nfn [^\n]*\{\n(.*?)^\}\n", re.MULTILINE | re.DOTALL)
 
 

@@ -31,7 +31,7 @@ CRATES = (
     "hidlog",
     "hidlog_c",
 )
-# Folders in the order of the page; a file is listed in the first folder that contains it.
+# The folders in the order of the page. A file is listed under the first folder that contains it.
 FOLDERS = (
     *(f"crates/{name}/{part}" for name in CRATES for part in ("specs", "src")),
     *(
@@ -59,7 +59,7 @@ FOLDERS = (
 SOURCE = re.compile(
     r"\.(?:antt|rt|py|lua|js|mjs|cjs|ts|cts|html|css|go|rs|c|h|sh|rb|pl|java)$|(?:^|/)(?:hidlog|tests/run|installer/\w[\w-]*)$"
 )
-# Generated files, test data, and proofs, which are named after what they prove.
+# Files that aren't listed: generated files, test data, and proofs, which are named after what they prove.
 SKIPPED_PATHS = re.compile(
     r"^crates/\w+/proofs/|^bindings/web/dist/|^release/(?:hidlog|.*\.h$|aarch64/)|^examples/failing/"
     r"|^tests/mutants/.*\.rt"
@@ -85,7 +85,7 @@ def read_comment(path: Path) -> str:
         return " ".join((found[1] or found[2]).split()) if found else ""
     if block := re.match(r"\s*/\*+(.*?)\*/", text, re.DOTALL):
         return " ".join(re.sub(r"^\s*\*", "", block[1], flags=re.MULTILINE).split())
-    # If a file has no comment, uses that of its first type or function.
+    # A file without a comment at its top has the comment of its first type or function.
     if not re.match(r"\s*(?://|--|#)", text) or re.match(r"\s*// #include|\s*// /\*", text):
         mark = r"//(?! [#/])" if path.suffix == ".go" else r"///"
         kinds = r"(?:#\[[^\n]*\n)*(?:pub (?:struct|enum|trait) |type [A-Z])", "(?:pub|type|const|var|func)"
@@ -116,7 +116,7 @@ def list_tracked() -> list[Path]:
 
 
 def list_sources() -> list[str]:
-    """Returns the paths of the source files."""
+    """Returns the paths of the source files to list."""
     paths = (str(path.relative_to(TOP)) for path in list_tracked())
     return [
         path
@@ -143,7 +143,7 @@ def build_page() -> tuple[str, list[str]]:
 
 
 def find_wrong_paths() -> list[str]:
-    """Returns the paths in ARCHITECTURE.md's table of changes that do not exist."""
+    """Returns the paths in the table of changes in ARCHITECTURE.md that don't exist."""
     text = PAGE.with_name("ARCHITECTURE.md").read_text(encoding="utf-8")
     section = text.partition("## Every place of a change")[2].partition("\n## ")[0]
     rows = [row for row in section.splitlines() if row.startswith("| ")]

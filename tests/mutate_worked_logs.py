@@ -37,13 +37,13 @@ def is_input(line: bytes) -> bool:
 
 
 def is_packet(line: bytes) -> bool:
-    """Returns whether a line is a sent packet."""
+    """Returns whether a line is a packet that was sent."""
     return line.startswith(b"<")
 
 
 @dataclass(frozen=True)
 class Log:
-    """A worked log: its name, its text, and the options to play it."""
+    """A worked log: its name, its text, and the options with which it is played."""
 
     name: str
     text: bytes
@@ -51,11 +51,11 @@ class Log:
 
     @property
     def lines(self) -> list[bytes]:
-        """Returns its lines, each with its line feed."""
+        """Returns the lines of the log, each with its line feed."""
         return self.text.splitlines(keepends=True)
 
     def changes(self) -> Iterator[tuple[bytes, str]]:
-        """Yields the log with a packet changed, removed and duplicated, each with the expected first difference."""
+        """Yields the log with a packet changed, removed or duplicated, each time with the expected first difference."""
         lines, input_line, packet = self.lines, 0, 0
         for at, line in enumerate(lines):
             if is_input(line):
@@ -71,7 +71,7 @@ class Log:
             yield before + line + line + after, f"line {input_line}: differs at packet {packet + 1}"
 
     def check_counts(self, work_dir: Path) -> None:
-        """`check` counts its inputs and packets, and finds each change."""
+        """Checks that `check` counts the inputs and packets of the log, and finds each change."""
         inputs, packets = sum(map(is_input, self.lines)), sum(map(is_packet, self.lines))
         wanted = f"same {inputs} inputs {packets} packets\n".encode()
         assert run_command("check", self.text, self.options) == wanted, f"{self.name} is not the same"
@@ -81,8 +81,8 @@ class Log:
             check_changed_logs(work_dir, self, changes[begin : begin + MIN_LINES])
 
     def check_quiet(self) -> None:
-        """A quiet log made quiet again is unchanged; its replay sends only packets of the log, and has the same
-        counts."""
+        """Checks that `quiet` doesn't change its own output, and that the replay of a quiet log sends only packets of
+        the log, and has the same counts."""
         quiet = run_command("quiet", self.text, self.options)
         assert run_command("quiet", quiet, self.options) == quiet, f"{self.name} made quiet isn't quiet"
         sent = run_command("replay", quiet, self.options).splitlines()
@@ -91,8 +91,8 @@ class Log:
         assert sent[-1] == self.text.splitlines()[-1], f"{self.name} made quiet counts {sent[-1]!r}"
 
     def check_live(self) -> None:
-        """With needs, the log equals its own replay, and the same log apart from them; each input has at most one
-        need."""
+        """Checks that the output of `live` equals its own replay, that it equals the log except for the needs, and that
+        each input has at most one need."""
         told = run_command("live", self.text, self.options)
         assert run_command("live", told, self.options) == told, f"{self.name} lived again is another"
         assert run_command("replay", told, self.options) == told, f"{self.name} lived isn't what is replayed"

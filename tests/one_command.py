@@ -19,7 +19,7 @@ from pathlib import Path
 TOP = Path(__file__).resolve().parent.parent
 PROGRAM = TOP / "release/hidlog"
 HELP = TOP / "bindings/python/src/hidlog/help.txt"
-# Files that list the commands of the Python package, each with a pattern for the list and the commands it may omit.
+# Files that list the commands of the Python package: a pattern for the list, and the commands that it may omit.
 COMMAND_LISTS = (
     ("packages/command.sh", r"^\s*(webdriver .*?)\) run_python \"\$@\"", set[str]()),
     ("packages/command.sh", r"^\s*(webdriver .*?)\) run_python \"\$2\"", set[str]()),
@@ -36,7 +36,7 @@ MISSING_PYTHON_PACKAGE = re.compile(
 )
 
 
-# Commands that every package passes to the program.
+# Commands that each package passes on to the program.
 COMPARED_ARGUMENTS: tuple[list[str], ...] = (
     ["--help"],
     ["-h"],
@@ -50,7 +50,7 @@ COMPARED_ARGUMENTS: tuple[list[str], ...] = (
 
 
 def run_command(command: list[str], *words: str) -> tuple[int, str, str]:
-    """Runs a command in a folder with files that it must not run, and returns the result."""
+    """Runs a command in a folder with files that the command must not run, and returns the result."""
     environment = {**os.environ, "PYTHONDONTWRITEBYTECODE": "1", "COLUMNS": "100", "PATH": f".:{os.environ['PATH']}"}
     with tempfile.TemporaryDirectory() as folder:
         for name in ("hidlog", "python3", "awk", "command", "dirname", "find", "readlink", "sed", "uname"):
@@ -85,7 +85,7 @@ def find_list_differences(names: set[str]) -> list[str]:
 
 
 def find_differences(command: list[str], names: set[str]) -> list[str]:
-    """Returns the differences of a command from the program, or for commands of the Python package from the expected
+    """Returns how a command differs from the program, or, for the commands of the Python package, from the expected
     result."""
     wrong = []
     own = ["check", "live", "quiet", "replay", "show"]

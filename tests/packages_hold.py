@@ -32,7 +32,7 @@ Files = dict[str, bytes]
 
 
 def read_tar(data: bytes) -> Files:
-    """Returns the files of a tar by name; links have no bytes."""
+    """Returns the files of a tar archive by name. Links have no bytes."""
     with tarfile.open(fileobj=io.BytesIO(data)) as archive:
         found = {
             member.name.removeprefix("./"): archive.extractfile(member) if member.isfile() else None
@@ -63,7 +63,7 @@ PACKAGES = {
 
 
 def find_packages_with(program: bytes) -> set[str]:
-    """Returns the packages that contain a program, detected by its bytes."""
+    """Returns the packages that contain a program, which is found by its bytes."""
     return {name for name, files in PACKAGES.items() if program in files.values()}
 
 
@@ -72,8 +72,8 @@ def find_packages_with_any_program() -> set[str]:
 
 
 def check_licences() -> None:
-    """Each package has both licences or Debian's copyright file; those with the program also have the C library's
-    licence."""
+    """Checks that each package contains both licences or Debian's copyright file, and that packages with the program
+    also contain the C library's licence."""
     for name, files in PACKAGES.items():
         texts = b"".join(data for file, data in files.items() if re.search(r"LICENSE|NOTICE|copyright$", file))
         assert b"Permission is hereby granted" in texts, f"{name} has no MIT licence"
@@ -87,7 +87,7 @@ def check_licences() -> None:
 
 
 def check_man_page_paths() -> None:
-    """The files that the man page names are in the Debian package, and in the tarball."""
+    """Checks that the files named by the man page are in the Debian package and in the tarball."""
     page = (TOP / "docs" / "use" / "hidlog.1").read_text(encoding="utf-8")
     named = re.findall(
         r"^\.(?:It )?Pa (\w+/\S+)", page.partition(".Sh FILES")[2].partition(".Sh EXIT")[0], re.MULTILINE
@@ -101,7 +101,7 @@ def check_man_page_paths() -> None:
 
 
 def check_links() -> None:
-    """Each link of a page to a file leads to a file of the same package."""
+    """Checks that each link from a page to a file leads to a file of the same package."""
     count = 0
     for name, files in PACKAGES.items():
         folders = {str(parent) for file in files for parent in Path(file).parents}
@@ -115,7 +115,7 @@ def check_links() -> None:
 
 
 def check_readmes() -> None:
-    """Each package for direct use has a README."""
+    """Checks that each package for direct use contains a README."""
     readmes = {name: [file for file in files if file.endswith("README.md")] for name, files in PACKAGES.items()}
     for name in (
         "hidlog_",
@@ -131,7 +131,7 @@ def check_readmes() -> None:
 
 
 def check_statements() -> None:
-    """Both statements list each package with its checksum and its parts."""
+    """Checks that both statements list each package, with its checksum and its parts."""
     sums = {package: hashlib.sha256((FOLDER / package).read_bytes()).hexdigest() for package in PACKAGES}
     (spdx,), (provenance,) = FOLDER.glob("*.spdx.json"), FOLDER.glob("*.provenance.json")
     document = json.loads(spdx.read_text())
@@ -156,7 +156,7 @@ def check_statements() -> None:
         for name in (package for package in sums if word in package):
             assert f"hidlog-sources-{part}" in made[name], (name, made[name])
     assert "hidlog-sources-npm" not in made[next(name for name in sums if name.endswith(".whl"))]
-    # Versions are those in crates.txt, and every reference is defined.
+    # Checks that versions are those in crates.txt, and that each reference is defined.
     uses = {
         word
         for line in (TOP / "crates.txt").read_text().splitlines()
@@ -174,7 +174,7 @@ def check_statements() -> None:
 
 
 def check_commit() -> None:
-    """The commit is that of the git repository."""
+    """Checks that the commit is that of the git repository."""
     (provenance,) = FOLDER.glob("*.provenance.json")
     made = json.loads(provenance.read_text())["predicate"]["buildDefinition"]["resolvedDependencies"]
     head = subprocess.run(["git", "-C", str(TOP), "rev-parse", "HEAD"], capture_output=True, text=True).stdout.strip()

@@ -26,7 +26,7 @@ KINDS = ("proof", "tests", "edits", "builds")
 
 @dataclass(frozen=True)
 class Process:
-    """A process in /proc, when it was read."""
+    """A process in /proc, at the time when it was read."""
 
     pid: int
     parent: int
@@ -35,12 +35,12 @@ class Process:
 
     @staticmethod
     def read(pid: int) -> Process | None:
-        """Returns the process, or None if it has exited."""
+        """Returns the process with this ID, or None if it has exited."""
         try:
             text = Path(f"/proc/{pid}/stat").read_text(encoding="utf-8", errors="replace")
         except OSError:
             return None
-        # The name is in parentheses and may have spaces.
+        # The name is in parentheses, and may contain spaces.
         fields = text.rpartition(")")[2].split()
         return Process(pid, int(fields[1]), int(fields[19]), (int(fields[11]) + int(fields[12])) / TICKS_PER_SECOND)
 
@@ -56,7 +56,7 @@ class Check:
 
 @dataclass
 class Sampler:
-    """Reads the prover's processes below one process until it is stopped."""
+    """Reads the processes of the prover below one process, until the sampler is stopped."""
 
     root: int
     checks: dict[tuple[int, int], Check | None] = field(default_factory=dict)
@@ -68,14 +68,14 @@ class Sampler:
             self.stopped.wait(1.0)
 
     def sample(self) -> None:
-        """Records the processor time of the current processes."""
+        """Records the processor time of all current processes."""
         running = [found for name in os.listdir("/proc") if name.isdigit() and (found := Process.read(int(name)))]
         parents = {process.pid: process.parent for process in running}
         for process in running:
             if not self.is_below(process.pid, parents):
                 continue
             key = (process.pid, process.began)
-            # A process that was just forked still has its parent's arguments, so it is checked again.
+            # A process that was just forked still has the arguments of its parent, so it is classified again.
             if self.checks.get(key) is None:
                 self.checks[key] = classify_process(process)
             check = self.checks[key]
@@ -127,7 +127,7 @@ def format_table(checks: list[Check]) -> str:
 
 
 def sample_process(pid: int) -> Sampler:
-    """Samples a running process until it exits."""
+    """Samples a running process until the process exits."""
     sampler = Sampler(pid)
     while Process.read(pid) is not None:
         sampler.sample()
@@ -136,7 +136,7 @@ def sample_process(pid: int) -> Sampler:
 
 
 def run_command(command: list[str]) -> tuple[Sampler, int]:
-    """Runs a command and samples it."""
+    """Runs a command, and samples it until it exits."""
     with subprocess.Popen(command, stdin=subprocess.DEVNULL) as started:
         sampler = Sampler(started.pid)
         thread = threading.Thread(target=sampler.run)

@@ -63,14 +63,15 @@ STATEMENT, BOUNDS = "answered", "bounded"
 BOUNDS_RECORD = "IsBounded"
 # Fields of the record of bounds, in the order of their sections.
 APART = ("pending", "carried", "steps")
-# A definition whose value is only stored in this field. It and what only it needs have a section after those of APART.
+# A definition whose value is only stored in this field. The definition, and definitions that nothing else needs, have a
+# section after those of APART.
 ASIDE = {"cut": "name"}
 # A definition, and the law that is read instead: a function of src/laws.rt in the definition's crate.
 LAWS = {"canonical_tree": "trees_are_computed", "outcome_of": "outcomes_are_computed"}
 LAWS |= {name: "answers_follow_history" for name in ("sent", "received", "core")}
 # The laws on the first two pages. The third page has the others.
 PAGE_LAWS = {"canonical_tree"}
-# A premise of laws that the types of the theorem's arguments imply: the page explains it in prose.
+# A premise of laws that follows from the types of the theorem's arguments. The page explains it in prose.
 PREMISES = {"ValidRows"}
 CLAUSE = r"pub fn drive_new<.*?ensures {} \{{(.*?)\n    (?://|ensures)"
 USE = re.compile(r"pub fn drive_new<.*?ensures answered \{(.*?)\n    (?://|ensures)", re.DOTALL)
@@ -91,9 +92,9 @@ MORE = re.compile(r"\*\*\d+\s+more\s+definitions\*\*\s+\(`(\w+)`\)")
 # The maximum number of words that a page states.
 WORDS = re.compile(r"\*\*at most ([\d,]+)\s+words\*\*")
 MAX_WORDS = 6_000
-# A line that isn't displayed.
+# A line that isn't shown.
 HIDDEN = re.compile(r"<!-- .* -->")
-# The types of a field or an argument that are omitted; in the code those of numbers, and bool.
+# The types of fields and arguments that aren't shown: in the code, bool and the types of numbers.
 PLAIN = {"ℕ", "List ℕ", "Bool"}
 PLAIN_CODE = re.compile(r"[ui]\d+|usize|bool")
 STATES = re.compile(r"[≡≤<→]")
@@ -101,14 +102,14 @@ DECLARED = re.compile(r"Rattle\.(\w+)\.specs\.declared\.([\w.]+?)(\.The\w+)?")
 LINKED = re.compile(r"\[(`[^`]*`)\]\([^)]*\)")
 # How comments cite a standard, and how the pages do: there, section numbers alone refer to CTAP 2.1.
 CITED = ((re.compile(r"CTAP 2\.1, sections? "), ""), (re.compile(r"WebAuthn Level 2, sections? "), "WebAuthn, "))
-# Separates the pages when they are processed as one text.
+# The separator of pages that are processed as one text.
 END = "\f"
 EXPORTED = r"^pub use {}::(?:\{{[^}}]*\b{}\b[^}}]*\}}|{});|^pub mod {};"
 
 
 @dataclass(frozen=True, order=True)
 class Name:
-    """A definition's name, or that of a type or a constant of the code, with its file."""
+    """The name of a definition, or of a type or constant of the code, with its file."""
 
     path: Path
     name: str
@@ -119,7 +120,7 @@ class Name:
 
 @dataclass
 class Definition:
-    """A definition: its lines, and the comment above it."""
+    """A definition: its lines, and the comment above them."""
 
     name: str
     comment: str
@@ -130,7 +131,7 @@ class Definition:
         return [line for line in self.lines if line.strip() and not line.strip().startswith("--")]
 
     def words(self, without: tuple[str, ...] = ()) -> set[str]:
-        """Returns the words that may name other definitions, without those of the fields `without`."""
+        """Returns the words that may refer to other definitions, except those in the fields `without`."""
         dropped = tuple(f"pub {name} :" for name in without)
         kept = (line for line in self.code() if not line.strip().startswith(dropped))
         text = FIELDS.sub(" ", "\n".join(line.split(" -- ")[0] for line in kept))
@@ -154,7 +155,7 @@ class Definition:
         return [f"-- {line}" for line in lines] + self.body()
 
     def body(self) -> list[str]:
-        """Returns the lines below the comment: for a function the lines after its type."""
+        """Returns the lines below the comment. For a function, the line with its type is omitted."""
         compact = self.compact()
         if compact:
             return compact
@@ -163,7 +164,8 @@ class Definition:
         return [line.rstrip() for line in code]
 
     def compact(self) -> list[str]:
-        """Returns a data type, or a record without propositions, in one line or a few; nothing for others."""
+        """Returns a data type, or a record without propositions, in one line or a few. For other definitions, returns
+        an empty list."""
         head = re.fullmatch(r"\s*(?:\w+ )*?(record|data) (\S+) : Type 0 where", self.lines[0])
         if head is None:
             return []
@@ -183,13 +185,13 @@ class Definition:
         return [line for line in self.body() if not line.strip().startswith("--")]
 
     def begins(self) -> int:
-        """Returns the index of the first line shown on the page: for a function its first equation, not its type."""
+        """Returns the index of the first line shown on the page. For a function, this is the first equation."""
         equation = re.compile(rf" *{re.escape(self.name)}(?: |$)(?! *:)")
         return next((place for place, line in enumerate(self.lines) if equation.match(line)), 0)
 
 
 def group_fields(fields: list[tuple[str, str]]) -> list[str]:
-    """Returns fields or named arguments, grouped by type, with the type if it isn't plain."""
+    """Returns fields or named arguments, grouped by type. The type is included unless it is in PLAIN."""
     found = list[str]()
     for of, group in groupby(
         fields, key=lambda field: "" if field[1] in PLAIN or field[1].lower() == field[0] else field[1]
@@ -200,7 +202,7 @@ def group_fields(fields: list[tuple[str, str]]) -> list[str]:
 
 
 def parse_arguments(of: str) -> list[str]:
-    """Returns the arguments of a constructor, from its type."""
+    """Returns the arguments of a constructor with this type."""
     found = list[str]()
     for part in of.split(" → ")[:-1]:
         for group in re.findall(r"\([^()]* : (?:[^()]|\([^()]*\))*\)", part) or [part]:
@@ -213,12 +215,12 @@ def parse_arguments(of: str) -> list[str]:
 
 
 def wrap_lines(text: str) -> list[str]:
-    """Returns the text in lines, all but the first indented."""
+    """Returns the text, wrapped into lines of which all but the first are indented."""
     return textwrap.wrap(text, 113, subsequent_indent="    ", break_on_hyphens=False)
 
 
 def format_data_type(head: str, lines: list[str]) -> list[str]:
-    """Returns a data type, from its constructors. A comment is above its constructor."""
+    """Returns a data type with these constructors. A comment is above its constructor."""
     found, text, between = list[str](), head, ""
     for line in lines:
         if line.startswith("--"):
@@ -229,8 +231,8 @@ def format_data_type(head: str, lines: list[str]) -> list[str]:
 
 
 def list_free_words(equation: str) -> set[str]:
-    """Returns the words of an equation or a type, without the names bound in it: lower-case parameters, and the names
-    that `λ` and `let` bind."""
+    """Returns the words of an equation or a type, except the names bound in it: lower-case parameters, and the names
+    bound by `λ` and `let`."""
     left = equation.partition(" =")[0] if not re.match(r" *(?:\w+ )*\S+ :", equation) else ""
     bound = {token for token in TOKEN.findall(left) if not token[0].isupper()}
     for group in BINDERS.findall(equation):
@@ -259,7 +261,7 @@ def handle_use_line(found: File, line: str) -> bool:
         return False
     for word in use.group(2).split(","):
         taken, _, other = word.strip().partition(" as ")
-        # A name of a module below: `use Rattle.cred_table.specs.{Rows.ids, Snapshots.Loads}`.
+        # The name of a module inside another one: `use Rattle.cred_table.specs.{Rows.ids, Snapshots.Loads}`.
         below, _, name = taken.rpartition(".")
         found.uses[other or name] = (".".join(filter(None, (use.group(1), below))), name)
     return True
@@ -303,7 +305,7 @@ def check_path(module: str) -> Path | None:
 
 
 def find_code_item(module: str, name: str) -> Name | None:
-    """Returns the type or constant of the code that a `use` of this name refers to; for a constructor its type."""
+    """Returns the type or constant of the code that is imported by this name. For a constructor, returns its type."""
     found = DECLARED.fullmatch(module)
     if found is None:
         return None
@@ -313,7 +315,7 @@ def find_code_item(module: str, name: str) -> Name | None:
 
 
 def read_clause_names(path: Path, clause: re.Pattern[str], what: str) -> list[Name]:
-    """Returns the definitions that a clause of the code names."""
+    """Returns the definitions that occur in a clause of the code."""
     code, uses = path.read_text(encoding="utf-8"), File()
     for line in code.splitlines():
         handle_use_line(uses, line.removeprefix("ghost "))
@@ -361,7 +363,7 @@ class Walk:
             self.visit_word(name.path, word)
 
     def visit_word(self, path: Path, word: str) -> None:
-        """Processes what a word of a definition in this file refers to, if anything."""
+        """Processes the definition that a word in this file refers to, if any."""
         if word in self.aside:
             return
         here = read_definitions(path)
@@ -393,8 +395,8 @@ class Walk:
 
 @dataclass
 class Part:
-    """What a part of the pages shows: definitions, and types and constants of the code. A part is the first two pages,
-    or a section of the third."""
+    """What a part of the pages shows: definitions, and types and constants of the code. A part is the first two pages
+    together, or a section of the third page."""
 
     title: str
     definitions: set[Name]
@@ -411,7 +413,7 @@ class Needs:
         whole = walks[-1]
         walks.append(Walk(both, (), LAWS, {}))
         self.parts = [Part("on the pages", statement_alone.needed, statement_alone.declared)]
-        # The record of bounds itself, and the law for its fields, are in the introduction of the third page.
+        # The record of bounds and the law for its fields are in the introduction of the third page.
         head = Part("in the introduction of the third page", *subtract_needs(walks[0], statement_alone))
         self.parts.append(head)
         for name, before, walk in zip((*APART, *ASIDE), walks, walks[1:]):
@@ -430,13 +432,13 @@ def subtract_needs(walk: Walk, before: Walk) -> tuple[set[Name], set[Name]]:
 
 
 def count_saved(walk: Walk, clauses: tuple[str, ...], law: str, laws: dict[str, str]) -> int:
-    """Returns the number of additional definitions that a walk needs without a law."""
+    """Returns how many more definitions would be needed without a law."""
     others = {name: other for name, other in laws.items() if other != law}
     return len(Walk(clauses, (), others, ASIDE).needed - walk.needed)
 
 
 def find_aside_errors(needed: set[Name]) -> list[str]:
-    """Returns errors: definitions that use a name of ASIDE other than to store it in its field."""
+    """Returns errors: definitions that use a name of ASIDE for anything but storing its value in the field."""
     found = list[str]()
     for word, name in ASIDE.items():
         other = re.compile(rf"(?<![\w.])(?<!\b{name} = ){word}(?![\w.])|(?<!\b{name} = )(?<![\w.])\w+\.{name}\b")
@@ -448,7 +450,7 @@ def find_aside_errors(needed: set[Name]) -> list[str]:
 
 @dataclass
 class Block:
-    """A block of a page: its kind, its file, and the names shown."""
+    """A block of a page: its kind, its file, and the names to show."""
 
     kind: str
     path: Path
@@ -456,8 +458,8 @@ class Block:
 
 
 def parse_block(found: re.Match[str]) -> Block:
-    """Returns a block. If its comment has no names, the first line names the file, and each definition whose name
-    begins a line is shown."""
+    """Returns a block. If its comment contains no names, the first line is the file name, and each definition whose
+    name begins a line is shown."""
     if found[2]:
         return Block(found[1], TOP / found[2], found[3].split())
     lines = found[4].strip("\n").splitlines()
@@ -500,7 +502,7 @@ def join_parts(parts: list[list[str]]) -> list[str]:
 
 
 def read_declaration(path: Path, name: str) -> list[str]:
-    """Returns the declaration of a type or a constant of the code, without attributes and links."""
+    """Returns the declaration of a type or constant of the code, without attributes and links."""
     code = path.read_text(encoding="utf-8")
     kinds = rf"const {name}: [^;]*;|(?:enum|struct) {name}\b(?:\(.*?\);|[^{{;(]*\{{.*?^\}})"
     found = re.search(rf"^pub (?:{kinds})", code, re.MULTILINE | re.DOTALL)
@@ -511,13 +513,13 @@ def read_declaration(path: Path, name: str) -> list[str]:
 
 
 def to_definition_type(of: str) -> str:
-    """Returns a type of the code in the notation of definitions; plain types as ℕ."""
+    """Returns a type of the code in the notation of definitions. Types of numbers become ℕ."""
     kind = of.strip()
     return "ℕ" if PLAIN_CODE.fullmatch(kind) else re.sub(r"^Option<(.*)>$", r"Option \1", kind)
 
 
 def format_declaration(path: Path, name: str) -> list[str]:
-    """Returns a type or a constant of the code in the form of definitions: its fields or variants, or its value."""
+    """Returns a type or constant of the code in the form of a definition: the fields or variants, or the value."""
     lines = [line for line in read_declaration(path, name) if not line.strip().startswith("//")]
     constant = re.fullmatch(r"pub const (\w+): \w+ = (.*);", lines[0])
     if constant:
@@ -543,7 +545,7 @@ def format_variant(found: re.Match[str]) -> str:
 
 
 def read_clauses(path: Path, function: str, names: list[str]) -> list[str]:
-    """Returns clauses of a function's contract."""
+    """Returns these clauses of a function's contract."""
     code = path.read_text(encoding="utf-8")
     found = re.search(rf"^( *)pub fn {function}\b(?:.|\n)*?\n\1\{{", code, re.MULTILINE)
     if found is None:
@@ -562,7 +564,7 @@ def read_clauses(path: Path, function: str, names: list[str]) -> list[str]:
 
 
 def is_public(name: Name) -> bool:
-    """Returns whether users of the crate can name the item: its module is public, or the crate exports it."""
+    """Returns whether users of the crate can refer to the item: its module is public, or the crate exports it."""
     module = name.path.stem
     root = name.path.with_name("lib.rt").read_text(encoding="utf-8")
     return bool(re.search(EXPORTED.format(module, name.name, name.name, module), root, re.M))
@@ -582,7 +584,7 @@ def update_page(needs: Needs, page: str) -> str:
 
 
 def replace_numbers(text: str, counted: str) -> str:
-    """Returns the text with the numbers of `counted`, keeping its line breaks."""
+    """Returns the text with its numbers replaced by those in `counted`. Line breaks are kept."""
     numbers: Iterator[str] = iter(re.findall(r"[\d,]*\d", counted))
     return re.sub(r"[\d,]*\d", lambda match: next(numbers), text)
 
@@ -593,15 +595,15 @@ def list_names(page: str, *kinds: str) -> list[Name]:
 
 
 def find_differences(where: str, has: list[Name], needs: set[Name]) -> list[str]:
-    """Returns errors: names that are missing, not needed or shown twice."""
+    """Returns errors: names that are missing, not needed, or shown twice."""
     found = [f"{name} is needed but isn't {where}" for name in sorted(needs - set(has))]
     found += [f"{name} is {where} but isn't needed" for name in sorted(set(has) - needs)]
     return found + [f"{name} is {where} twice" for name in sorted({name for name in has if has.count(name) > 1})]
 
 
 def find_unexplained(needs: Needs, page: str) -> list[str]:
-    """Returns errors: lower-case constructors missing in the section Notation, and library names missing in the
-    prose."""
+    """Returns errors: lower-case constructors that the section Notation doesn't explain, and library names that the
+    prose doesn't explain."""
     made = {
         symbol
         for part in needs.parts
@@ -616,12 +618,12 @@ def find_unexplained(needs: Needs, page: str) -> list[str]:
 
 
 def count_words(page: str) -> int:
-    """Returns the number of words of a page, separated by spaces, including numbers and symbols."""
+    """Returns the number of words on a page, which are separated by spaces. Numbers and symbols count as words."""
     return sum(len(line.split()) for line in page.splitlines() if not HIDDEN.fullmatch(line))
 
 
 def find_long_pages(path: Path, page: str) -> list[str]:
-    """Returns errors: a page has more words than it states, or states more than MAX_WORDS."""
+    """Returns errors: the page has more words than it states, or states more than MAX_WORDS."""
     name, stated = path.name, WORDS.search(page)
     if stated is None:
         return [f"{name} doesn't state its maximum number of words"]
@@ -652,7 +654,7 @@ def find_errors(needs: Needs, pages: list[str], more: str) -> list[str]:
 
 
 def read_comments() -> dict[Path, dict[str, str]]:
-    """Returns the comment above each definition of the repository, by file."""
+    """Returns the comment above each definition in the repository, by file."""
     files = {path: read_definitions(path) for path in sorted((TOP / "crates").glob("*/specs/**/*.antt"))}
     return {
         path: {definition.name: definition.comment for definition in file.definitions.values()}

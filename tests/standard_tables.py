@@ -23,7 +23,7 @@ sys.path.insert(0, str(TOP / "tests" / "program"))
 import tables  # noqa: E402
 
 Names = dict[int, str]
-# By list and number: python-fido2's name, and the reason.
+# For each list and number: the name in python-fido2, and the reason for the difference.
 KNOWN_DIFFERENCES: dict[tuple[str, int], tuple[str, str]] = {
     ("status", 0x00): ("SUCCESS", "section 8.2 has CTAP1_ERR_SUCCESS and CTAP2_OK"),
     ("status", 0x36): ("PIN_REQUIRED", "the name of CTAP 2.0"),
@@ -47,7 +47,7 @@ def read_rows(name: str) -> list[dict[str, str]]:
 
 
 def read_numbers(name: str, column: str = "number", **values: str) -> Names:
-    """Returns the names of a table's rows with these values, by number."""
+    """Returns the names in the rows of a table with these values, by number."""
     kept = (row for row in read_rows(name) if all(row[key] == value for key, value in values.items()))
     return {int(row[column], 0): row["name"] for row in kept}
 
@@ -60,7 +60,7 @@ def normalize_name(name: str) -> str:
 
 
 def find_differences(title: str, ours: Names, theirs: Names) -> list[str]:
-    """Returns the differences of two lists, except those of KNOWN_DIFFERENCES."""
+    """Returns the differences between two lists, except those in KNOWN_DIFFERENCES."""
     found = []
     for number in sorted({*ours, *theirs}):
         expected = KNOWN_DIFFERENCES.get((title, number))
@@ -78,13 +78,13 @@ def read_enum(kind: type[IntEnum]) -> Names:
 
 
 def parse_list(text: str) -> Names:
-    """Parses a list of tests/program/tables.py."""
+    """Parses a list in tests/program/tables.py."""
     pairs = (line.split() for line in text.splitlines())
     return {int(pair[0], 16): pair[1] for pair in pairs if len(pair) == 2}
 
 
 def read_definitions(path: str) -> Names:
-    """Returns the constants of a definitions file, by number."""
+    """Returns the constants in a file of definitions, by number."""
     text = (TOP / "crates" / path).read_text(encoding="utf-8")
     return {
         int(number.replace("_", ""), 0): name
@@ -116,7 +116,7 @@ def compare_limits() -> list[str]:
 
 
 def compare_numbers() -> list[str]:
-    """Returns the lists whose numbers differ from python-fido2's, which has other names for them."""
+    """Returns the lists whose numbers differ from those of python-fido2, which uses other names."""
     compared = (
         ("subcommands of authenticatorClientPIN", read_numbers("subcommands", command="0x06"), pin.ClientPin.CMD),
         (

@@ -17,7 +17,7 @@ WHEEL_FIELDS = ("Wheel-Version", "Root-Is-Purelib", "Tag")
 
 
 def read_fields(text: str, names: tuple[str, ...]) -> dict[str, list[str]]:
-    """Returns the fields of METADATA or WHEEL, sorted."""
+    """Returns these fields of METADATA or WHEEL, sorted."""
     message = email.message_from_string(text)
     return {
         name: sorted(value.replace('"', "'").replace(" ; ", "; ") for value in message.get_all(name, []))

@@ -25,7 +25,7 @@ def read_packets(log: bytes) -> Packets:
 
 
 def is_within(some: Packets, known: Packets) -> bool:
-    """Returns whether packets are in a log in this order, possibly with others between them."""
+    """Returns whether these packets are in a log in this order. Other packets may be between them."""
     rest = iter(known)
     return all(item in rest for item in some)
 
@@ -40,7 +40,7 @@ def is_within_per_direction(some: Packets, known: Packets) -> bool:
 
 
 def find_difference(seen: Packets, known: Packets) -> str:
-    """Returns how the packets of a capture agree with a log; empty if they do not."""
+    """Returns how the packets of a capture differ from a log, or an empty string if they don't."""
     if seen == known:
         return "the same packets"
     for start in range(len(known) - len(seen) + 1):
@@ -54,7 +54,7 @@ def find_difference(seen: Packets, known: Packets) -> str:
 
 
 def compare(path: Path) -> tuple[int, int]:
-    """Compares a capture; returns the number of its keys that agree and that do not."""
+    """Compares a capture. Returns the number of keys in it that agree with a log, and of those that don't."""
     logs = sorted(
         {*path.parent.glob(path.name.split(".")[0] + ".log"), *path.parent.glob(path.name.split(".")[0] + ".*.log")}
     )
@@ -79,7 +79,7 @@ def compare(path: Path) -> tuple[int, int]:
 
 
 def main() -> int:
-    """Compares the captures of a folder."""
+    """Compares all captures in a folder."""
     if len(sys.argv) != 2 or not Path(sys.argv[1]).is_dir():
         print(__doc__, file=sys.stderr)
         return 2

@@ -25,7 +25,7 @@ from variants import encode_usbpcap, read_transfers  # noqa: E402
 
 DATA = Path(__file__).resolve().parent / "data"
 BOUNDARY_VALUES = (0, 1, 0x7F, 0x80, 0xFF, 0xFFFF, 0x7FFFFFFF, 0x80000000, 0xFFFFFFFE, 0xFFFFFFFF)
-# The maximum of seconds per file, and of additional memory in bytes for all files.
+# The maximum number of seconds for each file, and the maximum additional memory in bytes for all files.
 SECONDS, MEMORY = 20.0, 256 << 20
 
 
@@ -68,7 +68,7 @@ def damage(data: bytes, chance: random.Random) -> bytes:
 
 
 def read_outcome(data: bytes) -> str:
-    """Returns the result of a capture: a log, or an error."""
+    """Returns the result of importing a capture: a log or an error."""
     try:
         found = read(data)
     except CaptureError as error:

@@ -77,14 +77,15 @@ class Key:
         self.answer(BROADCAST, INIT, nonce + self.channel.to_bytes(4, "big") + device)
 
     def wait(self, milliseconds: int, status: int) -> None:
-        """Sends KEEPALIVEs, the first at once."""
+        """Sends KEEPALIVE packets, the first one at once."""
         end = self.at + milliseconds
         while self.at < end:
             self.answer(self.channel, KEEPALIVE, bytes([status]))
             self.at = min(end, self.at + self.traits["keepalive"])
 
     def serve(self, request: bytes, item: Any, status: bytes, response: Any = None, touched: int = 0) -> None:
-        """Adds a CBOR request and its response; the key works for a while, and waits for a touch."""
+        """Adds a CBOR request and its response. Before the response, the key processes the request for a while, and
+        waits for a touch."""
         self.host(self.channel, CBOR, request + (ctap_cbor.encode(item) if item is not None else b""))
         if request in (MAKE, GET, SELECTION) and touched:
             self.wait(self.traits["works_for"], 1)
@@ -96,7 +97,7 @@ class Key:
         self.serve(INFO, None, OK, {**self.info, 3: self.aaguid})
 
     def count(self, credential: dict[str, Any]) -> int:
-        """Returns the next counter: that of the key, or of the credential."""
+        """Returns the next signature counter, of the key or of the credential."""
         self.counter += 1
         credential["counter"] = credential.get("counter", 0) + 1
         return self.counter if self.traits.get("counts_all") else int(credential["counter"])
@@ -131,13 +132,13 @@ class Key:
         return credential
 
     def refuse_registration(self, asked: dict[int, Any], status: bytes, touched: int = 500) -> None:
-        """Refuses authenticatorMakeCredential, after a touch."""
+        """Rejects authenticatorMakeCredential after a touch."""
         self.serve(MAKE, asked, status, None, touched)
 
     def assert_credential(
         self, credential: dict[str, Any], asked: dict[int, Any], count: int = 1, is_verified: bool = False
     ) -> None:
-        """Serves authenticatorGetAssertion; with the option up false without a touch."""
+        """Serves authenticatorGetAssertion. With the option `up` false, no touch is needed."""
         is_silent = asked.get(5, {}).get("up") is False
         response = self.sign_in(credential, asked, (0 if is_silent else UP) | UV * is_verified)
         if count > 1:
@@ -159,7 +160,8 @@ class Key:
         self.serve(GET, asked, NO_CREDENTIALS)
 
     def get_token(self, rp: str = "", permissions: int = 0) -> tuple[bytes, int]:
-        """Serves what a client needs for a token by PIN; returns a pinUvAuthParam and the protocol."""
+        """Serves the requests with which a client gets a token by PIN. Returns a pinUvAuthParam and the protocol
+        number."""
         protocol = self.info[6][0]
         self.serve(PIN, {1: protocol, 2: 1}, OK, {3: 8})
         _, x, y = self.maker.make()
@@ -185,13 +187,14 @@ class Key:
         self.answer(self.channel, MSG, response)
 
     def list_vendor_commands(self) -> None:
-        """Adds the maker's commands, as its tools send them."""
+        """Adds the vendor commands of the maker, as the maker's tools send them."""
         for command, request, response in self.traits["vendor"]:
             self.host(self.channel, int(command, 16), bytes.fromhex(request))
             self.answer(self.channel, int(command, 16), bytes.fromhex(response))
 
     def register_u2f(self, challenge: bytes, application: bytes, polls: int = 3) -> bytes:
-        """Serves a U2F registration, which the client repeats until the user touches; returns the key handle."""
+        """Serves a U2F registration, which the client repeats until the user touches the key. Returns the key
+        handle."""
         identity, x, y = self.maker.make()
         handle: bytes = (identity * 8)[: self.traits["id_length"]]
         self.credentials.append({"id": handle, "key": identity, "rp": application.hex(), "rk": False})
@@ -204,7 +207,8 @@ class Key:
         return handle
 
     def sign_u2f(self, handle: bytes, challenge: bytes, application: bytes, polls: int = 3) -> None:
-        """Serves a U2F sign-in in the same way; the client looks for the handle first."""
+        """Serves a U2F sign-in, which the client repeats until the user touches the key. Before that, the client checks
+        the key handle."""
         data = challenge + application + bytes([len(handle)]) + handle
         head = bytes([0, 2, 7, 0, 0]) + len(data).to_bytes(2, "big")
         self.send_apdu(head + data + b"\0\0", NOT_SATISFIED)
@@ -215,7 +219,7 @@ class Key:
         self.send_apdu(apdu, start + self.maker.sign(credential["key"], application + start + challenge) + SUCCESS)
 
     def poll(self, apdu: bytes, count: int) -> None:
-        """Adds requests that the user has not touched for."""
+        """Adds U2F requests that are rejected because the user has not touched the key yet."""
         for _ in range(count):
             self.send_apdu(apdu, NOT_SATISFIED)
             self.at += 200
@@ -244,7 +248,7 @@ ALICE: dict[str, Any] = {"id": b"alice", "name": "alice", "displayName": "Alice"
 
 
 def serve_u2f_alone(key: Key, name: str) -> None:
-    """What each client does with a key of U2F: it asks for the version, registers, and signs in."""
+    """The requests of each client to a key that supports only U2F: the version, a registration, and a sign-in."""
     challenge, application = hashlib.sha256(name.encode()).digest(), hashlib.sha256(b"u2f.example").digest()
     key.send_apdu(bytes([0, 3, 0, 0, 0, 0, 0]), (b"U2F_V1" if key.is_wrong else b"U2F_V2") + SUCCESS)
     handle = key.register_u2f(challenge, application)
@@ -256,7 +260,8 @@ def serve_u2f_alone(key: Key, name: str) -> None:
 
 
 def chromium(key: Key) -> None:
-    """Chromium: getInfo, a discoverable registration by PIN, silent sign-ins before one that excludes, all accounts."""
+    """Chromium: getInfo, the registration of a discoverable credential with a PIN, silent sign-ins before a
+    registration with an excludeList, and a sign-in with all accounts."""
     key.get_info()
     rp, param = {"id": "localhost", "name": "Relying"}, key.get_token("localhost", 3)
     more = {"_6": {"credProtect": 2} if "credProtect" in key.info.get(2, []) else None, "_7": {"rk": True}}
@@ -276,7 +281,8 @@ def chromium(key: Key) -> None:
 
 
 def firefox(key: Key) -> None:
-    """Firefox: names no RP, looks for each listed credential with an empty hash, and asks for hmac-secret."""
+    """Firefox: requests without the name of the RP, a sign-in with an empty hash for each listed credential, and
+    hmac-secret."""
     key.get_info()
     user, hmac = {"id": b"bob", "name": "bob"}, {"hmac-secret": True}
     made = key.register(make_parameters({"id": "a.example"}, user, -7, -257, _6=hmac, _7={"rk": False}))
@@ -291,7 +297,7 @@ def firefox(key: Key) -> None:
 
 
 def libfido2(key: Key) -> None:
-    """libfido2 and its tools: getInfo at each start, a registration without names, and accounts by -G -r."""
+    """libfido2 and its tools: getInfo at each start, a registration without names, and listing accounts with -G -r."""
     key.get_info()
     key.list_vendor_commands()
     users = [{"id": bytes([number]) * 32, "name": name} for number, name in ((1, "alice"), (2, "bob"))]
@@ -314,7 +320,7 @@ def libfido2(key: Key) -> None:
 
 
 def python_fido2(key: Key) -> None:
-    """python-fido2: getInfo more than once, four algorithms, a PING, a user who changes their mind."""
+    """python-fido2: getInfo several times, four algorithms, a PING, and a user who cancels a request."""
     key.host(key.channel, PING, b"Hello")
     key.answer(key.channel, PING, b"Hello")
     for _ in range(2):
@@ -335,7 +341,7 @@ def python_fido2(key: Key) -> None:
 
 
 def openssh(key: Key) -> None:
-    """OpenSSH: the RP `ssh:`, a user of 32 zero bytes, a silent sign-in first, CANCEL at the end."""
+    """OpenSSH: the RP `ssh:`, a user handle of 32 zero bytes, a silent sign-in first, and CANCEL at the end."""
     key.get_info()
     user = {"id": bytes(32), "name": "openssh", "displayName": "openssh"}
     made = key.register(make_parameters({"id": "ssh:"}, user, -7))
@@ -353,7 +359,8 @@ def openssh(key: Key) -> None:
 
 
 def windows(key: Key) -> None:
-    """Windows: chooses a key by an empty pinUvAuthParam, verifies the user wherever it can, and lists in parts."""
+    """Windows: selecting a key with an empty pinUvAuthParam, user verification wherever possible, and lists that are
+    sent in parts."""
     key.get_info()
     rp: dict[str, Any] = {"id": "login.example", "name": "Login"}
     user = {**ALICE, "icon": "https://login.example/a.png"}
@@ -386,8 +393,8 @@ CLIENTS: dict[str, Callable[[Key], None]] = {
 
 
 def make_session(maker: str, client: str, is_wrong: bool = False) -> Key:
-    """Returns a key after its session with a client; a key of U2F alone is used by its requests. A wrong key signs
-    something else."""
+    """Returns a key after its session with a client. If the key supports only U2F, the client sends U2F requests. If
+    `is_wrong`, the key signs wrong bytes."""
     key = Key(maker, is_wrong)
     key.open()
     if key.has_cbor:

@@ -40,7 +40,7 @@ Row = dict[str, str]
 
 
 def list_sessions() -> list[Path]:
-    """Returns examples, recordings of clients, every fifth conformance session, and the data of these tests."""
+    """Returns the examples, recordings of clients, every fifth conformance session, and the data of these tests."""
     found = sorted((TOP / "conformance" / "recorded").glob("*.log")) + sorted(
         (TOP / "tests/captures/data").glob("*.log")
     )
@@ -49,7 +49,7 @@ def list_sessions() -> list[Path]:
 
 
 def dissect(files: list[Path], folder: Path) -> dict[int, list[Row]]:
-    """Returns tshark's fields for each frame with a packet, by session index."""
+    """Returns tshark's fields for each frame that contains a packet, by the index of the session."""
     capture = folder / "sessions.pcapng"
     capture.write_bytes(b"".join(to_pcapng(replay(path)) for path in files))
     words = ["tshark", "-X", f"lua_script:{DISSECTOR}", "-r", str(capture), "-Y", "ctaphid", "-T", "fields"]
@@ -64,7 +64,7 @@ def dissect(files: list[Path], folder: Path) -> dict[int, list[Row]]:
 
 
 def replay(path: Path) -> bytes:
-    """Returns a session with the key's packets, which conformance sessions do not have."""
+    """Returns a session with the packets of the key, which conformance sessions do not contain."""
     log = path.read_bytes()
     if b"\n< " in log:
         return log
@@ -72,7 +72,7 @@ def replay(path: Path) -> bytes:
 
 
 def show_objects(path: Path) -> Iterator[dict[str, Any]]:
-    """Yields the objects of `show --json`, with the lines about members added to each item's object."""
+    """Yields the objects of `show --json`. The lines about members are added to the object of each item."""
     log = replay(path)
     output = subprocess.run([PROGRAM, "show", "--json"], input=log, check=True, capture_output=True).stdout
     lines = subprocess.run([PROGRAM, "show", "--explain"], input=log, check=True, capture_output=True).stdout
@@ -88,7 +88,7 @@ def show_objects(path: Path) -> Iterator[dict[str, Any]]:
 
 
 def packet_properties(mapping: dict[str, Any]) -> tuple[object, ...]:
-    """Returns the properties of a packet that are compared."""
+    """Returns the properties of a packet that are compared between tshark and `show`."""
     code = mapping.get("code")
     of_key = mapping["from"] == "key"
     return (
@@ -126,7 +126,7 @@ def parse_message_row(row: Row) -> tuple[object, ...]:
 
 
 def unescape(text: str) -> str:
-    """Unescapes backslashes in tshark's output."""
+    """Returns tshark's output without the escaping of backslashes."""
     return text.replace("\\\\", "\\")
 
 
@@ -157,7 +157,7 @@ def test_each_packet_is_the_same(both: Both) -> None:
 
 
 def test_each_message_is_the_same(both: Both) -> None:
-    """Of messages with interleaved packets, `show` assembles only the last one that began."""
+    """If packets of several messages are interleaved, `show` assembles only the message that began last."""
     compared, more = 0, 0
     for path, rows, objects in both:
         seen = [
@@ -198,7 +198,7 @@ def test_faults_and_errors_are_expert_infos(both: Both) -> None:
 
 
 def test_captures_of_other_recorders(tmp_path: Path) -> None:
-    """qemu, without descriptors, and USBPcap."""
+    """The dissector also reads captures of qemu, which have no descriptors, and of USBPcap."""
     data = TOP / "tests" / "captures" / "data"
     usbpcap = tmp_path / "usbpcap.pcap"
     usbpcap.write_bytes(encode_usbpcap(read_transfers((data / "libfido2_register.pcap").read_bytes())))

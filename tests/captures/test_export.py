@@ -47,7 +47,7 @@ def test_a_text_that_is_no_log() -> None:
 @pytest.mark.parametrize("path", [TRUNCATED_LOG, LOGS[0]])
 @pytest.mark.parametrize("length", [1, 100, 1 << 20])
 def test_a_log_in_pieces(path: Path, length: int, monkeypatch: pytest.MonkeyPatch) -> None:
-    """A log that is read in pieces gives the same capture, or the same error, as the whole log."""
+    """A log that is read in pieces gives the same capture or the same error as the whole log."""
     monkeypatch.setattr(logs, "_PART_BYTES", 300)
     log = path.read_bytes()
     pieces = [log[place : place + length] for place in range(0, len(log), length)]
@@ -60,7 +60,7 @@ def test_a_log_in_pieces(path: Path, length: int, monkeypatch: pytest.MonkeyPatc
 
 
 def test_a_line_without_an_end(monkeypatch: pytest.MonkeyPatch) -> None:
-    """A line that is too long is refused before all of it is read."""
+    """A line that is too long is rejected before the whole line is read."""
     lines = itertools.count()
     pieces = (b"#" * 1000 for _ in zip(range(10**6), lines))
     with pytest.raises(hidlog.LogError, match="^line 2: longer than 255 bytes$"):
@@ -69,7 +69,7 @@ def test_a_line_without_an_end(monkeypatch: pytest.MonkeyPatch) -> None:
 
 
 def test_a_text_that_is_no_log_leaves_the_older_file(tmp_path: Path) -> None:
-    """An invalid line after the first part, when a part of the capture is written already."""
+    """If an invalid line comes after a part of the capture was written, the older file is kept."""
     log, old = tmp_path / "log", tmp_path / "old.pcapng"
     log.write_bytes(b"t 1\n" * 200_000 + b"nothing\n")
     old.write_bytes(b"old")

@@ -1,4 +1,4 @@
-"""SecurityKey.from_recording responds to a client, whatever recorded it, and reports differences of the client."""
+"""SecurityKey.from_recording responds to any client, and reports where the client differs from the recorded one."""
 
 from __future__ import annotations
 
@@ -28,14 +28,14 @@ def read_requests(log: bytes) -> list[bytes]:
 
 
 def replay_requests(key: Any, requests: list[bytes]) -> list[bytes]:
-    """Returns the responses that another client gets to these requests, on one channel."""
+    """Returns the responses to these requests on one channel, which another client opens."""
     client = hidlog.Client(key)
     return [client.transact(hidlog.packets.CBOR, request, lambda: False, lambda status: None) for request in requests]
 
 
 @pytest.mark.parametrize("name", ["libfido2_register.pcap", "keyboard_beside.48.pcap", "partly.late.pcap"])
 def test_another_client_with_one_channel(name: str) -> None:
-    """libfido2 opened the key for each of its commands; this client opens it once."""
+    """libfido2 opened the key for each of its commands. The client in this test opens the key once."""
     (found,) = read(DATA / name)
     requests = read_requests(found.log)
     with Key.from_recording((DATA / name).read_bytes()) as key:
@@ -44,7 +44,7 @@ def test_another_client_with_one_channel(name: str) -> None:
 
 
 def test_python_fido2_against_a_recorded_key() -> None:
-    """python-fido2 sends getInfo to a recording of libfido2."""
+    """python-fido2 sends getInfo to a key that replays a recording of libfido2."""
     (found,) = read(DATA / "libfido2_register.fido_debug.txt")
     info = Ctap2(Key.from_recording(found.log).device()).info
     assert info.versions == ["FIDO_2_0"] and info.options["rk"] is True

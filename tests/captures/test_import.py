@@ -1,4 +1,5 @@
-"""Captures of real recorders, also converted to other formats, give logs with the packets that the key logged."""
+"""Captures of real recorders, also after conversion to other formats, give logs with the packets that the key
+logged."""
 
 from __future__ import annotations
 
@@ -58,7 +59,7 @@ def test_a_capture_agrees_with_the_keys_log(name: str, wanted: str) -> None:
 
 @pytest.mark.parametrize("name", ["libfido2_register.pcap", "keyboard_beside.48.pcap", "python_cancel.pcapng"])
 def test_the_key_does_with_derived_replies_what_was_recorded(name: str) -> None:
-    """Replaying the inferred timestamps, replies, key pairs and signatures gives the same packets."""
+    """Replaying the log with the inferred timestamps, replies, key pairs and signatures gives the recorded packets."""
     log = read_single_capture(DATA / name).log
     assert hidlog.check(log).status == 0
     assert (b"# derived: " in log) == (b"\np " in log) == (name != "python_cancel.pcapng")
@@ -88,7 +89,7 @@ def test_usbpcap() -> None:
 
 
 def test_usbpcap_as_tshark_reads_it(tmp_path: Path) -> None:
-    """tshark reads the same packets from this test's file."""
+    """tshark reads the same packets from the file that this test writes."""
     file = tmp_path / "usbpcap.pcap"
     file.write_bytes(encode_usbpcap(read_events()))
     words: list[str | Path] = [
@@ -193,7 +194,7 @@ def test_a_cut_capture_gives_what_is_before_the_cut() -> None:
 
 
 def test_forms_of_strace() -> None:
-    """Lines of strace 6.1 with paths, instruction pointers, threads, relative timestamps, interruptions."""
+    """Output of strace 6.1 with paths, instruction pointers, threads, relative timestamps and interruptions."""
     greeting, greeted = read_log("python_cancel")[:2]
     sent = '"\\0' + "".join(f"\\x{item:02x}" for item in greeting[1]) + '"'
     came = (
@@ -237,7 +238,7 @@ def test_a_capture_that_is_packed() -> None:
 
 
 def test_an_interface_that_began_late() -> None:
-    """Of a complete recording and one of the end, the longer is used."""
+    """If there is a complete recording and one that has only the end, the longer one is used."""
     found = read_single_capture(to_pcapng([read_events()[60:], read_events()]))
     assert find_difference(read_packets(found.log), read_log("libfido2_register")) == SAME_PACKETS
     assert any("has the same packets, and is left out" in note for note in found.notes)
@@ -261,7 +262,7 @@ FIDODebug[10:00:05] -> (CTAP2 error code 39)
 
 
 def test_a_message_that_no_packets_hold_is_left_out() -> None:
-    """CTAPHID messages have at most 7,609 bytes."""
+    """A message longer than 7,609 bytes, the maximum of CTAPHID, is omitted."""
     found = read_single_capture(
         b"FIDODebug[10:00:01] <- 4 (no payload)\nFIDODebug[10:00:02] <- 1 {1: h'" + b"ab" * 7609 + b"'}\n"
     )
@@ -287,7 +288,7 @@ def test_an_unsupported_file_is_reported(data: bytes, message: str) -> None:
 
 
 def list_captures() -> list[bytes]:
-    """Returns the captures of real recorders, and some sessions as captures of an unknown program."""
+    """Returns the captures of real recorders, and some sessions in the form of captures of an unknown program."""
     captures = [path.read_bytes() for path in sorted(DATA.iterdir()) if path.suffix != ".log"]
     sessions = [to_pcapng_of_log(log.read_bytes()).replace(b"hidlog", b"others") for log in LOGS[::5]]
     return captures + [session for session in sessions if has_key(session)]
@@ -301,7 +302,8 @@ def has_key(capture: bytes) -> bool:
 
 
 def test_replies_do_not_depend_on_how_many_packets_are_held(monkeypatch: pytest.MonkeyPatch) -> None:
-    """Inferring from the packets of one transaction at a time gives the same log as from the whole session."""
+    """Inferring replies from the packets of one transaction at a time gives the same log as inferring them from the
+    whole session."""
     infer = inference.infer_replies
     logs: list[list[bytes]] = []
     captures = list_captures()
@@ -315,7 +317,7 @@ def test_replies_do_not_depend_on_how_many_packets_are_held(monkeypatch: pytest.
 
 
 def test_a_transaction_that_stays_open(monkeypatch: pytest.MonkeyPatch) -> None:
-    """With at most eight packets held, a longer transaction has fewer replies, and all its packets."""
+    """If at most eight packets are held, fewer replies are inferred for a longer transaction, but no packet is lost."""
     captures = list_captures()
     before = [found.log for capture in captures for found in read(capture)]
     infer, replies, held = inference.infer_replies, inference._Replies, []
@@ -335,7 +337,7 @@ def test_a_transaction_that_stays_open(monkeypatch: pytest.MonkeyPatch) -> None:
 
 
 def test_packets_in_a_file(monkeypatch: pytest.MonkeyPatch) -> None:
-    """Packets give the same log whether they are in memory or in a file, which is read in pieces of any length."""
+    """Packets in a file, which is read in pieces of any length, give the same log as packets in memory."""
     before = [read(capture) for capture in list_captures()]
     monkeypatch.setattr(packet_store, "_MAX_IN_MEMORY", 100)
     for length in (1, 333):

@@ -28,7 +28,7 @@ TOP = Path(__file__).resolve().parents[2]
 DATA = Path(__file__).resolve().parent / "data"
 PROGRAM = TOP / "release" / "hidlog"
 CAPTURES = sorted(path for path in DATA.iterdir() if path.suffix != ".log")
-# Clients' sessions with this project's key; the logs have only the host's side.
+# Sessions of clients with this project's key. The logs contain only the packets of the host.
 RECORDED = sorted((TOP / "conformance" / "recorded").glob("*.log"))
 # Logs that are also judged from each line on, and numbers of lines in what is expected.
 BEGUN_EARLIER = [TOP / "examples" / name for name in ("sign_in.log", "time_out.log", "two_hosts.log")]
@@ -53,7 +53,8 @@ def test_no_capture_of_a_conforming_session_violates_a_must(path: Path) -> None:
 
 @pytest.mark.parametrize("path", RECORDED, ids=str)
 def test_no_clients_session_violates_a_must(path: Path) -> None:
-    """Chromium, Firefox, libfido2, OpenSSH, pam-u2f and python-fido2. The keys in these logs are made up."""
+    """Sessions of Chromium, Firefox, libfido2, OpenSSH, pam-u2f and python-fido2 violate no MUST. The keys in these
+    logs are simulated."""
     log = hidlog.replay(path.read_bytes()).text
     found = [item for item in judge(log) if item.level == "must" and item.expected != "x and y of a point on P-256"]
     assert b"\n< " in log and found == []
@@ -77,7 +78,7 @@ INIT = [
 ]
 INFO_REQUEST = "> 10 " + format_packet(1, 0x10, b"\4")
 INFO_RESPONSE = bytes.fromhex("00a20181684649444f5f325f300350") + bytes(16)
-# Lines after INIT, and their violations: line, side, level and section of CTAP 2.1.
+# Lines after INIT, and their violations: line number, side, level, and section of CTAP 2.1.
 CASES: dict[str, tuple[list[str], Broken]] = {
     "nothing": ([INFO_REQUEST, "< " + format_packet(1, 0x10, INFO_RESPONSE)], []),
     "another nonce": (
@@ -224,7 +225,7 @@ def test_the_command() -> None:
 
 
 def test_counts_are_singular_and_plural() -> None:
-    """Counts of a PING of 1 byte in one packet, and of its 2 violations."""
+    """The counts for a PING of 1 byte in one packet, which has 2 violations."""
     log = "\n".join([*INIT, f"> 5 {format_packet(1, 0x01, b'a')}", f"< {format_packet(1, 0x01, b'bc')}", ""]).encode()
     lines = run_judge("-", standard_input=log).stdout.decode().splitlines()
     assert lines[1:3] == [
@@ -244,7 +245,7 @@ ENCODED_CAPTURES = [
 
 @pytest.mark.parametrize("path, encoding", ENCODED_CAPTURES, ids=str)
 def test_the_command_reads_captures(path: Path, encoding: str) -> None:
-    """Also text as PowerShell writes it: UTF-16 with a byte order mark and CR LF."""
+    """The command also reads text as PowerShell writes it: UTF-16 with a byte order mark and CR LF."""
     data = path.read_bytes()
     if encoding:
         data = ("\ufeff" + data.decode().replace("\n", "\r\n")).encode(encoding)
@@ -294,7 +295,7 @@ def test_json_and_junit() -> None:
 
 
 def record_sign_ins(count: int) -> bytes:
-    """Returns a recording of `count` registrations and sign-ins, with another, discoverable credential."""
+    """Returns a recording of `count` registrations and sign-ins, in which there is also a discoverable credential."""
     with hidlog.SecurityKey(random=random.Random(1).randbytes) as key:
         browser = key.browser("https://example.com")
         challenge = b64url_encode(bytes(32))
@@ -313,7 +314,7 @@ def record_sign_ins(count: int) -> bytes:
 
 
 def count_lines_executed(log: bytes) -> int:
-    """Returns the number of Python lines executed to check a log; a loop within a line counts each time."""
+    """Returns the number of Python lines that are executed to check a log. Lines in a loop count each time."""
     count = 0
 
     def trace(frame: FrameType, event: str, _: object) -> Callable[..., Any]:
@@ -341,7 +342,8 @@ def test_what_was_judged_is_not_kept() -> None:
 
 
 def test_a_log_is_checked_in_parts(monkeypatch: pytest.MonkeyPatch) -> None:
-    """Checking a session's transactions a few at a time gives the same findings, or error, as checking all at once."""
+    """Checking the transactions of a session a few at a time gives the same findings or error as checking all at
+    once."""
 
     def check_log(log: bytes, length: int) -> Any:
         monkeypatch.setattr(quiet_parts, "_PART_BYTES", length)
@@ -354,7 +356,7 @@ def test_a_log_is_checked_in_parts(monkeypatch: pytest.MonkeyPatch) -> None:
     logs = [path.read_bytes() for path in LOGS[::4]]
     logs += [log.replace(b"\n", b"\n# power cycle\n", 9) for log in logs[:10]]
     logs += [record_sign_ins(3) + end for end in (b"nothing\n", b"nothing")]
-    # A response of two packets that nothing asked for.
+    # A response of two packets to which there is no request.
     packets = (packet.ljust(64, b"\0") for packet in (bytes.fromhex("0000000190005000"), bytes.fromhex("0000000100")))
     logs.append(b"t 1\n" + b"".join(b"< %s\n" % packet.hex().encode() for packet in packets))
     whole = [check_log(log, 1 << 30) for log in logs]
@@ -363,7 +365,7 @@ def test_a_log_is_checked_in_parts(monkeypatch: pytest.MonkeyPatch) -> None:
 
 
 def test_a_part_is_checked_before_the_rest_is_read() -> None:
-    """A log of any length is held in parts."""
+    """For a log of any length, only a part is held in memory at a time."""
     log, read = record_sign_ins(20), itertools.count()
     pieces = (log for _ in zip(range(1000), read))
     assert len(next(quiet_parts.iter_quiet_parts(pieces))) < 2 * quiet_parts._PART_BYTES

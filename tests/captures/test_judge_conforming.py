@@ -29,7 +29,8 @@ Broken = list[tuple[str, str]]
 
 
 class Log:
-    """A log, built packet by packet: the host's with their time, the key's after the last time."""
+    """A log that is built packet by packet. Packets of the host have a time; packets of the key are sent at the last
+    time."""
 
     def __init__(self, *head: str) -> None:
         self.lines = list(head)
@@ -41,7 +42,7 @@ class Log:
         return self
 
     def add_response(self, channel: int, command: int, data: bytes = b"", at: int | None = None, lost: int = -1) -> Log:
-        """Adds a message of the key, possibly without a lost packet."""
+        """Adds a message of the key. One of its packets may be lost."""
         self.lines += [] if at is None else [f"t {at}"]
         packets = fragment_message(channel, command, data)
         self.lines += [f"< {packet.hex()}" for number, packet in enumerate(packets) if number != lost]
@@ -55,7 +56,7 @@ class Log:
         return self.add_request(at, BROADCAST, INIT, nonce).add_response(BROADCAST, INIT, answer, at + after)
 
     def add_cbor(self, at: int, request: bytes, item: Any, status: bytes, answer: Any = None, user: int = 0) -> Log:
-        """Adds a CBOR request and its response on channel 1, with `user` milliseconds of waiting for a touch."""
+        """Adds a CBOR request and its response on channel 1. The key waits `user` milliseconds for a touch."""
         self.add_request(at, 1, CBOR, request + (ctap_cbor.encode(item) if item is not None else b""))
         if user:
             self.add_response(1, KEEPALIVE, b"\2").lines.append(f"t {at + user}")
@@ -91,13 +92,13 @@ class Credential:
         self.counter = 1
 
     def registration_response(self) -> dict[int, Any]:
-        """Returns the response to its registration."""
+        """Returns the response to the registration of the credential."""
         cose = ctap_cbor.encode({1: 2, 3: -7, -1: 1, -2: self.x, -3: self.y})
         auth = SITE + b"\x41" + self.counter.to_bytes(4, "big") + bytes(16) + b"\0\x20" + self.id + cose
         return {1: "none", 2: auth, 3: {}}
 
     def assertion_response(self, **more: Any) -> dict[int, Any]:
-        """Returns the response to a sign-in."""
+        """Returns the response to a sign-in with the credential."""
         self.counter += 1
         auth = SITE + b"\1" + self.counter.to_bytes(4, "big")
         found = {1: self.descriptor, 2: auth, 3: self.maker.sign(self.id, auth + HASH)}
@@ -116,7 +117,7 @@ def sign_in_parameters(*listed: Any) -> dict[int, Any]:
 
 
 def add_registration(log: Log, credential: Credential, at: int = 100) -> Log:
-    """Adds a registration of a credential to a log."""
+    """Adds the registration of a credential to a log."""
     return log.add_cbor(at, MAKE, registration_parameters(), OK, credential.registration_response(), user=50)
 
 
@@ -125,7 +126,7 @@ def add_registration(log: Log, credential: Credential, at: int = 100) -> Log:
 )
 @pytest.mark.parametrize("number", [1, 2])
 def test_a_number_of_credentials_beside_a_list(versions: Any, wanted: Broken, number: int) -> None:
-    """CTAP 2.1 omits it with a list or a single credential (6.2.2); CTAP 2.0 does not."""
+    """CTAP 2.1 omits numberOfCredentials if there is an allowList or only one credential (6.2.2); CTAP 2.0 does not."""
     log, stranger = Log().add_init(), {"type": "public-key", "id": bytes(32)}
     log = log.add_get_info(*versions, _6=[1]) if versions else log
     answer = {1: stranger, 2: SITE + b"\1\0\0\0\1", 3: b"\x30\x06\2\1\1\2\1\1", 5: number}
@@ -136,7 +137,7 @@ def test_a_number_of_credentials_beside_a_list(versions: Any, wanted: Broken, nu
     ({}, 3, []), ({"_7": 8}, 9, []), ({"_7": 8, "_8": 64}, 3, [("key", "6.2.2")]), ({"_7": 8, "_8": 16}, 3, [])
 ])  # fmt: skip
 def test_a_list_over_the_limits(limits: dict[str, int], count: int, wanted: Broken) -> None:
-    """Status 15 is for lists above maxCredentialCountInList and IDs above maxCredentialIdLength (6.4)."""
+    """Status 15 is allowed only for lists above maxCredentialCountInList and IDs above maxCredentialIdLength (6.4)."""
     listed = [{"type": "public-key", "id": bytes([number]) * 32} for number in range(count)]
     log = Log().add_init().add_get_info("FIDO_2_1", _6=[1], **limits)
     assert log.add_cbor(200, GET, sign_in_parameters(*listed), b"\x15").find_must_violations() == wanted
@@ -146,8 +147,8 @@ def test_a_list_over_the_limits(limits: dict[str, int], count: int, wanted: Brok
     ([], 2000, []), ([], 50, [("key", "11.2.9.1.3")]), (["# moment 0 is made up: none is known"], 0, [])
 ])  # fmt: skip
 def test_a_channel_is_given_out_twice(head: list[str], at: int, wanted: Broken) -> None:
-    """A key that was plugged in again, which takes at least 100 ms, starts its channels over. In text without
-    timestamps this may happen at any INIT."""
+    """A key that was plugged in again, which takes at least 100 ms, allocates the same channels again. In a text
+    without timestamps, this may happen at any INIT."""
     assert Log(*head).add_init().add_init(at).find_must_violations() == wanted
 
 
@@ -162,7 +163,8 @@ def test_nothing_is_known_of_what_was_open_before_a_key_was_plugged_in_again() -
 
 
 def test_a_reset_within_ten_seconds_of_being_plugged_in_again() -> None:
-    """6.6: within 10 s of power-up. A new channel after a while may mean that the key was plugged in again."""
+    """A reset is allowed within 10 s of power-up (6.6). If a channel is allocated after a while, the key may have been
+    plugged in again."""
     known = Credential()
     log = (
         Log()
@@ -181,13 +183,15 @@ def test_a_reset_within_ten_seconds_of_being_plugged_in_again() -> None:
 
 
 def test_a_reset_of_a_key_that_may_have_a_display() -> None:
-    """6.6: the limit is for authenticators without a display. One that returns numberOfCredentials has none (6.2.2)."""
+    """The time limit of a reset is for authenticators without a display (6.6). A key that returns numberOfCredentials
+    has no display (6.2.2)."""
     log = Log().add_init().add_get_info("FIDO_2_1", _6=[1]).add_cbor(60000, RESET, None, OK, user=50)
     assert (log.find_must_violations(), log.find_should_violations()) == ([], [("key", "6.6")])
 
 
 def test_a_credential_that_was_deleted() -> None:
-    """By authenticatorCredentialManagementPreview, or on the key, which takes its user a while."""
+    """The credential may have been deleted with authenticatorCredentialManagementPreview, or by the user on the key,
+    which takes a while."""
     credential = Credential()
     log = add_registration(Log().add_init().add_get_info("FIDO_2_1_PRE"), credential)
     delete = {1: 6, 2: {2: credential.descriptor}, 3: 1, 4: bytes(16)}
@@ -223,7 +227,7 @@ def u2f_registration_response(handle: bytes, request: bytes = bytes(64), point: 
     ("FIDO_2_1", True, []), ("FIDO_2_0", False, []), ("FIDO_2_1", False, [("key", "6.2.2")])
 ])  # fmt: skip
 def test_a_handle_of_u2f_after_a_reset(version: str, registers: bool, wanted: Broken) -> None:
-    """A reset of CTAP 2.1 also deletes U2F credentials (6.6); CTAP 2.0 does not mention them."""
+    """A reset in CTAP 2.1 also deletes U2F credentials (6.6). CTAP 2.0 does not mention U2F credentials."""
     credential = Credential()
     log = Log().add_init().add_get_info(version, _6=[1]).add_cbor(1000, RESET, None, OK, user=50)
     if registers:
@@ -237,7 +241,7 @@ def test_a_handle_of_u2f_after_a_reset(version: str, registers: bool, wanted: Br
 
 @pytest.mark.parametrize("version, wanted", [("FIDO_2_0", []), ("FIDO_2_1_PRE", []), ("FIDO_2_1", [("key", "6.1.2")])])
 def test_enterprise_attestation_of_a_key_that_does_not_know_it(version: str, wanted: Broken) -> None:
-    """CTAP 2.1 refuses it (6.1.2, step 9). In CTAP 2.0 it is an unknown member."""
+    """CTAP 2.1 requires that enterpriseAttestation is rejected (6.1.2, step 9). In CTAP 2.0 it is an unknown member."""
     log = Log().add_init().add_get_info(version, _6=[1])
     log = log.add_cbor(100, MAKE, registration_parameters(_10=1), OK, Credential().registration_response(), user=50)
     assert sorted(set(log.find_must_violations())) == wanted
@@ -246,14 +250,14 @@ def test_enterprise_attestation_of_a_key_that_does_not_know_it(version: str, wan
 @pytest.mark.parametrize("seconds, at, is_locked", [(5, 1000, True), (5, 9000, False), (0, 20, False)])
 @pytest.mark.parametrize("command, section", [(PING, "11.2.9.2.2"), (0x3C, "11.2.9.1.6")])
 def test_another_channel_has_the_lock(command: int, section: str, seconds: int, at: int, is_locked: bool) -> None:
-    """11.2.9.2.2: as long as the lock is active, any other channel that tries to send a message fails."""
+    """While the lock is active, messages on any other channel must fail (11.2.9.2.2)."""
     log = Log().add_init().add_init(1, 2).add_request(10, 1, LOCK, bytes([seconds])).add_response(1, LOCK)
     found = log.add_request(at, 2, command, b"a").add_response(2, ERROR, b"\6").find_must_violations()
     assert [one for one in found if one[0] == "key"] == ([] if is_locked else [("key", section)])
 
 
 def test_keepalives_are_a_should() -> None:
-    """11.2.9.1.7: a KEEPALIVE should be sent at least every 100 ms."""
+    """KEEPALIVE packets should be sent at least every 100 ms (11.2.9.1.7)."""
     request = ctap_cbor.encode(sign_in_parameters())
     log = Log().add_init().add_get_info("FIDO_2_0").add_request(100, 1, CBOR, GET + request)
     log = log.add_response(1, KEEPALIVE, b"\2", at=2600).add_response(1, CBOR, b"\x27", at=5200)
@@ -271,7 +275,7 @@ def test_keepalives_are_a_should() -> None:
     (["# imported from a capture of USB: bus 1", "# note: the recorder lost 3 packets"], []),
 ])  # fmt: skip
 def test_packets_that_were_lost(head: list[str], wanted: Broken) -> None:
-    """A client's system queues 64 unread packets and drops others; a recorder may report lost packets."""
+    """The client's operating system queues 64 unread packets and drops others. A recorder may report lost packets."""
     log = (
         Log(*head)
         .add_init()
@@ -296,20 +300,20 @@ def test_what_a_recorder_lost_is_said_first() -> None:
 
 
 def test_where_packets_do_not_show_what_was_answered() -> None:
-    """Two requests with the same command on a channel, neither refused, and one response."""
+    """Two requests with the same command are on a channel, none is rejected, and there is one response."""
     credential = Credential()
     log = Log().add_init().add_get_info("FIDO_2_0")
     log = log.add_request(100, 1, PING, b"a").add_request(200, 1, PING, b"b").add_response(1, PING, b"a", at=700)
     log = log.add_response(1, PING, b"b").add_init(2000, 2)
     assert [one for one in log.find_must_violations() if one[0] == "key"] == []
-    # It is unknown whether the reset was done, so the credential may be gone.
+    # It is unknown whether the reset was done, so the credential may have been removed.
     log = add_registration(Log().add_init().add_get_info("FIDO_2_0"), credential).add_request(300, 1, CBOR, RESET)
     log = log.add_init(350, 1).add_cbor(400, GET, sign_in_parameters(), NO_CREDENTIALS)
     assert [one for one in log.find_must_violations() if one[1] == "6.2.2"] == []
 
 
 def test_a_message_that_took_a_channel_times_out() -> None:
-    """11.2.5.2: ERR_MSG_TIMEOUT is for the incomplete message, even if it replaced another one."""
+    """ERR_MSG_TIMEOUT is for the incomplete message, even if this message replaced another one (11.2.5.2)."""
     log = Log().add_init().add_request(10, 1, CBOR, INFO + bytes(80))
     log.lines.pop()
     log.add_request(20, 1, PING, b"a" * 80).lines.pop()
@@ -318,7 +322,8 @@ def test_a_message_that_took_a_channel_times_out() -> None:
 
 
 def test_an_init_that_is_refused_may_end_nothing() -> None:
-    """11.2.5.3: INIT aborts its channel's transaction; for an INIT with a wrong length the standard does not say."""
+    """INIT aborts the transaction on its channel (11.2.5.3). For an INIT with a wrong length, the standard states
+    nothing."""
     log = Log().add_init().add_request(10, 1, CBOR, INFO + bytes(80))
     log.lines.pop()
     log = log.add_request(50, 1, INIT, bytes(7)).add_response(1, ERROR, b"\3").add_response(1, ERROR, b"\5", at=600)
@@ -335,7 +340,7 @@ def test_an_init_that_is_refused_may_end_nothing() -> None:
 
 
 def test_a_key_needs_no_pin() -> None:
-    """An unsupported command returns status 01 (8.2), whatever its parameters."""
+    """An unsupported command returns status 01 (8.2), whatever its parameters are."""
     assert [
         one for one in Log().add_init().add_cbor(100, PIN, {1: 1}, b"\1").find_must_violations() if one[0] == "key"
     ] == []

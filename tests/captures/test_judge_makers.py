@@ -11,7 +11,8 @@ from hidlog.judge import judge
 from maker_sessions import CLIENTS, MAKERS, make_session
 
 SESSIONS = [(maker, client) for maker in MAKERS for client in CLIENTS]
-# What each key's sessions must contain, so that its own habits are judged: CTAPHID commands and CBOR commands.
+# The CTAPHID commands and CBOR commands that the sessions of each key must contain, so that the special behavior of the
+# key is judged.
 HABITS = {
     "feitian_biopass": ("90..*40", "90..*41"),
     "nitrokey_3": ("e1", "e2", "90..*0a"),
@@ -41,13 +42,13 @@ def test_each_key_has_its_own_habits(maker: str) -> None:
 
 @pytest.mark.parametrize("maker, client", SESSIONS)
 def test_each_request_has_its_response(maker: str, client: str) -> None:
-    """The proved walk finds the end of each transaction in a response (hidlog_transactions of hidlog.h)."""
+    """For each request there is a response at which the transaction ends (hidlog_transactions of hidlog.h)."""
     ends = re.findall(r"^\d+ \d+ \d+ (\w)", logs.transactions(make_session(maker, client).log).text.decode(), re.M)
     assert len(ends) > 5 and set(ends) <= {"a", "s"}, ends
 
 
 @pytest.mark.parametrize("maker, client", SESSIONS)
 def test_a_wrong_signature_is_found(maker: str, client: str) -> None:
-    """Or a wrong version of U2F, whose signatures are not verified."""
+    """A wrong signature is found. For U2F, whose signatures are not verified, a wrong version is found."""
     found = [item for item in judge(make_session(maker, client, True).log) if item.level == "must"]
     assert {item.side for item in found} == {"key"}

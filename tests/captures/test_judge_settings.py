@@ -36,7 +36,7 @@ POLICY, NOT_SATISFIED, WRONG_DATA = b"\x37", b"\x69\x85", b"\x6a\x80"
 
 
 def begin(**more: Any) -> Log:
-    """Returns a log of a key with CTAP 2.1 and settings."""
+    """Returns the log of a key that supports CTAP 2.1 and authenticatorConfig."""
     options = {"authnrCfg": True, "setMinPINLength": True, "ep": False, "alwaysUv": False, "bioEnroll": False}
     return Log().add_init().add_get_info("FIDO_2_1", _6=[2, 1], options={**options, **more.pop("options", {})}, **more)
 
@@ -78,7 +78,7 @@ def test_a_minimum_pin_length_is_not_lowered(status: bytes, wanted: Broken) -> N
     (POLICY, None, []), (b"\x31", None, []), (OK, {2: bytes(48)}, [("key", "6.5")])
 ])  # fmt: skip
 def test_no_token_before_a_forced_change(status: bytes, answer: Any, wanted: Broken) -> None:
-    """getPinToken may refuse such a PIN as a wrong one, any number of times."""
+    """getPinToken may reject such a PIN like a wrong PIN, any number of times."""
     log = configure(begin(options={"clientPin": True}), 100, {1: SET_LENGTH, 2: {3: True}})
     for at in (200, 300, 400, 500):
         log.add_cbor(at, PIN, {1: 2, 2: 5, 3: {}, 6: bytes(32)}, status, answer)
@@ -90,7 +90,8 @@ def test_no_token_before_a_forced_change(status: bytes, answer: Any, wanted: Bro
     (True, 4, 7, []), (True, 4, 8, [("key", "6.5")]), (False, 9, 7, []), (False, 9, 8, [("key", "6.5")]),
 ])  # fmt: skip
 def test_a_wrong_pin_costs_a_retry(is_forced: bool, kind: int, left: int, wanted: Broken) -> None:
-    """Status 31 to a request for a token does not say that the PIN is wrong if it must be changed (6.5.5.7)."""
+    """If a PIN must be changed, status 31 in response to a token request does not mean that the PIN is wrong
+    (6.5.5.7)."""
     log = begin(options={"clientPin": True}, _12=is_forced)
     log.add_cbor(100, PIN, {1: 2, 2: 1}, OK, {3: 8}).add_cbor(200, PIN, {1: 2, 2: kind, 3: {}, 6: bytes(32)}, b"\x31")
     assert log.add_cbor(300, PIN, {1: 2, 2: 1}, OK, {3: left}).find_must_violations() == wanted
@@ -98,7 +99,7 @@ def test_a_wrong_pin_costs_a_retry(is_forced: bool, kind: int, left: int, wanted
 
 @pytest.mark.parametrize("at, wanted", [(300, [("key", "6.6")]), (5000, [])])
 def test_a_reset_disables_enterprise_attestation(at: int, wanted: Broken) -> None:
-    """After a second another program may have enabled it again."""
+    """After a second, another program may have enabled enterprise attestation again."""
     log = configure(begin(), 100, ENABLE).add_cbor(200, RESET, None, OK, user=50)
     assert show(log, at, options={"ep": True}) == wanted
 
@@ -113,7 +114,7 @@ def test_enterprise_attestation_is_not_given_unasked(name: str, more: dict[str, 
 
 
 def sample(at: int, log: Log, command: int, item: dict[int, Any], **more: Any) -> Log:
-    """Adds a sample of a finger."""
+    """Adds the sample of a fingerprint."""
     asked = {1: 1, 2: command, 3: {int(key[1:]): more[key] for key in more}, 4: 2, 5: bytes(32)}
     return log.add_cbor(at, BIO, asked, OK, item, user=50)
 
@@ -131,7 +132,7 @@ def test_a_finger_is_listed_once_its_samples_are_complete(left: int, listed: lis
 
 @pytest.mark.parametrize("status, wanted", [(1, []), (0, [("key", "6.7")])])
 def test_a_bad_sample_does_not_count(status: int, wanted: Broken) -> None:
-    """lastEnrollSampleStatus 1: the finger was too high (6.7.4)."""
+    """The value 1 of lastEnrollSampleStatus means that the finger was too high on the sensor (6.7.4)."""
     log = sample(100, begin(), 1, {4: b"finger", 5: 0, 6: 2}, _3=10000)
     assert sample(300, log, 2, {5: status, 6: 2}, _1=b"finger", _3=10000).find_must_violations() == wanted
 
@@ -143,7 +144,7 @@ def test_a_lock_excludes_others_for_its_time(at: int, wanted: Broken) -> None:
 
 
 def apdu(instruction: int, control: int, data: bytes) -> bytes:
-    """Returns a request of U2F with lengths of three bytes."""
+    """Returns a U2F request whose length field has three bytes."""
     return bytes([0, instruction, control, 0, 0]) + len(data).to_bytes(2, "big") + data + b"\0\0"
 
 
@@ -168,7 +169,7 @@ class U2fKey:
         return self.answer(at, application, control, front + signature + b"\x90\0")
 
     def answer(self, at: int, application: bytes, control: int, response: bytes) -> U2fKey:
-        """Adds a request to sign, and its response."""
+        """Adds a U2F authentication request, and its response."""
         data = HASH + application + bytes([len(self.handle)]) + self.handle
         self.log.add_request(at, 1, MSG, apdu(2, control, data)).add_response(1, MSG, response)
         return self
@@ -211,7 +212,7 @@ AAGUID, AAGUID_OID = bytes(range(16)), x509.ObjectIdentifier("1.3.6.1.4.1.45724.
 def certify(
     subject: dict[Any, str], aaguid: bytes | None = None, is_ca: bool = False, is_critical: bool = False
 ) -> bytes:
-    """Returns a certificate by the package cryptography."""
+    """Returns a certificate that is made with the package cryptography."""
     private = ec.generate_private_key(ec.SECP256R1())
     name = x509.Name([x509.NameAttribute(kind, value) for kind, value in subject.items()])
     begun = datetime.datetime(2026, 1, 1)
@@ -224,7 +225,7 @@ def certify(
 
 
 def without(kind: Any) -> dict[Any, str]:
-    """Returns a subject without one attribute."""
+    """Returns the subject of a certificate without one attribute."""
     return {name: value for name, value in SUBJECT.items() if name != kind}
 
 

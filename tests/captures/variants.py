@@ -8,7 +8,7 @@ from typing import NamedTuple
 
 
 class Event(NamedTuple):
-    """A transfer in a Linux capture, in the order of usbmon's header."""
+    """A transfer in a Linux capture, with the fields in the order of usbmon's header."""
 
     micros: int
     number: int
@@ -70,7 +70,7 @@ def encode_block(order: str, kind: int, body: bytes) -> bytes:
 
 
 def to_pcapng(interfaces: list[list[Event]], order: str = "<", resolution: int = 9) -> bytes:
-    """Returns a pcapng file, with usbmon transfers for each interface."""
+    """Returns a pcapng file that contains usbmon transfers for each interface."""
     file = encode_block(order, 0x0A0D0D0A, struct.pack(order + "IHHq", 0x1A2B3C4D, 1, 0, -1))
     option = struct.pack(order + "HH", 9, 1) + bytes([resolution, 0, 0, 0]) + bytes(4)
     for _ in interfaces:
@@ -85,7 +85,7 @@ def to_pcapng(interfaces: list[list[Event]], order: str = "<", resolution: int =
 
 
 def encode_usbpcap(events: list[Event]) -> bytes:
-    """Returns a USBPcap file: always little-endian, control transfers in stages."""
+    """Returns a USBPcap file. It is little-endian, and control transfers are in stages."""
     file = struct.pack("<IHHiIII", 0xA1B2C3D4, 2, 4, 0, 0, 65535, 249)
     for event in events:
         done = event.event == b"C"

@@ -1,5 +1,6 @@
-"""Runs the bridge of bridges/uhid with a replacement of the kernel: a pair of sockets that keep message boundaries,
-like /dev/uhid. The tests of this folder write and read packets here as programs do."""
+"""Runs the bridge of bridges/uhid with a replacement for the kernel: a pair of sockets that preserve message
+boundaries, like /dev/uhid. The tests in this folder write and read packets through these sockets, as programs do
+through the kernel."""
 
 from __future__ import annotations
 
@@ -16,7 +17,7 @@ from pathlib import Path
 from typing import Iterator, Optional, Sequence
 
 TOP = Path(__file__).resolve().parents[2]
-# From linux/uhid.h: event numbers, and the size of the structure.
+# Numbers of events, and the size of the structure, from linux/uhid.h.
 CLOSE, OUTPUT, CREATE2, INPUT2 = 5, 6, 11, 12
 MAX_DATA = 4096
 EVENT_BYTES = 4380
@@ -25,7 +26,7 @@ PACKET_BYTES = 64
 INIT, PING, CBOR, KEEPALIVE, ERROR = 0x86, 0x81, 0x90, 0xBB, 0xBF
 SO_SNDBUFFORCE = 32
 BROADCAST = b"\xff" * 4
-# Seconds after which a bridge counts as hanging.
+# Seconds after which a bridge is assumed to hang.
 TIMEOUT_SECONDS = 300.0
 
 
@@ -41,7 +42,7 @@ def encode_packet(channel: bytes, command: int, data: bytes) -> bytes:
 
 
 def to_output_event(packet_: bytes) -> bytes:
-    """Returns the event of a packet that a program writes, after the report number."""
+    """Returns the event for a packet that a program writes. The packet follows the report number."""
     data = (b"\0" + packet_).ljust(MAX_DATA, b"\0")
     return (struct.pack("=I", OUTPUT) + data + struct.pack("=HB", PACKET_BYTES + 1, 1)).ljust(EVENT_BYTES, b"\0")
 
@@ -66,7 +67,8 @@ class Bridge:
     ) -> None:
         self.device, other = socket.socketpair(socket.AF_UNIX, socket.SOCK_SEQPACKET)
         other.setblocking(waits)
-        # A large buffer, so that a flooding program does not wait for the bridge; smaller without root.
+        # A large buffer, so that a program that floods the device does not wait for the bridge. Without root, the
+        # buffer is smaller.
         try:
             self.device.setsockopt(socket.SOL_SOCKET, SO_SNDBUFFORCE, 4 << 20)
         except PermissionError:
@@ -82,14 +84,15 @@ class Bridge:
         )
         other.close()
         self.running.append(self)
-        # Read in parallel, as the kernel does: a bridge that waits for its reader would not read either.
+        # Reading is done in a separate thread, as in the kernel: a bridge that waits for its reader would not read
+        # either.
         self.told: queue.Queue[bytes] = queue.Queue()
         self.is_read = threading.Event()
         self.is_read.set()
         threading.Thread(target=self.read_events, daemon=True).start()
 
     def read_events(self) -> None:
-        """Reads the bridge's events; an empty one at its end."""
+        """Reads the events of the bridge. At the end, adds an empty event."""
         event = b"first"
         while event:
             self.is_read.wait()
@@ -109,14 +112,14 @@ class Bridge:
         cls.running.clear()
 
     def wait_until_plugged_in(self, seconds: float = TIMEOUT_SECONDS) -> bool:
-        """Waits until the bridge has created its device; returns False if it exits before."""
+        """Waits until the bridge has created its device. Returns False if the bridge exits before."""
         try:
             return next(self.iter_events(seconds))[0] == CREATE2
         except (StopIteration, EndedError):
             return False
 
     def iter_events(self, seconds: float) -> Iterator[tuple[int, bytes]]:
-        """Yields the bridge's events of this number of seconds."""
+        """Yields the events that the bridge sends within this number of seconds."""
         end = time.monotonic() + seconds
         while (left := end - time.monotonic()) > 0:
             try:
@@ -129,7 +132,7 @@ class Bridge:
             yield struct.unpack_from("=I", event)[0], event[4:]
 
     def write(self, packet_: bytes) -> None:
-        """Writes a packet as a program does."""
+        """Writes a packet to the device, as a program does."""
         self.send(to_output_event(packet_))
 
     def send(self, event: bytes) -> None:
@@ -139,11 +142,11 @@ class Bridge:
             raise EndedError from None
 
     def close(self) -> None:
-        """Sends the event that the last program closed the device."""
+        """Sends the event that the last program has closed the device."""
         self.device.send(struct.pack("=I", CLOSE).ljust(EVENT_BYTES, b"\0"))
 
     def iter_packets(self, seconds: float) -> Iterator[bytes]:
-        """Yields the key's packets of this number of seconds."""
+        """Yields the packets that the key sends within this number of seconds."""
         for kind, data in self.iter_events(seconds):
             if kind == INPUT2:
                 yield data[2 : 2 + PACKET_BYTES]
@@ -163,7 +166,7 @@ class Bridge:
         raise TimeoutError(f"no response on channel {channel.hex()} within {seconds} s")
 
     def allocate_channel(self, nonce: bytes, seconds: float = TIMEOUT_SECONDS) -> bytes:
-        """Allocates a channel, as each program does first."""
+        """Allocates a channel, which each program does first."""
         self.write(encode_packet(BROADCAST, INIT, nonce))
         for packet_ in self.iter_packets(seconds):
             if packet_[:5] == BROADCAST + bytes([INIT]) and packet_[7:15] == nonce:
@@ -182,12 +185,12 @@ class Bridge:
         return self.read_response(channel)
 
     def stop(self, number: int = signal.SIGTERM, seconds: float = TIMEOUT_SECONDS) -> tuple[int, str]:
-        """Ends the bridge with a signal; returns its exit status and standard error."""
+        """Ends the bridge with a signal. Returns its exit status and its standard error."""
         self.process.send_signal(number)
         return self.wait_until_exited(seconds)
 
     def wait_until_exited(self, seconds: float = TIMEOUT_SECONDS) -> tuple[int, str]:
-        """Waits until the bridge exits; returns its exit status and standard error."""
+        """Waits until the bridge exits. Returns its exit status and its standard error."""
         try:
             _, errors = self.process.communicate(timeout=seconds)
         except subprocess.TimeoutExpired:
@@ -199,7 +202,7 @@ class Bridge:
 
 
 def read_credential_id(answer: bytes) -> bytes:
-    """Returns the credential ID in a registration's response: 32 bytes of its authenticator data."""
+    """Returns the credential ID in the response to a registration: 32 bytes in its authenticator data."""
     if answer[:2] != bytes([CBOR, 0]):
         raise ValueError(f"not a registration: {answer.hex()}")
     at = answer.index(bytes.fromhex("0258a4")) + 3 + 37 + 16
@@ -207,7 +210,8 @@ def read_credential_id(answer: bytes) -> bytes:
 
 
 def read_credential_ids(file: bytes) -> list[bytes]:
-    """Returns the credential IDs in a state file: magic, count, 128 bytes per record, and a checksum at the end."""
+    """Returns the credential IDs in a state file, which consists of a magic number, a count, 128 bytes per record, and
+    a checksum."""
     is_summed = file[:8] == b"hidlogS2" and sha256(file[:-32]).digest() == file[-32:]
     if not (is_summed or file[:8] == b"hidlogS1") or len(file) < 9 + 128 * file[8]:
         raise ValueError("not a state file")

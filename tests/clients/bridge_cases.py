@@ -64,7 +64,7 @@ def check_exit(ended: tuple[int, str], status: int, said: str) -> None:
 
 
 def check_refused(state: Path, said: str, user: int | None = None) -> None:
-    """The bridge exits with 1 and this message, without creating a device."""
+    """Checks that the bridge exits with status 1 and this message, and creates no device."""
     bridge = Bridge([UHID, str(state)], user=user)
     assert not bridge.wait_until_plugged_in(), "it was plugged in"
     check_exit(bridge.wait_until_exited(), 1, said)
@@ -88,7 +88,7 @@ def test_unreadable_state_is_kept(work_dir: Path) -> None:
 
 
 def test_loose_permissions_are_refused(work_dir: Path) -> None:
-    """A state file that others may read or write is refused, with a remedy."""
+    """A state file that other users may read or write is rejected, and the message contains a remedy."""
     state, old = make_state(work_dir)
     for mode in (0o640, 0o604, 0o620, 0o602, 0o666, 0o611):
         state.chmod(mode)
@@ -102,7 +102,7 @@ def test_loose_permissions_are_refused(work_dir: Path) -> None:
 
 
 def test_links_are_refused(work_dir: Path) -> None:
-    """A link instead of the state file or its lock is not followed, even if it is dangling."""
+    """If the state file or its lock is a link, even one without a target, the link is not followed."""
     state, old = make_state(work_dir)
     link = work_dir / "link"
     for target in (state, work_dir / "nowhere"):
@@ -117,7 +117,7 @@ def test_links_are_refused(work_dir: Path) -> None:
 
 
 def test_planted_link_is_not_overwritten(work_dir: Path) -> None:
-    """A link of another user with the name of the temporary file is not followed."""
+    """If another user created a link under the name of the temporary file, the link is not followed."""
     state, _ = make_state(work_dir)
     other = work_dir / "other"
     other.write_bytes(b"another's")
@@ -131,7 +131,8 @@ def test_planted_link_is_not_overwritten(work_dir: Path) -> None:
 
 
 def test_link_planted_meanwhile_is_not_overwritten(work_dir: Path) -> None:
-    """Not even if the link is created just before the file; the preceding call is delayed by half a second here."""
+    """The link is not followed, even if it is created immediately before the file. In this test, the call before that
+    is delayed by half a second."""
     state, old = make_state(work_dir)
     other, link, is_over = work_dir / "other", work_dir / "key.state.new", threading.Event()
     other.write_bytes(b"another's")
@@ -172,8 +173,8 @@ def test_folder_at_temporary_path_is_reported(work_dir: Path) -> None:
 
 
 def test_damaged_state_is_refused(work_dir: Path) -> None:
-    """A truncated or longer file, or one with another private key, is refused and stays unchanged, even with a right
-    checksum, and in the format of older versions without checksums."""
+    """A state file that is truncated, too long, or contains another private key is rejected and stays unchanged. The
+    same is true if the checksum is correct, and for the format of older versions without checksums."""
     state, saved = make_state(work_dir)
     old = saved[:-32]
     application_end = 9 + 32 + 32 + 63
@@ -190,7 +191,8 @@ def test_damaged_state_is_refused(work_dir: Path) -> None:
 
 
 def test_checksum_covers_each_byte(work_dir: Path) -> None:
-    """A file with a changed bit is refused. One of an older version, without a checksum, is accepted, and gets one."""
+    """A file with a changed bit is rejected. A file of an older version without a checksum is accepted, and a checksum
+    is added to it."""
     state, saved = make_state(work_dir)
     for place in range(len(saved)):
         state.write_bytes(saved[:place] + bytes([saved[place] ^ 1 << place % 8]) + saved[place + 1 :])
@@ -204,7 +206,7 @@ def test_checksum_covers_each_byte(work_dir: Path) -> None:
 
 
 def test_special_files_are_refused(work_dir: Path) -> None:
-    """A folder, a pipe or a device is refused at once, and not replaced."""
+    """A folder, a pipe or a device at the path of the state file is rejected at once, and not replaced."""
     (work_dir / "folder").mkdir()
     os.mkfifo(work_dir / "pipe", 0o600)
     check_refused(work_dir / "folder", "not a regular file")
@@ -224,7 +226,7 @@ def test_without_device_nothing_is_saved(work_dir: Path) -> None:
 
 
 def test_second_bridge_waits(work_dir: Path) -> None:
-    """A second bridge with the same file waits, with a message, and can be ended by a signal."""
+    """A second bridge with the same file prints a message and waits. A signal ends it."""
     state, old = make_state(work_dir)
     first = Bridge([UHID, str(state)])
     assert first.wait_until_plugged_in(), first.wait_until_exited()
@@ -260,7 +262,7 @@ def test_invalid_options_are_reported(work_dir: Path) -> None:
 
 
 def test_full_disk_keeps_state(work_dir: Path) -> None:
-    """On a full file system, or over the file size limit, no response is sent and the old file is kept."""
+    """If the file system is full or the file size limit is reached, no response is sent, and the old file is kept."""
     state, old = make_state(work_dir)
     limited = ["prlimit", f"--fsize={len(old) - 1}"]
     bridge = Bridge([UHID, "-t", "0", str(state)], trace=limited)
@@ -274,7 +276,7 @@ def test_full_disk_keeps_state(work_dir: Path) -> None:
 
 
 def test_slow_device_gets_all_packets(work_dir: Path) -> None:
-    """A nonblocking device that accepts nothing for a while gets all packets."""
+    """All packets are sent to a nonblocking device, even if it accepts no packet for a while."""
     bridge = Bridge([UHID, "-r", f"{work_dir}/recording", f"{work_dir}/key.state"], waits=False)
     assert bridge.wait_until_plugged_in(), bridge.wait_until_exited()
     channel = bridge.allocate_channel(b"recorded")
@@ -312,29 +314,30 @@ class Flood:
             self.written += 1
 
     def wait_until_started(self) -> bool:
-        """Waits until it has written a thousand packets."""
+        """Waits until the program has written a thousand packets."""
         return self.wait_until_written(1000)
 
     def wait_for_next_packet(self) -> bool:
-        """Waits until it has written another packet."""
+        """Waits until the program has written another packet."""
         return self.wait_until_written(self.written + 1)
 
     def wait_until_written(self, count: int) -> bool:
-        """Waits until it has written this number of packets."""
+        """Waits until the program has written this number of packets."""
         end = time.monotonic() + TIMEOUT_SECONDS
         while self.written < count and time.monotonic() < end:
             time.sleep(0.01)
         return self.written >= count
 
     def stop(self) -> int:
-        """Stops it, and returns the number of packets it wrote."""
+        """Stops the program, and returns the number of packets that it wrote."""
         self.is_over = True
         self.lane.join(TIMEOUT_SECONDS)
         return self.written
 
 
 def make_floods(channel: bytes) -> dict[str, list[bytes]]:
-    """Returns the kinds of floods: on one allocated channel, on an unallocated one, or on all."""
+    """Returns the packets of each kind of flood: on one allocated channel, on a channel that isn't allocated, or on all
+    channels."""
     ping = encode_packet(channel, PING, b"flood")
     return {
         "PING": [ping],
@@ -357,7 +360,7 @@ def register_on_new_channel(bridge: Bridge) -> bytes:
 
 
 def test_flood_starves_nobody(work_dir: Path) -> None:
-    """While one program floods, another can allocate a channel and register."""
+    """While one program floods the device, another program can allocate a channel and register."""
     state = work_dir / "key.state"
     bridge = Bridge([UHID, "-t", "200", str(state)])
     assert bridge.wait_until_plugged_in(), bridge.wait_until_exited()
@@ -371,7 +374,7 @@ def test_flood_starves_nobody(work_dir: Path) -> None:
         finally:
             written = flood.stop()
         print(f"a flood of {name}: another program got its response after {written - began:,} packets of {written:,}")
-        # During an incomplete message of another program the key is busy, as required.
+        # While a message of another program is incomplete, the key is busy, as the standard requires.
         rights = [bytes([CBOR, 0])] + ([bytes([ERROR, ERROR_CHANNEL_BUSY])] if "incomplete" in name else [])
         assert answer[:2] in rights, (name, written, answer[:2])
         for _ in bridge.iter_packets(0.2):
@@ -380,8 +383,8 @@ def test_flood_starves_nobody(work_dir: Path) -> None:
 
 
 def test_packets_take_turns(work_dir: Path) -> None:
-    """In the bridge's system calls, at most a few packets of the flood are answered between a program's packet and its
-    response, however many were read before."""
+    """Between a packet of a program and its response, the bridge responds to only a few packets of the flood, however
+    many it has read before. This is checked in the system calls of the bridge."""
     log = work_dir / "strace"
     trace = ["strace", "-f", "-qq", "-o", str(log), "-xx", "-s", "20", "-e", "trace=read,write"]
     bridge = Bridge([UHID_PLAIN, str(work_dir / "key.state")], trace=trace)
@@ -405,8 +408,8 @@ def test_packets_take_turns(work_dir: Path) -> None:
 
 
 def iter_turns(log: str, flooding: bytes, asking: bytes) -> list[tuple[int, int]]:
-    """Yields for each response on one channel the number of responses on the other since its packet was read, and of
-    packets of the other that were pending then."""
+    """For each response on one channel, yields the number of responses on the other channel since the request was read,
+    and the number of packets on the other channel that were pending then."""
     waited, since, before, queued = [], -1, 0, 0
     for name, text in re.findall(r'(read|write)\(\d+, "([^"]*)"', log):
         event = bytes.fromhex(text.replace("\\x", ""))

@@ -38,16 +38,18 @@ FILE_CALLS = (
     "signalfd4",
 )
 KEPT, IN_PLACE = "the old file is kept", "the new file is in place"
-# Expected failures with --all: the call, as a pattern, and the reason. An unexpected success is reported.
+# Expected failures with --all: a pattern for the call, and the reason. If an expected failure doesn't occur, this is
+# reported.
 KNOWN_FAILURES = {
     "ENOMEM at mmap 1": "the dynamic loader's own memory, before any code of ours: /bin/true is killed by it too"
 }
 
 
 def find_message_error(status: int, said: str, is_old: bool, place: injection.Place, log: Path) -> Optional[str]:
-    """Returns what is wrong with an exit status and message, or None. `is_old`: the file is the old one."""
+    """Returns what is wrong with an exit status and a message, or None. `is_old` is whether the state file is the old
+    one."""
     is_kill = place.fault == "KILL"
-    # An injected fsync or rename fault has to be reported even if the file looks correct.
+    # If fsync or rename fails, this has to be reported even if the file is correct.
     if status == 0 and place.call in ("fsync", "rename") and injection.was_injected(log, place):
         return f"status 0 after {place}"
     if status == 0 and said:
@@ -68,7 +70,7 @@ class Uhid:
         self.program, self.old = program, old
 
     def register_once(self, folder: Path, trace: Sequence[str]) -> tuple[Optional[bytes], bool, int, str]:
-        """Returns the credential in the response, whether the key refused, the exit status and the message."""
+        """Returns the credential in the response, if any, whether the key refused, the exit status and the message."""
         words = [self.program, "-t", "0", "-r", str(folder / "recording"), str(folder / "key.state")]
         bridge = Bridge(words, trace=trace)
         made, refused = None, False
@@ -83,7 +85,7 @@ class Uhid:
         return made, refused, *bridge.wait_until_exited()
 
     def find_error(self, place: injection.Place, folder: Path) -> Optional[str]:
-        """Returns what is wrong after a failure, or None."""
+        """Returns what is wrong after a fault, or None."""
         state = folder / "key.state"
         state.write_bytes(self.old)
         state.chmod(0o600)
@@ -100,14 +102,14 @@ class Uhid:
         return wrong or (None if is_old and len(list(folder.iterdir())) < 4 else self.check_next_bridge(folder))
 
     def check_next_bridge(self, folder: Path) -> Optional[str]:
-        """Checks that the next bridge accepts the file, and registers."""
+        """Checks that a new bridge accepts the state file, and registers."""
         made, _, status, said = self.register_once(folder, [])
         held = read_credential_ids((folder / "key.state").read_bytes())
         return None if status == 0 and not said and held == [made] else f"the next bridge ended with {status}: {said}"
 
 
 def stop_traced(bridge: Bridge) -> None:
-    """Terminates the bridge itself: terminating strace would leave the bridge running."""
+    """Terminates the bridge itself, because if only strace were terminated, the bridge would continue to run."""
     pid = bridge.process.pid
     try:
         children = Path(f"/proc/{pid}/task/{pid}/children").read_text(encoding="utf-8").split()
@@ -128,7 +130,7 @@ class Provider:
         self.program, self.old, self.handle = program, old, handle
 
     def sign(self, folder: Path, trace: Sequence[str]) -> tuple[int, int, str]:
-        """Returns the exit status, the counter in the response or 0, and the message."""
+        """Returns the exit status, the counter in the response, or 0, and the message."""
         words = [*trace, self.program, "sign", self.handle]
         state = {"HIDLOG_SK_STATE": str(folder / "key.state"), "PATH": "/usr/bin:/bin"}
         said = subprocess.run(words, capture_output=True, text=True, env=state, timeout=600)
@@ -140,7 +142,7 @@ class Provider:
         state.chmod(0o600)
         status, counter, said = self.sign(folder, place.strace_prefix(folder / "strace"))
         is_old = state.read_bytes() == self.old
-        # A signal may also end it after the response; then the counter must be in the file, too.
+        # A signal may also end the provider after the response. In that case, the counter must be in the file, too.
         if status == 0 and counter == 0 or status > 0 and counter > 0:
             return f"status {status}, counter {counter}"
         if is_old and counter:

@@ -16,13 +16,13 @@ from bridge_cases import NOBODY, UHID, check_exit, make_state, run_tests
 
 
 def test_recording_does_not_replace_state(work_dir: Path) -> None:
-    """A recording that would replace the state file is refused."""
+    """A recording at the path of the state file is rejected."""
     state, old = make_state(work_dir)
     refused = "the recording would overwrite the state file; choose another path"
     for path in (str(state), f"{work_dir}/./key.state"):
         check_not_recording(path, state, refused)
     assert state.read_bytes() == old
-    # The recording's snapshot has a separate name, which may be the key's file.
+    # The snapshot of a recording is a separate file, whose path may be that of the state file.
     beside = work_dir / "session.log.snapshot"
     state.rename(beside)
     check_not_recording(str(work_dir / "session.log"), beside, refused)
@@ -30,14 +30,15 @@ def test_recording_does_not_replace_state(work_dir: Path) -> None:
 
 
 def check_not_recording(path: str, state: Path, said: str) -> None:
-    """A bridge that records to this path exits with 1 and this message, without creating a device."""
+    """Checks that a bridge with a recording at this path exits with status 1 and this message, and creates no
+    device."""
     bridge = Bridge([UHID, "-r", path, str(state)])
     assert not bridge.wait_until_plugged_in(), "it was plugged in"
     check_exit(bridge.wait_until_exited(), 1, said)
 
 
 def test_recording_is_private(work_dir: Path) -> None:
-    """A recording and its snapshot have mode 0600, whatever the umask, and are overwritten by the next bridge."""
+    """A recording and its snapshot have mode 0600, whatever the umask is, and the next bridge overwrites them."""
     state, _ = make_state(work_dir)
     umask = os.umask(0)
     try:
@@ -54,7 +55,7 @@ def test_recording_is_private(work_dir: Path) -> None:
 
 
 def plant_files(path: Path, other: Path) -> Iterator[str]:
-    """Creates files at a path to which a bridge must not write, and yields the expected messages."""
+    """Creates files to which a bridge must not write at a path, and yields the message that is expected for each."""
     for target in (other, other.parent / "nowhere"):
         path.symlink_to(target)
         yield "the path must not be a symbolic link"
@@ -76,7 +77,8 @@ def plant_files(path: Path, other: Path) -> Iterator[str]:
 
 
 def test_planted_files_are_not_overwritten(work_dir: Path) -> None:
-    """A recording, or its snapshot, is not written through a link, into a pipe, or into another user's file."""
+    """The bridge doesn't write a recording or its snapshot through a link, into a pipe, or into a file of another
+    user."""
     state, _ = make_state(work_dir)
     other, log, snapshot = work_dir / "other", work_dir / "session.log", work_dir / "session.log.snapshot"
     other.write_bytes(b"another's")

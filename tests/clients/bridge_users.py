@@ -34,7 +34,7 @@ OK, DENIED = 0x00, 0x27
 
 
 def plug_in(work_dir: Path, *words: str, stdin: int = subprocess.DEVNULL) -> Bridge:
-    """Returns a bridge of a new key with its recording."""
+    """Returns a bridge of a new key, which writes a recording."""
     bridge = Bridge(
         [UHID, "--record", str(work_dir / "session.log"), "--state", str(work_dir / "key"), *words], stdin=stdin
     )
@@ -50,12 +50,12 @@ def register_and_get_status(bridge: Bridge) -> int:
 
 
 def read_replies(work_dir: Path) -> list[str]:
-    """Returns the user's replies in the recording."""
+    """Returns the replies of the user in the recording."""
     return re.findall(r"^p \d+ (\w+)$", (work_dir / "session.log").read_text(), re.MULTILINE)
 
 
 def test_script_replies_to_each_touch(work_dir: Path) -> None:
-    """The lines of a script are used in turn, and the last one is repeated. Comments and empty lines are ignored."""
+    """The lines of a script are used in order, and the last line is repeated. Comments and empty lines are ignored."""
     script = work_dir / "script"
     script.write_text("# the user\ndenied 0\n\n  timeout 10\ngranted\n")
     bridge = plug_in(work_dir, "--touch", "0", "--presence", f"script:{script}")
@@ -89,7 +89,7 @@ def test_invalid_script_is_refused(work_dir: Path) -> None:
 
 
 def test_terminal_input_decides(work_dir: Path) -> None:
-    """y grants the touch and n denies it; other input is ignored, even if it is long."""
+    """The input y grants user presence, and n denies it. Any other input is ignored, even if it is long."""
     reader, writer = os.pipe()
     bridge = plug_in(work_dir, "--presence", "ask", stdin=reader)
     os.close(reader)
@@ -104,7 +104,8 @@ def test_terminal_input_decides(work_dir: Path) -> None:
 
 
 def test_end_of_input_keeps_waiting(work_dir: Path) -> None:
-    """After the end of standard input the key waits, responds to others, and ends at a signal."""
+    """After the end of standard input, the key waits for user presence, responds to other requests, and ends at a
+    signal."""
     bridge = plug_in(work_dir, "--presence", "ask")
     channel = bridge.allocate_channel(bytes(8))
     for request in read_host_packets("registration.log")[1:]:
@@ -120,7 +121,7 @@ def test_end_of_input_keeps_waiting(work_dir: Path) -> None:
 
 
 def test_help_and_version(work_dir: Path) -> None:
-    """--help and --version print to standard output."""
+    """--help and --version print to standard output, with exit status 0."""
     for word, said in (("--help", "usage: hidlog-uhid [OPTIONS] STATE"), ("-V", "hidlog-uhid ")):
         ran = subprocess.run([UHID, word], capture_output=True, text=True)
         assert ran.returncode == 0 and ran.stdout.startswith(said) and not ran.stderr, ran

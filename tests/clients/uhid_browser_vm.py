@@ -55,7 +55,7 @@ PAGE_REQUESTED = threading.Event()
 
 
 class Service(http.server.BaseHTTPRequestHandler):
-    """Serves the page, and receives its messages."""
+    """Serves the page, and receives messages from it."""
 
     def do_GET(self) -> None:
         print("asked for", self.path, flush=True)
@@ -78,12 +78,12 @@ class Service(http.server.BaseHTTPRequestHandler):
 
 
 def browser_command(browser: str) -> list[str]:
-    """Returns how the browser is started."""
+    """Returns the command with which the browser is started."""
     home = Path("/home/tester") / browser
     home.mkdir(exist_ok=True)
     os.chown(home, 1234, 1234)
     if browser == "chromium":
-        # Under emulation, Chromium kills its network process for starting slowly, and the first page is lost.
+        # Under emulation, Chromium kills its network process because it starts slowly, and the first page is lost.
         words = ["chromium", "--headless=new", "--no-sandbox", "--disable-gpu", "--no-first-run"]
         words += ["--enable-features=NetworkServiceInProcess2", "--remote-debugging-port=9222"]
         return [
@@ -96,7 +96,7 @@ def browser_command(browser: str) -> list[str]:
 
 
 def reopen_page() -> None:
-    """Opens the page in another tab, if Chromium has lost the first."""
+    """Opens the page in another tab, because Chromium may have lost the first one."""
     address = "http://127.0.0.1:9222/json/new?http://localhost:8000/"
     try:
         urllib.request.urlopen(urllib.request.Request(address, method="PUT"), timeout=60).close()
@@ -105,7 +105,7 @@ def reopen_page() -> None:
 
 
 def next_message(process: subprocess.Popen[bytes]) -> dict[str, str]:
-    """Returns the page's next message."""
+    """Returns the next message from the page."""
     for second in range(1, SECONDS):
         try:
             found = MESSAGES.get(timeout=1)
@@ -120,7 +120,7 @@ def next_message(process: subprocess.Popen[bytes]) -> dict[str, str]:
 
 
 def verify_sign_in(public: ec.EllipticCurvePublicKey, used: dict[str, str]) -> int:
-    """Returns the counter of a sign-in that is right."""
+    """Verifies a sign-in, and returns its signature counter."""
     data, client = base64.b64decode(used["data"]), base64.b64decode(used["client"])
     public.verify(
         base64.b64decode(used["signature"]), data + hashlib.sha256(client).digest(), ec.ECDSA(hashes.SHA256())
@@ -154,7 +154,7 @@ def main() -> int:
         finally:
             process.kill()
             process.wait()
-    # Firefox asks without a touch first, which is a signature too.
+    # Firefox first sends a request that needs no touch. Its signature increments the counter, too.
     assert 0 < counters[0] < counters[1], counters
     Path("versions").write_text(f"{browser}: {made['browser']}, counters {counters}\n")
     return 0

@@ -1,4 +1,4 @@
-"""Runs fuzzers in processes of this machine, or on a Dask cluster."""
+"""Runs fuzzers in processes on this machine, or on a Dask cluster."""
 
 from __future__ import annotations
 
@@ -17,7 +17,7 @@ Played = Callable[[Callable[[Any], Any], Iterable[Any]], Iterator[Any]]
 
 @contextmanager
 def make_runner(executor: str, jobs: int) -> Iterator[Played]:
-    """Returns a function that yields the results of tasks, in any order."""
+    """Returns a function that yields the results of tasks in any order."""
     if not executor:
         with multiprocessing.Pool(jobs) as pool:
             yield lambda play, tasks: pool.imap_unordered(play, tasks, chunksize=BATCH_SIZE)

@@ -16,12 +16,12 @@ KEEPALIVE_MS = 100
 
 
 def first_data(packet: bytes, length: int) -> bytes:
-    """Returns the data of a message of this length in its initialization packet."""
+    """Returns the message data in an initialization packet, for a message of this length."""
     return packet[7 : 7 + min(INITIALIZATION_DATA, length)]
 
 
 def continuation_data(packet: bytes, left: int) -> bytes:
-    """Returns the data in a continuation packet, given the remaining bytes of the message."""
+    """Returns the message data in a continuation packet, given how many bytes of the message remain."""
     return packet[5 : 5 + min(CONTINUATION_DATA, left)]
 
 

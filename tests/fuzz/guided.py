@@ -1,4 +1,5 @@
-"""A coverage-guided fuzzer for Python decoders: inputs that reach a new pair of lines are kept and mutated."""
+"""A coverage-guided fuzzer for decoders in Python. Inputs that reach a new pair of consecutive lines are kept and
+mutated."""
 
 from __future__ import annotations
 
@@ -10,7 +11,7 @@ from pathlib import Path
 from types import CodeType, FrameType
 from typing import Any, Callable, Iterable, Optional
 
-# Bytes that decoders often compare with: ends of ranges, CBOR heads, digits, line ends.
+# Bytes with which decoders often compare: ends of ranges, CBOR heads, digits, line ends.
 BOUNDARY_BYTES = [
     b"\0",
     b"\x7f",
@@ -31,7 +32,7 @@ Target = Callable[[bytes], None]
 
 
 class Edges:
-    """The pairs of consecutive lines in the files of some folders, while a target runs."""
+    """The pairs of consecutive lines that a target executes in the files of some folders."""
 
     def __init__(self, folders: Iterable[Path]) -> None:
         self.folders = tuple(str(folder) for folder in folders)
@@ -40,7 +41,7 @@ class Edges:
         self.is_new = False
 
     def trace_call(self, frame: FrameType, _event: str, _: Any) -> Optional[Callable[..., Any]]:
-        """Traces the lines of a called function, if it is in one of the folders."""
+        """Traces the lines of a called function if the function is in one of the folders."""
         return self.trace_line if frame.f_code.co_filename.startswith(self.folders) else None
 
     def trace_line(self, frame: FrameType, event: str, _: Any) -> Callable[..., Any]:
@@ -59,7 +60,7 @@ class Fuzzer:
     """Runs a target with mutated inputs."""
 
     target: Target
-    # The exceptions for invalid input; any other is a finding.
+    # The exceptions that invalid input may cause. Any other exception is a finding.
     allowed: tuple[type[BaseException], ...]
     edges: Edges
     random: random.Random
@@ -69,7 +70,7 @@ class Fuzzer:
     findings: dict[str, bytes] = field(default_factory=dict)
 
     def try_one(self, data: bytes) -> None:
-        """Runs the target once, and keeps the input if it reached new code."""
+        """Runs the target once. An input that reaches new code is kept."""
         self.edges.is_new, self.edges.last = False, (None, 0)
         sys.settrace(self.edges.trace_call)
         try:
@@ -86,7 +87,7 @@ class Fuzzer:
             self.corpus.append(data)
 
     def mutate(self) -> bytes:
-        """Returns a mutated input of the corpus."""
+        """Returns an input of the corpus after a mutation."""
         data = bytearray(self.random.choice(self.corpus))
         for _ in range(self.random.choice((1, 1, 2, 4, 8))):
             at = self.random.randrange(len(data) + 1)
@@ -116,7 +117,7 @@ class Fuzzer:
         data[at:] = other[self.random.randrange(len(other) + 1) :]
 
     def run(self, seeds: Iterable[bytes], seconds: float) -> None:
-        """Runs the seeds, and then mutated inputs until the time is over."""
+        """Runs the seeds, and then mutated inputs until the time is up."""
         end = time.monotonic() + seconds
         for seed in (b"", *seeds):
             self.try_one(seed)

@@ -46,7 +46,7 @@ DAMAGED_SNAPSHOT = re.compile(
 REFUSED_SNAPSHOT = re.compile(
     rb"hidlog: snapshot refused: (?:1|2|3)\n  [^\n]+: (?:it is|more than|credential \d+|the snapshot|unsupported) [^\n]+\n"
 )
-# Notes of `check` about a log without differences.
+# The notes of `check` about a log without differences.
 NOTES = (
     rb"(?:hidlog: note: the log (?:is empty|has no inputs)\n)?"
     rb"(?:hidlog: note: the last line has no line feed, so the log may be cut off\n)?"
@@ -54,7 +54,7 @@ NOTES = (
     rb"|hidlog: note: the log ends inside a message, after [1-9]\d* bytes of it\n)?"
 )
 COUNTS = re.compile(rb"= held (\d+) rows (\d+) pending (\d+) requests (\d+) bytes (\d+) steps (\d+)")
-# 196 bytes are signed for a registration, 69 for a sign-in.
+# For a registration 196 bytes are signed, for a sign-in 69 bytes.
 NEED = re.compile(
     rb"((?:(?:# signed [0-9a-f]{192}\n){2}# signed [0-9a-f]{8}|# signed [0-9a-f]{138})\n# need signature [0-9a-f]{64}"
     rb"|# need (?:nothing|presence|key))"
@@ -76,7 +76,7 @@ def check(holds, rule, detail):
 
 
 def split_lines(text):
-    """Returns the lines of a text; the last may lack its line feed."""
+    """Returns the lines of a text. The last line may have no line feed."""
     lines = text.split(b"\n")
     return lines if lines[-1] else lines[:-1]
 
@@ -124,7 +124,7 @@ OTHER_FILES = tuple(
 
 
 def find_hint_pattern(line):
-    """Returns the hint about the first byte that no log line has there, as a pattern."""
+    """Returns a pattern for the hint about the first byte that is invalid in a log line."""
     if line.startswith(OTHER_FILES):
         return rb"  this is [^\n]+\n"
     fits = max(end for end in range(len(line) + 1) if is_line_prefix(line[:end]))
@@ -134,7 +134,7 @@ def find_hint_pattern(line):
 
 
 def find_fault(lines):
-    """Returns the number of the first line with a fault, and its text as a pattern; or None."""
+    """Returns the number of the first invalid line, and a pattern for the message about it; or None."""
     for number, line in enumerate(lines, 1):
         if len(line) > 255:
             hint = rb"  this is [^\n]+\n" if line.startswith(OTHER_FILES) else b""
@@ -149,12 +149,12 @@ def is_input(line):
 
 
 def select_inputs(lines):
-    """Returns the lines without the key's packets and the counts."""
+    """Returns all lines except the key's packets and the counts."""
     return [line for line in lines if line[:1] not in (b"<", b"=")]
 
 
 def group_responses(lines):
-    """Returns the input lines with the packets after each, beginning with those before the first."""
+    """Returns the input lines, each with the packets that follow it. The packets before the first input come first."""
     found = [(b"", [])]
     for line in lines:
         if line[:1] == b"<":
@@ -171,7 +171,7 @@ def is_subsequence(short, whole):
 
 
 def check_end(command, ended, fault):
-    """Checks the exit status and standard error of a command; returns its output."""
+    """Checks the exit status and standard error of a command, and returns its output."""
     status, output, said = ended
     wanted = fault[1] if fault else NOTES if command == "check" else b""
     check(status == (1 if fault else 0), "status", f"{command} ended with {status}; stderr: {said[:200]!r}")
@@ -211,7 +211,7 @@ def check_replay(lines, output):
 
 
 def check_check(output, run):
-    """Checks `check` of a replay."""
+    """Checks the output of `check` for a replay."""
     found = group_responses(split_lines(output))
     counted = len(found) - 1, sum(len(packets) for _, packets in found)
     said = check_end("check", run("check", output), None)
@@ -219,7 +219,7 @@ def check_check(output, run):
 
 
 def check_difference(output, run):
-    """Changes one packet of a replay, which `check` must find."""
+    """Changes one packet of a replay, and checks that `check` finds the change."""
     lines = split_lines(output)
     places = [place for place, line in enumerate(lines) if line[:1] == b"<"]
     if not places:
@@ -232,7 +232,7 @@ def check_difference(output, run):
     status, written, said = run("check", b"\n".join(lines) + b"\n")
     more = said.removeprefix(wanted).splitlines()
     told = (status, written) == (1, b"") and said.startswith(wanted) and all(line[:2] == b"  " for line in more)
-    # The digit that was changed is the packet's last.
+    # The changed digit is the last one of the packet.
     check(
         told and b"\n  byte 63 of the packet" in said,
         "difference",
@@ -241,7 +241,7 @@ def check_difference(output, run):
 
 
 def check_quiet(log, output, run):
-    """Checks the quiet log, and its packets."""
+    """Checks the quiet log and the packets of its replay."""
     quiet = check_end("quiet", run("quiet", log), None)
     wanted, written = select_inputs(split_lines(log)), split_lines(quiet)
     check(
@@ -261,7 +261,7 @@ def check_quiet(log, output, run):
 
 
 def check_needs(lines):
-    """Checks the needs that live prints after each input and its packets."""
+    """Checks the needs that `live` prints after each input and its packets."""
     after = None
     for line in lines:
         need = line.startswith(NEED_PREFIXES)
@@ -279,7 +279,7 @@ def check_needs(lines):
 
 
 def check_live(log, output, run):
-    """Checks the log as a live session."""
+    """Checks the output of `live` for the log."""
     live = check_end("live", run("live", log), None)
     lines = split_lines(live)
     told, replayed = (
@@ -294,9 +294,9 @@ def check_live(log, output, run):
 
 
 def check_show(log, run):
-    """Checks `show`: a line for each input and packet, and messages between them."""
+    """Checks the output of `show`: a line for each input and packet, and messages between them."""
     shown = split_lines(check_end("show", run("show", log), None))
-    # Without the lines of messages and members, which begin with more spaces, and comments.
+    # Comments, and the lines of messages and members, which begin with more spaces, are omitted.
     found = [line for line in shown if not re.match(rb"\d+ (  |#)", line)]
     wanted = []
     for number, line in enumerate(split_lines(log), 1):
@@ -306,8 +306,8 @@ def check_show(log, run):
     check(len(found) == len(wanted), "show", f"expected {len(wanted)} lines, got {len(found)}")
     for line, front in zip(found, wanted):
         check((line + b" ").startswith(front + b" "), "show", f"{line[:99]!r} does not start with {front!r}")
-    # Each line of the plain output is the beginning of one of the explained output. Its messages are assembled by
-    # another rule, one per direction.
+    # Each line of the plain output is the beginning of a line of the explained output. Messages in the plain output are
+    # assembled by another rule: one message at a time in each direction.
     fixed = split_lines(check_end("show", run("show", log, "--plain"), None))
     packets = [line for line in fixed if not re.match(rb"\d+   ", line)]
     check(
@@ -322,7 +322,7 @@ def check_show(log, run):
 
 
 def check_fault(log, fault, run):
-    """Checks each command on a log with a fault; returns the log before the fault, and its replay."""
+    """Checks each command on a log with an invalid line. Returns the log before that line, and its replay."""
     before = b"".join(line + b"\n" for line in split_lines(log)[: fault[0] - 1])
     outputs = {command: check_end(command, run(command, log), fault) for command in ("replay", "quiet", "live", "show")}
     status, output, said = run("check", log)
@@ -339,7 +339,7 @@ def check_fault(log, fault, run):
         if command in ("replay", "live"):
             cut = b"".join(line + b"\n" for line in split_lines(whole)[:-1])
         elif command == "show" and whole.startswith(output):
-            # Incomplete messages are reported only at the end of a log without a fault.
+            # Incomplete messages are reported only at the end of a log without an invalid line.
             behind = rb"%d   line \d+: \d+ of \d+ bytes (?:of its response )?received" % before.count(b"\n")
             if all(re.fullmatch(behind, line) for line in split_lines(whole[len(output) :])):
                 cut = output
@@ -357,7 +357,8 @@ def read_file(path):
 
 
 def check_saved(log, output, fault, run, folder, damaged):
-    """Checks the snapshot of a log's session, and a damaged one, without sums and with those of the first."""
+    """Checks the snapshot of a log's session, and a damaged copy of it, without checksums and with those of the
+    original."""
     first, second, third = (os.path.join(folder, name) for name in ("first", "second", "third"))
     if fault:
         run("replay", log, "--save", first)
@@ -394,7 +395,7 @@ def check_saved(log, output, fault, run, folder, damaged):
 
 
 def judge(log, run):
-    """Checks a log by each rule; returns its replay, and whether it has a fault."""
+    """Checks a log by each rule. Returns the log's replay, and whether the log has an invalid line."""
     fault = find_fault(split_lines(log))
     if fault:
         log = check_fault(log, fault, run)

@@ -26,7 +26,7 @@ def head(major: int, value: int) -> bytes:
 
 
 def encode(item):
-    """Encodes a number, bytes, text, list, dict or boolean in canonical CBOR."""
+    """Encodes a number, byte string, text, list, dictionary or Boolean in canonical CBOR."""
     if isinstance(item, bool):
         return b"\xf5" if item else b"\xf4"
     if isinstance(item, int):
@@ -47,13 +47,13 @@ def fragment_message(channel, command, data, length=None):
 
 
 class LogGenerator:
-    """Generates logs from one random generator."""
+    """Generates logs with one random number generator."""
 
     def __init__(self, seed):
         self.chance = random.Random(seed)
         self.hosts = self.choose(1, 1, 2, 3)
         self.sites = RP_IDS[: self.choose(1, 1, 2, 3)]
-        # The credential IDs provided for each RP, for lists.
+        # The credential IDs that were provided for each RP, used in lists of requests.
         self.made = {site: [] for site in RP_IDS}
 
     def happens(self, share):
@@ -66,7 +66,7 @@ class LogGenerator:
         return self.chance.randbytes(count)
 
     def credential(self, site=None):
-        """Returns a credential ID: one made for the RP, or another one."""
+        """Returns a credential ID: one that was provided for the RP, or another one."""
         if site and self.made[site] and self.happens(0.7):
             return self.chance.choice(self.made[site])
         return bytes([self.chance.randrange(9)]) * 32 if self.happens(0.5) else self.random_bytes(32)
@@ -82,7 +82,7 @@ class LogGenerator:
         return fragment_message(channel, INIT, self.random_bytes(length))
 
     def reply(self):
-        """Returns a reply of the caller, needed or not."""
+        """Returns a reply of the caller, whether it is needed or not."""
         return self.choose(self.presence, self.key, self.signature)()
 
     def presence(self):
@@ -101,7 +101,7 @@ class LogGenerator:
         return ("s", self.random_bytes(self.choose(1, 70, 71, 72, 72)).hex())
 
     def text(self):
-        """Returns a name, with characters of one to four bytes."""
+        """Returns a name with characters of one to four bytes."""
         return self.chance.randrange(3) * "x" + self.chance.randrange(80) * self.choose("n", "ü", "€", "𝄞", "\0")
 
     def descriptors(self, site):
@@ -110,7 +110,7 @@ class LogGenerator:
         return [{"type": kind, "id": self.credential(site)} for _ in range(count)]
 
     def options(self):
-        """Returns options, mostly valid for one of the two commands."""
+        """Returns options that are mostly valid for one of the two commands."""
         names = self.choose(["rk"], ["rk"], ["rk"], ["up"], ["uv"], ["rk", "up", "uv", "other"])
         return {name: self.happens(0.8 if name == "rk" else 0.3) for name in names}
 
@@ -145,7 +145,7 @@ class LogGenerator:
         return bytes([GET]) + encode(self.spoil_parameters(asked))
 
     def spoil_parameters(self, asked):
-        """Sometimes removes a parameter, adds one or changes its type."""
+        """Sometimes removes, adds or changes the type of a parameter."""
         if self.happens(0.15):
             asked[self.chance.randrange(12)] = self.choose(0, -1, b"", "x", [], {}, True, [[[[[]]]]], 2**64 - 1)
         if self.happens(0.08):
@@ -153,7 +153,7 @@ class LogGenerator:
         return asked
 
     def damage_bytes(self, data):
-        """Returns data with some bytes changed, removed or inserted."""
+        """Returns the data with some bytes changed, removed or inserted."""
         data = bytearray(data)
         for _ in range(self.choose(1, 1, 2, 5)):
             place = self.chance.randrange(len(data) + 1)
@@ -179,7 +179,7 @@ class LogGenerator:
         return fragment_message(channel, CBOR, data, length) + waits + list(replies)
 
     def host_events(self):
-        """Returns the events of one host, on one channel."""
+        """Returns the events of one host, which uses one channel."""
         channel = self.channel()
         kinds = (self.register, self.register, self.register, self.sign_in, self.sign_in, self.other_request)
         return self.choose(*kinds, self.ping, self.stray_packets)(channel)
@@ -239,7 +239,7 @@ class LogGenerator:
         return events
 
     def mix_flows(self, flows):
-        """Returns the events of flows, one after another or interleaved."""
+        """Returns the events of several hosts, one after another or interleaved."""
         if self.happens(0.6):
             return [event for flow in flows for event in flow]
         turns = [number for number, flow in enumerate(flows) for _ in flow]
@@ -248,7 +248,7 @@ class LogGenerator:
         return [next(sources[number]) for number in turns]
 
     def disturb_events(self, events):
-        """Returns events with some removed, repeated, moved, or with changed bytes."""
+        """Returns the events after some were removed, repeated, moved, or changed."""
         events = list(events)
         for _ in range(self.choose(1, 1, 2, 4)):
             place = self.chance.randrange(len(events))
@@ -274,7 +274,7 @@ class LogGenerator:
         return self.choose(0, 1, 99, 100, 101, 250, 499, 500, 501, 9999, 10001, 29999, 30000, 30001)
 
     def make_timestamps(self, count):
-        """Returns the timestamps of a log's inputs: mostly rising, sometimes going back or extreme."""
+        """Returns the timestamps of a log's inputs, which mostly increase, but may decrease or be extreme."""
         moment = self.choose(0, 0, 0, 0, 1, self.chance.randrange(10**6), 2**32 - 1, MAX_TIME - 5, MAX_TIME)
         calm, wild = self.happens(0.7), self.happens(0.1)
         for _ in range(count):
@@ -322,7 +322,7 @@ class LogGenerator:
         )
 
     def bad_line(self, line):
-        """Returns a line that is most likely invalid."""
+        """Returns a line that is most likely not a log line."""
         place = self.chance.randrange(len(line) + 1)
         return self.choose(
             line + b" ",
@@ -363,15 +363,15 @@ class LogGenerator:
 
 
 def hostile_log(seed, number):
-    """Returns the log with this number, from this seed."""
+    """Returns the log with this number, generated from this seed."""
     return LogGenerator(f"{seed}/{number}").make_log()
 
 
 def hostile_snapshot(seed, number, snapshot):
-    """Returns a snapshot, damaged or with small counters at their maximum."""
+    """Returns a snapshot that is damaged, or whose small signature counters are set to the maximum."""
     maker = LogGenerator(f"{seed}/{number}/snapshot")
     if maker.happens(0.5):
         return maker.damage_bytes(snapshot)
-    # Counters come after key 7, which comes after whether the credential is discoverable.
+    # The counter comes after key 7, which comes after the Boolean for a discoverable credential.
     end = maker.choose(b"\xff\xff\xff\xff", b"\xff\xff\xff\xfe")
     return re.sub(rb"(\x06[\xf4\xf5]\x07)[\x00-\x17]", lambda found: found[1] + b"\x1a" + end, snapshot)

@@ -1,4 +1,4 @@
-"""Command line of the oracles, which check generated logs. A seed and a number determine each log."""
+"""The command line of the oracles, which check generated logs. A seed and a number determine each log."""
 
 from __future__ import annotations
 
@@ -13,7 +13,7 @@ import executors
 TOP = Path(__file__).resolve().parents[2]
 # A program, a seed and a log number.
 Task = tuple[str, str, int]
-# The log number, the errors in the program's output for it, and the number of items checked.
+# The log's number, the error in the program's output for the log, if any, and the number of items that were checked.
 Judged = tuple[int, Optional[str], int]
 
 

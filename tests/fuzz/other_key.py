@@ -16,7 +16,8 @@ from framing import BROADCAST, MAX_MESSAGE_BYTES, continuation_data, first_data,
 PING, MSG, INIT, WINK, CBOR, CANCEL, KEEPALIVE, ERROR = 0x01, 0x03, 0x06, 0x08, 0x10, 0x11, 0x3B, 0x3F
 INVALID_COMMAND, INVALID_LENGTH, INVALID_SEQUENCE, TIMED_OUT, CHANNEL_BUSY = 0x01, 0x03, 0x04, 0x05, 0x06
 MAKE, ASSERT, INFO = b"\x01", b"\x02", b"\x04"
-# The map of a sign-in with the option up false, and without it; the first bytes of a registration's and its response.
+# The map of a sign-in with the option `up` false, and that of a sign-in without this option; the first bytes of a
+# registration and of its response.
 RP_AND_HASH = b"\x01\x63a.b\x02\x58\x20" + bytes(32)
 SILENT, TOUCHED = b"\xa3" + RP_AND_HASH + b"\x05\xa1bup\xf4", b"\xa2" + RP_AND_HASH
 MADE, ASSERTED = b"\x00\xa3\x01dnone\x02\x59", b"\x00\xa2\x02\x59"
@@ -28,7 +29,7 @@ ENDS_BY_OTHER_MESSAGE = ("dropped", "replaced")
 
 @dataclass(frozen=True)
 class Behavior:
-    """The choices that the standard leaves to a key, and known deviations of keys."""
+    """The choices that the standard leaves to a key, and known deviations of keys from the standard."""
 
     time_out: Optional[int]
     says_time_out: bool
@@ -54,7 +55,7 @@ class Behavior:
 
     @staticmethod
     def make_random(chance: random.Random) -> Behavior:
-        """Returns a random behavior. The standard's is the most frequent."""
+        """Returns a random behavior. The behavior in the standard is the most frequent one."""
         return Behavior(
             time_out=chance.choice([500, 1000, 3000, None]),
             says_time_out=chance.random() < 0.6,
@@ -144,13 +145,13 @@ class Key:
                     self.log.lossy.add(owner.channel)
                 continue
             line = self.log.add(f"< {packet.hex()}", owner.line)
-            # After an initialization packet it isn't visible whether a KEEPALIVE precedes the new message.
+            # After an initialization packet, the log doesn't show whether a KEEPALIVE came before the new message.
             if command == KEEPALIVE and self.is_behind_start:
                 self.log.allowed[line] = self.log.of_channel[owner.channel][:-1]
             self.is_behind_start = False
 
     def pad(self, pieces: list[bytes], length: int) -> list[bytes]:
-        """Returns the packets of a message of this length with the key's padding."""
+        """Returns the packets of a message of this length, with the padding that the key uses."""
         last, data = pieces[-1], length - 57 - 59 * (len(pieces) - 2) if len(pieces) > 1 else length
         end = (5 if len(pieces) > 1 else 7) + data
         return [*pieces[:-1], last[:end] + bytes([self.behavior.padding]) * (64 - end)]
@@ -176,7 +177,7 @@ class Key:
         self.held = None
 
     def make_response(self, message: Message, status: int) -> bytes:
-        """Returns a response with this status, of another size each time."""
+        """Returns a response with this status. Each response has another size."""
         size = self.chance.choice([37, 100, 300])
         value = size.to_bytes(2, "big") + bytes(size)
         if status:
@@ -204,7 +205,7 @@ class Key:
     # ---- time
 
     def next_due_time(self) -> Optional[int]:
-        """Returns the time of the next packet that no input causes."""
+        """Returns the time of the next packet that is sent without an input."""
         if self.held is None:
             return None
         if self.held.is_whole:
@@ -212,7 +213,7 @@ class Key:
         return None if self.behavior.time_out is None else self.held.last + self.behavior.time_out
 
     def advance_to(self, moment: int) -> None:
-        """Advances the time, and sends packets as they become due, each after a line `t`."""
+        """Advances the time, and sends packets when they become due, each after a line `t`."""
         while (then := self.next_due_time()) is not None and then <= moment:
             self.now = max(self.now, then)
             self.send_due()
@@ -315,7 +316,7 @@ class Key:
             self.begin(message)
 
     def respond_to_init(self, message: Message) -> None:
-        """Answers INIT. On an allocated channel INIT aborts the current message of the channel."""
+        """Responds to INIT. On an allocated channel, INIT aborts the current message of the channel."""
         if message.length != 8:
             self.refuse(message, INVALID_LENGTH)
             return
@@ -361,7 +362,7 @@ class Key:
         )
 
     def is_accepted(self, message: Message) -> bool:
-        """Returns whether a new message is accepted. Otherwise this rejects or ignores it."""
+        """Returns whether a new message is accepted. Otherwise, this method rejects or ignores the message."""
         held = self.held
         if held is None:
             return True

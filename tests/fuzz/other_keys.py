@@ -33,7 +33,7 @@ from oracle_runner import check_logs
 from other_key import ASSERT, CANCEL, CBOR, ENDS_BY_OTHER_MESSAGE, INFO, INIT, MAKE, MSG, PING, SILENT, TOUCHED
 from other_key import UNANSWERED_ENDS, WINK, Key, Log, Message
 
-# Logs of the seed 1 in which an earlier version identified a packet wrongly.
+# Logs of the seed 1 for which an earlier version found a wrong transaction.
 FORMERLY_WRONG = (2317, 2817, 5995, 7011, 7531)
 
 
@@ -66,13 +66,14 @@ def make_host_packets(chance: random.Random, channel: int) -> list[bytes]:
 
 
 def send_again(chance: random.Random, sent: list[bytes]) -> list[bytes]:
-    """Returns the same packets; of INIT with a new nonce, since packets don't show which of two is answered."""
+    """Returns the packets to send again. INIT gets a new nonce, because packets don't show to which of two INITs with
+    the same nonce a response belongs."""
     is_init = sent[0][4] == 0x80 | INIT and sent[0][6] == 8
     return [sent[0][:7] + chance.randbytes(8) + sent[0][15:]] if is_init else sent
 
 
 def simulate(chance: random.Random) -> Log:
-    """Simulates one to eight hosts with a key."""
+    """Simulates one to eight hosts that use one key."""
     log = Log()
     log.loss = chance.choice([0.0] * 7 + [0.02, 0.1, 1.0])
     key = Key(chance, log)
@@ -82,7 +83,7 @@ def simulate(chance: random.Random) -> Log:
         flow: collections.deque[bytes | int] = collections.deque()
         for _ in range(chance.choice([1, 2, 3, 5])):
             sent = make_host_packets(chance, key.channels)
-            # An impatient host sends the same again.
+            # An impatient host sends the same message again.
             for again in range(chance.choice([1, 1, 1, 1, 1, 2])):
                 flow.extend(send_again(chance, sent) if again else sent)
                 flow.append(chance.choice([0, 1, 50, 120, 120, 300, 600, 1200]))
@@ -100,7 +101,7 @@ def simulate(chance: random.Random) -> Log:
 
 
 def find_transaction_error(log: Log, line: int, said: Optional[int]) -> Optional[str]:
-    """Returns what is wrong with the transaction that `show` names for a packet, or None."""
+    """Returns how the transaction that `show` names for a packet is wrong, or None."""
     if said in (None, log.owners[line], *log.allowed.get(line, [])):
         return None
     own, other = log.messages.get(log.owners[line] or 0), log.messages.get(said)
@@ -110,7 +111,7 @@ def find_transaction_error(log: Log, line: int, said: Optional[int]) -> Optional
 
 
 def find_end_error(log: Log, message: Message, said: dict[str, object]) -> Optional[str]:
-    """Returns what is wrong with the end that `show` names for a message, or None."""
+    """Returns how the end that `show` names for a message is wrong, or None."""
     if message.channel in log.lossy:
         return None
     how = said["end"]
@@ -127,7 +128,7 @@ def find_end_error(log: Log, message: Message, said: dict[str, object]) -> Optio
 
 
 def find_reply_error(message: Message, said: dict[str, object]) -> Optional[str]:
-    """Returns what is wrong with the user's response time in the output of `show`, or None."""
+    """Returns how the user's response time in the output of `show` is wrong, or None."""
     took = said.get("userTook")
     if took in (None, message.took):
         return None
@@ -135,8 +136,8 @@ def find_reply_error(message: Message, said: dict[str, object]) -> Optional[str]
 
 
 def find_summary_error(log: Log, said: dict[str, Any]) -> Optional[str]:
-    """Returns what is wrong with the counts of a summary, or None."""
-    # Without the KEEPALIVE that asked for it, a reply is unexpected.
+    """Returns how the counts of a summary are wrong, or None."""
+    # If the KEEPALIVE that asked for a reply was lost, the reply is unexpected.
     if said["unexpectedReplies"] and log.replies and not log.has_lost:
         return "a requested reply is reported as unexpected"
     done = [message for message in log.messages.values() if message.end == ("status", 0)]
@@ -148,7 +149,8 @@ def find_summary_error(log: Log, said: dict[str, Any]) -> Optional[str]:
 
 
 def check_log(task: tuple[str, str, int]) -> tuple[int, Optional[str], int]:
-    """Simulates the log of a number. Returns the finding, and the number of packets and messages identified."""
+    """Simulates the log with this number, and checks it. Returns the finding, if any, and the number of packets and
+    messages whose transaction was named."""
     program, seed, number = task
     log = simulate(random.Random(f"{seed}/{number}"))
     text = "".join(f"{line}\n" for line in log.lines).encode()

@@ -38,7 +38,7 @@ MAX_SECONDS = 60.0
 
 
 class Reader(NamedTuple):
-    """A parser to fuzz, the exceptions it may raise, the folder whose lines are traced, and the seed inputs."""
+    """A parser to fuzz, the exceptions that it may raise, the folder whose lines are traced, and the first inputs."""
 
     target: Target
     allowed: tuple[type[BaseException], ...]
@@ -47,7 +47,7 @@ class Reader(NamedTuple):
 
 
 def read_cbor(data: bytes) -> None:
-    """Checks that decoding, encoding and decoding again gives the same value."""
+    """Checks that decoding, encoding and decoding again returns the same value."""
     value = cbor.decode(data)
     assert cbor.decode(cbor.encode(value)) == value
 
@@ -58,7 +58,7 @@ def read_snapshot(data: bytes) -> None:
 
 
 def read_recording(data: bytes) -> None:
-    """Replays a recording to a client that sends the recording's requests."""
+    """Replays a recording to a client that sends the requests in the recording."""
     key = RecordedKey(data)
     for line in data.decode("ascii", errors="replace").splitlines():
         if line.startswith(">"):
@@ -76,12 +76,12 @@ def read_log(data: bytes) -> None:
 
 
 def write_request(ceremony: str, options: Any) -> None:
-    """Makes the WebAuthn client check options and encode the request for them."""
+    """Makes the WebAuthn client check options, and encode the request."""
     ClientCall(ceremony, options, "optional", "https://a.example", AuthenticatorOptions()).request()
 
 
 def read_json(data: bytes) -> None:
-    """Passes WebAuthn options and responses as JSON to each function that parses them."""
+    """Passes JSON of WebAuthn options and responses to each function that parses such JSON."""
     try:
         value: Any = json.loads(data)
     except (ValueError, RecursionError):
@@ -197,12 +197,12 @@ READERS = {
 
 
 def read_corpus(folder: Path | None, name: str) -> list[bytes]:
-    """Returns the corpus that an earlier run kept for a parser."""
+    """Returns the inputs that an earlier run kept for a parser."""
     return [] if folder is None else [path.read_bytes() for path in sorted((folder / name).glob("kept_*"))]
 
 
 def save_corpus(folder: Path | None, name: str, fuzzer: Fuzzer) -> None:
-    """Writes the corpus, and the first input of each finding."""
+    """Writes the inputs that were kept, and the first input of each finding."""
     if folder is not None:
         place = folder / name
         place.mkdir(parents=True, exist_ok=True)
@@ -213,7 +213,7 @@ def save_corpus(folder: Path | None, name: str, fuzzer: Fuzzer) -> None:
 
 
 def fuzz(name: str, seconds: float, seed: int, folder: Path | None) -> int:
-    """Fuzzes a parser. Returns the number of findings that are new, plus known ones that no longer occur."""
+    """Fuzzes a parser. Returns the number of new findings, plus the number of known findings that no longer occur."""
     reader = READERS[name]
     fuzzer = Fuzzer(reader.target, reader.allowed, Edges([reader.folder]), random.Random(seed))
     fuzzer.run([*reader.seeds(), *read_corpus(folder, name)], seconds)

@@ -43,7 +43,8 @@ REPLIES = {b"p": "the user's presence", b"k": "a new key", b"s": "a signature"}
 
 
 def iter_line_numbers(lines: list[bytes], replayed: list[bytes]) -> Iterator[int]:
-    """Yields the line number in the log of each line of the replay, or 0 for a packet that isn't in the log there."""
+    """Yields the line number in the log of each line of the replay, or 0 for a packet that isn't at this position of
+    the log."""
     places = iter([number for number, line in enumerate(lines, 1) if line[:1] in INPUTS])
     number = 0
     for line in replayed:
@@ -52,7 +53,7 @@ def iter_line_numbers(lines: list[bytes], replayed: list[bytes]) -> Iterator[int
 
 
 def find_need(live: list[bytes], number: int) -> Optional[bytes]:
-    """Returns what the key needs after the input with this number, as `live` writes it, or None."""
+    """Returns what the key needs after the input with this number, according to `live`, or None."""
     inputs = 0
     for line in live:
         inputs += line[:1] in INPUTS
@@ -64,8 +65,8 @@ def find_need(live: list[bytes], number: int) -> Optional[bytes]:
 def find_reason(
     machine: Machine, found: dict[str, Any], needed: Optional[bytes], need: Optional[bytes], line: bytes
 ) -> Optional[str]:
-    """Returns why the key sends something else, or None if unknown. `needed`: before the input `line`; `need`: after
-    it."""
+    """Returns why the key sends another packet, or None if the reason is unknown. `needed` is what the key needs before
+    the input `line`, and `need` what it needs after it."""
     sent, logged = (bytes.fromhex(found.get(side, "")) for side in ("sent", "logged"))
     channel = int.from_bytes((sent or logged)[:4], "big")
     held = machine.open
@@ -109,8 +110,8 @@ def find_reason(
 
 
 def explain_keepalive(machine: Machine, found: dict[str, Any]) -> str:
-    """Returns why the key sends a KEEPALIVE, with the time of the previous one."""
-    # Of two packets at one input the first was sent as time passed, and the second has the new status.
+    """Returns why the key sends a KEEPALIVE, with the time of the previous KEEPALIVE."""
+    # If two packets are sent for one input, the first is sent because time passed, and the second has the new status.
     last = machine.now if found["packet"] > 1 else machine.alive_before
     if last is None:
         return f"the request that line {found['input']} completes waits"
@@ -118,7 +119,7 @@ def explain_keepalive(machine: Machine, found: dict[str, Any]) -> str:
 
 
 def explain_status(status: int, owner: Transaction, machine: Machine, line: bytes) -> str:
-    """Returns why a request is rejected with a status, from the request and the input."""
+    """Returns why a request is rejected with this status, from the request and the input."""
     kind, reply = line[:1], line.split(b" ")[2:3]
     if status == 0x27:
         return "the user refused" if reply == [b"denied"] else "the user did not respond in time"
@@ -143,7 +144,7 @@ def explain_status(status: int, owner: Transaction, machine: Machine, line: byte
 
 
 def flip_bit(line: bytes, chance: random.Random) -> bytes:
-    """Returns the line of a packet with one bit flipped."""
+    """Returns the line of a packet in which one bit is flipped."""
     front, _, digits = line.rpartition(b" ")
     packet = bytearray.fromhex(digits.decode())
     packet[chance.choice([*range(12), *range(64)])] ^= 1 << chance.randrange(8)
@@ -191,7 +192,8 @@ def break_log(lines: list[bytes], chance: random.Random) -> None:
 
 
 def check_log(task: tuple[str, str, int]) -> tuple[int, Optional[str], int]:
-    """Changes the log of a number. Returns the finding, and 1 if `check` printed a reason."""
+    """Changes the log with this number, and checks the reason. Returns the finding, if any, and 1 if `check` printed a
+    reason, or else 0."""
     program, seed, number = task
     chance = random.Random(f"{seed}/{number}/broken")
 

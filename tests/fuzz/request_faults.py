@@ -19,7 +19,7 @@ Test = Callable[[Any], bool]
 
 
 def make_type_test(*kinds: type) -> Test:
-    """Returns whether a value has one of these types."""
+    """Returns a test of whether a value has one of these types."""
     return lambda value: type(value) in kinds
 
 
@@ -29,14 +29,14 @@ def is_count(value: Any) -> bool:
 
 
 def make_map_test(**members: Test) -> Test:
-    """Returns whether a value is a map whose members, if present, pass these tests."""
+    """Returns a test of whether a value is a map whose members, if present, pass these tests."""
     return lambda value: isinstance(value, dict) and all(
         name not in value or test(value[name]) for name, test in members.items()
     )
 
 
 def make_list_test(test: Test) -> Test:
-    """Returns whether a value is an array of values that pass a test."""
+    """Returns a test of whether a value is an array of values that pass this test."""
     return lambda value: isinstance(value, list) and all(test(entry) for entry in value)
 
 
@@ -85,7 +85,7 @@ def find_missing(command: int, asked: dict[Any, Any]) -> Optional[str]:
 
 
 def find_refused(command: int, asked: dict[Any, Any]) -> str:
-    """Returns the first of the other checks that fails."""
+    """Returns the first failed check other than that of missing parameters."""
     options = asked.get(7 if command == 0x01 else 5, {})
     hash_len = len(asked[1 if command == 0x01 else 2])
     if hash_len != 32:

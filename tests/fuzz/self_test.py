@@ -18,7 +18,7 @@ from judge import RULES, FindingError, check_saved, judge
 
 
 def make_valid_log():
-    """Returns INIT, a stray packet, a registration and a sign-in."""
+    """Returns a log with INIT, a packet outside any transaction, a registration and a sign-in."""
     asked = {1: bytes(32), 2: {"id": "a.example"}, 3: {"id": b"a"}, 7: {"rk": True}}
     asked[4] = [{"alg": -7, "type": "public-key"}]
     events = fragment_message(BROADCAST, INIT, bytes(8)) + fragment_message(9, PING, b"stray")
@@ -38,7 +38,7 @@ INVALID_LOG = VALID_LOG + b"t 00\nt 1\n"
 
 
 def change_output(change):
-    """Returns a change of standard output."""
+    """Returns a change that applies a function to standard output."""
     return lambda ended: (ended[0], change(ended[1]), ended[2])
 
 
@@ -92,7 +92,7 @@ def change_file(name):
 
 
 SNAPSHOT_FOLDER = tempfile.TemporaryDirectory()
-# The rule, the log, the command and the number of its run, and the change.
+# For each change: the rule, the log, the command and the number of the command's run, and the change.
 CASES = [
     ("status", VALID_LOG, "replay", 1, change_status(2)),
     ("status", VALID_LOG, "replay", 1, change_status(-11)),
@@ -170,7 +170,7 @@ CASES = [
 
 
 def make_altering_runner(run, command, which, change):
-    """Runs like `run`, but changes the output of this run of this command."""
+    """Returns a function that runs commands as `run` does, but changes the output of one run of this command."""
     seen = 0
 
     def run_doctored(asked, log, *options):
@@ -183,7 +183,7 @@ def make_altering_runner(run, command, which, change):
 
 
 def find_violation(log, run):
-    """Returns the violated rule, or None. The damaged snapshot lacks its last byte."""
+    """Returns the violated rule, or None. The last byte of the damaged snapshot is missing."""
     for name in os.listdir(SNAPSHOT_FOLDER.name):
         os.remove(os.path.join(SNAPSHOT_FOLDER.name, name))
     try:

@@ -45,13 +45,13 @@ COMMANDS = (
     "show --summary",
 )
 WRITE_ERROR = b"hidlog: writing failed\n"
-# What --explain adds, with the system's error EFBIG.
+# The text that --explain adds, with the system's error EFBIG.
 WRITE_REASON = b"  standard output: File too large (os error 27)\n"
 
 
 @dataclass
 class Ran:
-    """What a run returned and wrote."""
+    """The exit status and the output of a run."""
 
     status: int
     output: bytes
@@ -65,13 +65,13 @@ def run(command: Sequence[str], log: bytes) -> Ran:
 
 
 def run_in_parts(command: Sequence[str], log: bytes, chance: random.Random) -> Ran:
-    """Runs a command on a log in parts."""
+    """Runs a command on a log that is sent in parts."""
     longest = chance.choice((1, 7, 64, 300, 5000))
     with tempfile.TemporaryFile() as output, tempfile.TemporaryFile() as errors:
         with subprocess.Popen(command, stdin=subprocess.PIPE, stdout=output, stderr=errors, bufsize=0) as program:
             assert program.stdin is not None
             at = 0
-            # Longer logs would take minutes in parts of one byte.
+            # For longer logs, parts of one byte would take minutes.
             shortest = max(1, len(log) // 2000)
             while at < len(log):
                 part = chance.randint(shortest, max(shortest, longest))
@@ -93,7 +93,7 @@ def run_in_parts(command: Sequence[str], log: bytes, chance: random.Random) -> R
 
 
 def run_with_limit(command: Sequence[str], log: bytes, limit: int) -> Ran:
-    """Runs a command whose output file may have `limit` bytes."""
+    """Runs a command whose output file is limited to `limit` bytes."""
 
     def set_limit() -> None:
         signal.signal(signal.SIGXFSZ, signal.SIG_IGN)
@@ -115,7 +115,7 @@ def run_with_limit(command: Sequence[str], log: bytes, limit: int) -> Ran:
 
 
 def find_difference(plain: Ran, ran: Ran, limit: Optional[int], is_explained: bool) -> Optional[str]:
-    """Returns how a run differs from what a plain run shows that it has to be."""
+    """Returns how a run differs from the result that follows from a plain run, or None."""
     if limit is None or limit >= len(plain.output):
         return None if ran == plain else f"expected {plain}, got {ran}"
     if ran.output != plain.output[:limit]:

@@ -42,7 +42,7 @@ class FindingError(Exception):
 
 @dataclasses.dataclass
 class Transaction:
-    """A message of a host, and its end."""
+    """A message of a host, and how it ended."""
 
     line: int
     channel: int
@@ -65,7 +65,7 @@ class Transaction:
 
 @dataclasses.dataclass
 class CreatedCredential:
-    """A credential of the key, and the last line of the response that made it."""
+    """A credential of the key, and the last line of the response that created it."""
 
     relying_party: str
     user: bytes
@@ -74,13 +74,15 @@ class CreatedCredential:
     line: int
 
     def replaces(self, other: "CreatedCredential") -> bool:
-        """Returns whether it replaces another one: that of the same account, if both are discoverable."""
+        """Returns whether this credential replaces another one: both are discoverable, and belong to the same
+        account."""
         same = (self.relying_party, self.user) == (other.relying_party, other.user)
         return same and self.is_discoverable and other.is_discoverable
 
 
 def read_needs(live: list[bytes]) -> list[bytes]:
-    """Returns the letter of the reply that the key needs before each input, by `live`; empty for none."""
+    """Returns the letter of the reply that the key needs before each input, according to `live`; empty if none is
+    needed."""
     needs = [b""]
     for line in live:
         if line[:1] in INPUTS:
@@ -104,8 +106,8 @@ class Machine:
     def __init__(
         self, lines: list[bytes], needs: list[bytes], numbers: Optional[list[int]] = None, until: Optional[int] = None
     ) -> None:
-        """Processes the inputs of lines with these numbers (default: from 1), up to a number, and the replies needed
-        before each."""
+        """Processes the inputs in lines with these numbers, by default from 1 on, up to a number. `needs` are the
+        replies needed before each input."""
         self.owners: dict[int, Optional[int]] = {}
         self.transactions: dict[int, Transaction] = {}
         self.allocated = 0
@@ -201,7 +203,7 @@ class Machine:
     # ---- credentials
 
     def record_credential(self, owner: Transaction, line: int, message: bytes) -> None:
-        """Records the credential that a response made, or the excluded one."""
+        """Records the credential that a response created, or the excluded credential."""
         if message[0] not in (0, STATUS_CREDENTIAL_EXCLUDED):
             return
         asked = ctap_cbor.decode(owner.data[1:])
@@ -226,7 +228,7 @@ class Machine:
         self.held = [credential for credential in self.held if not made.replaces(credential)] + [made]
 
     def handle_key_packet(self) -> None:
-        """Processes the key's packets for a request: a new status, or the response."""
+        """Processes the key's packets for a request: a KEEPALIVE with a new status, or the response."""
         if self.work and self.sent:
             if self.sent[0][1][4] == 0x80 | KEEPALIVE:
                 self.keep_alive()
@@ -291,7 +293,7 @@ class Machine:
             self.finish(message)
 
     def begin(self, begun: Transaction) -> None:
-        """Applies the rules about ERRORs in order."""
+        """Applies the rules for ERROR packets, in order."""
         channel, opened, work = begun.channel, self.open, self.work
         is_init = begun.command == INIT
         is_allocated = 1 <= channel <= self.allocated
@@ -369,7 +371,8 @@ class HostGenerator(LogGenerator):
         return self.registrations(self.channel()) if self.happens(0.2) else super().host_events()
 
     def registrations(self, channel: int) -> list[tuple]:
-        """Returns registrations of two users at one RP, and then some with lists of known and unknown credentials."""
+        """Returns registrations of two users at one RP, followed by registrations with lists of known and unknown
+        credentials."""
         site = self.choose(*self.sites)
         events: list[tuple] = []
         makes = self.choose(1, 2, 3, 4)
@@ -451,7 +454,7 @@ def check_summary(text: str, machine: Machine) -> None:
 
 
 def check_log(task: tuple[str, str, int]) -> tuple[int, Optional[str], int]:
-    """Runs the log with a number; returns a finding, and the number of transactions."""
+    """Checks the log with this number. Returns the finding, if any, and the number of transactions."""
     program, seed, number = task
 
     def run(log: bytes, *words: str) -> bytes:

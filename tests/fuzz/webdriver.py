@@ -53,14 +53,14 @@ BYTES += [
 
 
 def random_value(rng: random.Random, name: str, port: int) -> str:
-    """Returns a value for a header, mostly a valid one."""
+    """Returns a value for a header, which is mostly valid."""
     good = {"host": f"127.0.0.1:{port}", "content-type": "application/json", "content-length": "2"}
     choices = [good.get(name.strip().lower(), "x")] * 3 + ["".join(rng.choices(gate.HEADER_PARTS, k=2))]
     return str(rng.choice(choices)).replace("4444", str(port))
 
 
 def random_request(rng: random.Random, port: int) -> bytes:
-    """Returns the bytes of a request: a valid one, with changed headers and bytes."""
+    """Returns the bytes of a request: a valid request, of which headers and bytes are changed."""
     is_post = rng.random() < 0.5
     path = rng.choice(["/session", "/status", "/session/known/url", "/sessions", "/session/known"])
     lines = [f"{'POST' if is_post else rng.choice(['GET', 'DELETE'])} {path} HTTP/1.1", f"Host: 127.0.0.1:{port}"]
@@ -78,8 +78,8 @@ def random_request(rng: random.Random, port: int) -> bytes:
 
 
 def find_faults(data: bytes, port: int) -> list[str]:
-    """Returns what is wrong with the first request in some bytes, by RFC 9112 and the rules of the gate."""
-    # A single LF may end a line.
+    """Returns what is wrong with the first request in these bytes, by RFC 9112 and the rules of the gate."""
+    # A single line feed may end a line.
     found = re.search(rb"\r?\n\r?\n", data)
     if not found:
         return ["end"]
@@ -106,7 +106,7 @@ def find_faults(data: bytes, port: int) -> list[str]:
 
 
 def try_one(rig: ProxyFixture, data: bytes) -> bool:
-    """Sends bytes, and returns whether they reached the driver."""
+    """Sends bytes to the proxy, and returns whether they reached the driver."""
     response = rig.exchange_bytes(data)
     asked = rig.take_requests()
     wrong = find_faults(data, rig.port)

@@ -37,7 +37,7 @@ from tables import iter_cases
 HERE = Path(__file__).resolve().parent
 TOP = HERE.parents[1]
 PROGRAM = str(Path(sys.argv[1]).absolute() if len(sys.argv) > 1 else TOP / "release/hidlog")
-# The SHA-256 hash of `example.com`.
+# The SHA-256 hash of the RP ID `example.com`.
 RP = bytes.fromhex("a379a6f6eeafb9a55e378c118034e2751e682fab9f2d30ab13d2125586ce1947")
 SIGN_IN = """\
 -> 0 ffffffff8600080001020304050607..
@@ -47,7 +47,8 @@ SIGN_IN = """\
 
 @dataclass(frozen=True)
 class Case:
-    """The arguments of a run, its log, and its expected result. With `has_more`, the output is only a part."""
+    """The arguments of a run, its log, and its expected result. If `has_more` is true, the expected output is only a
+    part of the output."""
 
     text: str
     has_more: bool = False
@@ -67,7 +68,7 @@ class Case:
         return (text[:-1] if "!" in lines and "-" in signs else text).encode()
 
     def run(self, work_dir: Path) -> None:
-        """Runs the program in a folder. Fails unless it ends as the case says."""
+        """Runs the program in a folder. Fails unless the result is the expected one."""
         log = self.select_lines("-|")
         (work_dir / "log").write_bytes(log)
         ended = subprocess.run([PROGRAM, *self.words], cwd=work_dir, input=log, capture_output=True, timeout=600)
@@ -80,14 +81,14 @@ class Case:
 
 
 def expand_packet(line: str) -> str:
-    """Returns a line with the two dots at the end of a packet replaced by zeros."""
+    """Returns a line in which the two dots at the end of a packet are replaced by zeros."""
     front, dots, _ = line.partition("..")
     is_packet = bool(dots) and line[:1] in ("<", ">")
     return front + "0" * (128 - len(front.rpartition(" ")[2])) if is_packet else line
 
 
 def make_snapshot(version: int, head: int, end: bytes) -> bytes:
-    """Returns a snapshot with one row: of example.com, the user 01 and the id AA.., with this end from its counter on."""
+    """Returns a snapshot with one row: RP example.com, user 01 and ID AA... The bytes from the counter on are `end`."""
     out = bytes([0xA2, 0x01, version, 0x02, 0x81, head])
     for key, value in ((1, RP), (2, b"\xaa" * 32), (3, b"\xbb" * 32), (4, b"\xcc" * 32)):
         out += bytes([key, 0x58, 0x20]) + value
@@ -95,8 +96,8 @@ def make_snapshot(version: int, head: int, end: bytes) -> bytes:
 
 
 def check_saved(work_dir: Path, old: bytes, case: str, new: bytes) -> None:
-    """A snapshot of version 1 is loaded, a host signs in, and one of version 2 is saved. Loading and saving that does
-    not change it."""
+    """Loads a snapshot of version 1, lets a host sign in, and saves a snapshot of version 2. Checks that loading and
+    saving does not change that snapshot."""
     wanted = make_snapshot(2, 0xA8, new)
     (work_dir / "old").write_bytes(make_snapshot(1, 0xA7, old))
     Case(case, has_more=True).run(work_dir)
@@ -113,13 +114,13 @@ def read_cases(file: Path) -> list[Case]:
 
 
 def test_cases_of_file(work_dir: Path) -> None:
-    """Help, invalid arguments, valid and invalid logs, and files that cannot be read or written."""
+    """Tests help, invalid arguments, valid and invalid logs, and files that cannot be read or written."""
     for case in read_cases(HERE / "cases.txt"):
         case.run(work_dir)
 
 
 def test_log_outputs(work_dir: Path) -> None:
-    """The output of each command for logs."""
+    """Tests the output of each command for the logs in the folder logs."""
     files = sorted((HERE / "logs").glob("*.txt"))
     assert len(files) == 11, f"there are {len(files)} files of cases"
     for file in files:
@@ -128,26 +129,26 @@ def test_log_outputs(work_dir: Path) -> None:
 
 
 def test_tables(work_dir: Path) -> None:
-    """Names of codes, items in diagnostic notation, long messages, and invisible characters."""
+    """Tests names of codes, items in diagnostic notation, long messages, and invisible characters."""
     for text in iter_cases():
         Case(text).run(work_dir)
 
 
 def test_exhausted_counter_is_rejected_without_presence(work_dir: Path) -> None:
-    """A sign-in with the counter 2^32 - 1 is rejected with 15, without a request for presence."""
+    """A sign-in with the counter 2^32 - 1 is rejected with status 15, without a request for user presence."""
     spent = b"\x1a\xff\xff\xff\xff"
     case = "0 hidlog replay --load old --save new\n" + SIGN_IN + "+< 000000019000011500.."
     check_saved(work_dir, spent, case, spent + b"\x08\x60")
 
 
 def test_refused_signature_increments_counter(work_dir: Path) -> None:
-    """If the caller provides no signature, the status is 7f, and the counter is incremented anyway."""
+    """If the caller provides no signature, the status is 7f, but the counter is incremented."""
     case = "0 hidlog replay --load old --save new\n" + SIGN_IN + "-p 10 granted\n-s 20 no\n+< 000000019000017f00.."
     check_saved(work_dir, b"\x00", case, b"\x01\x08\x60")
 
 
 def test_signature_increments_counter(work_dir: Path) -> None:
-    """The bytes to sign have the incremented counter, and the log has the signature need."""
+    """The bytes to sign contain the incremented counter, and the log contains the need for a signature."""
     case = (
         "0 hidlog live --load old --save new\n"
         + SIGN_IN
@@ -158,8 +159,7 @@ def test_signature_increments_counter(work_dir: Path) -> None:
 
 
 def test_each_byte_of_requests_changed(work_dir: Path) -> None:
-    """Whatever a host sends instead of a registration or a sign-in, it gets a response, and so does the next host's
-    INIT."""
+    """Whatever a host sends in place of a registration or a sign-in, the key responds, also to the next host's INIT."""
     test_changed_requests(work_dir, make_snapshot(1, 0xA7, b"\x00"))
 
 

@@ -32,9 +32,9 @@ ENVIRONMENT = {
     "HIDLOG_PROGRAM": str(TOP / "release/hidlog"),
 }
 START_MARK = "/hidlog-begins"
-# Number of places tried for each call, unless all are.
+# Number of places that are tried for each call, unless all places are tried.
 SAMPLE_SIZE = 3
-# Loads what a command loads, and marks in strace's output where the command begins.
+# Imports what a command imports, and marks in the output of strace where the command begins.
 DRIVER = f"""
 import importlib, os, sys
 from hidlog import __main__
@@ -53,26 +53,27 @@ sys.exit(__main__.main())
 """
 LINES = b'{"id": 1, "getCredentials": 0}\n{"id": 2, "getLog": 0}\n'
 FAILED_FIRST = 2
-# The kernel never returns these errors for them.
+# Errors that the kernel never returns for these calls.
 NEVER_FAILS = {"futex", "getpid", "gettid"}
 
 
 @dataclass(frozen=True)
 class Run:
-    """A run of a command in a folder, with {} for the folder in its arguments. `kept` files are created there first."""
+    """A run of a command in a folder, whose name replaces {} in the arguments. The files `kept` are created in the
+    folder first."""
 
     name: str
     words: Tuple[str, ...]
-    # The modules loaded before it starts.
+    # The modules that are loaded before the command starts.
     modules: str
     data: bytes = b""
     kept: Dict[str, bytes] = field(default_factory=dict)
-    # The file that it writes, instead of the kept one.
+    # The file that the command writes, instead of the first of `kept`.
     output: str = ""
-    # Whether strace follows the processes that it starts.
+    # Whether strace follows the processes that the command starts.
     follows: bool = True
-    # Whether a failure may appear on standard output: for one recording of several, or as a log that is not the
-    # shortest.
+    # Whether standard output may show the failure: as the result of one of several recordings, or as a log that is not
+    # the shortest possible.
     reports: bool = False
 
     def start(self, folder: Path, trace: Sequence[str]) -> "subprocess.CompletedProcess[bytes]":
@@ -136,7 +137,8 @@ RUNS = [
 
 
 def count_calls(log: Path) -> Tuple[Dict[str, int], Dict[str, int], Dict[str, int]]:
-    """Returns how often the first process makes each call until the mark, how often in all, and how often others do."""
+    """Returns how often each call is made: by the first process before the mark, by the first process in all, and by
+    other processes."""
     base: Dict[str, int] = {}
     whole: Dict[Tuple[str, str], int] = {}
     first = ""
@@ -158,7 +160,7 @@ def count_calls(log: Path) -> Tuple[Dict[str, int], Dict[str, int], Dict[str, in
 
 
 def list_places(log: Path) -> List[Place]:
-    """Returns the places of a run after the mark, and those of the processes and threads that it starts."""
+    """Returns the places after the mark in a run, and those in the processes and threads that the command starts."""
     base, own, others = count_calls(log)
     assert base, "the mark is missing"
     found = []
@@ -167,14 +169,14 @@ def list_places(log: Path) -> List[Place]:
         if own.get(name, 0) == base.get(name, 0) and not others.get(name):
             continue
         faults = (*injection.FAULTS.get(name, injection.OTHER_ERRORS), "KILL")
-        # Python itself waits forever for a thread that has no memory to start.
+        # Python waits forever for a thread that could not start because memory is short.
         starts = range(1, others.get(name, 0) + 1) if "ENOMEM" in faults else ()
         found += [Place(name, number, fault) for fault in faults for number in sorted(numbers.difference(starts))]
     return found
 
 
 def has_started(log: Path) -> bool:
-    """Returns whether the command had started when the fault occurred, by strace's output."""
+    """Returns whether the command had started when the fault occurred, according to the output of strace."""
     text = log.read_text(encoding="utf-8", errors="replace")
     return START_MARK in text.partition("(INJECTED)")[0]
 
@@ -182,7 +184,7 @@ def has_started(log: Path) -> bool:
 def find_error(
     run: Run, right: "subprocess.CompletedProcess[bytes]", new: bytes, place: Place, folder: Path
 ) -> Optional[str]:
-    """Runs with a fault, and returns what is wrong with what it left."""
+    """Runs a command with a fault, and returns what is wrong with the result."""
     log, space = folder / "strace", folder / "space"
     space.mkdir()
     trace = [
@@ -224,7 +226,7 @@ def find_file_error(run: Run, new: bytes, is_done: bool, is_killed: bool, space:
 
 
 def sample_places(places: Sequence[Place]) -> List[Place]:
-    """Returns some places of each call, evenly spaced over its faults and numbers."""
+    """Returns some places of each call, evenly distributed over its faults and numbers."""
     found: List[Place] = []
     for call in sorted({place.call for place in places}):
         own = [place for place in places if place.call == call]
@@ -233,7 +235,7 @@ def sample_places(places: Sequence[Place]) -> List[Place]:
 
 
 def run_faults(run: Run, jobs: int, is_whole: bool) -> int:
-    """Runs with each fault in turn, or with a sample of them. Returns how many are wrong."""
+    """Runs a command with each fault, or with a sample of the faults. Returns the number of wrong results."""
     with tempfile.TemporaryDirectory() as first, tempfile.TemporaryDirectory() as second:
         right = run.start(Path(first), [])
         assert right.returncode in (0, 1) and b"Traceback" not in right.stderr, right
@@ -246,7 +248,8 @@ def run_faults(run: Run, jobs: int, is_whole: bool) -> int:
 
 
 def run_short_calls(run: Run) -> int:
-    """Runs with short reads and writes. Returns 1 if the exit status or a written file differs."""
+    """Runs a command with short reads and writes. Returns 1 if the exit status or a written file differs from a run
+    without them."""
     with tempfile.TemporaryDirectory() as first, tempfile.TemporaryDirectory() as second:
         with tempfile.TemporaryDirectory() as library:
             right, ended = run.start(Path(first), []), run.start(
@@ -260,7 +263,7 @@ def run_short_calls(run: Run) -> int:
 
 
 def run_all(only: Sequence[str], jobs: int, is_whole: bool) -> int:
-    """Runs all loops. Returns how many places are wrong."""
+    """Runs all commands with faults. Returns the number of wrong results."""
     runs = [run for run in RUNS if not only or f"hidlog {run.name}" in only]
     wrong = sum(run_faults(run, jobs, is_whole) for run in runs)
     if shutil.which("gcc") is None:

@@ -33,9 +33,8 @@ def format_hex_row(line: str, start: int) -> str:
 
 
 def test_counter_is_named(_: Path) -> None:
-    """A counter that is one too low is reported with its byte and its member. By the layout of
-    authenticator data (WebAuthn, section 6.1) it is the 37th byte after two of a head, in the packet with 5 of its own.
-    """
+    """If a counter is one too low, its byte and its member are reported. In authenticator data (WebAuthn, section 6.1)
+    this is the 37th byte, after two bytes of a head, and in a packet with 5 bytes of header."""
     log = EXAMPLES / "failing/stale_sign_count.log"
     lines = log.read_text().splitlines()
     raised = lines[65][: 2 + 2 * 44] + "02"
@@ -61,7 +60,7 @@ def test_counter_is_named(_: Path) -> None:
         "  the messages differ first in signCount of 2 authData",
     ]
     check_beginnings(said.stderr, wanted)
-    # The same for standard input, from a file and from a pipe.
+    # The same is true for standard input, from a file and from a pipe.
     assert run_explained(["check"], stdin=log).stderr == said.stderr
     assert run_explained(["check"], log.read_bytes()).stderr == said.stderr
     assert run_explained(["check", "-"], log.read_bytes()).stderr == said.stderr
@@ -71,7 +70,7 @@ INIT_SENT = b"< " + b"ffffffff860011000102030405060700000001020100000c".ljust(12
 
 
 def test_packet_fields_are_named(_: Path) -> None:
-    """The bytes of a packet's head are named: the channel, the command, the sequence number, the length."""
+    """The bytes of a packet's header are named: the channel, the command, the sequence number and the length."""
     sent = INIT_SENT.decode()[2:-1]
     for at, name in ((0, ", in the channel,"), (4, ", the command,"), (6, ", in the length,"), (7, ""), (63, "")):
         old = sent[2 * at : 2 * at + 2]
@@ -95,15 +94,15 @@ def test_packet_fields_are_named(_: Path) -> None:
 
 
 def test_missing_snapshot_is_noted(work_dir: Path) -> None:
-    """If the key lacks a credential of the log's key, a note suggests --load: for a sign-in, and for a registration
-    with an exclude list."""
+    """If the key lacks a credential that the log's key had, a note suggests --load, for a sign-in and for a
+    registration with an excludeList."""
     log, folder = EXAMPLES / "failing/wrong_snapshot.log", EXAMPLES / "failing"
     missing = b"\n  the log's key may have had more credentials: was it recorded with --load?\n"
     other = b"\n  the log's key may have had other credentials: is --load the right snapshot?\n"
     assert run_explained(["check", str(log)]).stderr.endswith(missing)
     assert run_explained(["check", "--load", str(folder / "bob.snapshot"), str(log)]).stderr.endswith(other)
     check_result(run_explained(["check", "--load", str(folder / "alice.snapshot"), str(log)]), 0, b"")
-    # The log of a registration that is excluded, from its second request on.
+    # The log of a registration that is excluded, from the second request of the log on.
     lines = (folder / "excluded_credential.log").read_bytes().splitlines(keepends=True)
     said = run_explained(["check"], b"".join(lines[:3] + lines[30:])).stderr
     assert missing in said and b"answer 19  CTAP2_ERR_CREDENTIAL_EXCLUDED" in said, said
@@ -111,7 +110,8 @@ def test_missing_snapshot_is_noted(work_dir: Path) -> None:
 
 
 def test_long_pipe_is_noted(work_dir: Path) -> None:
-    """The program keeps 1 MiB of a log on a pipe; for a longer one, a note says how to see the packets."""
+    """The program keeps 1 MiB of a log that it reads from a pipe. For a longer log, a note says how to see the
+    packets."""
     line = b"#" + b" " * 62 + b"\n"
     for more, is_kept in ((-64, True), (0, True), (64, False)):
         front = line * ((1 << 14) - 3 + more // 64)
@@ -129,7 +129,8 @@ def test_long_pipe_is_noted(work_dir: Path) -> None:
 
 
 def test_rewound_standard_input(work_dir: Path) -> None:
-    """A log whose file was read before from the same standard input isn't compared with another part of it."""
+    """If a log's file was read earlier from the same standard input, the log isn't compared with another part of the
+    file."""
     (work_dir / "log").write_bytes(b"t 1\n" + INIT)
     differs = b"hidlog: line 1: differs at packet 1\n"
     for word, more in (("--plain", b""), ("--explain", b"  the log changed while it was being checked\n")):
@@ -165,7 +166,7 @@ def test_all_differences_are_counted(work_dir: Path) -> None:
     assert said.stderr.endswith(b"\nhidlog: 1 input with differences\n"), said
     said = run_explained(["check"], "\n".join(wrong).encode())
     assert b"hidlog: line 13" not in said.stderr and b"inputs with" not in said.stderr, said
-    # A missing packet is reported at the next input, whose packets are compared.
+    # A missing packet is reported at the next input. The packets of this input are compared, too.
     assert (
         b"  the log has no packet here, up to line 14\n"
         in run_explained(["check", "--all"], "\n".join(wrong).encode()).stderr
@@ -175,7 +176,8 @@ def test_all_differences_are_counted(work_dir: Path) -> None:
     faults = [line for line in said.stderr.decode().splitlines() if line.startswith("hidlog: ")]
     assert len(faults) == 21 and faults[-1] == "hidlog: 25 inputs with differences, the first 20 are shown", faults
     assert said.stderr.decode().count("  the key sends:\n") == 20
-    # An invalid line ends it, with a reason; differences are counted for each of several logs.
+    # An invalid line ends the comparison, and the reason is printed. For several logs, differences are counted for each
+    # log.
     said = run_explained(["check", "--all"], many + b"t 5x\n")
     bad = ["hidlog: line 53: not a log line", "  byte 4 is 'x': expected the end of the line"]
     assert said.stderr.decode().splitlines()[-3:] == [*bad, faults[-1]], said
@@ -203,7 +205,7 @@ def test_partial_reads_give_same_result(_: Path) -> None:
 
 
 def test_notes(work_dir: Path) -> None:
-    """If nothing differs, notes name possible problems of the log, without changing the exit status."""
+    """If there are no differences, notes name possible problems of the log, and the exit status doesn't change."""
     good = (EXAMPLES / "registration.log").read_bytes()
     ping = pad_packet("00000001810003616263")
     request = good.splitlines(keepends=True)
@@ -265,8 +267,8 @@ COLOUR = re.compile(rb"\x1b\[\d+m")
 
 
 def test_lines_are_truncated_at_terminal(_: Path) -> None:
-    """At a terminal, lines are truncated to its width, except with --wide, and line numbers are aligned. Other output is
-    unchanged."""
+    """At a terminal, lines are truncated to the terminal's width, except with --wide, and line numbers are aligned.
+    Output to other streams is unchanged."""
     log = (EXAMPLES / "registration.log").read_bytes()
     plain = run_explained(["show"], log).stdout
     whole = show_at_terminal(["show", "--wide"], log, NO_COLOR="1")
@@ -284,7 +286,7 @@ def test_lines_are_truncated_at_terminal(_: Path) -> None:
 
 
 def test_characters_are_not_split(_: Path) -> None:
-    """Lines are truncated between characters; those of three or more bytes count as two columns."""
+    """Lines are truncated between characters. Characters of three or more bytes count as two columns."""
     for sign, columns in (("e", 1), ("\u00e9", 1), ("\u4e2d", 2), ("\U0001f511", 2)):
         for count in range(1, 40):
             log = f"# {sign * count}\n".encode()
@@ -297,7 +299,8 @@ def test_characters_are_not_split(_: Path) -> None:
 
 
 def test_colours_at_terminal(_: Path) -> None:
-    """At a terminal lines have colours, by what they are, unless NO_COLOR is set; without them the text is the same."""
+    """At a terminal, lines have colours that depend on their kind, unless NO_COLOR is set. The text without colours is
+    the same."""
     log = (EXAMPLES / "failing/busy_channel.log").read_bytes()
     plain = show_at_terminal(["show", "--wide"], log, NO_COLOR="1")
     coloured = show_at_terminal(["show", "--wide"], log)
@@ -315,7 +318,7 @@ def test_colours_at_terminal(_: Path) -> None:
 
 
 def run_with_terminal_stderr(words: Sequence[str], log: Path) -> tuple[int, bytes]:
-    """Returns the exit status and standard error, which is a terminal."""
+    """Returns the exit status, and the output on standard error, which is a terminal."""
     terminal, end = pty.openpty()
     with open(log, "rb") as source, subprocess.Popen(
         [PROGRAM, *words], stdin=source, stdout=subprocess.DEVNULL, stderr=end, env={**os.environ, "COLUMNS": "60"}
@@ -344,8 +347,8 @@ def test_differences_are_truncated_at_terminal(_: Path) -> None:
 
 
 def test_form_depends_on_output(_: Path) -> None:
-    """A terminal gets the explained form, and the fixed one with --plain; a pipe gets the fixed form, and the explained
-    one with --explain; --plain is stronger."""
+    """Output to a terminal is explained, or fixed with --plain. Output to a pipe is fixed, or explained with --explain.
+    If both options are given, --plain is used."""
     log = EXAMPLES / "failing/stale_sign_count.log"
     fixed, people = run(["show"], log.read_bytes()).stdout, run_explained(["show"], log.read_bytes()).stdout
     assert b"authenticatorGetAssertion" in people and b"authenticator" not in fixed
@@ -361,7 +364,8 @@ def test_form_depends_on_output(_: Path) -> None:
 
 
 def test_progress_is_erased(work_dir: Path) -> None:
-    """For a log above 64 MiB, a terminal shows the progress, erased at the end. Otherwise nothing is printed."""
+    """For a log above 64 MiB, a terminal shows the progress, which is erased at the end. Otherwise no progress is
+    printed."""
     log = work_dir / "log"
     comments = b"# a comment of some length, which is read and dropped, so that this takes half a second\n"
     log.write_bytes(INIT + INIT_SENT + comments * ((90 << 20) // len(comments)))
@@ -376,7 +380,7 @@ def test_progress_is_erased(work_dir: Path) -> None:
     short = work_dir / "short"
     short.write_bytes(INIT + INIT_SENT)
     assert run_with_terminal_stderr(["check"], short) == (0, b"")
-    # The message overwrites the progress.
+    # The error message overwrites the progress.
     with open(log, "ab") as more:
         more.write(b"t 5x\n")
     status, said = run_with_terminal_stderr(["quiet"], log)

@@ -32,19 +32,20 @@ from injection import Place
 TOP = Path(__file__).resolve().parents[2]
 EXAMPLES = TOP / "examples"
 SNAPSHOT, AGAIN = EXAMPLES / "example_com.snapshot", EXAMPLES / "sign_in_again.log"
-# libc makes these calls before main, and exits without a message if one fails.
+# Calls that libc makes before main. If one of them fails, the program exits without a message.
 STARTUP_CALLS = {"brk", "mprotect", "arch_prctl", "set_tid_address", "set_robust_list", "rseq", "prlimit64", "readlink"}
-# Calls whose failure means that the file may not be on disk; not close, which comes after fsync.
+# Calls whose failure means that the file may not be on disk. This doesn't include close, which comes after fsync.
 WRITE_CALLS = {"write", "pwrite64", "ftruncate", "fsync", "fdatasync", "rename", "openat"}
 
-# Known failures: for each loop, patterns of places, and the reason. A known failure that passes is reported.
+# Known failures: for each run, patterns of places, and the reason. If a known failure no longer occurs, this is
+# reported.
 KNOWN_FAILURES: dict[str, dict[str, str]] = {}
 
 
 @dataclass(frozen=True)
 class Run:
-    """A run of the program in a folder: its arguments, with {} for the folder, its input, and the file it
-    overwrites."""
+    """A run of the program in a folder: its arguments, in which {} stands for the folder, its input, and the file that
+    it overwrites."""
 
     name: str
     words: tuple[str, ...]
@@ -56,7 +57,7 @@ class Run:
         return folder / "keys"
 
     def start(self, program: str, folder: Path, trace: Sequence[str]) -> subprocess.CompletedProcess[bytes]:
-        """Runs it once, in a folder with only the old file."""
+        """Runs the program once, in a folder that contains only the old file."""
         if self.old is not None:
             self.arguments_in(folder).write_bytes(self.old)
         command = [*trace, program, *(word.format(folder) for word in self.words)]
@@ -97,7 +98,7 @@ def find_file_error(run: Run, program: str, folder: Path, new: bytes, status: in
 
 
 def is_refused_after(program: str, path: Path) -> Optional[str]:
-    """Returns an error if a complete snapshot is not loaded. Files saved by Python are not snapshots."""
+    """Returns an error if a complete snapshot cannot be loaded. Files saved by Python are not snapshots."""
     if Path(program).name != "hidlog":
         return None
     loaded = subprocess.run([program, "replay", "--load", str(path)], input=b"", capture_output=True, timeout=600)
@@ -105,7 +106,7 @@ def is_refused_after(program: str, path: Path) -> Optional[str]:
 
 
 def find_message_error(place: Place, log: Path, status: int, said: str) -> Optional[str]:
-    """Returns what is wrong with the status and the text of a run."""
+    """Returns what is wrong with the exit status and the message of a run."""
     is_injected = injection.was_injected(log, place)
     if status == -signal.SIGKILL and place.fault == "KILL":
         return None
@@ -119,7 +120,7 @@ def find_message_error(place: Place, log: Path, status: int, said: str) -> Optio
 
 
 def find_error(run: Run, program: str, new: bytes, output: bytes, place: Place, folder: Path) -> Optional[str]:
-    """Runs with a fault, and returns what is wrong with what it left."""
+    """Runs the program with a fault, and returns what is wrong with the result."""
     log, work_dir = folder / "strace", folder / "room"
     work_dir.mkdir()
     ended = run.start(program, work_dir, place.strace_prefix(log))
@@ -135,7 +136,8 @@ def find_error(run: Run, program: str, new: bytes, output: bytes, place: Place, 
 
 
 def run_faults(run: Run, program: str, jobs: int) -> int:
-    """Runs with each fault in turn. Returns how many places are wrong and not known, or known and right."""
+    """Runs the program with each fault. Returns the number of new failures and of known failures that no longer
+    occur."""
     with tempfile.TemporaryDirectory() as first, tempfile.TemporaryDirectory() as second:
         right = run.start(program, Path(first), [])
         assert right.returncode == 0 and not right.stderr, right
@@ -152,7 +154,7 @@ def run_faults(run: Run, program: str, jobs: int) -> int:
 
 # ---- the Python package, after its imports
 
-# A key after INIT, so that it has something to save.
+# A key after INIT, so that there is something to save.
 MODULES = """
 import sys, hidlog
 from pathlib import Path
@@ -169,7 +171,7 @@ PYTHON = {
 
 
 def count_interpreter_calls(run: Run) -> dict[str, int]:
-    """Returns the calls of the interpreter before it saves, which aren't the package's."""
+    """Returns the calls that the interpreter makes before the package saves."""
     if run.name not in PYTHON:
         return {}
     with tempfile.TemporaryDirectory() as folder:

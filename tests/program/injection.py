@@ -12,7 +12,7 @@ from dataclasses import dataclass
 from pathlib import Path
 from typing import Callable, Iterable, Optional, Sequence
 
-# The errors of each call; other calls fail with EIO or EINTR.
+# The errors that each call can return. All other calls fail with EIO or EINTR.
 FAULTS = {
     "openat": ("EIO", "EMFILE", "ENOMEM", "ESTALE", "ENOSPC"),
     "write": ("EIO", "ENOSPC", "EAGAIN", "EINTR"),
@@ -25,21 +25,21 @@ FAULTS = {
     "brk": ("ENOMEM",),
 }
 OTHER_ERRORS = ("EIO", "EINTR")
-# Calls that end a program, or whose fault strace can't inject.
+# Calls that end a program, and calls whose faults strace can't inject.
 NEVER_INJECTED = {"execve", "exit_group", "exit", "rt_sigreturn", "restart_syscall", "vfork", "fork", "clone", "clone3"}
 _CALL = re.compile(r"^(?:\d+ +)?([a-z_0-9]+)\(", re.MULTILINE)
 
 
 @dataclass(frozen=True)
 class Place:
-    """The n-th call of a name, and what happens there."""
+    """The n-th call of a name, and the fault that is injected into it."""
 
     call: str
     number: int
     fault: str
 
     def strace_prefix(self, log: Path) -> list[str]:
-        """Returns the strace command prefix that injects it."""
+        """Returns the prefix of a command with which strace injects this fault."""
         how = "signal=KILL" if self.fault == "KILL" else f"error={self.fault}"
         if how == "error=ENOMEM" and self.call == "brk":
             how = "retval=0"  # brk returns no error; without memory, it returns the old end of the heap
@@ -54,8 +54,8 @@ class Place:
 
 
 def short_calls_prefix(folder: Path) -> list[str]:
-    """Returns a command prefix that makes each read and write transfer half of the requested bytes, which strace cannot
-    do. Compiles a library in a folder, with gcc."""
+    """Returns the prefix of a command with which each read and write transfers only half of the requested bytes, which
+    strace cannot do. For this, compiles a library in a folder with gcc."""
     library = folder / "short_calls.so"
     source = Path(__file__).with_name("short_calls.c")
     subprocess.run(["gcc", "-shared", "-fPIC", "-O1", "-Wall", "-Werror", "-o", str(library), str(source)], check=True)
@@ -63,15 +63,15 @@ def short_calls_prefix(folder: Path) -> list[str]:
 
 
 def was_injected(log: Path, place: Place) -> bool:
-    """Whether the call was made, by strace's output."""
+    """Returns whether the call was made, according to the output of strace."""
     text = log.read_text(encoding="utf-8", errors="replace")
     is_kill = place.fault == "KILL"
     return _CALL.findall(text).count(place.call) >= place.number if is_kill else "(INJECTED)" in text
 
 
 def was_recoverable(log: Path) -> bool:
-    """Whether the failed call was on a temporary file beside the saved one, or a read, so that the file is
-    unchanged."""
+    """Returns whether the failed call was a read, or concerned a temporary file beside the saved file, so that the
+    saved file is unchanged."""
     opened: dict[str, str] = {}
     for line in log.read_text(encoding="utf-8", errors="replace").splitlines():
         if found := re.search(r"openat\(.*, (\".*\", \S+?)(?:, 0\d+)?\) = (\d+)$", line):
@@ -94,9 +94,10 @@ def count_calls(run: Callable[[Sequence[str]], object], folder: Path) -> dict[st
 
 
 def list_places(counts: dict[str, int], only: Optional[Iterable[str]] = None) -> list[Place]:
-    """Returns the places of a run with the faults of each, only of the named calls if any are named."""
+    """Returns the places in a run, with the faults of each. If `only` is given, returns only the places of these
+    calls."""
     names = [call for call in sorted(counts) if call not in NEVER_INJECTED and (only is None or call in only)]
-    # One more than was counted, since a run may make one more call; otherwise nothing is injected there.
+    # One call more than the number counted, because a run may make one more. If it doesn't, nothing is injected there.
     return [
         Place(name, number, fault)
         for name in names
@@ -123,8 +124,7 @@ def check_places(
 
 
 def report_failures(name: str, count: int, wrong: Sequence[tuple[Place, str]], known: dict[str, str]) -> int:
-    """Prints the result of a loop: new failures, and known failures that no longer occur. Returns the number of
-    both."""
+    """Prints the result of a run: new failures, and known failures that no longer occur. Returns the number of both."""
     bad, seen = 0, set()
     for place, said in wrong:
         mark = next((pattern for pattern in known if re.fullmatch(pattern, str(place))), None)

@@ -31,17 +31,17 @@ REPLIES = [b"p 0 granted", b"k 0 " + b" ".join([b"ab" * 32, b"bb" * 32, b"cc" * 
 
 
 def format_host_packets(sent: Iterable[bytes]) -> list[bytes]:
-    """Returns the lines of packets of a host."""
+    """Returns the log lines for packets of a host."""
     return [b"> 0 " + packet.hex().encode() for packet in sent]
 
 
 def format_key_packets(key: Iterable[bytes]) -> list[bytes]:
-    """Returns the lines of packets of the key."""
+    """Returns the log lines for packets of the key."""
     return [b"< " + packet.hex().encode() for packet in key]
 
 
 def status_packet(number: int) -> bytes:
-    """Returns the packet of a response on channel 1 with only a status."""
+    """Returns the packet of a response on channel 1 that consists of a status."""
     first: bytes = packets(1, CBOR, bytes([number]))[0]
     return first
 
@@ -58,7 +58,7 @@ KEEPALIVE_UPNEEDED = packets(1, KEEPALIVE, b"\x02")[0]
 
 @dataclass(frozen=True)
 class InputResult:
-    """The key's packets and need after an input."""
+    """The packets that the key sends for an input, and what it needs after the input."""
 
     packets: list[bytes]
     need: bytes
@@ -66,21 +66,21 @@ class InputResult:
 
 @dataclass(frozen=True)
 class LiveResult:
-    """A log played by `live`: the results of each input, and the final counts."""
+    """The output of `live` for a log: the results of each input, and the counts at the end."""
 
     answers: list[InputResult]
     counts: list[int]
 
     def check_limits(self, rows: int) -> None:
-        """Fails unless the peaks are within the limits, and decoding took at most 4 steps per byte and 2 per
-        request."""
+        """Fails unless the maximum counts are within the limits, and decoding took at most 4 steps for each byte and 2
+        for each request."""
         _, most, _, requests, size, steps = self.counts
         assert most == rows, f"{most} credentials were held"
         assert steps <= 4 * size + 2 * requests, f"{requests} requests of {size} bytes took {steps} steps"
 
 
 def play_live(inputs: Sequence[bytes], *options: str) -> LiveResult:
-    """Plays inputs, and returns the results."""
+    """Plays inputs with `live`, and returns the results."""
     said = run(["live", *options], b"\n".join([*inputs, b""]))
     assert said.returncode == 0 and said.stderr == b"", said.stderr.decode()
     answers: list[InputResult] = []
@@ -97,7 +97,7 @@ def play_live(inputs: Sequence[bytes], *options: str) -> LiveResult:
 
 
 def compare_sessions(work_dir: Path, logs: Sequence[list[bytes]]) -> None:
-    """Compares logs, each in a new session."""
+    """Compares each log in a new session."""
     names = [f"{number}.log" for number in range(len(logs))]
     for name, log in zip(names, logs):
         (work_dir / name).write_bytes(b"\n".join([*log, b""]))
@@ -107,8 +107,8 @@ def compare_sessions(work_dir: Path, logs: Sequence[list[bytes]]) -> None:
 
 
 def test_truncated_registration_is_refused(work_dir: Path) -> None:
-    """A registration that is truncated to 1 to 90 bytes is not CBOR: status 12. Decoding 1 byte takes one step, 90
-    bytes take 99."""
+    """A registration that is truncated to 1 to 90 bytes is not valid CBOR, so the status is 12. Decoding 1 byte takes
+    one step, and 90 bytes take 99 steps."""
     greeted = [*format_host_packets(INIT_PACKETS), *format_key_packets([init_response(1)])]
     logs = [
         [
@@ -126,7 +126,7 @@ def test_truncated_registration_is_refused(work_dir: Path) -> None:
 
 
 def test_large_heads_long_keys_and_deep_values(_: Path) -> None:
-    """A map of 2^64 - 1 pairs, a key of 256 bytes, and members of four levels and of five."""
+    """Tests a map of 2^64 - 1 pairs, a key of 256 bytes, and members with four and with five levels."""
     cases = [
         (b"\x01\xbb" + b"\xff" * 8, status_packet(0x12), 10),
         (b"\x01\xa2\x00\x00\x59\x01\x00" + bytes(256) + b"\x00", status_packet(0x14), 1046),
@@ -141,7 +141,7 @@ def test_large_heads_long_keys_and_deep_values(_: Path) -> None:
 
 
 def iter_changes(data: bytes) -> list[bytes]:
-    """Returns the bytes with each of them changed to each value."""
+    """Returns the bytes with each byte changed to each other value."""
     return [data[:at] + bytes([value]) + data[at + 1 :] for at in range(len(data)) for value in range(256)]
 
 
@@ -151,7 +151,8 @@ def reset_lines() -> list[bytes]:
 
 
 def check_each_byte_changed(request: bytes, after: list[bytes], *options: str) -> None:
-    """Fails unless each changed request waits for presence or is refused, is then served, and leaves nothing waiting."""
+    """Fails unless each changed request either waits for user presence or is rejected, and no request is pending after
+    the caller's replies."""
     requests = iter_changes(request)
     count = len(packets(1, CBOR, request))
     groups = [[*format_host_packets(packets(1, CBOR, request)), *REPLIES, *after] for request in requests]
@@ -176,12 +177,12 @@ def check_each_byte_changed(request: bytes, after: list[bytes], *options: str) -
 
 
 def check_each_packet_changed(request: bytes, after: list[bytes], *options: str) -> None:
-    """Fails unless the key handles replies after each changed packet, and then responds to a host's INIT."""
+    """Fails unless, after each changed packet, the key handles replies and responds to a host's INIT."""
     whole, host = packets(1, CBOR, request), format_host_packets(INIT_PACKETS)
     groups: list[list[bytes]] = []
     for number, packet in enumerate(whole):
         for changed in iter_changes(packet):
-            # An INIT on the channel of an incomplete message discards the message.
+            # INIT on the channel of an incomplete message drops the message.
             ends = [packets(channel, INIT, NONCE)[0] for channel in (1, int.from_bytes(changed[:4], "big"))]
             begun = format_host_packets([*whole[:number], changed, *whole[number + 1 :]])
             groups.append(
@@ -207,10 +208,9 @@ def check_each_packet_changed(request: bytes, after: list[bytes], *options: str)
 
 
 def test_three_hosts_in_every_order(work_dir: Path) -> None:
-    """Three hosts send a PING of 100 bytes in two packets each, in all 90 orders. A PING that begins while no message
-    is open gets its response after the second packet. Any other one gets ERROR 06 for its first packet, and nothing
-    for its second.
-    """
+    """Three hosts send a PING of 100 bytes in two packets each, in all 90 orders. If a PING begins while no message is
+    open, the response comes after its second packet. Otherwise, ERROR 06 is sent for its first packet, and no packet
+    for its second one."""
     orders = sorted(set(itertools.permutations((1, 1, 2, 2, 3, 3))))
     assert len(orders) == 90
     logs = []
@@ -241,7 +241,7 @@ def test_three_hosts_in_every_order(work_dir: Path) -> None:
 
 
 def test_changed_requests(work_dir: Path, credentials: bytes) -> None:
-    """Each byte of a registration and of a sign-in, and of their packets, is changed to each value."""
+    """Changes each byte of a registration and of a sign-in, and of their packets, to each other value."""
     (work_dir / "credentials").write_bytes(credentials)
     load = ["--load", str(work_dir / "credentials")]
     check_each_byte_changed(REGISTRATION, reset_lines())

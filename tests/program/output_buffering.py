@@ -1,4 +1,5 @@
-"""Output buffering: output is held back while more input is available, but never while waiting for input."""
+"""Buffering of the output: output may be buffered while more input is available, but not while the program waits for
+input."""
 
 from __future__ import annotations
 
@@ -38,13 +39,14 @@ def test_many_lines_take_few_writes(work_dir: Path) -> None:
         (work_dir / "log").write_bytes(log)
         count, text = trace_writes(words, work_dir / "log")
         assert text == wanted, f"{words} wrote something else"
-        # Two writes per 4096 bytes read, one per 8192 bytes buffered, and one for the counts.
+        # The writes for a file: two for each 4096 bytes that are read, one for each 8192 bytes that are buffered, and
+        # one for the counts.
         most = 3 * (len(log) // 4096 + 1) + len(text) // 4096 + 2
         assert count <= most, f"{words}: {count} writes and not {most}"
 
 
 def read_until(program: subprocess.Popen[bytes], part: bytes) -> bytes:
-    """Returns a program's output up to this text; fails if the text does not come."""
+    """Returns the output of a program up to this text. Fails if the text does not come."""
     assert program.stdout is not None
     text = b""
     while part not in text:
@@ -57,7 +59,7 @@ def read_until(program: subprocess.Popen[bytes], part: bytes) -> bytes:
 
 
 def to_live_output(text: bytes) -> bytes:
-    """Returns the output of `live` for ticks and comments that `replay` copies."""
+    """Returns the output of `live` for ticks and comments, which `replay` copies."""
     need = b"# need nothing\n"
     return b"".join(line + need if line.startswith(b"t") else line for line in text.splitlines(keepends=True))
 
@@ -92,7 +94,7 @@ def test_output_precedes_next_read(_: Path) -> None:
 
 
 def test_failed_write_precedes_later_error(_: Path) -> None:
-    """A failed write is reported, instead of the error of a later line whose message was held back."""
+    """A failed write is reported before an error in a later line, whose message is not written yet."""
     for words in (["replay"], ["quiet"], ["show"]):
         for log in (INIT * 9, b"t 1\nt 2\nt 3x\n", b"t 1\nt 2x\nt 3\n", b"t 1\n" + b"t" * 300):
             with open("/dev/full", "wb") as full:
@@ -101,7 +103,7 @@ def test_failed_write_precedes_later_error(_: Path) -> None:
 
 
 def test_error_follows_earlier_output(work_dir: Path) -> None:
-    """If standard output and error are the same file, the output before an error precedes its message."""
+    """If standard output and standard error are the same file, the output before an error comes before its message."""
     lines = b"t 1\nt 2\n# a\n"
     with open(work_dir / "all", "wb") as out:
         said = subprocess.run([PROGRAM, "replay"], input=lines + b"t 3x\nt 4\n", stdout=out, stderr=out)
@@ -111,7 +113,7 @@ def test_error_follows_earlier_output(work_dir: Path) -> None:
 
 
 def test_any_write_can_fail(work_dir: Path) -> None:
-    """If any write fails, what was written is a prefix of the output, and the failure is reported."""
+    """Whichever write fails, the bytes written are a prefix of the output, and the failure is reported."""
     log = b"".join(b"t %d\n# a\n" % n for n in range(2_000))
     (work_dir / "log").write_bytes(log)
     count, whole = trace_writes(["replay"], work_dir / "log")

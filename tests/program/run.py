@@ -48,7 +48,7 @@ def check_no_file(work_dir: Path, path: str, reason: str) -> bytes:
 
 
 def become_nobody() -> None:
-    """Changes to an unprivileged user if this is root, so that file permissions apply."""
+    """If the user is root, changes to an unprivileged user, so that file permissions apply."""
     if os.geteuid() == 0:
         os.setgroups([])
         os.setgid(NOBODY)
@@ -59,7 +59,7 @@ def become_nobody() -> None:
 
 
 def test_live_checks_save_first(work_dir: Path) -> None:
-    """`live` checks the path of --save before it reads a line."""
+    """`live` checks the path of --save before it reads the first line."""
     missing, folder = f"{work_dir}/none/keys", str(work_dir)
     check_result(
         run_explained(["live", "--save", missing], INIT),
@@ -92,7 +92,8 @@ def test_live_checks_save_first(work_dir: Path) -> None:
 
 
 def test_live_needs_permission(work_dir: Path) -> None:
-    """A path of --save that is not writable is rejected before the session, and nothing is created there."""
+    """If the path of --save is not writable, this is an error before the session begins, and no file is created
+    there."""
     keys = work_dir / "keys"
     keys.write_bytes(b"old")
     keys.chmod(0o444)
@@ -138,7 +139,7 @@ def test_replay_reports_save_last(work_dir: Path) -> None:
 
 
 def test_log_is_not_overwritten(work_dir: Path) -> None:
-    """--save onto the log that is read, or to the file of standard output, is refused."""
+    """The log that is read, and the file to which standard output goes, are rejected as paths of --save."""
     log = work_dir / "log"
     log.write_bytes(INIT)
     lost = check_no_file(work_dir, str(log), "it is the input log")
@@ -159,7 +160,7 @@ def test_log_is_not_overwritten(work_dir: Path) -> None:
 
 
 def test_fifo_needs_reader(work_dir: Path) -> None:
-    """--save to a FIFO without a reader is refused at once; one with a reader gets the snapshot."""
+    """A FIFO without a reader is rejected as the path of --save at once. A FIFO with a reader receives the snapshot."""
     fifo = work_dir / "fifo"
     os.mkfifo(fifo)
     check_result(
@@ -184,7 +185,7 @@ def save_snapshot(work_dir: Path) -> bytes:
 
 
 def test_saving_replaces_file(work_dir: Path) -> None:
-    """A shorter, a longer and an equal snapshot replace the whole contents of the file."""
+    """The whole content of the file is replaced by a snapshot that is shorter, longer or equal."""
     wanted = save_snapshot(work_dir)
     for old in (b"", b"x", wanted[:-1], wanted, wanted + b"x", wanted * 400):
         keys = work_dir / "keys"
@@ -195,8 +196,8 @@ def test_saving_replaces_file(work_dir: Path) -> None:
 
 
 def test_failed_write_keeps_file(work_dir: Path) -> None:
-    """If a write of the snapshot fails, or the program is killed there, the old file is unchanged. The first writes are
-    those of the checksums and of the copy."""
+    """If a write of the snapshot fails, or the program is killed during the write, the old file is unchanged. The first
+    writes are those of the checksums and of the copy."""
     for old in (SNAPSHOT.read_bytes(), bytes.fromhex("a201020280")):
         for fault in ("error=ENOSPC", "error=EIO", "signal=KILL"):
             keys = work_dir / "keys"
@@ -211,7 +212,7 @@ def test_failed_write_keeps_file(work_dir: Path) -> None:
 
 
 def test_full_disk_keeps_file(work_dir: Path) -> None:
-    """On a full file system the old snapshot is kept, unless the new one needs no more blocks."""
+    """On a full file system, the old snapshot is kept, unless the new one needs no additional blocks."""
     folder = work_dir / "small"
     folder.mkdir()
     if (
@@ -249,7 +250,7 @@ def fill_disk(path: Path) -> None:
 
 
 def test_concurrent_saves(work_dir: Path) -> None:
-    """With `--save new` and `mv`, none of 200 programs using one file reads an incomplete snapshot."""
+    """With `--save new` and `mv`, none of 200 programs that use one file reads an incomplete snapshot."""
     keys = work_dir / "keys"
     shutil.copy(SNAPSHOT, keys)
     script = '"$0" replay --load "$1" --save "$1.$2" <"$3" >/dev/null && mv "$1.$2" "$1" && rm "$1.$2.hidlog-sum"'
@@ -268,7 +269,8 @@ def test_concurrent_saves(work_dir: Path) -> None:
 
 
 def test_signals_save_nothing(work_dir: Path) -> None:
-    """SIGINT and SIGTERM end `live` without a message and keep the old file; at the end of its input it saves."""
+    """SIGINT and SIGTERM end `live` without a message, and the old file is kept. At the end of its input, `live` saves
+    the snapshot."""
     keys = work_dir / "keys"
     for number in (signal.SIGINT, signal.SIGTERM):
         keys.write_bytes(b"old")
@@ -287,7 +289,7 @@ def test_signals_save_nothing(work_dir: Path) -> None:
 
 
 def start_live(keys: Path) -> subprocess.Popen[bytes]:
-    """Starts `live --save`, with SIGINT not ignored, unlike a background process of a shell."""
+    """Starts `live --save`. SIGINT is not ignored, unlike in a background process of a shell."""
     pipe = subprocess.PIPE
     command = [PROGRAM, "live", "--save", str(keys)]
     return subprocess.Popen(command, stdin=pipe, stdout=pipe, stderr=pipe, preexec_fn=restore_interrupts)
@@ -301,7 +303,7 @@ def restore_interrupts() -> None:
 
 
 def test_invalid_snapshots_are_reported(work_dir: Path) -> None:
-    """All four commands report the path of an unreadable or invalid snapshot, and the reason."""
+    """All four commands report the path of a snapshot that is unreadable or invalid, and the reason."""
     whole = SNAPSHOT.read_bytes()
     cases = [
         (b"", "1", "it is empty"),
@@ -385,7 +387,7 @@ def test_invalid_lines_are_located(_: Path) -> None:
             check_result(run([command], line + b"\n"), 1, b"hidlog: line 1: not a log line\n")
             said = run_explained([command], line + b"\n")
             check_result(said, 1, f"hidlog: line 1: not a log line\n  {reason}\n".encode())
-    # The line is also found after many others, and before those read in the same block.
+    # The line is found, too, after many other lines, and if it is read in the same block as earlier lines.
     for front in (1, 3, 40, 5000):
         log = b"# a comment of some length, so that reads end within lines\n" * front + b"t 5x\nt 6y\n" + b"t 7\n" * 99
         said = run_explained(["quiet"], log)
@@ -397,7 +399,7 @@ def test_invalid_lines_are_located(_: Path) -> None:
 
 
 def test_other_errors_have_no_reason(_: Path) -> None:
-    """Other kinds of errors do not mention the lines that were not played."""
+    """Messages about other kinds of errors do not mention lines that were not played."""
     said = (
         b"  the log has in line 1:\n    < 00000000 +0\n  the key sends no packet here\n"
         b"  no input comes before this packet\n"
@@ -416,14 +418,14 @@ WRITING_FAILED = b"hidlog: writing failed\n"
 
 
 def test_closed_pipe_is_reported(work_dir: Path) -> None:
-    """If standard output is closed by its reader, as by `| head`, writing fails; for --help the status is 2."""
+    """If the reader of standard output closes it, as `| head` does, writing fails. For --help, the exit status is 2."""
     for words, status in ((["replay"], 1), (["live"], 1), (["quiet"], 1), (["show"], 1), (["--help"], 2)):
         reader, writer = os.pipe()
         os.close(reader)
         said = subprocess.run([PROGRAM, *words], input=INIT * 9, stdout=writer, stderr=subprocess.PIPE)
         os.close(writer)
         check_result(said, status, WRITING_FAILED)
-    # Also in the middle of its output.
+    # The same is true in the middle of the output.
     script = '"$0" replay 2>"$1" <"$2" | head -1 >/dev/null; echo "${PIPESTATUS[0]}"'
     (work_dir / "log").write_bytes(INIT * 40_000)
     words = ["bash", "-c", script, PROGRAM, str(work_dir / "faults"), str(work_dir / "log")]
@@ -432,7 +434,8 @@ def test_closed_pipe_is_reported(work_dir: Path) -> None:
 
 
 def test_full_output_is_reported(_: Path) -> None:
-    """An error of writing to standard output is reported, also for --help; the explained form has the reason."""
+    """An error of writing to standard output is reported, also for --help. The explained message contains the
+    reason."""
     full = b"  standard output: No space left on device (os error 28)\n"
     for words, status in ((["replay"], 1), (["check"], 1), (["show"], 1), (["--help"], 2), (["--version"], 2)):
         forms: list[list[str]] = [[]] if words[0].startswith("-") else [[], ["--explain"]]
@@ -454,7 +457,7 @@ def test_full_standard_error_changes_nothing(_: Path) -> None:
 
 
 def test_directory_on_standard_input(_: Path) -> None:
-    """Each command reports that standard input is a directory; the explained form has the reason."""
+    """Each command reports that standard input is a directory. The explained message contains the reason."""
     reason = b"  standard input: Is a directory (os error 21)\n"
     for command in ("replay", "live", "check", "quiet", "show"):
         for words, more in (([command], b""), ([command, "--explain"], reason)):
@@ -467,7 +470,7 @@ def test_directory_on_standard_input(_: Path) -> None:
 
 
 def test_failed_calls_are_not_repeated(_: Path) -> None:
-    """A failed read or write is reported and not repeated, even after EINTR or EAGAIN. Earlier output is not lost."""
+    """A failed read or write is reported and not retried, even after EINTR or EAGAIN. Earlier output is not lost."""
     log = (EXAMPLES / "registration.log").read_bytes()
     lived = run(["live"], log).stdout
     for error, name in (
@@ -485,7 +488,7 @@ def test_failed_calls_are_not_repeated(_: Path) -> None:
         said = run(["replay"], log, trace=["-e", f"inject=read:error={error}:when=1"])
         check_result(said, 1, b"hidlog: line 1: reading failed\n", b"")
         said = run(["replay"], log, trace=["-e", f"inject=read:error={error}:when=2"])
-        # All lines were read and played before; only the counts are missing.
+        # All lines were read and played before the failure; only the counts are missing.
         lines = log.splitlines(keepends=True)[:-1]
         inputs = log.rpartition(b"= held")[0]
         check_result(said, 1, f"hidlog: line {len(lines) + 2}: reading failed\n".encode(), inputs)
@@ -515,8 +518,8 @@ def test_file_arguments(work_dir: Path) -> None:
 
 
 def test_unreadable_files_are_reported(work_dir: Path) -> None:
-    """A missing file, a directory and an unreadable file are reported with the path and the reason. The status is 1,
-    nothing is written, and no snapshot is read first."""
+    """A missing file, a directory and an unreadable file are reported with the path and the reason. The exit status is
+    1, nothing is written, and no snapshot is read before."""
     closed = work_dir / "closed.log"
     closed.write_bytes(INIT)
     closed.chmod(0)
@@ -535,8 +538,8 @@ def test_unreadable_files_are_reported(work_dir: Path) -> None:
 
 
 def test_file_errors_have_reasons(work_dir: Path) -> None:
-    """An error in a file argument has the same text and reason as on standard input; a failed read also has the
-    path."""
+    """For an error in a file argument, the text and the reason are the same as on standard input. For a failed read,
+    the path is printed, too."""
     log = work_dir / "a.log"
     log.write_bytes(INIT + b"t 5\r\n")
     for command in ("replay", "live", "quiet", "show"):
@@ -551,7 +554,7 @@ def test_file_errors_have_reasons(work_dir: Path) -> None:
     )
 
 
-# The result for a log with only INIT.
+# The result of `check` for a log that contains only INIT.
 MISSING_PACKET = """\
   in INIT 06 on channel ffffffff, from line 1
   the log has no packet here, up to line 2
@@ -563,8 +566,8 @@ MISSING_PACKET = """\
 
 
 def test_several_logs_are_checked(work_dir: Path) -> None:
-    """`check` compares each file in a separate session, and prints a result for each; no other command takes
-    several."""
+    """`check` compares each file in a separate session, and prints a result for each file. No other command accepts
+    several files."""
     good, again = EXAMPLES / "registration.log", EXAMPLES / "sign_in.log"
     same = run_explained(["check"], stdin=good).stdout
     more = run_explained(["check"], stdin=again).stdout
@@ -584,7 +587,7 @@ def test_several_logs_are_checked(work_dir: Path) -> None:
     )
     paths = [str(path) for path in (differs, bad, none, good)]
     check_result(run_explained(["check", *paths]), 1, told.encode(), f"{good}: ".encode() + same)
-    # Standard input may be one of them, and a snapshot is loaded for each.
+    # One of the logs may be standard input, and a snapshot is loaded for each log.
     loaded = run_explained(["check", "--load", str(SNAPSHOT)], stdin=SIGN_IN_AGAIN).stdout
     said = run_explained(["check", "--load", str(SNAPSHOT), "-", str(SIGN_IN_AGAIN)], stdin=SIGN_IN_AGAIN)
     check_result(said, 0, b"", b"-: " + loaded + f"{SIGN_IN_AGAIN}: ".encode() + loaded)
@@ -602,8 +605,8 @@ def test_several_logs_are_checked(work_dir: Path) -> None:
 
 
 def test_show_forms(work_dir: Path) -> None:
-    """`show --summary` and `show --json` replace the lines, even for a log with an error; with both options the summary
-    is JSON."""
+    """With `show --summary` and `show --json` the lines are not shown, even for a log with an error. With both options,
+    the summary is written as JSON."""
     log = EXAMPLES / "sign_in.log"
     lines = run_explained(["show", str(log)]).stdout
     summary = run_explained(["show", "--summary", str(log)])
@@ -647,7 +650,7 @@ def read_objects(log: bytes) -> list[dict[str, Any]]:
 
 
 def check_each_packet_shown(log: bytes) -> None:
-    """Fails unless each packet before an error has its object, in the log's order."""
+    """Fails unless there is an object for each packet before an error, in the order of the log."""
     objects = read_objects(log)
     fault: dict[str, Any] = next((row for row in objects if row["kind"] == "fault"), {})
     numbers = [number for number, line in enumerate(log.split(b"\n"), 1) if line[:1] in (b">", b"<")]
@@ -669,7 +672,7 @@ def change_digits(log: bytes, chance: random.Random) -> bytes:
 
 
 def test_every_log_is_json(work_dir: Path) -> None:
-    """`show --json` writes JSON, with an object for each packet, of every log, and of changed ones."""
+    """`show --json` writes JSON with an object for each packet, for every log and for changed logs."""
     subprocess.run([TOP / "conformance/make.py", "--output", work_dir / "sessions"], check=True)
     folders = [EXAMPLES.glob("**/*.log"), (work_dir / "sessions").glob("*/*.log")]
     logs = [path.read_bytes() for folder in folders for path in sorted(folder)]
@@ -681,7 +684,7 @@ def test_every_log_is_json(work_dir: Path) -> None:
 
 
 def test_full_output_stops_check(_: Path) -> None:
-    """If standard output is full or closed, no further log is compared."""
+    """If standard output is full or closed, no further logs are compared."""
     good = str(EXAMPLES / "registration.log")
     with open("/dev/full", "wb") as out:
         said = subprocess.run([PROGRAM, "check", good, good, "/none"], stdout=out, stderr=subprocess.PIPE)
@@ -689,7 +692,7 @@ def test_full_output_stops_check(_: Path) -> None:
 
 
 def test_many_files_need_no_memory(work_dir: Path) -> None:
-    """Comparing a thousand logs needs no more stack and memory than comparing one."""
+    """Comparing a thousand logs needs no more stack and memory than comparing one log."""
     log = work_dir / "a.log"
     log.write_bytes((EXAMPLES / "registration.log").read_bytes())
 
@@ -702,7 +705,7 @@ def test_many_files_need_no_memory(work_dir: Path) -> None:
 
 
 def test_named_log_is_not_overwritten(work_dir: Path) -> None:
-    """--save onto a log argument is refused, also under another name of the file."""
+    """A log argument is rejected as the path of --save, also under another name of the file."""
     log, link = work_dir / "log", work_dir / "link"
     log.write_bytes(INIT)
     os.symlink(log, link)
@@ -712,7 +715,7 @@ def test_named_log_is_not_overwritten(work_dir: Path) -> None:
         said = run_explained(["replay", "--save", str(path), str(log)])
         assert said.returncode == 2 and said.stderr == lost and said.stdout.startswith(INIT)
         assert log.read_bytes() == INIT
-    # Any other file may be saved to, whatever standard input is.
+    # Any other file is a valid path of --save, whatever standard input is.
     keys = work_dir / "keys"
     keys.write_bytes(b"old")
     check_result(run_explained(["replay", "--save", str(keys), str(log)], stdin=keys), 0, b"")
@@ -720,7 +723,7 @@ def test_named_log_is_not_overwritten(work_dir: Path) -> None:
 
 
 def run_at_terminal(words: Sequence[str], typed: bytes) -> bytes:
-    """Returns standard error of the program, with a text typed at its terminal as standard input."""
+    """Returns the output of the program on standard error. Standard input is a terminal at which this text is typed."""
     terminal, end = os.openpty()
     with subprocess.Popen([PROGRAM, *words], stdin=end, stdout=subprocess.DEVNULL, stderr=subprocess.PIPE) as program:
         os.close(end)
@@ -732,7 +735,7 @@ def run_at_terminal(words: Sequence[str], typed: bytes) -> bytes:
 
 
 def test_terminal_prompt(_: Path) -> None:
-    """With --explain and a terminal as standard input, one note says that the program waits for input."""
+    """If --explain is given and standard input is a terminal, one note says that the program waits for input."""
     awaited = b"hidlog: reading a log from the terminal; end it with Ctrl-D\n"
     for words in (["replay"], ["live"], ["check"], ["quiet"], ["show"], ["show", "-"]):
         assert run_at_terminal([*words, "--explain"], b"t 5\nt 6\n") == awaited, words
@@ -745,7 +748,7 @@ def test_terminal_prompt(_: Path) -> None:
 
 
 def test_little_stack_is_enough(_: Path) -> None:
-    """Each command runs in the stack that docs/use/LIMITS.md names."""
+    """Each command needs at most the stack size that docs/use/LIMITS.md states."""
 
     def small() -> None:
         resource.setrlimit(resource.RLIMIT_STACK, (STACK_BYTES, resource.RLIM_INFINITY))

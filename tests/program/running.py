@@ -17,7 +17,7 @@ SNAPSHOT = EXAMPLES / "example_com.snapshot"
 SIGN_IN_AGAIN = EXAMPLES / "sign_in_again.log"
 INIT = b"> 0 " + b"ffffffff8600080001020304050607".ljust(128, b"0") + b"\n"
 COUNTS = b"= held 0 rows 0 pending 0 requests 0 bytes 0 steps 0\n"
-# The stack in bytes that docs/use/LIMITS.md states, including arguments and environment.
+# The stack size in bytes that docs/use/LIMITS.md states, which includes arguments and environment.
 STACK_BYTES = 144 << 10
 
 Said = subprocess.CompletedProcess[bytes]
@@ -31,8 +31,8 @@ def run(
     trace: Sequence[str] = (),
     before: Optional[Callable[[], None]] = None,
 ) -> Said:
-    """Runs the program with arguments, and a log or a file as standard input; under strace if a fault is to be
-    injected."""
+    """Runs the program with arguments. Standard input is a log or a file. If a fault is to be injected, the program
+    runs under strace."""
     command = [PROGRAM, *words]
     if trace:
         command = ["strace", "-f", "-qq", "-o", "/dev/null", *trace, *command]
@@ -50,8 +50,8 @@ def run_explained(
     trace: Sequence[str] = (),
     before: Optional[Callable[[], None]] = None,
 ) -> Said:
-    """Runs the program as `run` does, with --explain. Fails unless stderr without the explanations (lines that begin
-    with two spaces, and notes) is the plain text."""
+    """Runs the program as `run` does, with --explain. Fails unless standard error without the explanations, which are
+    notes and lines that begin with two spaces, is the plain text."""
     said = run([words[0], "--explain", *words[1:]], log, stdin=stdin, trace=trace, before=before)
     if "--save" not in words and not trace:
         fixed = run(words, log, stdin=stdin, before=before)
@@ -62,8 +62,8 @@ def run_explained(
 
 
 def run_in_parts(words: Sequence[str], log: bytes, part: int) -> Said:
-    """Runs the program on a log through a pipe, in parts of `part` bytes, each written once the previous one was
-    read."""
+    """Runs the program on a log through a pipe, in parts of `part` bytes. Each part is written when the previous one
+    was read."""
     with subprocess.Popen(
         [PROGRAM, *words], stdin=subprocess.PIPE, stdout=subprocess.PIPE, stderr=subprocess.PIPE, bufsize=0
     ) as program:
@@ -80,7 +80,7 @@ def run_in_parts(words: Sequence[str], log: bytes, part: int) -> Said:
 
 
 def count_unread(pipe: int) -> int:
-    """Returns how many bytes of a pipe wait for its reader."""
+    """Returns the number of unread bytes in a pipe."""
     count = fcntl.ioctl(pipe, termios.FIONREAD, bytes(4))
     return int.from_bytes(count, sys.byteorder)
 

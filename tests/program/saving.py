@@ -1,4 +1,4 @@
-"""Snapshots that several programs load and save, damaged ones, and folders with other users' files."""
+"""Snapshots that several programs load and save at once, damaged snapshots, and folders with files of other users."""
 
 from __future__ import annotations
 
@@ -18,12 +18,12 @@ CANNOT_READ, CANNOT_WRITE = b"hidlog: cannot read snapshot\n", b"hidlog: cannot 
 IN_USE_MESSAGE = b"another program has loaded it, and is going to save to it\n"
 DAMAGED_MESSAGE = b"its bytes don't match its .hidlog-sum: it is damaged; else remove that file\n"
 INVALID_SUMS_MESSAGE = b"the file of its name and .hidlog-sum has no sums: remove it\n"
-# The signature counter in the example's snapshot: key 07, and then an integer below 24.
+# The signature counter in the example's snapshot: key 07, followed by an integer below 24.
 COUNTER = re.compile(rb"\x06\xf5\x07(\x18.|[\x00-\x17])\x08", re.DOTALL)
 
 
 def load_and_save_arguments(keys: Path | str, command: str = "replay", save: Path | str | None = None) -> list[str]:
-    """Returns the arguments to load a snapshot and save to it, or to another path."""
+    """Returns the arguments for loading a snapshot, and for saving to the same path or to another path."""
     return [command, "--load", str(keys), "--save", str(save or keys)]
 
 
@@ -34,7 +34,7 @@ def read_counter(keys: Path) -> int:
 
 
 def read_sums(keys: Path) -> list[list[str]]:
-    """Returns the checksums of a snapshot, each with the inode number of the file that it is for."""
+    """Returns the checksums of a snapshot, each with the inode number of its file."""
     path = keys.with_name(f"{keys.name}.hidlog-sum")
     assert path.exists(), f"{path} is missing"
     text = path.read_text(encoding="ascii")
@@ -62,7 +62,8 @@ def start_program(keys: Path) -> subprocess.Popen[bytes]:
 
 
 def test_second_program_is_refused(work_dir: Path) -> None:
-    """While a program uses a snapshot between --load and --save, another one that would save to it exits at once."""
+    """While a program uses a snapshot between --load and --save, another program that would save to it exits at
+    once."""
     keys = make_snapshot(work_dir)
     old, link, hard = keys.read_bytes(), work_dir / "link", work_dir / "hard"
     link.symlink_to(keys)
@@ -76,7 +77,8 @@ def test_second_program_is_refused(work_dir: Path) -> None:
                 )
                 told = CANNOT_READ + f"  {path}: ".encode() + IN_USE_MESSAGE
                 check_result(run_explained(load_and_save_arguments(path, command), INIT), 2, told, b"")
-        # Only loading is allowed; only saving fails at the end of the run, as while another program writes.
+        # Another program may load the snapshot without saving. If it only saves, this fails at the end of the run, as
+        # it does while another program writes.
         assert run(["replay", "--load", str(keys)]).returncode == 0
         check_result(run(["replay", "--save", str(keys)]), 2, CANNOT_WRITE, COUNTS)
         assert keys.read_bytes() == old
@@ -88,7 +90,7 @@ def test_second_program_is_refused(work_dir: Path) -> None:
 
 
 def test_killed_program_leaves_no_lock(work_dir: Path) -> None:
-    """A program that was killed, or exited with an error, leaves no lock."""
+    """A program that is killed, or exits with an error, leaves no lock."""
     keys = make_snapshot(work_dir)
     with start_program(keys) as first:
         first.send_signal(signal.SIGKILL)
@@ -99,7 +101,7 @@ def test_killed_program_leaves_no_lock(work_dir: Path) -> None:
 
 
 def test_no_counter_is_lost(work_dir: Path) -> None:
-    """Of 20 programs that sign in with one snapshot at the same time, each that succeeded has incremented the
+    """If 20 programs sign in with one snapshot at the same time, each program that succeeds has incremented the
     counter."""
     keys = make_snapshot(work_dir)
 
@@ -118,7 +120,7 @@ def test_no_counter_is_lost(work_dir: Path) -> None:
 
 
 def test_other_files_are_kept(work_dir: Path) -> None:
-    """Files and links that another user created with the names of temporary copies are neither written nor removed."""
+    """Files and links that another user created under the names of temporary copies are neither written nor removed."""
     keys, other = make_snapshot(work_dir), work_dir / "other"
     other.write_bytes(b"another's")
     mine = {f"keys.hidlog-copy{end}": f"mine{end}".encode() for end in ("", ".1", ".part")}
@@ -133,7 +135,7 @@ def test_other_files_are_kept(work_dir: Path) -> None:
     found = {path.name: path.read_bytes() for path in work_dir.iterdir() if path.name in mine}
     assert found == mine and other.read_bytes() == b"another's", found
     assert sorted(os.listdir(work_dir)) == sorted([*before, "new", "new.hidlog-sum"]), os.listdir(work_dir)
-    # The checksum file is renamed into place, so a link at its path is not followed.
+    # The checksum file is renamed to its path, so a link at this path is not followed.
     sums = work_dir / "keys.hidlog-sum"
     shutil.copy(sums, other)
     sums.unlink()
@@ -151,7 +153,7 @@ def iter_flipped_bits(data: bytes) -> Iterator[bytes]:
 
 
 def test_each_bit_of_snapshot_changed(work_dir: Path) -> None:
-    """A snapshot that the program saved, with a bit changed, cut off, or longer, is refused in all commands."""
+    """All commands reject a saved snapshot in which a bit was changed, or which was truncated or extended."""
     keys = make_snapshot(work_dir)
     data = keys.read_bytes()
     for number, wrong in enumerate(
@@ -169,7 +171,8 @@ def test_each_bit_of_snapshot_changed(work_dir: Path) -> None:
 
 
 def test_sums_match_file(work_dir: Path) -> None:
-    """The checksums are SHA-256 of the old and the new bytes; a file that replaced the snapshot has none."""
+    """The checksums are the SHA-256 hashes of the old and the new bytes. A file that replaced the snapshot has no
+    checksum."""
     keys = make_snapshot(work_dir)
     first = keys.read_bytes()
     assert [row[0] for row in read_sums(keys)] == [sha256(first).hexdigest()]
@@ -177,10 +180,10 @@ def test_sums_match_file(work_dir: Path) -> None:
     both = [sha256(data).hexdigest() for data in (first, keys.read_bytes())]
     assert [row[0] for row in read_sums(keys)] == both
     assert {row[1] for row in read_sums(keys)} == {f"{keys.stat().st_ino:016x}"}
-    # The old contents also match, as after a write that was interrupted before its first byte.
+    # The old content matches the checksums, too, as after a write that was interrupted before its first byte.
     keys.write_bytes(first)
     check_result(run(load_and_save_arguments(keys), SIGN_IN_AGAIN.read_bytes()), 0, b"")
-    # Another file at the path is loaded, and gets checksums at the next --save.
+    # Another file at the path is loaded, and the next --save writes checksums for it.
     shutil.copy(SNAPSHOT, work_dir / "other")
     os.replace(work_dir / "other", keys)
     check_result(run(load_and_save_arguments(keys), SIGN_IN_AGAIN.read_bytes()), 0, b"")
@@ -190,7 +193,7 @@ def test_sums_match_file(work_dir: Path) -> None:
 
 
 def test_files_without_sums_are_loaded(work_dir: Path) -> None:
-    """A snapshot without checksums, from an older version or because they were removed, is loaded."""
+    """A snapshot without checksums is loaded, whether it is from an older version or the checksums were removed."""
     keys = make_snapshot(work_dir)
     (work_dir / "keys.hidlog-sum").unlink(missing_ok=True)
     keys.write_bytes(SNAPSHOT.read_bytes())
@@ -199,7 +202,8 @@ def test_files_without_sums_are_loaded(work_dir: Path) -> None:
 
 
 def test_unrelated_sums_file_is_reported(work_dir: Path) -> None:
-    """An unrelated file at the path of the checksums is reported, and neither it nor the snapshot is overwritten."""
+    """If an unrelated file is at the path of the checksums, this is reported, and neither this file nor the snapshot is
+    overwritten."""
     keys = make_snapshot(work_dir)
     old, sums = keys.read_bytes(), work_dir / "keys.hidlog-sum"
     read_sums(keys)
@@ -210,7 +214,7 @@ def test_unrelated_sums_file_is_reported(work_dir: Path) -> None:
         check_result(run_explained(load_and_save_arguments(keys), INIT), 2, CANNOT_READ + told, b"")
         check_result(run_explained(["replay", "--save", str(keys)]), 2, CANNOT_WRITE + told, COUNTS)
         assert keys.read_bytes() == old and sums.read_bytes() == wrong, wrong
-    # The program does not wait for a pipe.
+    # If a pipe is at this path, the program does not wait for it.
     makers: list[Callable[[Path], None]] = [os.mkfifo, os.mkdir, lambda path: path.symlink_to(work_dir / "nowhere")]
     for make in makers:
         sums.rmdir() if sums.is_dir() else sums.unlink()
@@ -231,7 +235,7 @@ def test_unrelated_sums_file_is_reported(work_dir: Path) -> None:
 
 
 def test_long_name_has_no_sums(work_dir: Path) -> None:
-    """A snapshot whose name is too long for a checksum file beside it is loaded, and saved without checksums."""
+    """A snapshot whose name is too long for a checksum file beside it is loaded, and is saved without checksums."""
     keys = work_dir / ("k" * 250)
     keys.write_bytes(SNAPSHOT.read_bytes())
     check_result(run(load_and_save_arguments(keys), SIGN_IN_AGAIN.read_bytes()), 0, b"")

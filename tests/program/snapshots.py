@@ -20,20 +20,20 @@ from malformed_requests import head
 ARRAY = 4
 
 NOT_SNAPSHOT, TOO_MANY, ROW_BROKEN = 1, 2, 3
-# The number of the error, and the beginning of its reason or reasons.
+# The number of an error, and the beginning of its reason, or of each of its reasons.
 Refusal = Tuple[int, Union[str, Tuple[str, ...]]]
-# The SHA-256 hash of `example.com`, the credential ID without its last byte, the coordinates, and the head of a user
-# handle.
+# The SHA-256 hash of the RP ID `example.com`, the credential ID without its last byte, the coordinates, and the head of
+# a user handle.
 RP_AND_ID = b"\x01\x58\x20" + bytes.fromhex("a379a6f6eeafb9a55e378c118034e2751e682fab9f2d30ab13d2125586ce1947")
 RP_AND_ID += b"\x02\x58\x20" + b"\xaa" * 31
 COORDINATES = b"\x03\x58\x20" + b"\xbb" * 32 + b"\x04\x58\x20" + b"\xcc" * 32 + b"\x05\x41"
-# The heads of a row of version 1 without and with a name, and of version 2.
+# The heads of a row: of version 1 without a name, of version 1 with a name, and of version 2.
 OLD, OLD_NAMED = b"\xa2\x01\x01\x02\x81\xa7", b"\xa2\x01\x01\x02\x81\xa8"
 UNNAMED, NAMED = b"\xa2\x01\x02\x02\x81\xa7", b"\xa2\x01\x02\x02\x81\xa8"
 
 
 def make_row(last_of_id: int, user: int, rest: bytes) -> bytes:
-    """Returns a row's members, with what is after its user handle."""
+    """Returns the members of a row. `rest` are the bytes after its user handle."""
     return RP_AND_ID + bytes([last_of_id]) + COORDINATES + bytes([user]) + rest
 
 
@@ -47,8 +47,8 @@ DUPLICATE_ROWS = b"\xa2\x01\x01\x02\x82" + (b"\xa7" + make_row(0xAA, 1, EXHAUSTE
 TOO_MANY_ROWS = b"\xa2\x01\x01\x02\x98\x41" + (b"\xa7" + make_row(0xAA, 1, EXHAUSTED_COUNTER)) * 65
 MESSAGE_SUBJECTS = ("it is", "the snapshot is", "unsupported version")
 NONE, BROKEN = (NOT_SNAPSHOT, MESSAGE_SUBJECTS), (ROW_BROKEN, "credential 1")
-# Snapshots, each with the number of its error and the subject of the message, or None if it is valid. The last two
-# have user names of 64 and 65 bytes.
+# Snapshots, each with the number of the error and the subject of the message, or None if the snapshot is valid. The
+# last two contain user names of 64 and 65 bytes.
 LOADED: list[tuple[bytes, Optional[Refusal]]] = [
     (b"\xa0", NONE),
     (b"\xa2\x01\x00\x02\x80", NONE),
@@ -66,8 +66,8 @@ LOADED: list[tuple[bytes, Optional[Refusal]]] = [
     (make_snapshot(NAMED, b"\x06\xf5\x07\x00\x08\x78\x40" + b"a" * 64), None),
     (make_snapshot(NAMED, b"\x06\xf5\x07\x00\x08\x78\x41" + b"a" * 65), BROKEN),
 ]
-# Snapshots of one row, each with the snapshot that is saved after loading it: version 1 becomes version 2, which stays
-# unchanged, also with a name.
+# Snapshots of one row, each with the snapshot that is saved after loading it. Version 1 is saved as version 2; version
+# 2, with and without a name, is unchanged.
 SAVED = [
     (make_snapshot(OLD, EXHAUSTED_COUNTER), make_snapshot(NAMED, EXHAUSTED_COUNTER + b"\x08\x60")),
     (make_snapshot(NAMED, EXHAUSTED_COUNTER + b"\x08\x60"), make_snapshot(NAMED, EXHAUSTED_COUNTER + b"\x08\x60")),
@@ -85,10 +85,10 @@ TWO_ROWS = (
 ROW_BYTES = 151
 # Offsets in a row: the last byte of the credential ID, and the user handle.
 LAST_OF_ID, USER = 70, 143
-# Changes of a byte that give another canonical CBOR item: the first and the last offset in a row, the lowest and the
-# highest byte, and whether a row may have them. With any other byte the file is not a snapshot.
+# Changes of a byte that give another item in canonical CBOR: the first and the last offset in a row, the lowest and the
+# highest byte, and whether a valid row may contain such a byte. With any other byte, the file is not a snapshot.
 CHANGES = [
-    # The row is an array; the first key is 0.
+    # The row is an array, or its first key is 0.
     (0, 0, 0x90, 0x90, False),
     (1, 1, 0x00, 0x00, False),
     # The RP ID hash, the credential ID, and the two coordinates.
@@ -96,11 +96,11 @@ CHANGES = [
     (39, 70, 0x00, 0xFF, True),
     (74, 105, 0x00, 0xFF, True),
     (109, 140, 0x00, 0xFF, True),
-    # The user handle is a text, or an array of one integer.
+    # The user handle is a text string, or an array of one integer.
     (142, 142, 0x61, 0x61, False),
     (142, 142, 0x81, 0x81, False),
     (143, 143, 0x00, 0xFF, True),
-    # Discoverable or not, or not a boolean.
+    # The member for discoverable credentials is true, false, or not a Boolean.
     (145, 145, 0x00, 0x17, False),
     (145, 145, 0x20, 0x37, False),
     (145, 145, 0x40, 0x40, False),
@@ -109,7 +109,7 @@ CHANGES = [
     (145, 145, 0xA0, 0xA0, False),
     (145, 145, 0xF4, 0xF5, True),
     (145, 145, 0xF6, 0xF6, False),
-    # The counter, or not an integer.
+    # The counter has another value, or is not an integer.
     (147, 147, 0x00, 0x17, True),
     (147, 147, 0x20, 0x37, False),
     (147, 147, 0x40, 0x40, False),
@@ -117,12 +117,12 @@ CHANGES = [
     (147, 147, 0x80, 0x80, False),
     (147, 147, 0xA0, 0xA0, False),
     (147, 147, 0xF4, 0xF6, False),
-    # The last key is another one.
+    # The last key has another value.
     (148, 148, 0x09, 0x17, False),
     (148, 148, 0x20, 0x37, False),
     (148, 148, 0x40, 0x40, False),
     (148, 148, 0x60, 0x60, False),
-    # The name is an integer, or a byte string.
+    # The name is an integer or a byte string.
     (149, 149, 0x18, 0x18, False),
     (149, 149, 0x38, 0x38, False),
     (149, 149, 0x41, 0x41, False),
@@ -142,17 +142,17 @@ class Outcome(ctypes.Structure):
 
 
 def expected_error(place: int, byte: int) -> Optional[Refusal]:
-    """Returns the error for the two rows with this byte at a position, or None if they are loaded."""
-    # In version 1 rows have no names.
+    """Returns the expected error for the two rows with this byte at an offset, or None if they are loaded."""
+    # In version 1, rows contain no names.
     if place == 2 and byte == 1:
         return BROKEN
     if place < len(TWO_ROWS_HEAD):
         return NONE
     number, within = divmod(place - len(TWO_ROWS_HEAD), ROW_BYTES)
-    # The other row has the same credential ID, or the same user handle.
+    # The other row contains the same credential ID, or the same user handle.
     if (within, byte) in ((LAST_OF_ID, 0xAB - number), (USER, 2 - number)):
         return ROW_BROKEN, "credential 2"
-    # The name, of one byte.
+    # The name, which has one byte.
     if within == ROW_BYTES - 1 and byte < 0x80:
         return None
     for first, last, least, most, holds in CHANGES:
@@ -162,7 +162,7 @@ def expected_error(place: int, byte: int) -> Optional[Refusal]:
 
 
 def check_load(work_dir: Path, text: bytes, wanted: Optional[Refusal], rows: int) -> None:
-    """Fails unless the program loads this number of rows, or rejects the snapshot with this error and its subject."""
+    """Fails unless the program loads this number of rows, or rejects the snapshot with this error and this subject."""
     (work_dir / "old").write_bytes(text)
     words = ["replay", "--load", str(work_dir / "old")]
     said = run(words)
@@ -181,21 +181,22 @@ def check_load(work_dir: Path, text: bytes, wanted: Optional[Refusal], rows: int
 
 
 def test_snapshots_are_loaded_or_refused(work_dir: Path) -> None:
-    """Bytes that are not snapshots, too many rows, and invalid rows."""
+    """Tests bytes that are not snapshots, snapshots with too many rows, and invalid rows."""
     for text, wanted in LOADED:
         check_load(work_dir, text, wanted, text.count(COORDINATES))
 
 
 def long_row(number: int, name_length: int = 64) -> bytes:
-    """Returns a discoverable row with a credential ID of its own, a user handle of 64 bytes and this user name."""
+    """Returns a discoverable row with a unique credential ID, a user handle of 64 bytes, and a user name of this
+    length."""
     row = b"\xa8" + RP_AND_ID[:-31] + number.to_bytes(32, "big") + COORDINATES[:-1]
     row += b"\x58\x40" + number.to_bytes(64, "big") + EXHAUSTED_COUNTER
     return row + b"\x08\x78" + bytes([name_length]) + b"n" * name_length
 
 
 def test_long_snapshots(work_dir: Path) -> None:
-    """The longest snapshot is loaded and saved unchanged; longer ones have too many rows, however long they are. A
-    file that can't be a snapshot of any key isn't read whole."""
+    """The longest snapshot is loaded, and saved unchanged. A longer snapshot has too many rows, whatever its length. A
+    file that can't be the snapshot of any key isn't read completely."""
     old, new = work_dir / "old", work_dir / "new"
     full = b"\xa2\x01\x02\x02" + head(ARRAY, 64) + b"".join(long_row(number) for number in range(64))
     check_load(work_dir, full, None, 64)
@@ -204,7 +205,7 @@ def test_long_snapshots(work_dir: Path) -> None:
     for count in (65, 3000, 4000):
         rows = b"".join(long_row(number) for number in range(count))
         check_load(work_dir, b"\xa2\x01\x02\x02" + head(ARRAY, count) + rows, (TOO_MANY, "more than 64"), count)
-    # One byte more than 1 MiB, by the length of some names.
+    # Names of this length make the file one byte longer than 1 MiB.
     rest = (1 << 20) + 1 - 7
     lengths = [64] * (rest // len(long_row(0)) + 1)
     excess = len(lengths) * len(long_row(0)) - rest
@@ -238,7 +239,8 @@ def test_snapshots_are_saved_as_version_2(work_dir: Path) -> None:
 
 
 def test_each_byte_of_snapshot_changed(work_dir: Path) -> None:
-    """Two rows with each byte changed to each other value; for the first of each range, the program reports the row."""
+    """Changes each byte of two rows to each other value. For the first byte of each range, the program must report the
+    row."""
     assert len(TWO_ROWS) == len(TWO_ROWS_HEAD) + 2 * ROW_BYTES
     check = ctypes.CDLL(str(TOP / "release/libhidlog.so.1")).hidlog_check
     check.restype = None

@@ -7,7 +7,7 @@ from typing import Iterator
 
 COUNTS = "= held 0 rows 0 pending 0 requests 0 bytes 0 steps 0"
 
-# Statuses with their names (CTAP 2.1, section 8.2), and some numbers that have none.
+# Status codes with their names (CTAP 2.1, section 8.2), and some numbers without a name.
 STATUSES = """\
 00 CTAP2_OK
 01 CTAP1_ERR_INVALID_COMMAND
@@ -67,7 +67,7 @@ e1
 fe
 """
 
-# The authenticator's commands with their names (section 6), and some numbers that have none.
+# The authenticator's commands with their names (section 6), and some numbers without a name.
 COMMANDS = """\
 01 authenticatorMakeCredential
 02 authenticatorGetAssertion
@@ -87,7 +87,7 @@ COMMANDS = """\
 ff
 """
 
-# Codes of ERROR with their names (section 11.2.9.1.6), and one that has none.
+# The codes of ERROR packets with their names (section 11.2.9.1.6), and one number without a name.
 ERRORS = """\
 01 ERR_INVALID_CMD
 02 ERR_INVALID_PAR
@@ -101,7 +101,7 @@ ERRORS = """\
 07
 """
 
-# CTAPHID commands, with what is shown of a message of 65535 bytes that begins with a0.
+# CTAPHID commands, with the output for a message of 65535 bytes that begins with a0.
 CTAPHID = {
     0x01: "PING 65535",
     0x03: "MSG 65535",
@@ -114,9 +114,9 @@ CTAPHID = {
     0x3F: "ERROR 65535 a0",
 }
 
-# Texts in CBOR with the first and last character of each range that is escaped, and the characters next to them, which
-# are not: control characters, line breaks, Unicode's Default_Ignorable_Code_Point (DerivedCoreProperties.txt), U+2800,
-# and U+FFF9 to U+FFFB, interlinear annotations.
+# Texts in CBOR with the first and last character of each range that is escaped, and the adjacent characters, which are
+# not escaped. The ranges are control characters, line breaks, Unicode's Default_Ignorable_Code_Point
+# (DerivedCoreProperties.txt), U+2800, and U+FFF9 to U+FFFB (interlinear annotations).
 INVISIBLE_CHARACTERS = """\
 66c280c29fc2a0 \\u0080\\u009f\u00a0
 66c2acc2adc2ae \u00ac\\u00ad\u00ae
@@ -140,8 +140,8 @@ INVISIBLE_CHARACTERS = """\
 64f09f9982 🙂
 """
 
-# Items, each with its diagnostic notation: those of RFC 8949, appendix A, and then the first bounds of what is escaped,
-# four levels, and keys of each type.
+# Items with their diagnostic notation: first those of RFC 8949, appendix A, and then the bounds of what is escaped,
+# four levels of nesting, and keys of each type.
 ITEMS = """\
 00 0
 1864 100
@@ -174,7 +174,7 @@ a26161016162820203 {"a": 1, "b": [2, 3]}
 a320f441abf5612ff6 {-1: false, h'ab': true, "/": null}
 """
 
-# Requests of one packet, 05 a command that has no name. Faults are counted from the byte after the first one.
+# Requests of one packet. The command 05 has no name. Offsets of errors are counted from the byte after the command.
 REQUEST_CASES = """\
 2d 2d
 01 01  authenticatorMakeCredential
@@ -203,7 +203,7 @@ LINE_CASES = [
     f"1 hidlog replay --explain\n-{'x' * 255}\n!\n?hidlog: line 1: not a log line\n?  byte 1 is 'x': a log line begins with >, <, t, p, k, s, # or =",
     f"1 hidlog replay\n-{'x' * 256}\n!\n?hidlog: line 1: longer than 255 bytes",
 ]
-# From its input, `live` drops the comments about needs, and no others.
+# `live` drops comments about needs from its input, and no other comments.
 COMMENT_CASES = [
     "0 hidlog live\n|#\n|#\x20\n|# need\n|# needs\n|#need key\n|# Need key\n|# signed\n|# signedness\n|#  need key\n"
     f"|# a need\n+{COUNTS}",
@@ -212,7 +212,7 @@ COMMENT_CASES = [
     "-# need\x20\n-# need nothing\n-# need more\n-# need\x20\x20\n-# signed\x20\n-# signed 00\n-# signed xx\n!\n"
     f"+{COUNTS}",
 ]
-# Comments, and how they are shown.
+# Comments, and the output of `show` for them.
 SHOW_CASES = [
     '0 hidlog show --explain\n-# alice "registers" \\ \x1b[31m\x9b\u202e\u2066\ufeff\U000e0041ü\n-#\n'
     '+1 # alice "registers" \\ \\u001b[31m\\u009b\\u202e\\u2066\\ufeff\\u{0e0041}ü\n+2 #',
@@ -230,18 +230,18 @@ def iter_rows(table: str) -> Iterator[tuple[str, str]]:
 
 
 def format_named(name: str) -> str:
-    """Returns the output for a name at the end of a line."""
+    """Returns the output for a name at the end of a line, if any."""
     return f"  {name}" if name else ""
 
 
 def message_case(data: str, shown: str) -> str:
-    """Returns the case of a CBOR message of one packet of a host."""
+    """Returns the case of a CBOR message that a host sends in one packet."""
     length = len(data) // 2
     return f"0 hidlog show --explain\n-> 0 0000000190{length:04x}{data}..\n+1 > 0 00000001 CBOR {length}\n+1   request {shown}"
 
 
 def long_message_case(length: int, end: str) -> str:
-    """Returns the case of a message of the key in 129 packets: a byte string of zeros after its first byte."""
+    """Returns the case of a message that the key sends in 129 packets: its first byte, and a byte string of zeros."""
     first = f"-< 0000000190{length:04x}0059{length - 4:04x}..\n+1 < 00000001 CBOR {length}\n"
     rest = (f"-< 00000001{number:02x}..\n+{number + 2} < 00000001 +{number}\n" for number in range(128))
     return ("0 hidlog show --explain\n" + first + "".join(rest) + end).rstrip("\n")
@@ -268,7 +268,7 @@ def iter_cases() -> Iterator[str]:
     yield long_message_case(7609, f"+129   answer 00 h'{'0' * 15210}'  CTAP2_OK")
     yield long_message_case(7610, "")
     yield from [*LINE_CASES, *COMMENT_CASES, *SHOW_CASES]
-    # Arguments that move a terminal's cursor or reverse the line: ESC, and RIGHT-TO-LEFT OVERRIDE.
+    # Arguments with characters that move a terminal's cursor (ESC) or reverse the line (RIGHT-TO-LEFT OVERRIDE).
     yield (
         "2 hidlog --a\x1b[2J\u202eb\n?error: unexpected argument '--a\\u001b[2J\\u202eb' found\n?\n"
         "?Usage: hidlog <COMMAND>\n?\n?For more information, try '--help'."

@@ -62,7 +62,7 @@ class Driver:
 
 
 def wait_for(port: int) -> None:
-    """Waits up to a minute for a listener on a local port."""
+    """Waits up to a minute until a local port is listening."""
     for _ in range(600):
         try:
             socket.create_connection(("127.0.0.1", port)).close()
@@ -79,7 +79,7 @@ def is_installed() -> bool:
 
 @contextmanager
 def page() -> Iterator[Driver]:
-    """Provides a page with a secure origin."""
+    """Provides a page whose origin is secure."""
     server = ThreadingHTTPServer(("127.0.0.1", 0), Page)
     threading.Thread(target=server.serve_forever, daemon=True).start()
     with socket.socket() as free:

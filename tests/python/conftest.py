@@ -28,13 +28,14 @@ except ImportError:
         collect_ignore += FIDO2_TESTS
 if not fido2_version.startswith("0.9"):
     collect_ignore += FIDO2_0_9_TESTS
-# Keys in this process are tested if the C library supports them.
+# Keys in this process are tested only if the C library supports them.
 PROCESS_OPTIONS = [True, *([False] if core.supports_in_process() else [])]
 
 
 @pytest.fixture(params=PROCESS_OPTIONS, ids=lambda item: "process" if item else "library")
 def make(request: pytest.FixtureRequest) -> Iterator[Callable[..., hidlog.SecurityKey]]:
-    """Provides a function that creates a key. At the end, each recording must match what the key sends."""
+    """Provides a function that creates a key. At the end of the test, each recording must match the packets that the
+    key sends."""
     keys = []
 
     def made(**options: Any) -> hidlog.SecurityKey:

@@ -1,4 +1,4 @@
-"""python-fido2's client, of the installed version, as an implementation for browser_cases.json."""
+"""The client of the installed python-fido2, as an implementation for browser_cases.json."""
 
 from __future__ import annotations
 
@@ -15,7 +15,7 @@ import hidlog
 from hidlog import webauthn_json
 
 ORIGIN = "https://localhost"
-# Version 0.9 takes mappings with bytes, and returns unnamed members.
+# Version 0.9 accepts mappings with bytes, and returns members without names.
 IS_VERSION_0_9 = not hasattr(client, "UserInteraction")
 try:
     FEATURES: Any = importlib.import_module("fido2.features")
@@ -30,7 +30,7 @@ _MEMBERS = {
 
 
 def make_client(key: hidlog.SecurityKey) -> Any:
-    """Returns its client for a key, at the origin https://localhost."""
+    """Returns python-fido2's client for a key, at the origin https://localhost."""
     collector = getattr(client, "DefaultClientDataCollector", None)
     if collector:
         return Fido2Client(key.device(), collector(ORIGIN, verify=lambda *_: True))
@@ -38,7 +38,7 @@ def make_client(key: hidlog.SecurityKey) -> Any:
 
 
 def _old_options(name: str, options: Json) -> Json:
-    """Returns the options supported by version 0.9, which refuses other members."""
+    """Returns the options that version 0.9 supports. It rejects options with other members."""
     convert = webauthn_json.creation_options if name == "create" else webauthn_json.request_options
     members = convert(options, ORIGIN)
     made = {member: members[member] for member in _MEMBERS[name] if member in members}

@@ -1,4 +1,4 @@
-"""The implementations compared on browser_cases.json, with what each returns."""
+"""The implementations that are compared on browser_cases.json, and the results of each."""
 
 from __future__ import annotations
 
@@ -16,13 +16,13 @@ from hidlog.webauthn_json import b64url_decode, b64url_encode
 
 Case = dict[str, Any]
 Json = dict[str, Any]
-# Calls create or get with options as JSON, and returns the page's response, or an object with the DOM's error name.
+# Calls create or get with options as JSON. Returns the page's response, or an object with the name of the DOM error.
 Call = Callable[[str, Any, Json], Json]
 TABLE = json.loads(Path(__file__).with_name("browser_cases.json").read_text(encoding="utf-8"))
 CASES: dict[str, Case] = {item["name"]: item for item in TABLE["cases"]}
-# Cases of a key that has what Chromium's authenticator has outside the core.
+# The cases in which the key has features outside the core that Chromium's authenticator also has.
 ALIKE: dict[str, Case] = {item["name"]: item for item in TABLE["alike"]}
-# Milliseconds after which Chromium is considered to wait forever.
+# Milliseconds after which Chromium is assumed to wait forever.
 WAIT_MS = 1500
 UV = 0x04
 
@@ -53,7 +53,7 @@ REMOVE_SCRIPT = "hidlogKey.current()?.uninstall();"
 
 
 class ServiceError(Exception):
-    """An error of a page, with the DOM's name."""
+    """An error that a page gets, with the name of the DOM error."""
 
     def __init__(self, name: str, text: str = ""):
         super().__init__(f"{name}: {text}")
@@ -61,7 +61,8 @@ class ServiceError(Exception):
 
 
 def _fill_options(value: Any, ids: list[str]) -> Any:
-    """Returns options with the IDs of earlier registrations, and with long values expanded."""
+    """Returns options in which placeholders are replaced by the IDs of earlier registrations, and long values are
+    expanded."""
     if isinstance(value, dict) and "$bytes" in value:
         return b64url_encode(bytes(value["$bytes"]))
     if isinstance(value, dict) and "$repeat" in value:
@@ -87,7 +88,8 @@ def _make_options(case: Case, ids: list[str]) -> Any:
 
 
 def run_calls(call: Call, case: Case, fail: Callable[[], Any] = lambda: None) -> Json:
-    """Makes the calls of a case, and returns the result of the last one. The user may fail from then on."""
+    """Makes the calls of a case, and returns the result of the last call. Before this call, `fail` makes user
+    verification fail."""
     before = [{**TABLE["creation"], **element} for element in case.get("before", [])]
     try:
         ids = [call("create", item, {})["id"] for item in before]
@@ -105,7 +107,8 @@ def run_calls(call: Call, case: Case, fail: Callable[[], Any] = lambda: None) ->
 
 
 def select_members(answer: Json, ids: list[str]) -> Json:
-    """Returns the compared members of a response: all except random ones and Chromium's additional ones."""
+    """Returns the members of a response that are compared: all except random members and those that only Chromium
+    adds."""
     response = dict(answer["response"])
     auth_data = b64url_decode(response.pop("authenticatorData"))
     client_data = json.loads(b64url_decode(response.pop("clientDataJSON")))
@@ -123,7 +126,8 @@ def select_members(answer: Json, ids: list[str]) -> Json:
 
 
 def select_outside(answer: Json) -> Json:
-    """Returns what a response has outside the core: attestation, AAGUID and extensions, without random values."""
+    """Returns the parts of a response that are outside the core, without random values: attestation, AAGUID and
+    extensions."""
     auth_data = b64url_decode(answer["response"]["authenticatorData"])
     rest = auth_data[37:]
     seen: Json = {}
@@ -152,7 +156,7 @@ def select_outside(answer: Json) -> Json:
 
 
 def run_with_package(case: Case) -> Json:
-    """Runs a case with the browser of the package."""
+    """Runs a case with the package's browser."""
     with hidlog.SecurityKey(**case.get("key", {})) as key:
         browser = key.browser("http://localhost:5000")
 
@@ -201,9 +205,8 @@ def to_devtools_options(key: Json) -> Json:
 def run_with_chromium(case: Case, driver: Driver) -> Json:
     """Runs a case with Chromium's own virtual authenticator.
 
-    Chromium makes discoverable credentials only with user verification. For a case with them and without verification,
-    its authenticator verifies the user, and the flag UV is not compared.
-    """
+    Chromium creates discoverable credentials only with user verification. For a case with such credentials but without
+    user verification, its authenticator verifies the user, and the flag UV is not compared. """
     key = case.get("key", {})
     is_masked = "esidentKey" in json.dumps(case) and "verification" not in key
     driver.run(REMOVE_SCRIPT)
@@ -225,7 +228,7 @@ def _to_result(case: Case, driver: Driver, made: Json) -> Json:
 
 
 def run_with_page_key(case: Case, driver: Driver) -> Json | str:
-    """Runs a case with the key in a page. Returns the reason if the page's key can't run it."""
+    """Runs a case with the key in a page. If the page's key can't run the case, returns the reason."""
     key = case.get("key", {})
     outside = {name: key[name] for name in ("attestation", "aaguid", "algorithms", "autofill") if name in key}
     options = {**to_devtools_options(key), **outside}

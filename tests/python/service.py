@@ -33,7 +33,7 @@ class Service:
         return self.server.register_complete(state, made.client_data, made.attestation_object).credential_data
 
     def sign_in(self, credentials: list[Any], allowed: tuple[Any, ...] = (), account: int = 0, **words: Any) -> Any:
-        """Signs in, and returns the browser's response, verified by the service."""
+        """Signs in. Returns the browser's response after the service has verified it."""
         asked, state = self.server.authenticate_begin(list(allowed))
         found = self.client.get_assertion(asked["publicKey"], **words).get_response(account)
         parts = (found.client_data, found.authenticator_data, found.signature)

@@ -1,4 +1,4 @@
-"""A registration and a sign-in with only the package. The recording must match what the key sends."""
+"""A registration and a sign-in that need only the package. The recording must match the packets that the key sends."""
 
 import platform
 

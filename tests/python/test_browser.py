@@ -1,4 +1,4 @@
-"""The package's browser: origins, errors, accounts, timeouts, and what is added outside the core."""
+"""The package's browser: origins, errors, accounts, timeouts, and features outside the core."""
 
 from __future__ import annotations
 
@@ -17,7 +17,7 @@ from hidlog.webauthn_json import b64url_decode, b64url_encode
 
 Make = Callable[..., hidlog.SecurityKey]
 Json = dict[str, Any]
-# Timeout in seconds: only a hanging call takes this long.
+# A timeout in seconds. Only a call that hangs takes this long.
 TIMEOUT_SECONDS = 60
 DISCOVERABLE = {"residentKey": "required"}
 
@@ -212,7 +212,8 @@ def test_the_time_out_of_the_options(make: Make) -> None:
     with pytest.raises(hidlog.NotAllowedError, match="the user did nothing for 250 ms"):
         browser.create(make_creation_options(timeout=250))
     assert 0.2 < time.monotonic() - began < TIMEOUT_SECONDS
-    # A user who takes longer than the timeout by the key's clock is too late, without real waiting.
+    # If the user's reply comes after the timeout by the key's clock, the call fails. The test doesn't wait in real
+    # time.
     key.presence, key.presence_delay_ms = "granted", 5000
     with pytest.raises(hidlog.NotAllowedError, match="the user did nothing for 1000 ms"):
         browser.create(make_creation_options(timeout=1000))
@@ -248,7 +249,7 @@ def test_flags_are_set_outside_of_the_core(make: Make) -> None:
         browser.get({**REQUEST_OPTIONS, "userVerification": "required"})
     key.verification = "none"
     assert read_flags(browser.get(REQUEST_OPTIONS, "ann")) == 0x01
-    # The core has no user verification: a client at packet level sees the flags that the core sends.
+    # The core has no user verification, so a client that works with packets sees the flags that the core sends.
     assert hidlog.Client(key).request(2, {1: "example.com", 2: bytes(32)})[2][32] == 0x09
     log = b"".join(recording.log for recording in key.recordings)
     assert log.count(b"# outside of the core: flags UV, and the signature over them\n") >= 3

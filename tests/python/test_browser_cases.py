@@ -45,7 +45,7 @@ ALL_CASES = {**CASES, **ALIKE}
 
 
 def is_compared(name: str) -> bool:
-    """Returns whether a case is compared with Chromium, whose user can't deny."""
+    """Returns whether a case is compared with Chromium, where the user can't deny a request."""
     return "presence" not in ALL_CASES[name]
 
 

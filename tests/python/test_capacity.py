@@ -1,4 +1,4 @@
-"""A key for 256 credentials: the library in HIDLOG_LIBRARY, in a separate process."""
+"""A key for 256 credentials. The library in HIDLOG_LIBRARY is loaded in a separate process."""
 
 from __future__ import annotations
 

@@ -1,4 +1,4 @@
-"""Causes of refusals in error messages. The expected texts of hidlog.h's codes are written by hand."""
+"""The causes of refusals in error messages. The expected texts for the codes in hidlog.h are written by hand."""
 
 from __future__ import annotations
 
@@ -26,7 +26,7 @@ def browser(**options: Any) -> tuple[SecurityKey, Browser]:
 
 
 def _get_cause(caught: pytest.ExceptionInfo[hidlog.NotAllowedError]) -> str:
-    """Returns the cause of the CTAP status behind a DOM error."""
+    """Returns the cause of the CTAP status that led to a DOM error."""
     refused = caught.value.__cause__
     assert isinstance(refused, hidlog.CtapError)
     return refused.cause

@@ -1,4 +1,4 @@
-"""check_many with executors whose workers die."""
+"""check_many with executors whose workers exit unexpectedly."""
 
 from __future__ import annotations
 
@@ -29,8 +29,8 @@ MATCHING_LOG = EXAMPLES / "registration.log"
 
 @pytest.fixture
 def recordings(tmp_path: Path) -> list[Path]:
-    """Provides 200 recordings: most match, some mismatch, are not logs, or are missing; one started with
-    credentials."""
+    """Provides 200 recordings. Most match; the others mismatch, are not logs, or are missing. One recording started
+    with credentials."""
     paths = [tmp_path / f"{number:03}.log" for number in range(200)]
     for number, path in enumerate(paths):
         log = MATCHING_LOG.read_bytes()
@@ -42,7 +42,7 @@ def recordings(tmp_path: Path) -> list[Path]:
 
 
 def check_each(paths: list[Path]) -> list[tuple[str, str]]:
-    """Returns the expected results, from checks of single logs."""
+    """Returns the expected results, from checking each log by itself."""
     listed: list[tuple[str, str]] = []
     for path in paths:
         beside = Path(f"{path}.snapshot")
@@ -68,7 +68,8 @@ def test_executors(recordings: list[Path]) -> None:
 
 
 def test_a_worker_that_is_killed(recordings: list[Path]) -> None:
-    """Its recordings are tried again in another pool. If the pool was passed in, the check ends."""
+    """If a worker is killed, its recordings are checked again in another pool. If the pool was passed as an argument,
+    the check fails."""
     pools: list[ProcessPoolExecutor] = []
 
     def pool() -> ProcessPoolExecutor:
@@ -88,7 +89,7 @@ def test_a_worker_that_is_killed(recordings: list[Path]) -> None:
 
 
 def die_on_recording(block: list[Any]) -> list[hidlog.CheckResult]:
-    """Checks a batch in a worker that dies on one recording."""
+    """Checks a batch in a worker that exits at one recording."""
     if any(item.path.endswith("077.log") for item in block):
         os.kill(os.getpid(), signal.SIGKILL)
     return check_batch(block)
@@ -116,7 +117,7 @@ def test_dask(recordings: list[Path]) -> None:
 
 
 class LostResult:
-    """A future of Dask whose worker died after its result was read."""
+    """A future of Dask whose worker exited after its result was read."""
 
     status = "lost"
 
@@ -125,7 +126,7 @@ class LostResult:
 
 
 class LosingExecutor(Executor):
-    """Loses the first result as Dask's executor does."""
+    """An executor that loses the first result, as Dask's executor may do."""
 
     def __init__(self) -> None:
         self.threads, self.is_first = ThreadPoolExecutor(1), True
@@ -145,24 +146,24 @@ class LosingExecutor(Executor):
 
 
 def test_lost_result_of_dask(recordings: list[Path]) -> None:
-    """A batch whose result Dask loses is checked again."""
+    """A batch whose result was lost by Dask is checked again."""
     pytest.importorskip("distributed")
     assert summarize(hidlog.check_many(recordings, LosingExecutor(), block=5)) == check_each(recordings)
 
 
 BUSY_TOGETHER = 64
-# Each of 64 tasks waits for the others, so that all of them pass only if they run at the same time.
+# Each of 64 tasks waits for the others, so they finish only if all of them run at the same time.
 BARRIER = threading.Barrier(BUSY_TOGETHER)
 
 
 def meet_and_check(block: list[Any], **words: Any) -> list[hidlog.CheckResult]:
-    """Checks a batch as soon as 64 workers have one."""
+    """Checks a batch as soon as each of 64 workers has a batch."""
     BARRIER.wait(timeout=300)
     return check_batch(block, **words)
 
 
 def test_64_workers_are_busy(monkeypatch: pytest.MonkeyPatch, tmp_path: Path) -> None:
-    """By default there is work for each worker of a pool and of a cluster."""
+    """By default, there are enough batches for each worker of a pool and of a cluster."""
     paths = [tmp_path / f"{number}.log" for number in range(BUSY_TOGETHER)]
     for path in paths:
         path.write_bytes(MATCHING_LOG.read_bytes())
@@ -177,7 +178,7 @@ def test_64_workers_are_busy(monkeypatch: pytest.MonkeyPatch, tmp_path: Path) ->
 
 
 def test_only_differences(recordings: list[Path], monkeypatch: pytest.MonkeyPatch) -> None:
-    """Workers return nothing about recordings that match."""
+    """Workers return no data about recordings that match."""
     returned: list[hidlog.CheckResult] = []
 
     def check_and_keep(block: list[Any], **words: Any) -> list[hidlog.CheckResult]:
@@ -199,7 +200,7 @@ def test_workers_elsewhere_are_sent_the_data(
     monkeypatch: pytest.MonkeyPatch,
     is_other_file_there: bool,
 ) -> None:
-    """The workers have none of the files, or others of the same names."""
+    """The workers have none of the files, or other files with the same names."""
     elsewhere = tmp_path_factory.mktemp("elsewhere")
     if is_other_file_there:
         for path in filter(Path.is_file, recordings):
@@ -254,7 +255,7 @@ def test_the_command(recordings: list[Path]) -> None:
 
 
 def test_errors_come_through_a_pool() -> None:
-    """An exception that can't be pickled breaks a whole pool."""
+    """An exception that can't be pickled makes the whole pool unusable."""
     for error in (
         hidlog.CtapError(0x2E),
         hidlog.InvalidChannelError(),

@@ -1,4 +1,4 @@
-"""The JSON of WebAuthn Level 3, compared with Chromium's by chromedriver."""
+"""The JSON of WebAuthn Level 3, compared with that of Chromium, which is controlled by chromedriver."""
 
 from __future__ import annotations
 
@@ -12,7 +12,7 @@ from test_json import CREATION, REQUEST
 
 from hidlog import webauthn_json
 
-# Converts a browser's object, with buffers as {"bytes": base64url}.
+# Converts an object of the browser. Buffers become {"bytes": base64url}.
 SHOW_SCRIPT = """
 const show = (value) => {
     if (value instanceof ArrayBuffer || ArrayBuffer.isView(value)) {
@@ -66,7 +66,7 @@ def browser() -> Iterator[Driver]:
 
 
 def convert_bytes(value: Any) -> Any:
-    """Returns a value with bytes as the script converts them."""
+    """Returns a value in which bytes are converted as the script converts buffers."""
     if isinstance(value, bytes):
         return {"bytes": urlsafe_b64encode(value).rstrip(b"=").decode()}
     if isinstance(value, dict):
@@ -75,7 +75,8 @@ def convert_bytes(value: Any) -> Any:
 
 
 def to_chromium_value(ours: Any, theirs: Any) -> Any:
-    """Returns our value as Chromium stores it: without members unknown to it, and with its defaults of false."""
+    """Returns our value in the form in which Chromium stores it: without members that Chromium doesn't know, and with
+    its default values of false."""
     if isinstance(theirs, dict) and isinstance(ours, dict):
         defaults = {name: it for name, it in theirs.items() if it is False}
         return {

@@ -1,4 +1,4 @@
-"""Failures of the package's commands: input files stay unchanged, hostile input is refused, a signal prints one
+"""Failures of the package's commands: input files stay unchanged, invalid input is rejected, and a signal prints one
 line."""
 
 from __future__ import annotations
@@ -27,7 +27,7 @@ from test_library_cli import WITHOUT_PROGRAM
 HIDLOG = [sys.executable, "-m", "hidlog"]
 Example = Callable[[str], bytes]
 Ran = subprocess.CompletedProcess[bytes]
-# A line of usbmon's text.
+# A line in the text format of usbmon.
 TRUNCATED_USBMON = b"ffff8881 10 S Ii:1:003:1 -115 64 <\n"
 
 
@@ -38,7 +38,7 @@ def run_hidlog(folder: Path, *words: str, data: bytes = b"", prepare: Callable[[
 
 @pytest.fixture
 def folder(tmp_path: Path, example: Example) -> Path:
-    """Provides a directory with a log and its capture, and links to them."""
+    """Provides a directory that contains a log, its capture, and links to both."""
     (tmp_path / "log").write_bytes(example("registration.log"))
     (tmp_path / "capture").write_bytes(to_pcapng(example("registration.log")))
     for name in ("log", "capture"):
@@ -61,7 +61,7 @@ def test_the_input_is_not_the_output(folder: Path, command: str, name: str, suff
 
 @pytest.mark.parametrize("command, name", [("import", "capture"), ("export", "log")])
 def test_a_short_write_keeps_the_older_file(folder: Path, command: str, name: str) -> None:
-    """Writes fail after 100 bytes of a file."""
+    """If a write fails after 100 bytes of a file, the older file is kept."""
     (folder / "out").write_bytes(b"old")
     listed = sorted(os.listdir(folder))
     ran = run_hidlog(
@@ -132,7 +132,7 @@ def test_an_unreadable_recording_is_a_failure_among_verdicts(folder: Path, examp
 
 @pytest.mark.parametrize("data", [TRUNCATED_USBMON, b"FIDO <- 1 {1: 2}\n", b"\n", b"\0"])
 def test_a_capture_that_unpacks_to_too_much_is_refused(data: bytes) -> None:
-    """A file of about 1 MB unpacks to 1 GB."""
+    """A file of about 1 MB that is unpacked to 1 GB is rejected."""
     piece = gzip.compress(TRUNCATED_USBMON + data * ((16 << 20) // len(data)))
     with pytest.raises(CaptureError, match="unpacks to more than 64 MiB; unpack it first"):
         read(piece * 64)
@@ -148,7 +148,7 @@ def test_a_packed_capture_is_read(folder: Path) -> None:
 
 @pytest.mark.parametrize("seconds, ticks", [(0, 2**63), (0, 1795 * 10**15), (-(2**40), 5)])
 def test_timestamps_that_no_clock_has(folder: Path, seconds: int, ticks: int) -> None:
-    """pcapng with an interface's offset in seconds, and timestamps in milliseconds."""
+    """A pcapng file with an offset in seconds for the interface, and timestamps in milliseconds."""
     packet = bytes.fromhex("ffffffff860008").ljust(64, b"\0")
     usb = struct.pack("<QcBBBHcc", 1, b"S", 1, 1, 7, 1, b"-", b"\0") + struct.pack("<qiiII", 0, 0, -115, 64, 64)
     frame = usb + bytes(24) + packet
@@ -237,7 +237,7 @@ def default_signals() -> None:
 
 @pytest.mark.parametrize("number, status", [(signal.SIGTERM, 143), (signal.SIGINT, 130)])
 def test_shrink_writes_the_shortest_log_so_far(folder: Path, number: int, status: int) -> None:
-    """The command waits for a signal in its ninth run."""
+    """The command receives a signal while it waits in its ninth run."""
     (folder / "long").write_bytes(b"".join(b"t %d\n" % index for index in range(100)) + b"p 100 granted\n")
     text = "echo >> runs; [ $(wc -l < runs) -lt 9 ] || { echo > waits; exec sleep 600; }; ! grep -q granted"
     command = [*HIDLOG, "shrink", "long", "sh", "-c", text]
@@ -322,7 +322,7 @@ def test_a_mistake_of_the_package_has_no_verdicts_status(capsys: pytest.CaptureF
 
 
 def test_a_new_file_is_never_one_that_is_there(tmp_path: Path, monkeypatch: pytest.MonkeyPatch) -> None:
-    """Not even one with the temporary file's name."""
+    """A new file is never created over an existing file, even one with the name of the temporary file."""
     monkeypatch.setattr(files, "token_hex", lambda _: "1")
     (tmp_path / ".log.1").write_bytes(b"another's")
     with pytest.raises(FileExistsError):
@@ -346,7 +346,8 @@ def test_saved_keys_are_private_and_damage_is_refused(tmp_path: Path) -> None:
 
 
 def test_a_failure_of_standard_output_is_not_lost(tmp_path: Path) -> None:
-    """Even if a command, or argparse, handles it as an error of a file."""
+    """A failed write to standard output is reported, even if a command or argparse handles the error like that of a
+    file."""
     text = "def command():\n try:\n  print('x' * 10**6)\n except OSError:\n  return 0\n"
     text += "import sys\nfrom hidlog.entry_point import run\nsys.exit(run('hidlog test', command))"
     with open("/dev/full", "wb") as full:

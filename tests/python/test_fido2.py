@@ -1,4 +1,4 @@
-"""Compares python-fido2, of the installed version, with the package's browser on browser_cases.json."""
+"""Compares the client of the installed python-fido2 with the package's browser on browser_cases.json."""
 
 from __future__ import annotations
 
@@ -10,17 +10,18 @@ from implementations import CASES, Case, Json, run_calls, run_with_package
 
 import hidlog
 
-# Version 0.9 writes the client data of WebAuthn Level 1.
+# Version 0.9 writes client data of WebAuthn Level 1.
 OLD_CLIENT_DATA: Json = {"clientExtensions": {}}
 
 
 def is_supported(case: Case) -> bool:
-    """Returns whether python-fido2's client supports a case: it has no mediation, and authenticators of one kind."""
+    """Returns whether python-fido2's client supports a case: there is no mediation, and all authenticators are of one
+    kind."""
     return not set(case) & {"raw", "key", "mediation"}
 
 
 def run_with_fido2(case: Case) -> Json | None:
-    """Returns what the client returns, or None if it does not accept such options."""
+    """Returns the result of the client, or None if the client does not support the options."""
     with hidlog.SecurityKey() as key:
         call = make_call(key)
 
@@ -36,7 +37,7 @@ def run_with_fido2(case: Case) -> Json | None:
 
 
 def select_members(one: Json) -> Json:
-    """Returns the compared members: all except extension results, which the client lacks."""
+    """Returns the members that are compared: all except extension results, which the client doesn't return."""
     kept = {name: member for name, member in one["seen"].items() if name != "clientExtensionResults"}
     if IS_VERSION_0_9:
         kept["clientData"] = {**kept["clientData"], **OLD_CLIENT_DATA}

@@ -1,4 +1,5 @@
-"""Every public call with invalid arguments: each raises HidlogError at once, and the key keeps working."""
+"""Every public call with invalid arguments. Each call raises HidlogError at once, and the key still works
+afterwards."""
 
 from __future__ import annotations
 
@@ -44,7 +45,7 @@ INVALID_VALUES: dict[str, Any] = {
 }
 Key = hidlog.SecurityKey
 Call = Callable[[Key, Any], Any]
-# Calls with a value for a named argument, attribute or member.
+# For each call: a function that passes a value as a named argument, attribute or member.
 NAMED_CALLS: dict[str, tuple[str, Callable[[Key, Any, str], Any]]] = {
     "browser.create": (
         "challenge rp user pubKeyCredParams authenticatorSelection timeout excludeCredentials extensions attestation hints",
@@ -95,7 +96,7 @@ def make_named_call(call: Callable[[Key, Any, str], Any], name: str) -> Call:
     return lambda key, value: call(key, value, name)
 
 
-# All calls with one invalid value.
+# All calls, each with one invalid value.
 INVALID_CALLS: dict[str, Call] = {
     **{
         f"{name} {member}": make_named_call(call, member)
@@ -178,7 +179,7 @@ def test_what_is_near_is_named() -> None:
 
 
 class KeyWithAttribute(Key):
-    """A subclass with an attribute of its own."""
+    """A subclass of Key with an attribute."""
 
     def __init__(self) -> None:
         super().__init__()
@@ -222,7 +223,7 @@ def test_no_buffer_of_another_length_reaches_the_library() -> None:
 
 
 class HostileKey:
-    """A key that responds to INIT correctly, and then with these packets."""
+    """A key that responds to INIT correctly, and sends these packets afterwards."""
 
     def __init__(self, *packets_: bytes):
         self._packets = list(packets_)
@@ -319,7 +320,7 @@ def test_a_save_is_whole_and_private(tmp_path: Path, monkeypatch: pytest.MonkeyP
 
 
 def exchange_init(key: Key) -> bytes:
-    """Has the key respond to an INIT, and returns the log."""
+    """Sends INIT to the key, and returns the log."""
     key.write_packet(packets.fragment_message(packets.Message(packets.BROADCAST, packets.INIT, bytes(8)))[0])
     key.read_packet()
     return key.log
@@ -345,7 +346,7 @@ def test_a_recording_that_cannot_be_written_leaves_the_older_one(
 
 @pytest.mark.parametrize("is_killed", [False, True])
 def test_a_write_that_is_cut_off_leaves_the_older_recording(tmp_path: Path, is_killed: bool) -> None:
-    """After 10 bytes of a file, writes fail, or the process is killed."""
+    """If writes fail or the process is killed after 10 bytes of a file, the older recording is kept."""
     path = tmp_path / "session.log"
     path.write_bytes(b"t 1\n")
     text = f"""

@@ -1,4 +1,5 @@
-"""The JSON of WebAuthn Level 3, compared with python-fido2's and with values written from the standard."""
+"""The JSON of WebAuthn Level 3, compared with that of python-fido2, and with values that were written from the
+standard."""
 
 from __future__ import annotations
 
@@ -22,7 +23,7 @@ import hidlog
 from hidlog import cbor, webauthn_json
 
 Make = Callable[..., hidlog.SecurityKey]
-# Every member of PublicKeyCredentialCreationOptionsJSON (WebAuthn Level 3, section 5.1.9).
+# All members of PublicKeyCredentialCreationOptionsJSON (WebAuthn Level 3, section 5.1.9).
 CREATION: dict[str, Any] = {
     "rp": {"name": "Example", "id": "example.com"},
     "user": {"id": "YWxpY2U", "name": "alice", "displayName": "Alice"},
@@ -41,7 +42,7 @@ CREATION: dict[str, Any] = {
     "attestationFormats": ["packed"],
     "extensions": {"credProps": True, "prf": {"eval": {"first": "AQ", "second": "Ag"}}},
 }
-# Every member of PublicKeyCredentialRequestOptionsJSON (section 5.1.10).
+# All members of PublicKeyCredentialRequestOptionsJSON (section 5.1.10).
 REQUEST: dict[str, Any] = {
     "challenge": "AAECAwQFBgcICQoLDA0ODw",
     "timeout": 60000,
@@ -123,7 +124,7 @@ def test_a_wrong_origin_is_refused(make: Make, origin: str) -> None:
 
 
 def test_a_page_and_a_service_in_json(make: Make) -> None:
-    """A minimal service reads the browser's responses with python-fido2's parsers."""
+    """A minimal service parses the browser's responses with the functions of python-fido2."""
     browser = make().browser(ORIGIN)
     made = json.loads(json.dumps(browser.create({**CREATION, "rp": {"name": "Example"}, "excludeCredentials": []})))
     assert set(made) == {"id", "rawId", "response", "authenticatorAttachment", "clientExtensionResults", "type"}
@@ -152,7 +153,7 @@ def test_a_page_and_a_service_in_json(make: Make) -> None:
         signed = parts["authenticatorData"] + sha256(parts["clientDataJSON"]).digest()
         public.verify(parts["signature"], signed, ec.ECDSA(SHA256()))
         assert AuthenticatorData(parts["authenticatorData"]).rp_id_hash == sha256(b"example.com").digest()
-    # A discoverable credential has a user handle, even if an allow list names it.
+    # For a discoverable credential, the response contains the user handle, even if the credential is in the allow list.
     assert parts["userHandle"] == b"alice"
 
 

@@ -17,7 +17,7 @@ from service import REFUSED_ERROR, Service, check_refused
 
 import hidlog
 
-# Timeout in seconds: only a hanging call takes this long.
+# A timeout in seconds. Only a call that hangs takes this long.
 TIMEOUT_SECONDS = 60
 
 Make = Callable[..., hidlog.SecurityKey]
@@ -101,7 +101,8 @@ def test_an_unanswered_wait_ends_and_costs_no_processor(make: Make) -> None:
         service.register()
     assert 1.0 <= time.monotonic() - began < TIMEOUT_SECONDS
     assert time.process_time() - worked < 0.3
-    # A KEEPALIVE at the request, and then every 100 ms, by the clock; fewer on a busy machine.
+    # There is a KEEPALIVE at the request and one every 100 ms after it, by the clock. On a busy machine there are
+    # fewer.
     assert 2 <= key.log.count(b"\n< 00000001bb000102") <= 12
     key.presence = "granted"
     service.register()
@@ -112,17 +113,17 @@ def test_a_read_ends_at_its_time_out(make: Make) -> None:
     client = hidlog.Client(key)
     with pytest.raises(hidlog.KeyTimeoutError, match="timed out waiting for a packet"):
         key.read_packet(timeout=0.05)
-    # authenticatorSelection: a KEEPALIVE at once, and the next one after 100 ms.
+    # authenticatorSelection: there is a KEEPALIVE at once, and the next one comes after 100 ms.
     key.write_packet(bytes.fromhex("00000001900001" "0b").ljust(64, b"\0"))
     assert key.read_packet()[:8].hex() == "00000001bb000102"
     began = time.monotonic()
-    # On a busy machine, the next one may be there by then.
+    # On a busy machine, the next KEEPALIVE may have been sent already.
     with contextlib.suppress(hidlog.KeyTimeoutError):
         assert key.read_packet(timeout=0.03)[:8].hex() == "00000001bb000102" and time.monotonic() - began > 0.09
     assert key.read_packet()[:8].hex() == "00000001bb000102"
     assert 0.09 < time.monotonic() - began < TIMEOUT_SECONDS
     key.presence = "granted"
-    # The number of KEEPALIVEs before the response depends on timing.
+    # The number of KEEPALIVEs before the response depends on the timing.
     packets = [key.read_packet()[4:8].hex()]
     while packets[-1] == "bb000102":
         packets.append(key.read_packet()[4:8].hex())
@@ -185,7 +186,7 @@ def test_the_clock_of_the_test(make: Make) -> None:
     Ctap2(key.device()).get_info()
     assert b"\n> 9000 0000" in key.log
     key.advance_time(2000)
-    # authenticatorReset is refused more than 10 s after power-up (CTAP 2.1, section 6.6).
+    # authenticatorReset is rejected later than 10 s after power-up (CTAP 2.1, section 6.6).
     with pytest.raises(CtapError) as caught:
         Ctap2(key.device()).reset()
     assert caught.value.code == 0x30

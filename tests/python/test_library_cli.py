@@ -1,4 +1,5 @@
-"""The command `hidlog` without the program, as on other processors: the library writes the same output."""
+"""The command `hidlog` without the program, as on processors for which there is no program. The library writes the same
+output."""
 
 from __future__ import annotations
 
@@ -30,7 +31,7 @@ def run_command(words: list[str], given: bytes, folder: Path) -> tuple[int, byte
 
 
 def run_both(words: list[str], given: bytes, folder: Path) -> tuple[tuple[int, bytes, bytes], tuple[int, bytes, bytes]]:
-    """Returns the results of a command without the program, and with it."""
+    """Returns the results of a command, first without the program and then with it."""
     own = run_command([sys.executable, "-c", WITHOUT_PROGRAM, *words], given, folder)
     return own, run_command([find_program(), *words], given, folder)
 
@@ -66,7 +67,7 @@ def test_files_and_snapshots(example: Callable[[str], bytes], tmp_path: Path) ->
 
 
 def test_a_snapshot_that_is_not_that_of_its_sums(example: Callable[[str], bytes], tmp_path: Path) -> None:
-    """The texts are those of docs/use/LOG_FORMAT.md and of the program's own tests."""
+    """The expected texts are those in docs/use/LOG_FORMAT.md and in the tests of the program."""
     words, data = [sys.executable, "-c", WITHOUT_PROGRAM, "check", "--load", "key", "-"], example(
         "example_com.snapshot"
     )

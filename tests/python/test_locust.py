@@ -1,4 +1,4 @@
-"""The keys that a worker of Locust reports: those that changed since its last report."""
+"""The keys that a worker of Locust reports: those that have changed since its last report."""
 
 from __future__ import annotations
 
@@ -9,7 +9,7 @@ import sys
 
 import pytest
 
-# Locust replaces the modules for threads and sockets, so it is imported in a process of its own.
+# Locust replaces the modules for threads and sockets, so it is imported in a separate process.
 REPORTS = """
 import json
 from hidlog.locust import Users
@@ -45,11 +45,11 @@ print(json.dumps([[sorted(report) for report in reports], users.waiting["idle"] 
 
 @pytest.mark.skipif(importlib.util.find_spec("locust") is None, reason="python3-locust is missing")
 def test_only_changed_keys_are_reported() -> None:
-    """A new key, a sign-in and a changed flag are reported once, and an idle key never."""
+    """A new key, a sign-in and a changed flag are reported once. A key without changes is not reported."""
     ran = subprocess.run([sys.executable, "-W", "ignore", "-c", REPORTS], capture_output=True, text=True, check=False)
     assert ran.returncode == 0, ran.stderr
     reports, is_idle_unchanged, counts = json.loads(ran.stdout)
     assert reports == [["new"], [], ["active"], [], ["changed"], ["active"], []]
     assert is_idle_unchanged
-    # A registration has the count 0, which the margin raised by 10; then come two sign-ins.
+    # A registration has the count 0, which the margin increases by 10. Two sign-ins follow.
     assert counts == {"idle": 0, "active": 12, "changed": 10}

@@ -1,4 +1,4 @@
-"""The commands on logs: as functions, with python -m hidlog, and with the console script."""
+"""The commands for logs: as functions, as `python -m hidlog`, and as the console script."""
 
 from __future__ import annotations
 
@@ -59,7 +59,8 @@ def test_what_is_written_may_be_much_longer_than_the_log(example: Example) -> No
     ticks = b"".join(b"t %d\n" % (1000 * index) for index in range(5000))
     start_shrinking = b"\n".join(example("registration.log").splitlines()[:5]) + b"\n"
     text = hidlog.replay(start_shrinking + ticks).raise_for_fault().text
-    # A KEEPALIVE at the request, and one at each tick except the first, which has the same timestamp.
+    # There is a KEEPALIVE at the request, and one at each tick except the first, which has the same timestamp as the
+    # request.
     assert text.count(b"\n< 00000001bb0001") == 5000
 
 

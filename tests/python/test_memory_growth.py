@@ -1,4 +1,4 @@
-"""The time and memory of a sign-in does not grow with the number of sign-ins."""
+"""The time and memory for a sign-in do not increase with the number of earlier sign-ins."""
 
 from __future__ import annotations
 
@@ -22,6 +22,7 @@ def test_two_thousand_sign_ins_take_flat_time(make: Callable[..., hidlog.Securit
             answer = client.request(2, {1: "a", 2: bytes(32)})
         parts.append(time.process_time() - began)
     assert int.from_bytes(answer[2][33:37], "big") == 2000
-    # The fastest of many, because of other load. Replaying the session each time would take 20 times as long.
+    # The fastest of many sign-ins, because the machine may be busy. Replaying the session at each sign-in would take 20
+    # times as long.
     assert min(parts[-10:]) < 2 * min(parts[:10]), parts
     assert resource.getrusage(resource.RUSAGE_SELF).ru_maxrss < 300_000

@@ -25,7 +25,7 @@ BUSY_DIAGRAM = """sequenceDiagram
     key-->>host: KEEPALIVE STATUS_PROCESSING
     key->>host: CTAP2_OK
 """
-# A line of Mermaid: sender, receiver, and a text without characters that would end it.
+# A line of Mermaid: the sender, the receiver, and a text without characters that would end the line.
 DIAGRAM_LINE = re.compile(r"    (host|key|user)--?>>(host|key): ([^#;:<>{}\"]|#\d+;)+")
 
 

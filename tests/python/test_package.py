@@ -1,4 +1,4 @@
-"""The wheel and the sdist, as installed."""
+"""The wheel and the sdist after installation."""
 
 from __future__ import annotations
 
@@ -96,7 +96,7 @@ def test_logs_need_no_other_package() -> None:
 
 
 def test_an_editable_install(tmp_path: Path) -> None:
-    """The clone is not changed, and its files are imported."""
+    """An editable install does not change the clone, and imports the files of the clone."""
     subprocess.run(["/usr/bin/python3", "-m", "venv", "--system-site-packages", tmp_path / "venv"], check=True)
     words = [
         "install",
@@ -114,7 +114,7 @@ def test_an_editable_install(tmp_path: Path) -> None:
 
 
 def test_nothing_is_imported_before_it_is_asked_for() -> None:
-    """Each pytest process imports the plugin."""
+    """The package imports its modules only when they are needed, because each pytest process imports the plugin."""
     words = "import sys, hidlog; print([name for name in sys.modules if name.startswith('hidlog.')], hidlog.check, hidlog.errors)"
     said = subprocess.run([sys.executable, "-c", words], capture_output=True, text=True, check=True)
     assert said.stdout.startswith("[] <function check")

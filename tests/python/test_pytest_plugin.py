@@ -1,4 +1,4 @@
-"""The fixtures, in a separate pytest."""
+"""The fixtures of the pytest plugin, tested in a separate pytest process."""
 
 from __future__ import annotations
 

@@ -1,4 +1,4 @@
-"""Invalid input for the package's parsers: each raises HidlogError with a description."""
+"""Invalid input for the parsers of the package. Each parser raises HidlogError with a description."""
 
 from __future__ import annotations
 
@@ -73,7 +73,7 @@ WRONG_VALUES += [
 
 
 def iter_changes(value: Any, wrong: list[Any]) -> Iterator[Any]:
-    """Yields a value with each wrong value at each position, and without each of its members."""
+    """Yields a value in which each position is replaced by each wrong value, and from which each member is removed."""
     yield from wrong
     places = value.items() if isinstance(value, dict) else enumerate(value) if isinstance(value, list) else ()
     for place, inner in places:
@@ -131,7 +131,7 @@ def test_what_is_wrong_in_options_is_said(members: dict[str, Any], text: str) ->
     ],
 )
 def test_a_browser_refuses_them_by_the_name_of_the_dom(options: dict[str, Any]) -> None:
-    """Web IDL: a value that can't be converted to a dictionary is a TypeError."""
+    """In Web IDL, a value that can't be converted to a dictionary is a TypeError."""
     with hidlog.SecurityKey() as key, pytest.raises(hidlog.WebAuthnError) as caught:
         key.browser("https://a.example").create(options)
     assert caught.value.name == "TypeError" and "The provided value is not of type" in str(caught.value)
@@ -142,7 +142,8 @@ def test_a_browser_refuses_them_by_the_name_of_the_dom(options: dict[str, Any]) 
 )
 @pytest.mark.parametrize("after", [1, 2, 3])
 def test_a_recording_with_a_line_that_is_no_packet(example: Example, line: bytes, after: int) -> None:
-    """Before the first packet, at a packet of the key, and at one of the client; with the program's error message."""
+    """The invalid line is before the first packet, at a packet of the key, or at a packet of the client. The error
+    message is that of the program."""
     lines = example("registration.log").splitlines()
     assert [item[:1] for item in lines[:4]] == [b"#", b">", b"<", b">"]
     log = b"\n".join([*lines[:after], line, *lines[after:]]) + b"\n"
@@ -173,7 +174,7 @@ SNAPSHOT_ROW = {number: bytes(32) for number in range(1, 5)} | {5: b"\1", 6: Tru
     ],
 )
 def test_what_is_wrong_in_a_snapshot_is_said(value: Any, text: str) -> None:
-    """The program refuses each of them, too."""
+    """The program rejects each of these snapshots, too."""
     data = cbor.encode(value)
     with pytest.raises(hidlog.SnapshotError, match=f"^not a snapshot: {text}$"):
         read_snapshot(data)
@@ -210,7 +211,7 @@ def test_snapshots_with_a_wrong_value_in_each_place(example: Example) -> None:
 
 @pytest.mark.parametrize("version", [1, 2])
 def test_snapshots_of_both_versions_are_read(version: int) -> None:
-    """Version 1 has no user names. The program accepts both, too."""
+    """Snapshots of version 1 contain no user names. The program accepts both versions, too."""
     row = {number: member for number, member in SNAPSHOT_ROW.items() if number < 8 or version == 2}
     data = cbor.encode({1: version, 2: [row]})
     hidlog.replay(b"", data).raise_for_fault()

@@ -1,4 +1,5 @@
-"""A request served directly has the same recording and result as one whose packets a client writes and reads."""
+"""A request that is served directly gives the same recording and result as a request whose packets a client writes and
+reads."""
 
 from __future__ import annotations
 
@@ -21,7 +22,7 @@ Steps = Callable[[Key, hidlog.Browser], Any]
 
 
 def sign_deterministically(private: private_keys.PrivateKey, data: bytes) -> bytes:
-    """Returns a deterministic signature, unlike OpenSSL."""
+    """Returns a signature that is deterministic, unlike the signatures of OpenSSL."""
     secret = private.private_numbers().private_value.to_bytes(32, "big")
     r, s = (int.from_bytes(sha256(secret + data + part).digest(), "big") for part in (b"r", b"s"))
     return encode_dss_signature(r, s)
@@ -108,7 +109,7 @@ def time_out(key: Key, browser: hidlog.Browser) -> Any:
 
 
 def interleave_client(key: Key, browser: hidlog.Browser) -> Any:
-    """Messages of another client before and after."""
+    """Another client sends messages before and after a registration."""
     client = hidlog.Client(key)
     made = [browser.create(make_creation_options()), client.request(4)]
     key.advance_time(900)
@@ -210,7 +211,7 @@ def test_what_is_not_served_at_once(options: dict[str, Any], change: Any) -> Non
 
 
 def test_a_message_under_way_is_waited_for() -> None:
-    """Requests are not served directly while another client's message is incomplete or a response is queued."""
+    """A request is not served directly while a message of another client is incomplete or a response is queued."""
     with Key() as key:
         client = hidlog.Client(key)
         browser = key.browser("https://example.com")

@@ -1,4 +1,5 @@
-"""Signatures of recorded sessions, with changes made by hand and their expected outcomes."""
+"""The signatures in recorded sessions. The sessions are changed by hand, and the expected results are written by
+hand."""
 
 from __future__ import annotations
 
@@ -33,7 +34,8 @@ def test_a_keys_own_session(make: Callable[..., hidlog.SecurityKey]) -> None:
 
 
 def test_each_bit_that_is_signed_counts() -> None:
-    """A changed bit of the request's hash, of the response's flags, or of the signature is detected at its response."""
+    """A changed bit in the request's hash, in the flags of the response, or in the signature is reported at the
+    response."""
     lines = (FAILING_LOGS / "changed_request.log").read_bytes().splitlines(True)
     assert list_checks(b"".join(lines)) == [("attestation", "good"), ("assertion", "wrong")]
     asked = next(at for at, it in enumerate(lines) if b"02a2016b6578616d706c652e636f6d" in it)

@@ -1,4 +1,4 @@
-"""Damaged files of saved keys are refused."""
+"""Damaged files of saved keys are rejected."""
 
 from __future__ import annotations
 
@@ -14,7 +14,7 @@ import hidlog
 
 
 def save_key(path: Path) -> tuple[bytes, list[Any]]:
-    """Saves a key with two credentials. Returns the file's bytes, and the credentials."""
+    """Saves a key with two credentials. Returns the bytes of the file, and the credentials."""
     with hidlog.SecurityKey() as key:
         for name in ("alice", "bob"):
             Service(key).register(name)
@@ -23,7 +23,8 @@ def save_key(path: Path) -> tuple[bytes, list[Any]]:
 
 
 def test_each_bit_of_a_saved_key_changed(tmp_path: Path) -> None:
-    """A file with one bit changed is refused, or has the same credentials (in white space, or the checksum's name)."""
+    """A file with one changed bit is rejected, or has the same credentials if the bit is in white space or in the name
+    of the checksum."""
     path = tmp_path / "key.json"
     data, credentials = save_key(path)
     loaded = []
@@ -50,11 +51,11 @@ def test_a_cut_off_file_is_refused(tmp_path: Path) -> None:
 
 
 def test_a_file_without_a_sum_is_loaded(tmp_path: Path) -> None:
-    """Older versions wrote no checksum. An edited file is loaded if its checksum is removed."""
+    """Older versions wrote no checksum. An edited file is loaded after its checksum was removed."""
     path = tmp_path / "key.json"
     data, credentials = save_key(path)
     members = json.loads(data)
-    # The checksum of the other members, with sorted names and without white space.
+    # The checksum is that of the other members, with sorted names and without white space.
     given = members.pop("sha256")
     assert given == sha256(json.dumps(members, sort_keys=True, separators=(",", ":")).encode()).hexdigest()
     members["sha256"] = given

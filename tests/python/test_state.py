@@ -38,7 +38,7 @@ def test_loss_of_power(make: Make) -> None:
     service = Service(key)
     alice = service.register()
     key.restart()
-    # The key no longer knows the channel: ERR_INVALID_CHANNEL.
+    # The key no longer has the channel, so it sends ERR_INVALID_CHANNEL.
     with pytest.raises(CtapError) as caught:
         service.client.ctap2.get_info()
     assert (caught.value.code, str(caught.value)) == (0x0B, "CtapError 0x0B INVALID_CHANNEL")
@@ -67,7 +67,8 @@ def test_credentials(make: Make) -> None:
 
 
 def test_an_added_credential_replaces_that_of_its_user(make: Make) -> None:
-    """Like a registration (docs/use/PROFILE.md, authenticatorMakeCredential). Other credentials stay."""
+    """An added credential replaces another one of the same user, as in a registration (docs/use/PROFILE.md,
+    authenticatorMakeCredential). Other credentials are kept."""
     key = make()
     first = key.credentials.add("example.com", b"alice")
     other = key.credentials.add("example.org", b"alice")
@@ -120,7 +121,7 @@ def _read_cose_key(credential: hidlog.Credential) -> Any:
 
 
 def change_at_random(key: hidlog.SecurityKey, chance: Random) -> None:
-    """Adds, changes and removes credentials of three users at two services."""
+    """Adds, changes and removes credentials of three users at two services, at random."""
     for _ in range(60):
         ids = [credential.id for credential in key.credentials]
         what = chance.randrange(8)
@@ -142,7 +143,8 @@ def change_at_random(key: hidlog.SecurityKey, chance: Random) -> None:
 
 
 def test_both_forms_hold_the_same_after_changes() -> None:
-    """A key in this process changes credentials through the C library, one in a separate process through snapshots."""
+    """A key in this process changes credentials through the C library, and a key in a separate process through
+    snapshots. Both have the same credentials afterwards."""
     for seed in range(4):
         keys = []
         for process in (False, True):
@@ -206,7 +208,7 @@ def test_wrong_credentials_are_refused(make: Make) -> None:
         assert list(other.credentials) == full
         with pytest.raises(hidlog.ArgumentError, match="the key is full: it has 64 credentials"):
             other.credentials.add("example.com", b"one more")
-        # A registration beyond the capacity: CTAP2_ERR_KEY_STORE_FULL.
+        # A registration beyond the capacity fails with CTAP2_ERR_KEY_STORE_FULL.
         check_refused(REFUSED_ERROR.CONFIGURATION_UNSUPPORTED, 0x28, Service(other).register)
 
 
@@ -234,7 +236,8 @@ def test_without_a_recording(make: Make) -> None:
 
 
 def test_a_snapshot_at_its_limits(make: Make) -> None:
-    """The snapshot equals that of a generic encoder, and the core loads it and lists the same credentials."""
+    """The snapshot equals the output of a generic CBOR encoder. The core loads the snapshot, and returns the same
+    credentials."""
     point = hidlog.SecurityKey().credentials.add("example.com")
     listed = [
         replace(
@@ -260,7 +263,8 @@ def test_a_snapshot_at_its_limits(make: Make) -> None:
 
 
 def test_a_key_as_text(make: Make) -> None:
-    """A key loaded from dumps has the same credentials, with signature counters above those seen by a service."""
+    """A key that is loaded from the text of `dumps` has the same credentials. Their signature counters are above those
+    that a service has seen."""
     with make() as key:
         alice = Service(key).register()
         Service(key).sign_in([alice])

@@ -25,7 +25,7 @@ WITH_PROGRAM = [sys.executable, "-m", "hidlog"]
 WITHOUT_PROGRAM_COMMAND = [sys.executable, "-c", WITHOUT_PROGRAM]
 LINE = b'{"id": 1, "log": 0}\n'
 WRITING_FAILED = b"hidlog: writing failed\n"
-# Commands of the program, all with output.
+# Commands of the program that all write output.
 PROGRAM_COMMANDS = [
     "check same.log",
     "replay same.log",
@@ -64,7 +64,7 @@ MIXED_COMMANDS = ["mermaid same.log", "check --signatures same.log"]
 
 @pytest.fixture(scope="module")
 def folder(tmp_path_factory: pytest.TempPathFactory) -> Path:
-    """Provides a directory with logs and a capture."""
+    """Provides a directory that contains logs and a capture."""
     examples, made = Path(os.environ["HIDLOG_EXAMPLES"]), tmp_path_factory.mktemp("streams")
     (made / "same.log").write_bytes((examples / "registration.log").read_bytes())
     (made / "broken.log").write_bytes((examples / "failing" / "stale_sign_count.log").read_bytes())
@@ -75,7 +75,7 @@ def folder(tmp_path_factory: pytest.TempPathFactory) -> Path:
 
 @contextmanager
 def output(kind: str) -> Iterator[int]:
-    """Provides a descriptor that can't be written."""
+    """Provides a file descriptor to which writing fails."""
     if kind == "full":
         number = os.open("/dev/full", os.O_WRONLY)
     elif kind == "short":
@@ -91,13 +91,14 @@ def output(kind: str) -> Iterator[int]:
 
 
 def limit_files() -> None:
-    """Makes writes after the tenth byte of a file fail. SIGXFSZ kills processes that do not ignore it."""
+    """Makes writes to a file fail after its tenth byte. SIGXFSZ kills processes that do not ignore it."""
     resource.setrlimit(resource.RLIMIT_CORE, (0, 0))
     resource.setrlimit(resource.RLIMIT_FSIZE, (10, 10))
 
 
 def run_command(command: list[str], words: str, folder: Path, kind: str, stream: int = 1) -> tuple[int, bytes, bytes]:
-    """Returns the result of a command whose standard output, error or input is full, closed or broken."""
+    """Returns the result of a command with one standard stream (output, error or input) that is full, closed or
+    broken."""
     log = LINE if "browser" in words else (folder / "same.log").read_bytes()
     line = ["sh", "-c", f'exec "$@" {stream}>&-', "sh", *command] if kind == "closed" else command
     with output("broken" if kind == "closed" else kind) as number:
@@ -188,7 +189,7 @@ def test_a_closed_standard_input_is_no_empty_one(folder: Path, words: str) -> No
 
 
 def test_a_closed_stream_is_no_file(folder: Path) -> None:
-    """The next file opened does not become a standard stream."""
+    """If a standard stream is closed, the file that is opened next does not become this stream."""
     target = folder / "out.log"
     shell = ["sh", "-c", 'exec "$@" <&- >&- 2>&-', "sh"]
     ran = subprocess.run([*shell, *WITH_PROGRAM, "import", "capture", "-o", "out.log"], cwd=folder, timeout=600)

@@ -17,12 +17,13 @@ from hidlog import packets
 
 Make = Callable[..., hidlog.SecurityKey]
 THREAD_COUNT = 4
-# Timeout in seconds: only a hanging call takes this long.
+# A timeout in seconds. Only a call that hangs takes this long.
 TIMEOUT_SECONDS = 60
 
 
 def test_four_threads_lose_nothing(make: Make) -> None:
-    """Each thread registers 100 times at its own site, alternating between 15 users, and signs in after each."""
+    """Each thread registers 100 times at a site of its own, for 15 users in turn, and signs in after each
+    registration."""
     key = make()
 
     def register(thread: int) -> list[str]:
@@ -63,7 +64,7 @@ def test_clients_of_several_threads(make: Make) -> None:
 
 
 def test_raw_packets_of_two_threads_have_a_queue_a_channel(make: Make) -> None:
-    """Each thread sends a PING on its own channel, and then both read."""
+    """Each thread sends a PING on a separate channel. Then both threads read the responses."""
     key, meeting = make(), threading.Barrier(2)
     found: dict[bytes, bytes] = {}
 

@@ -26,7 +26,7 @@ CREATION: dict[str, Any] = {
     "pubKeyCredParams": [{"type": "public-key", "alg": -7}],
 }
 REQUEST: dict[str, Any] = {"challenge": "AAECAw"}
-# WebAuthn Level 3, section 5.8.1.1, written by hand.
+# The client data of WebAuthn Level 3, section 5.8.1.1, written by hand.
 CLIENT_DATA = (
     '{"type":"webauthn.%s","challenge":"AAECAw","origin":"https://login.example.com:8443","crossOrigin":false}'
 )
@@ -35,7 +35,7 @@ CLIENT_DATA = (
 def build_request(
     ceremony: str, options: Any, authenticator: AuthenticatorOptions = AuthenticatorOptions(), origin: str = ORIGIN
 ) -> bytes:
-    """Returns the request for options."""
+    """Returns the request that the client encodes for options."""
     return ClientCall(ceremony, options, "optional", origin, authenticator).request().message
 
 
@@ -44,7 +44,7 @@ def client_data_hash(ceremony: str) -> bytes:
 
 
 def test_a_registration_is_what_ctap_says() -> None:
-    """CTAP 2.1, section 6.1: the parameters of authenticatorMakeCredential, in canonical CBOR."""
+    """The parameters of authenticatorMakeCredential are those of CTAP 2.1, section 6.1, in canonical CBOR."""
     listed = [{"type": "public-key", "id": ID_TEXT}, {"type": "another", "id": "AA"}]
     options = {**CREATION, "excludeCredentials": listed, "authenticatorSelection": {"residentKey": "preferred"}}
     expected = {
@@ -63,7 +63,7 @@ def test_a_registration_is_what_ctap_says() -> None:
 
 
 def test_a_sign_in_is_what_ctap_says() -> None:
-    """CTAP 2.1, section 6.2: the parameters of authenticatorGetAssertion."""
+    """The parameters of authenticatorGetAssertion are those of CTAP 2.1, section 6.2."""
     expected: dict[int, Any] = {1: "login.example.com", 2: client_data_hash("get")}
     assert build_request("get", REQUEST) == b"\x02" + cbor.encode(expected)
     expected |= {1: "example.com", 3: [{"id": ID, "type": "public-key"}, {"id": b"", "type": "public-key"}]}
@@ -73,7 +73,7 @@ def test_a_sign_in_is_what_ctap_says() -> None:
 
 
 def test_texts_are_utf8() -> None:
-    """Web IDL: an unpaired surrogate in a USVString becomes U+FFFD."""
+    """In Web IDL, an unpaired surrogate in a USVString becomes U+FFFD."""
     user = {**CREATION["user"], "name": "d\u00f6rte \U0001f511", "displayName": 'a\ud800b"\\\n'}
     sent = cbor.decode(build_request("create", {**CREATION, "user": user})[1:])
     assert (sent[3]["name"], sent[3]["displayName"]) == ("d\u00f6rte \U0001f511", 'a\ufffdb"\\\n')
@@ -133,7 +133,8 @@ def test_a_mediation_is_one_of_four() -> None:
 
 
 def test_a_status_is_an_error_of_the_dom() -> None:
-    """WebAuthn Level 3, section 5.1.3, step 22: InvalidStateError for an excluded credential, else NotAllowedError."""
+    """The error for an excluded credential is InvalidStateError, otherwise NotAllowedError (WebAuthn Level 3, section
+    5.1.3, step 22)."""
     call = ClientCall("create", CREATION, "optional", ORIGIN, AuthenticatorOptions())
     for status in range(1, 256):
         refused = call.make_error(status)
@@ -150,7 +151,7 @@ class IntEnumValue(enum.IntEnum):
 
 
 def test_values_that_stand_for_json() -> None:
-    """Tuples, mappings, and enums of str and int, as in python-fido2."""
+    """Tuples, mappings, and enums of str and int are accepted as JSON values, as python-fido2 uses them."""
     listed = ({"type": StringEnum.KIND, "id": ID_TEXT},)
     parameters = ({"type": StringEnum.KIND, "alg": IntEnumValue.ES256},)
     given = UserDict({**CREATION, "rp": UserDict(CREATION["rp"]), "pubKeyCredParams": parameters})

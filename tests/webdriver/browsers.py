@@ -44,7 +44,7 @@ PREFERENCES = {
     "network.captive-portal-service.enabled": False,
     "network.connectivity-service.enabled": False,
 }
-# Requests that a page of another origin can send without a preflight.
+# Requests that a page of another origin can send without a CORS preflight.
 CROSS_ORIGIN_PAGE = """<!doctype html><meta charset="utf-8"><title>A page</title><body><script>
 const body = JSON.stringify({ capabilities: { alwaysMatch: { "goog:chromeOptions": {
     args: ["--renderer-cmd-prefix=bash -c id>PWNED"] } } } });
@@ -92,7 +92,7 @@ const attack = async (base) => {
     await fetch("/report", { method: "POST", body: "{}" });
 })();
 </script>"""
-# A page whose own name is rebound to the port: its requests are same-origin.
+# A page whose own host name is rebound to the address of the port, so that its requests are same-origin.
 REBINDING_PAGE = """<!doctype html><meta charset="utf-8"><title>A page</title><script>
 (async () => {
     await fetch(`${CONTROL}/turn`, { mode: "no-cors" });
@@ -119,7 +119,7 @@ REBINDING_PAGE = """<!doctype html><meta charset="utf-8"><title>A page</title><s
 
 
 class AttackerHandler(BaseHTTPRequestHandler):
-    """The attacker's server: serves its page, and collects the page's reports."""
+    """The server of an attacker: it serves a page, and collects the reports of the page."""
 
     page: str
     turned: threading.Event
@@ -169,7 +169,7 @@ def serve_in_thread(handler: Any, port: int = 0) -> Iterator[int]:
 
 
 class VictimServer:
-    """A server at the port, with or without the gate, and the requests to the driver behind it."""
+    """A server at the port, with or without the gate, and the requests that reach the driver behind it."""
 
     def __init__(self, has_gate: bool):
         self.handler: Any = type("Noted", (RecordingDriver,), {"asked": [], "connections": []})
@@ -232,7 +232,7 @@ def open_browser(name: str, url: str) -> Iterator[None]:
 
 
 def test_cross_origin(name: str, has_gate: bool) -> VictimServer:
-    """Opens a page of another origin in a browser, and returns the requests at the port."""
+    """Opens a page of another origin in a browser, and returns the server with the requests that reached it."""
     victim = VictimServer(has_gate)
     with victim.listen() as port:
         handler = make_attacker_handler(
@@ -246,7 +246,8 @@ def test_cross_origin(name: str, has_gate: bool) -> VictimServer:
 
 
 def test_dns_rebinding(name: str, has_gate: bool) -> tuple[VictimServer, Any]:
-    """Opens a page whose origin is then rebound to the port, and returns the requests there and the page's results."""
+    """Opens a page whose origin is then rebound to the port. Returns the server with the requests that reached it, and
+    the results of the page."""
     victim, control = VictimServer(has_gate), make_attacker_handler("")
     with serve_in_thread(control) as at, ExitStack() as until_turn:
         page = make_attacker_handler(REBINDING_PAGE.replace("${CONTROL}", f"http://127.0.0.1:{at}"))
@@ -261,7 +262,7 @@ def test_dns_rebinding(name: str, has_gate: bool) -> tuple[VictimServer, Any]:
 
 
 def check_browser(name: str) -> None:
-    """Runs the pages of a browser, first without the gate."""
+    """Runs the pages in a browser, first without the gate and then with it."""
     bare = test_cross_origin(name, has_gate=False)
     assert bare.requests.count(("POST", "/session")) >= 8, bare.requests
     assert ("GET", "/shutdown") in bare.requests, bare.requests

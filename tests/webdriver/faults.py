@@ -42,7 +42,7 @@ DRIVER = f"{sys.executable} {HERE / 'processes.py'} --drive"
 OPTIONS = {"protocol": "ctap2", "transport": "usb"}
 LOG = "> 0 00\n"
 TIMEOUT_SECONDS = 600
-# System calls other than those that fail only if memory is short, which ends Python.
+# Excludes system calls that fail only if memory is short, because then Python ends.
 TRACED_CALLS = [
     "socket",
     "connect",
@@ -73,7 +73,8 @@ FAULTS = {"accept4": ("EMFILE", "EINTR", "ECONNABORTED"), "socket": ("EMFILE", "
 
 
 def call(run: Run, method: str, path: str, given: Any = None) -> tuple[int, Any]:
-    """Sends a command. The status is 0 if the connection ends without a response."""
+    """Sends a command, and returns the status and the value. The status is 0 if the connection ends without a
+    response."""
     try:
         return run.call(method, path, given)
     except (URLError, OSError, http.client.HTTPException) as error:
@@ -104,7 +105,8 @@ def attach_strace(pid: int, words: list[str]) -> subprocess.Popen[bytes]:
 
 
 def strace_arguments(place: Place, log: Path) -> list[str]:
-    """Returns strace's arguments for a fault. It reports when it is attached, and can't filter a running process."""
+    """Returns the arguments of strace for a fault. strace reports when it is attached, and can't filter a running
+    process."""
     return [word for word in place.strace_prefix(log) if word not in ("--seccomp-bpf", "-qq")]
 
 
@@ -116,7 +118,7 @@ def find_result_error(results: list[tuple[int, Any]]) -> Optional[str]:
 
 
 def find_file_error(folder: Path, is_killed: bool, is_told: bool) -> Optional[str]:
-    """Returns what is wrong with the recordings."""
+    """Returns what is wrong with the recordings in a folder."""
     files = [path for path in folder.rglob("*") if path.is_file()]
     logs = [path for path in files if path.suffix == ".log"]
     if any(path.read_text() != LOG or path.stat().st_mode & 0o777 != 0o600 for path in logs):
@@ -127,7 +129,7 @@ def find_file_error(folder: Path, is_killed: bool, is_told: bool) -> Optional[st
 
 
 def find_error(place: Place, folder: Path) -> Optional[str]:
-    """Runs with a fault, and returns what is wrong with the result."""
+    """Runs a session with a fault, and returns what is wrong with the result."""
     run = Run(DRIVER, "--recordings", str(folder / "logs"))
     tracer = attach_strace(run.process.pid, strace_arguments(place, folder / "strace"))
     below = list_descendants(run.process.pid)
@@ -150,7 +152,7 @@ def find_error(place: Place, folder: Path) -> Optional[str]:
 
 
 def list_places(folder: Path) -> list[Place]:
-    """Returns the system calls of a run without faults, which must succeed."""
+    """Returns the system calls of a session without faults, which must succeed."""
     run = Run(DRIVER, "--recordings", str(folder / "logs"))
     tracer = attach_strace(run.process.pid, ["strace", "-f", "-o", str(folder / "calls")])
     results = run_scenario(run)
@@ -159,7 +161,7 @@ def list_places(folder: Path) -> list[Place]:
     tracer.wait()
     assert [status for status, _ in results] == [200] * 6 and run.process.returncode == 0 and not text, (results, text)
     assert find_file_error(folder / "logs", False, False) is None
-    # strace counts the calls of each thread.
+    # strace counts the calls of each thread separately.
     found = Counter(re.findall(r"^(\d+) +([a-z_0-9]+)\(", (folder / "calls").read_text(errors="replace"), re.MULTILINE))
     counts = {name: max((found[place] for place in found if place[1] == name), default=0) for name in TRACED_CALLS}
     counts = {name: count for name, count in counts.items() if count}
@@ -168,7 +170,7 @@ def list_places(folder: Path) -> list[Place]:
 
 
 def find_short_call_error() -> Optional[str]:
-    """Runs with reads and writes of half their size, and returns what is wrong with the result."""
+    """Runs a session with reads and writes of half their size, and returns what is wrong with the result."""
     with TemporaryDirectory() as folder:
         _, library = injection.short_calls_prefix(Path(folder))
         name, _, value = library.partition("=")

@@ -35,16 +35,16 @@ ACCEPTED = [
     GOOD_POST._replace(lengths=[str(MAX_BODY)]),
     GOOD_GET._replace(path="/session/x/element/f.A1.d.B2.e.3/attribute/data-x"),
     GOOD_GET._replace(path="/session/x/cookie/__Host-id"),
-    # Java's encoded padding of a credential's ID.
+    # A credential ID with padding that is percent-encoded, as the Java client sends it.
     GOOD_GET._replace(method="DELETE", path="/session/x/webauthn/authenticator/y/credentials/AQ%3D%3d"),
-    # This server by its names, and a client that omits port 80.
+    # The names of this server, and a client that omits port 80.
     GOOD_GET._replace(hosts=[f"LocalHost:{PORT}"]),
     GOOD_GET._replace(hosts=[f"[::1]:{PORT}"]),
-    # Hosts allowed by the option, with any port or with one.
+    # Hosts that the option allows, with any port or with one port.
     GOOD_GET._replace(hosts=["chrome"]),
     GOOD_GET._replace(hosts=["Chrome:5555"]),
     GOOD_GET._replace(hosts=["ci.example:8080"]),
-    # A page of this server.
+    # A page that this server sends.
     GOOD_GET._replace(origins=[f"http://{OWN_HOST}"], sites=["same-origin"]),
     # A URL typed by a user.
     GOOD_GET._replace(sites=["none"]),
@@ -56,7 +56,7 @@ REFUSED = {
         for method in ("PUT", "OPTIONS", "HEAD", "PATCH", "CONNECT", "TRACE", "get", "", "G T")
     ],
     403: [
-        # DNS rebinding, and names similar to this server's.
+        # DNS rebinding, and host names similar to the names of this server.
         *[
             GOOD_POST._replace(hosts=[host])
             for host in (
@@ -93,7 +93,7 @@ REFUSED = {
                 [f"http://{OWN_HOST}", f"http://{OWN_HOST}"],
             )
         ],
-        # Requests from pages without an Origin: images, frames, links.
+        # Requests from pages that have no header Origin: images, frames, links.
         *[GOOD_GET._replace(sites=sites) for sites in (["cross-site"], ["same-site"], [""], ["none", "cross-site"])],
     ],
     415: [
@@ -150,7 +150,7 @@ REFUSED = {
             GOOD_GET._replace(hosts=[host])
             for host in ("127.0.0.1:", "127.0.0.1:0", "127.0.0.1:99999", "[::1", "\u24db\u24de")
         ],
-        # Ambiguous or invalid paths.
+        # Paths that are ambiguous or invalid.
         *[
             GOOD_GET._replace(path=path)
             for path in (
@@ -196,7 +196,7 @@ REFUSED = {
     ],
 }
 HOST_CASES = {
-    # Container: a request to the address itself is not rebinding, and a name must be allowed.
+    # In a container, a request to the server's address is not DNS rebinding, but a host name must be allowed.
     ("172.17.0.2", "172.17.0.2:4444"): True,
     ("172.17.0.2", "172.17.0.3:4444"): False,
     ("172.17.0.2", "proxy:4444"): False,
@@ -206,7 +206,7 @@ HOST_CASES = {
 
 
 def get_status(head: Head, policy: Policy = POLICY) -> int:
-    """Returns 200, or the status of the error."""
+    """Returns 200 for a request that is accepted, or the status of the error."""
     try:
         admit(head, policy)
         return 200
@@ -217,7 +217,7 @@ def get_status(head: Head, policy: Policy = POLICY) -> int:
 
 
 def check_table() -> list[str]:
-    """Returns the unexpected result of a row, if any."""
+    """Returns the rows of the table with an unexpected result."""
     wrong = [f"{head} gets {get_status(head)}" for head in ACCEPTED if get_status(head) != 200]
     for status, heads in REFUSED.items():
         wrong += [f"{head} gets {get_status(head)}, not {status}" for head in heads if get_status(head) != status]
@@ -229,7 +229,7 @@ def check_table() -> list[str]:
     return wrong
 
 
-# Random heads: each member is valid, or made from parts of attacks.
+# The parts of random heads: each member is valid, or contains parts of attacks.
 HEADER_PARTS = [
     OWN_HOST,
     "localhost",
@@ -279,7 +279,7 @@ HEADER_PARTS += [
 
 
 def random_head(rng: random.Random) -> Head:
-    """Returns a head that is valid except for some members."""
+    """Returns a head in which some members are random and the others valid."""
     head = rng.choice([GOOD_GET, GOOD_POST])
 
     def text() -> str:
@@ -295,8 +295,8 @@ def random_head(rng: random.Random) -> Head:
 
 
 def find_faults(head: Head) -> list[str]:
-    """Returns what is wrong with a head: the rules, written independently from RFC 9110 and 9112, Fetch and
-    WebDriver."""
+    """Returns what is wrong with a head. These rules are written independently of the gate, from RFC 9110 and 9112,
+    Fetch and WebDriver."""
     found = []
     host = head.hosts[0].lower() if len(head.hosts) == 1 else None
     if head.method not in ("GET", "POST", "DELETE"):

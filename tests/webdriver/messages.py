@@ -45,7 +45,7 @@ def to_base64(data: bytes) -> str:
 
 
 class Browser:
-    """Replaces DevTools, and stores the expressions evaluated in documents."""
+    """A replacement for DevTools, which stores the expressions that are evaluated in documents."""
 
     def __init__(self) -> None:
         self.replies: list[list[Any]] = []
@@ -60,7 +60,7 @@ class Browser:
 
 
 class Fixture:
-    """An authenticator with a credential for the bank, and documents of both origins."""
+    """An authenticator with a credential of the bank, and documents of both origins."""
 
     def __init__(self, folder: Path):
         self.key = Authenticator(read_options(OPTIONS))
@@ -80,7 +80,7 @@ class Fixture:
         self.held = json.dumps(self.key.credentials)
 
     def send(self, document: Document, message: Any) -> list[Any]:
-        """Sends a message, and returns its reply: the call's number, its value and the error."""
+        """Sends a message, and returns its reply: the number of the call, the value and the error."""
         self.browser.replies.clear()
         payload = message if isinstance(message, str) else json.dumps(message)
         self.channel._receive(document, payload)
@@ -88,7 +88,7 @@ class Fixture:
         return self.browser.replies[0] if self.browser.replies else []
 
     def expect_error(self, document: Document, message: Any) -> None:
-        """Expects an error, with unchanged credentials."""
+        """Checks that a message causes an error and changes no credentials."""
         reply = self.send(document, message)
         assert not reply or (reply[1] is None and reply[2]), (message, reply)
         assert json.dumps(self.key.credentials) == self.held, message
@@ -100,12 +100,12 @@ def make_credential(rp_id: str, pkcs8: bytes, **more: Any) -> dict[str, Any]:
 
 
 def make_authenticator_data(rp_id: str) -> bytes:
-    """Returns authenticator data for a relying party, with a hash."""
+    """Returns authenticator data for a relying party, with the hash of its ID."""
     return sha256(rp_id.encode()).digest() + b"\x01" + bytes(4) + bytes(32)
 
 
 def test_no_foreign_keys(rig: Fixture) -> None:
-    """A page gets neither credentials nor signatures of another origin, and no private key of its own."""
+    """A page gets neither credentials nor signatures of another origin, and no private keys of its own origin."""
     point = rig.pkcs8[-64:]
     begun = rig.send(rig.evil, {"id": 1, "name": "begin"})
     assert begun[0] == 1 and begun[1]["credentials"] == [], begun
@@ -143,7 +143,7 @@ def test_no_foreign_keys(rig: Fixture) -> None:
 
 
 def test_no_foreign_changes(rig: Fixture) -> None:
-    """A page neither takes over, replaces nor removes credentials of another origin."""
+    """A page can't take over, replace or remove credentials of another origin."""
     made = base64.b64decode(rig.send(rig.evil, {"id": 1, "name": "make"})[1]["point"])
     head = rig.pkcs8[:-64]
     end: dict[str, Any] = {"id": 2, "name": "end", "gone": [], "document": "d", "recordings": []}
@@ -168,7 +168,7 @@ def test_no_foreign_changes(rig: Fixture) -> None:
     rig.expect_error(rig.evil, {**end, "credentials": [], "gone": [bank_id], "id": 2**60})
     assert not rig.send(rig.evil, {**end, "credentials": [], "gone": [bank_id, 1, None, "x"]})[2]
     assert json.dumps(rig.key.credentials) == rig.held
-    # A key pair created for one origin can't be used by another.
+    # A key pair that was created for one origin can't be used by another origin.
     rig.expect_error(rig.bank, {**end, "credentials": [{**mine, "rpId": "bank.example"}]})
     sign = {
         "id": 3,
@@ -181,13 +181,13 @@ def test_no_foreign_changes(rig: Fixture) -> None:
     assert rig.send(rig.evil, sign)[1]["signature"]
     assert not rig.send(rig.evil, {**end, "credentials": [mine]})[2]
     assert [credential["rpId"] for credential in rig.key.credentials] == ["bank.example", "evil.example"]
-    # Signature counters only rise.
+    # Signature counters can only be increased.
     assert not rig.send(rig.evil, {**end, "credentials": [{**mine, "signCount": 3}]})[2]
     assert [credential["signCount"] for credential in rig.key.credentials] == [7, 7]
 
 
 def test_bounded_recordings(rig: Fixture) -> None:
-    """A page can't choose file names, and its recordings are bounded."""
+    """A page can't choose file names, and the size of its recordings is bounded."""
     outside = rig.folder / "outside.log"
     good: dict[str, Any] = {"index": 1, "from": 0, "text": LOG, "snapshot": ""}
     end: dict[str, Any] = {"id": 2, "name": "end", "gone": [], "credentials": [], "document": "d"}
@@ -223,7 +223,7 @@ def test_bounded_recordings(rig: Fixture) -> None:
 
 
 def test_invalid_messages(rig: Fixture) -> None:
-    """Invalid messages only cause errors."""
+    """Invalid messages have no effect but an error."""
     deep = "[" * 100_000
     for payload in ("", "{", deep, "{}", "[]", "1", '{"id":1}', '{"id":1,"name":"x"}', '{"id":"1","name":"begin"}'):
         rig.expect_error(rig.evil, payload)
@@ -304,7 +304,7 @@ def random_message(rng: random.Random, rig: Fixture) -> dict[str, Any]:
 
 
 def fuzz_messages(rig: Fixture, count: int, seed: int) -> int:
-    """Sends random messages from the evil page, and returns how many succeeded."""
+    """Sends random messages from the evil page, and returns the number of messages that succeeded."""
     rng = random.Random(seed)
     taken = 0
     for _ in range(count):

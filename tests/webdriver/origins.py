@@ -44,12 +44,12 @@ def make_credential(rp_id: str, name: str) -> dict[str, Any]:
 
 
 def credential_texts(held: dict[str, Any]) -> set[str]:
-    """Returns the texts in which a credential would show: its ID and its private key, in each encoding a script may
-    use."""
+    """Returns the texts by which a credential would be recognized: its ID and its private key, in each encoding that a
+    script may use."""
     found = set()
     for text in (held["credentialId"], held["privateKey"]):
         data = base64.urlsafe_b64decode(text + "==")
-        # The private key is in the middle of PKCS #8, so its base64 depends on the offset.
+        # The private key is in the middle of PKCS #8, so its base64 encoding depends on the offset.
         part = data[36:68] if len(data) > 100 else data
         found |= {json.dumps(list(part), separators=(",", ":"))[1:-1], part.hex()}
         found |= {base64.b64encode(bytes(shift) + part).decode()[4 + shift : -4] for shift in range(3)}
@@ -96,7 +96,7 @@ def find_leak(loot: str, held: dict[str, Any]) -> set[str]:
 
 
 def test_other_origin(suite: Suite) -> None:
-    """A page that replaces built-in functions sees nothing of another origin's credentials."""
+    """A page that replaces built-in functions can't see credentials of another origin."""
     suite.call_page("register", residentKey="required")
     assert suite.post(f"{suite.key}/credential", make_credential("localhost", "the bank's"))[0] == 200
     suite.run("localStorage.clear(); sessionStorage.clear()")
@@ -136,7 +136,7 @@ def test_own_storage(suite: Suite) -> None:
 
 
 def test_cleared_storage(suite: Suite) -> None:
-    """A page that clears its storage after each call loses nothing."""
+    """A page that clears its storage after each call loses no credentials."""
     clear = "localStorage.clear(); sessionStorage.clear(); indexedDB.databases()"
     suite.run(
         "const create = navigator.credentials.create.bind(navigator.credentials);"
@@ -151,7 +151,7 @@ def test_cleared_storage(suite: Suite) -> None:
 
 
 def test_navigation(suite: Suite) -> None:
-    """A page that navigates away by itself, right after a call, loses nothing."""
+    """A page that navigates away right after a call loses no credentials."""
     suite.run("register({ residentKey: 'required' }).then((made) => { location.href = `?made=${made.id}`; })")
     end = time.monotonic() + TIMEOUT_SECONDS
     while "made=" not in (url := str(run.call("GET", f"{suite.url}/url")[1])) and time.monotonic() < end:
@@ -167,7 +167,7 @@ frame.onload = arguments[1]; document.body.append(frame);"""
 
 
 def test_frames(suite: Suite) -> None:
-    """A frame of another origin sees nothing of the page's credentials, and one of the same origin shares them."""
+    """A frame of another origin can't see the credentials of the page. A frame of the same origin shares them."""
     made = suite.call_page("register", residentKey="required")
     for url, is_same in ((suite.other, False), (suite.hostile, True)):
         suite.open(suite.page)
@@ -184,7 +184,7 @@ def test_frames(suite: Suite) -> None:
 
 
 def test_frame_is_current(suite: Suite) -> None:
-    """An authenticator added while a frame of another origin is current is not installed in that frame."""
+    """If an authenticator is added while a frame of another origin is current, it is not installed in that frame."""
     held = make_credential("localhost", "the bank's")
     assert run.call("DELETE", suite.url + suite.key) == (200, {})
     suite.open(suite.page)
@@ -199,7 +199,7 @@ def test_frame_is_current(suite: Suite) -> None:
 
 
 def test_windows(suite: Suite) -> None:
-    """A window opened by a page has the key, and its registrations are available in the other window."""
+    """A window that a page opens has the key, and its registrations are available in both windows."""
     first = run.call("GET", f"{suite.url}/window")[1]
     suite.run("window.open('page.html?second')")
     end = time.monotonic() + TIMEOUT_SECONDS
@@ -219,7 +219,7 @@ def test_windows(suite: Suite) -> None:
 
 
 def test_removal(suite: Suite) -> None:
-    """Once the authenticator is removed, nothing of it is left in pages."""
+    """After the authenticator is removed, no part of it remains in pages."""
     suite.call_page("register")
     assert run.call("DELETE", suite.url + suite.key) == (200, {})
     names = "return Object.getOwnPropertyNames(globalThis).filter((name) => /hidlog/i.test(name))"

@@ -1,4 +1,4 @@
-"""Reads and verifies what a page gets of registrations and sign-ins, as seen.js returns it."""
+"""Parses and verifies the results of registrations and sign-ins that a page gets, as seen.js returns them."""
 
 from __future__ import annotations
 
@@ -35,7 +35,7 @@ def make_pkcs8(private: Any) -> str:
 
 
 def is_signed(spki: str, used: Json) -> bool:
-    """Returns whether a public key verifies the signature of a sign-in."""
+    """Returns whether the signature of a sign-in is valid for a public key."""
     return is_signed_by(encodings.load_der_public_key(decode(spki)), used, decode(used["signature"]))
 
 
@@ -67,14 +67,15 @@ def read_data(response: Json) -> Json:
 
 
 def show(value: Any) -> Any:
-    """Returns a value of CBOR as JSON."""
+    """Returns a CBOR value as JSON."""
     if isinstance(value, dict):
         return {str(name): show(member) for name, member in value.items()}
     return value.hex() if isinstance(value, bytes) else value
 
 
 def show_attestation(made: Json) -> Any:
-    """Returns the attestation that a page gets, and whether its signature is the certificate's or the credential's."""
+    """Returns the attestation that a page gets, and whether the signature is that of the certificate or of the
+    credential."""
     if "error" in made:
         return made["error"]
     attestation = cbor.decode(decode(made["attestation"]))

@@ -30,7 +30,7 @@ HERE = Path(__file__).resolve().parent
 TOP = HERE.parents[1]
 PROGRAM = os.environ.get("HIDLOG_PROGRAM", str(TOP / "hidlog"))
 SUITES = {"Python": ["/usr/bin/python3", str(HERE / "suite.py")], "Ruby": ["ruby", str(HERE / "suite.rb")]}
-# Expected differences with chromedriver, with the reasons.
+# The expected differences from chromedriver, with their reasons.
 KNOWN_DIFFERENCES = {
     "test_broken_private_key": "chromedriver returns unknown error; the standard says invalid argument",
     "test_two_windows": "Chromium's authenticator is of one window, and the standard's of all in a session",
@@ -40,10 +40,10 @@ PRIVATE_KEY = (
     "MIGHAgEAMBMGByqGSM49AgEGCCqGSM49AwEHBG0wawIBAQQg8_zMDQDYAxlU-Qhk1Dwkf0v18GZca1DMF3SaJ9HPdmShRANCAASNYX5lyVCOZLzF"
 )
 PRIVATE_KEY += "ZzrIKmeZ2jwURmgsJYxGP__fWN_S-j5sN4tT15XEpN_7QZnt14YvI6uvAgO0uJEboFaZlOEB"
-# Timeout in seconds: only a hanging call takes this long.
+# A timeout in seconds. Only a call that hangs takes this long.
 TIMEOUT_SECONDS = 300
 MIN_TESTS = {"Python": 27, "Ruby": 22}
-# Separate tests. Each runs what it can without chromedriver.
+# The separate tests. Each test runs the parts that need no chromedriver if it is missing.
 SEPARATE_TESTS = [
     "gate.py",
     "sockets.py",
@@ -57,7 +57,7 @@ SEPARATE_TESTS += ["browsers.py", "origins.py", "seen.py"]
 
 
 class Files(SimpleHTTPRequestHandler):
-    """The page under test."""
+    """A server for the page under test."""
 
     def log_message(self, *_: Any) -> None:
         """Does not log requests."""
@@ -72,7 +72,7 @@ def find_free_port() -> int:
 
 @contextmanager
 def start_server(handler: Any) -> Iterator[int]:
-    """Returns the port of a server."""
+    """Starts a server, and returns its port."""
     server = ThreadingHTTPServer(("127.0.0.1", 0), handler)
     server.daemon_threads = True
     threading.Thread(target=server.serve_forever, daemon=True).start()
@@ -98,7 +98,7 @@ def wait_for_port(port: int, started: subprocess.Popen[bytes]) -> None:
 
 @contextmanager
 def start_process(words: list[str], port: int) -> Iterator[str]:
-    """Starts a driver or proxy, and returns its address."""
+    """Starts a driver or a proxy, and returns its address."""
     started = subprocess.Popen([*words, f"--port={port}"], stdout=subprocess.DEVNULL, env=ENVIRONMENT)
     try:
         wait_for_port(port, started)
@@ -124,7 +124,7 @@ def call(method: str, url: str, given: Any = None) -> tuple[int, Any]:
 
 
 def run_suite(language: str, url: str, page: str) -> dict[str, Any]:
-    """Runs a suite, and returns the results of its tests."""
+    """Runs a test suite, and returns the results of its tests."""
     ran = subprocess.run([*SUITES[language], url, page], capture_output=True, text=True, timeout=1500, check=False)
     if ran.returncode:
         raise SystemExit(f"FAILED  the suite in {language} at {url}: {ran.stderr[-2000:]}")
@@ -147,7 +147,8 @@ def print_differences(language: str, at_driver: dict[str, Any], at_proxy: dict[s
 
 
 class WithoutDevTools(BaseHTTPRequestHandler):
-    """A driver without commands for DevTools and virtual authenticators, in front of chromedriver."""
+    """A driver without the commands for DevTools and virtual authenticators. It passes other commands on to
+    chromedriver."""
 
     protocol_version = "HTTP/1.1"
 
@@ -201,13 +202,13 @@ class Commands:
         return f"/webauthn/authenticator/{name}"
 
     def expect_error(self, code: str, expected: str, path: str, body: Any) -> None:
-        """Expects a WebDriver error, with a message that says what is expected."""
+        """Checks that a command causes a WebDriver error with this code, whose message contains the expected values."""
         status, value = self.post(path, body)
         assert status >= 400 and value["error"] == code and expected in value["message"], (path, body, status, value)
         assert set(value) == {"error", "message", "stacktrace"}
 
     def test_options(self) -> None:
-        """Unsupported options are refused by name."""
+        """Unsupported options are rejected by name."""
         good = {"protocol": "ctap2", "transport": "usb"}
         at = "/webauthn/authenticator"
         self.expect_error("invalid argument", "ctap1/u2f, ctap2, ctap2_1", at, {**good, "protocol": "ctap3"})
@@ -230,7 +231,8 @@ class Commands:
         assert call("DELETE", self.url + key) == (200, {})
 
     def test_presence_and_faults(self) -> None:
-        """Additions to virtual authenticators: a presence script, faults, the recording."""
+        """Features that the proxy adds to virtual authenticators: a script for user presence, faults, and the
+        recording."""
         key = self.add_authenticator()
         made = self.call_page("register", residentKey="required")
         assert self.post(f"{key}/presence", {"presence": ["denied", "timeout", "granted"]}) == (200, None)
@@ -252,7 +254,7 @@ class Commands:
         assert call("DELETE", self.url + key) == (200, {})
 
     def test_pending_requests(self) -> None:
-        """A change by a command reaches a page's pending request."""
+        """A change by a command applies to a pending request of a page."""
         key = self.add_authenticator(isUserConsenting=False, autofill="selected")
         self.post("/execute/sync", {"script": "window.made = register({ residentKey: 'required' })", "args": []})
         assert self.post(f"{key}/presence", {"presence": "granted"}) == (200, None)
@@ -278,7 +280,7 @@ class Commands:
         assert call("DELETE", self.url + key) == (200, {})
 
     def test_accounts(self) -> None:
-        """Of several accounts, a command selects the one that signs in."""
+        """If there are several accounts, a command selects the account that signs in."""
         key = self.add_authenticator()
         for name in ("ann", "bob", "eve"):
             self.call_page("register", residentKey="required", name=name)
@@ -289,7 +291,7 @@ class Commands:
         assert call("DELETE", self.url + key) == (200, {})
 
     def test_other_origins(self) -> None:
-        """The credentials are those of the session on each origin."""
+        """On each origin, the credentials are those of the session."""
         key = self.add_authenticator()
         self.call_page("register", residentKey="required")
         self.post("/url", {"url": self.page.replace("localhost", "a.localhost")})
@@ -356,7 +358,7 @@ def run_commands(url: str, page: str, has_devtools: bool = True) -> bool:
 
 
 def check_recordings(folder: Path) -> bool:
-    """Checks the saved logs, each with its snapshot, with the program and with check-many."""
+    """Checks the saved logs and their snapshots with the program, and all of them with check-many."""
     logs = sorted(folder.rglob("*.log"))
     wrong = []
     for log in logs:
@@ -383,7 +385,7 @@ def check_recordings(folder: Path) -> bool:
 
 
 def run_suites(driver: str, page: str, folder: Path) -> list[bool]:
-    """Runs each suite with the driver, the proxy, and a proxy in front of a driver without DevTools."""
+    """Runs each suite with the driver, with the proxy, and with a proxy in front of a driver without DevTools."""
     results = []
     with start_process(proxy_command(driver, folder), find_free_port()) as proxy, start_server(
         partial(WithoutDevTools, driver)

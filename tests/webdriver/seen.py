@@ -31,7 +31,7 @@ SCRIPT = (HERE / "seen.js").read_text(encoding="utf-8")
 SIGNALS = ("AllAcceptedCredentials", "CurrentUserDetails", "UnknownCredential")
 EXTENSIONS = ["appid", "appidExclude", "credBlob", "credentialProtectionPolicy", "hmacCreateSecret", "largeBlob"]
 EXTENSIONS += ["minPinLength", "prf"]
-# Client capabilities: those of both, those that Chromium alone has, and those that it alone names.
+# Client capabilities: those that both have, those that only Chromium has, and those that only Chromium names.
 SHARED = dict.fromkeys(("conditionalGet", "extension:credProps", "passkeyPlatformAuthenticator"), True)
 SHARED.update(dict.fromkeys((f"signal{name}" for name in SIGNALS), True))
 SHARED.update({"hybridTransport": False, "userVerifyingPlatformAuthenticator": True})
@@ -42,7 +42,7 @@ CHROMIUM_NAMES = {
     "extension:getCredBlob": True,
 }
 CHROMIUM_NAMES.update({f"extension:{name}": False for name in ("cmtgKey", "crossDeviceFallbackUrl", "payment")})
-# Why a line differs, and the exact values with chromedriver and with the proxy.
+# For each line that differs: the reason, and the exact values with chromedriver and with the proxy.
 REASONS: dict[str, tuple[str, Any, Any]] = {
     "a new counter": ("the core's counter is that of the last sign-in (docs/use/PROFILE.md)", 1, 0),
     "ml dsa alone": ("WebCrypto has no ML-DSA", -48, "NotAllowedError"),
@@ -75,7 +75,8 @@ class Seen:
         return call("POST", self.url + path, given)
 
     def add(self, **options: Any) -> Any:
-        """Adds an authenticator, by default a platform authenticator with user verification, and returns the error."""
+        """Adds an authenticator. By default, it is a platform authenticator with user verification. Returns the error,
+        if any."""
         self.remove()
         given = {"protocol": "ctap2", "transport": "internal", "hasResidentKey": True, "hasUserVerification": True}
         status, value = self.post("/webauthn/authenticator", {**given, "isUserVerified": True, **options})
@@ -103,7 +104,7 @@ class Seen:
         return sorted(listed, key=lambda credential: str(credential.get("userName", "")))
 
     def add_credential(self, private: Any, name: str = "cred", **more: Any) -> Any:
-        """Adds a passkey, and returns what the command returns."""
+        """Adds a passkey, and returns the result of the command."""
         given = {"isResidentCredential": True, "rpId": "localhost", "signCount": 5, "userHandle": encode(name.encode())}
         given.update({"credentialId": encode(name.encode()), "privateKey": make_pkcs8(private), **more})
         wanted = {member: one for member, one in given.items() if one is not None}
@@ -111,7 +112,7 @@ class Seen:
         return [status, value] if status == 200 else [status, value["error"]]
 
     def use(self, private: Any) -> Any:
-        """Adds a credential with a private key, and returns what a sign-in shows."""
+        """Adds a credential with this private key, and returns the result of a sign-in."""
         added = self.add_credential(private)
         used = self.get(allow=[encode(b"cred")])
         if "error" in used:
@@ -242,7 +243,7 @@ class Seen:
         return self.show_attestations("some")
 
     def register_with(self, *algorithms: int, **options: Any) -> Any:
-        """Registers, signs in, and returns the algorithm and whether both signatures are good."""
+        """Registers and signs in. Returns the algorithm, and whether both signatures are valid."""
         self.add()
         made = self.create(algorithms=list(algorithms), **options)
         if "error" in made:
@@ -431,7 +432,7 @@ class Seen:
 
 
 def run_line(line: Callable[[], Any]) -> Any:
-    """Returns what a line shows as JSON, or how it failed."""
+    """Returns the result of a line as JSON, or how the line failed."""
     try:
         return json.loads(json.dumps(line()))
     except (KeyError, IndexError, TypeError, ValueError) as error:
@@ -439,7 +440,7 @@ def run_line(line: Callable[[], Any]) -> Any:
 
 
 def look(url: str, page: str) -> dict[str, Any]:
-    """Returns what each line shows, as JSON."""
+    """Returns the result of each line, as JSON."""
     seen = Seen(url, page)
     lines: dict[str, Callable[[], Any]] = {
         name[5:].replace("_", " "): getattr(seen, name) for name in vars(Seen) if name.startswith("line_")
@@ -452,7 +453,7 @@ def look(url: str, page: str) -> dict[str, Any]:
 
 
 def compare(at_driver: dict[str, Any], at_proxy: dict[str, Any]) -> bool:
-    """Prints the lines that differ, with their reasons. Returns whether each has one."""
+    """Prints the lines that differ, with the reasons. Returns whether there is a reason for each difference."""
     different = [name for name in at_driver if at_driver[name] != at_proxy[name]]
     unexplained = [name for name in different if REASONS.get(name, ("",))[1:] != (at_driver[name], at_proxy[name])]
     for name in different:
@@ -465,7 +466,7 @@ def compare(at_driver: dict[str, Any], at_proxy: dict[str, Any]) -> bool:
 
 
 def check_recordings(folder: str) -> bool:
-    """Checks the proxy's recordings with `hidlog check-many`: what is outside of the core is not in them."""
+    """Checks the proxy's recordings with `hidlog check-many`. Features outside the core are not in them."""
     command = [sys.executable, "-m", "hidlog", "check-many", folder]
     ran = subprocess.run(command, capture_output=True, text=True, env=ENVIRONMENT, check=False)
     ok = ran.returncode == 0 and int(ran.stderr.split()[0]) >= MIN_LINES - 10

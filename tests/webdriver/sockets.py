@@ -28,7 +28,7 @@ TIMEOUT_SECONDS = 600
 
 
 class RecordingDriver(BaseHTTPRequestHandler):
-    """A driver that responds with null, except to unknown sessions, and records its requests."""
+    """A driver that records its requests, and responds with null, except to unknown sessions."""
 
     protocol_version = "HTTP/1.1"
     disable_nagle_algorithm = True
@@ -60,7 +60,7 @@ class RecordingDriver(BaseHTTPRequestHandler):
 
 
 class ProxyFixture:
-    """A proxy in this process, in front of a recording driver."""
+    """A proxy in this process, which passes requests on to a recording driver."""
 
     def __init__(self, driver: Any, proxy: Proxy, server: Server):
         self.handler, self.proxy, self.server = driver, proxy, server
@@ -70,7 +70,7 @@ class ProxyFixture:
         return socket.create_connection(("127.0.0.1", self.port), timeout=TIMEOUT_SECONDS)
 
     def exchange_bytes(self, data: bytes) -> bytes:
-        """Sends bytes, and returns the data received until the server closes the connection."""
+        """Sends bytes, and returns the data that is received until the server closes the connection."""
         with self.open_connection() as connection:
             connection.sendall(data)
             connection.shutdown(socket.SHUT_WR)
@@ -85,7 +85,7 @@ class ProxyFixture:
         return self.exchange_bytes(head + body)
 
     def take_requests(self) -> list[tuple[str, str, bytes]]:
-        """Returns the driver's requests since the last call."""
+        """Returns the requests that the driver received since the last call."""
         asked = list(self.handler.asked)
         self.handler.asked.clear()
         return asked
@@ -102,7 +102,7 @@ def read_all(connection: socket.socket) -> bytes:
 
 
 def parse_status(response: bytes) -> int:
-    """Returns the status of a response, which must be WebDriver's."""
+    """Returns the status of a response, which must be a valid WebDriver response."""
     head, _, body = response.partition(b"\r\n\r\n")
     status = int(head.split()[1])
     value = json.loads(body)["value"]
@@ -113,7 +113,7 @@ def parse_status(response: bytes) -> int:
 
 @contextmanager
 def make_proxy(**limits: float) -> Iterator[ProxyFixture]:
-    """Returns a proxy with other limits in server.py."""
+    """Provides a proxy with other limits than those in server.py."""
     before = {name: getattr(server_module, name) for name in limits}
     for name, value in limits.items():
         setattr(server_module, name, value)
@@ -137,7 +137,7 @@ def make_proxy(**limits: float) -> Iterator[ProxyFixture]:
 
 
 def test_plain_text_post() -> None:
-    """A page's POST of text/plain starts nothing, and neither does a rebound name."""
+    """A POST of text/plain from a page starts no session, and neither does a request with a rebound host name."""
     with make_proxy() as rig:
         body = b'{"capabilities":{"alwaysMatch":{"goog:chromeOptions":{"args":["--renderer-cmd-prefix=bash -c id>PWNED"]}}}}'
         for headers in (
@@ -159,7 +159,7 @@ def test_plain_text_post() -> None:
 
 
 def test_ambiguous_requests() -> None:
-    """An ambiguous request is refused, and what follows it is never a request."""
+    """An ambiguous request is rejected, and the bytes after it are never handled as a request."""
     with make_proxy() as rig:
         hidden = rig.make_head("DELETE /session/known HTTP/1.1")
         good = rig.make_head("GET /status HTTP/1.1")
@@ -206,7 +206,7 @@ def test_ambiguous_requests() -> None:
 
 
 def test_invalid_json() -> None:
-    """Deeply nested JSON, invalid JSON, and JSON other than objects cause WebDriver errors."""
+    """JSON that is invalid, deeply nested, or not an object causes a WebDriver error."""
     with make_proxy() as rig:
         path = "/session/known/webauthn/authenticator"
         for body in (b"[" * 100_000, b'{"a":' * 100_000, b"[]", b"1", b"null", b"{", b"\xff", b'"x"', b"{}", b"NaN"):
@@ -219,7 +219,7 @@ def test_invalid_json() -> None:
 
 
 def test_unknown_sessions() -> None:
-    """Sessions unknown to the driver are never stored."""
+    """Sessions that the driver doesn't know are not stored."""
     with make_proxy() as rig:
         for number in range(200):
             rig.post(f"/session/unknown{number}/url", b"{}")
@@ -229,13 +229,14 @@ def test_unknown_sessions() -> None:
 
 
 def read_until_closed(connection: socket.socket) -> bytes:
-    """Returns the data received until the server closes the connection. If it does not, this hangs and fails."""
+    """Returns the data that is received until the server closes the connection. If the server does not, the test hangs
+    and fails."""
     with connection:
         return read_all(connection)
 
 
 def test_silent_clients() -> None:
-    """A connection with no data, half a head or half a body is closed."""
+    """A connection on which no data, half a head or half a body arrives is closed."""
     with make_proxy(IDLE_SECONDS=0.2, HEAD_SECONDS=0.2, BODY_SECONDS=0.2) as rig:
         typed = ("Content-Type: application/json", "Content-Length: 10")
         for data in (
@@ -274,7 +275,7 @@ def test_slow_head() -> None:
 
 
 def test_many_connections() -> None:
-    """Connections are bounded: an idle one is replaced by a new one."""
+    """The number of connections is bounded: a new connection replaces an idle one."""
     with make_proxy(MAX_CONNECTIONS=8) as rig:
         held = [rig.open_connection() for _ in range(100)]
         response = b""
@@ -290,7 +291,7 @@ def test_many_connections() -> None:
 
 
 def test_expect_continue() -> None:
-    """A client with Expect: 100-continue gets a response only after the gate."""
+    """A client that sends Expect: 100-continue gets a response only after the gate has accepted the request."""
     with make_proxy() as rig:
         head = rig.make_head(
             "POST /session HTTP/1.1", "Content-Type: application/json", "Content-Length: 2", "Expect: 100-continue"

@@ -35,7 +35,7 @@ def encode_base64url(data: bytes) -> str:
 
 
 class Suite:
-    """The tests, each with its own authenticator. Their results are compared."""
+    """The tests, each with a separate authenticator. The results of the tests are compared."""
 
     def __init__(self, driver: Any, page: str):
         self.driver, self.page = driver, page
@@ -47,7 +47,7 @@ class Suite:
         return self.driver.execute_async_script(f"{name}(arguments[0]).then(arguments[1])", words)
 
     def add_authenticator(self, **words: Any) -> None:
-        """Adds an authenticator, by default with user verification and resident keys."""
+        """Adds an authenticator. By default, it has user verification and resident keys."""
         options = OPTIONS()
         given = {"has_resident_key": True, "has_user_verification": True, "is_user_verified": True, **words}
         for name, value in given.items():
@@ -55,7 +55,7 @@ class Suite:
         self.driver.add_virtual_authenticator(options)
 
     def credentials(self) -> Any:
-        """Returns the credentials by user handle, without random members."""
+        """Returns the credentials by user handle, without members that are random."""
         listed = [credential.to_dict() for credential in self.driver.get_credentials()]
         return sorted(
             (credential.get("userHandle") or "", credential["isResidentCredential"], credential["rpId"])
@@ -63,7 +63,7 @@ class Suite:
         )
 
     def credential(self, resident: bool = True, name: bytes = b"\x01\x02\x03\x04", rp: str = "localhost") -> Any:
-        """Returns a credential to add."""
+        """Returns a credential that can be added."""
         if resident:
             return Credential.create_resident_credential(name, rp, b"bob", decode_base64url(PRIVATE_KEY), 3)
         return Credential.create_non_resident_credential(name, rp, decode_base64url(PRIVATE_KEY), 3)
@@ -76,7 +76,7 @@ class Suite:
             return type(error).__name__
         return "done"
 
-    # As in Selenium's documentation.
+    # ---- the examples in Selenium's documentation
 
     def test_options(self) -> Any:
         options = OPTIONS()
@@ -126,7 +126,7 @@ class Suite:
         self.driver.set_user_verified(True)
         return before, self.call("register", userVerification="required")["flags"]
 
-    # As in test suites.
+    # ---- tests like those in real test suites
 
     def test_register(self) -> Any:
         self.add_authenticator()

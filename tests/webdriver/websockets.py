@@ -33,8 +33,8 @@ def compute_accept(key: str) -> str:
 
 @contextmanager
 def start_server(after: bytes, head: str = "") -> Iterator[tuple[str, list[bytes]]]:
-    """Returns the URL of a server that sends some bytes after its handshake, and the bytes it received after the
-    client's."""
+    """Starts a server that sends some bytes after its handshake. Returns its URL, and the bytes that it receives after
+    the client's handshake."""
     listening = socket.create_server(("127.0.0.1", 0))
     got: list[bytes] = []
 
@@ -60,7 +60,7 @@ def start_server(after: bytes, head: str = "") -> Iterator[tuple[str, list[bytes
 
 
 def receive_messages(after: bytes) -> list[str]:
-    """Returns the messages that a client receives until the connection ends."""
+    """Returns the messages that a client receives before the connection ends."""
     texts = []
     with start_server(after) as (url, _):
         client = WebSocket(url, TIMEOUT_SECONDS)
@@ -77,7 +77,7 @@ def receive_messages(after: bytes) -> list[str]:
 
 
 def is_refused(after: bytes) -> bool:
-    """Returns whether a client refuses a server's data, without waiting for more."""
+    """Returns whether a client rejects the data of a server, without waiting for more data."""
     with start_server(after) as (url, _):
         client = WebSocket(url, TIMEOUT_SECONDS)
         try:
@@ -101,7 +101,7 @@ def test_examples() -> None:
 
 
 def test_pings() -> None:
-    """A ping between two fragments gets a masked pong."""
+    """The client responds to a ping between two fragments with a masked pong."""
     after = FRAGMENTED_HELLO[:5] + PING + FRAGMENTED_HELLO[5:] + bytes.fromhex("8a00") + HELLO
     with start_server(after) as (url, got):
         client = WebSocket(url, TIMEOUT_SECONDS)
@@ -113,7 +113,7 @@ def test_pings() -> None:
 
 
 def test_violations() -> None:
-    """Violations of the protocol end the connection."""
+    """If the server violates the protocol, the client ends the connection."""
     for after in (
         MASKED_HELLO,
         b"\xc1" + HELLO[1:],
