@@ -43,7 +43,7 @@ def list_supported_sessions() -> List[Session]:
     device = LiveDevice()
     device_info = DeviceInfo.ask(device, True)
     bound = [session for session in all_sessions() if not session.head.get("profile")]
-    return [session for session in bound if not device_info.lacking(session, device, True, True)]
+    return [session for session in bound if not device_info.find_skip_reason(session, device, True, True)]
 
 
 def count_control_failures() -> int:
@@ -74,7 +74,7 @@ def judge_fault(name: str) -> Tuple[bool, str]:
     lacking = [rule for rule in fault.implies if rule not in found]
     alone = len(found.get(fault.section, [])) == 1
     good = bool(own) and not strange and not lacking and not alone
-    text = f"{'found ' if good else 'MISSED'}  {fault.name} ({fault.section}): {fault.says}"
+    text = f"{'found ' if good else 'MISSED'}  {fault.name} ({fault.section}): {fault.description}"
     for outcome in own[:1]:
         text += f"\n        by {outcome.session.name}: {outcome.expected}; actual: {outcome.actual}"[:208]
     counts = ", ".join(f"{rule}: {len(cases)}" for rule, cases in sorted(found.items()))

@@ -292,7 +292,7 @@ def list_supported_sessions() -> List[Session]:
     device = LiveDevice()
     device_info = DeviceInfo.ask(device, True)
     bound = [session for session in all_sessions() if not session.head.get("profile")]
-    return [session for session in bound if not device_info.lacking(session, device, True, True)]
+    return [session for session in bound if not device_info.find_skip_reason(session, device, True, True)]
 
 
 def main(arguments: List[str]) -> int:

@@ -57,7 +57,7 @@ def main(arguments: List[str]) -> int:
             failed = [outcome for outcome in outcomes if outcome.status == "not ok"]
             good += not failed
             print(
-                f"{'conforming' if not failed else 'FAILED'}  {name}: {VARIANTS[name].says} {report.format_totals(outcomes)}"
+                f"{'conforming' if not failed else 'FAILED'}  {name}: {VARIANTS[name].description} {report.format_totals(outcomes)}"
             )
             for outcome in failed[:12]:
                 print(f"        {outcome.session.name}: {outcome.expected}; actual: {outcome.actual}"[:200])

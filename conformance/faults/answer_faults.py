@@ -214,8 +214,8 @@ def has_exclude_list(request: bytes) -> bool:
 def has_uv_and_unsupported_algorithm(request: bytes) -> bool:
     """Returns whether a registration wants user verification and an unsupported algorithm."""
     asked = decode_parameters(request)
-    wants_user = isinstance(asked.get(7), dict) and asked[7].get("uv") is True
-    return request[0] == MAKE and wants_user and asked.get(4, [{}])[0].get("alg") == -65535
+    wants_verification = isinstance(asked.get(7), dict) and asked[7].get("uv") is True
+    return request[0] == MAKE and wants_verification and asked.get(4, [{}])[0].get("alg") == -65535
 
 
 def repeat_last_assertion(device: FaultyDevice, message: Message) -> Optional[Sent]:

@@ -21,7 +21,7 @@ class Fault(NamedTuple):
 
     name: str
     section: str
-    says: str
+    description: str
     # Returns the messages to send instead of a message of the authenticator, or None to send it unchanged.
     answer: Optional[Hook] = None
     # Returns the packet to pass to the authenticator instead of the host's, or None to drop it.

@@ -61,7 +61,7 @@ class CredentialReuse:
     def __init__(self) -> None:
         self.made: Dict[bytes, List[Credential]] = {}
 
-    def leaves(self, session: Session, number: int) -> bytes:
+    def find_reusable(self, session: Session, number: int) -> bytes:
         """Returns the request of a registration whose credential later cases can reuse, without values that do not
         matter; empty for other steps."""
         request = get_cbor_request(session.steps[number])
@@ -76,17 +76,17 @@ class CredentialReuse:
                 return request[:1] + ctap_cbor.encode(without_values(decode_parameters(request))) if is_plain else b""
         return b""
 
-    def serves(self, session: Session, number: int) -> bytes:
-        """Returns the request, as `leaves` does, of a registration that a reused credential can replace: it has the
-        same request and expectation, and is not the last step of the case."""
+    def find_replaceable(self, session: Session, number: int) -> bytes:
+        """Returns the request, as `find_reusable` does, of a registration that a reused credential can replace: it has
+        the same request and expectation, and is not the last step of the case."""
         steps = session.steps[number : number + len(REGISTRATION)]
         if tuple(step.kind for step in steps) != REGISTRATION or any(step.expects for step in steps[:-1]):
             return b""
         rest = [get_cbor_request(step)[:1] for step in session.steps[number + 1 :]]
         is_last = not {bytes([MAKE]), bytes([GET])} & set(rest)
-        return b"" if is_last or steps[-1].expects != [" ".join(PLAIN)] else self.leaves(session, number)
+        return b"" if is_last or steps[-1].expects != [" ".join(PLAIN)] else self.find_reusable(session, number)
 
-    def credential(self, request: bytes, place: int) -> Optional[Credential]:
+    def take_credential(self, request: bytes, place: int) -> Optional[Credential]:
         """Returns the credential that this request made before; a case with several registrations gets a different one
         for each `place`."""
         found = self.made.get(request, [])

@@ -271,11 +271,11 @@ class DeviceInfo:
         }
         return bool(known[use])
 
-    def unsuited(self, session: Session) -> str:
+    def find_unsuited_part(self, session: Session) -> str:
         """Returns the part of a session that the standard lets this device refuse, or an empty string."""
         for request in list_requests(session):
             asked = decode_parameters(request)
-            reason = self.too_long(asked.get(5 if request[0] == 1 else 3)) or self.wants_user(
+            reason = self.too_long(asked.get(5 if request[0] == 1 else 3)) or self.find_refusal_reason(
                 request[0], asked, session
             )
             if reason:
@@ -291,7 +291,7 @@ class DeviceInfo:
             return f"the device's maxCredentialCountInList is {longest}"
         return ""
 
-    def wants_user(self, command: int, asked: Dict[Any, Any], session: Session) -> str:
+    def find_refusal_reason(self, command: int, asked: Dict[Any, Any], session: Session) -> str:
         """Returns why the device refuses a request, or an empty string: it requires user verification (CTAP 2.1, 6.1.2,
         steps 6 to 8, and 6.2.2), or does not support discoverable credentials."""
         options = asked.get(7 if command == 1 else 5)
@@ -303,11 +303,11 @@ class DeviceInfo:
         by_device = options.get("uv") is True and self.options.get("uv") is True
         if has_token or by_device or "verified registrations" in session.uses:
             return ""
-        if self.requires_user(command, asked) and not self.has_pin:
+        if self.requires_verification(command, asked) and not self.has_pin:
             return "the device requires a PIN or user verification (clientPin, uv, alwaysUv): use --pin"
         return ""
 
-    def requires_user(self, command: int, asked: Dict[Any, Any]) -> bool:
+    def requires_verification(self, command: int, asked: Dict[Any, Any]) -> bool:
         """Returns whether the device requires user verification for a request."""
         options = asked.get(7 if command == 1 else 5)
         options = options if isinstance(options, dict) else {}
@@ -316,12 +316,12 @@ class DeviceInfo:
         discoverable = options.get("rk") is True
         return command == 1 and self.protected and (discoverable or not self.options.get("makeCredUvNotRqd"))
 
-    def lacking(self, session: Session, device: Device, touch: bool, reset: bool) -> str:
+    def find_skip_reason(self, session: Session, device: Device, touch: bool, reset: bool) -> str:
         """Returns why a case is skipped, or an empty string."""
         for use in session.uses:
             if not self.has(use):
                 return f"the device does not support: {use}" + f" ({self.unread})" * bool(self.unread)
-        reason = self.unsuited(session)
+        reason = self.find_unsuited_part(session)
         if reason:
             return reason
         for need in session.needs:

@@ -7,7 +7,7 @@ from typing import Any, Dict, List, Optional, Set, Tuple
 from hidlog_conformance import answers, ctap_cbor, rules
 from hidlog_conformance import hid_packets as hid
 from hidlog_conformance.answers import GET, INFO, MAKE, NEXT, RESET, UP, UV, Credential, Mismatch, DeviceFacts, check
-from hidlog_conformance.judged_log import KEY, MUST, SHOULD, Recording, seen
+from hidlog_conformance.judged_log import KEY, MUST, SHOULD, Recording, make_difference
 from hidlog_conformance.judged_parts import (
     OTHERWISE,
     ExtensionMismatch,
@@ -90,12 +90,12 @@ class AnswerJudge:
             self.stored.coming = None
             self.settings.power_cycle()
 
-    def passed(self, transaction: Transaction) -> None:
+    def take_unreadable(self, transaction: Transaction) -> None:
         """Processes an unreadable response: its effects are unknown."""
         self.pending, self.is_complete = None, False
         self.pins, self.stored, self.settings = Pins(), StoredJudge(), SettingsJudge()
 
-    def unanswered(self, transaction: Transaction) -> None:
+    def take_unanswered(self, transaction: Transaction) -> None:
         """Processes a request without a response, or with an unreadable one: its effects are unknown."""
         if transaction.command == hid.MSG:
             self.is_complete = False
@@ -105,9 +105,9 @@ class AnswerJudge:
         asked = decode_parameters(request) or {}
         if request[0] == RESET:
             self.kept, self.strangers, self.u2f = KnownCredentials(), {}, U2fJudge()
-            self.passed(transaction)
+            self.take_unreadable(transaction)
         elif request[0] in (MAKE, PIN, MANAGE, PREVIEW, BLOBS, *SETTINGS):
-            self.passed(transaction)
+            self.take_unreadable(transaction)
             if request[0] == MAKE and find_fault(request) is None:
                 self.forget_account(asked[2]["id"], asked[3]["id"])
             elif request[0] in (MANAGE, PREVIEW) and asked.get(1) in (DELETE, UPDATE):
@@ -138,7 +138,7 @@ class AnswerJudge:
         """Returns whether a response showed the credential so recently that it cannot have been deleted since."""
         return self.is_recent(kept.shown, transaction)
 
-    def user_needed(self, entry: Entry, transaction: Transaction) -> None:
+    def check_touch_request(self, entry: Entry, transaction: Transaction) -> None:
         """Checks that no touch is requested for a request that must fail first or needs no user presence."""
         if not transaction.data:
             return
@@ -148,23 +148,25 @@ class AnswerJudge:
         if fault is not None and not fault.should:
             level = SHOULD if fault.section == "8" else MUST
             expected = f"an error, since {fault.expected} is required"
-            self.recording.find(entry.line, KEY, fault.section or section, expected, actual, level)
+            self.recording.add_finding(entry.line, KEY, fault.section or section, expected, actual, level)
             return
         asked = decode_parameters(transaction.data) or {}
         options = asked.get(7 if transaction.data[0] == MAKE else 5, {})
         wrong = (
-            self.statuses.wrong_option(transaction.data[0], asked, options)
+            self.statuses.find_invalid_option(transaction.data[0], asked, options)
             if transaction.data[0] in (MAKE, GET)
             else ""
         )
         own = self.info.get(4, {})
         if wrong:
-            self.recording.find(entry.line, KEY, section, f"an error (2b or 2c) for the option {wrong}", actual)
+            self.recording.add_finding(entry.line, KEY, section, f"an error (2b or 2c) for the option {wrong}", actual)
         elif transaction.data[0] == GET and options.get("up") is False and self.info and not own.get("alwaysUv"):
             if not options.get("uv"):
-                self.recording.find(entry.line, KEY, section, "a response without a touch, since up is false", actual)
+                self.recording.add_finding(
+                    entry.line, KEY, section, "a response without a touch, since up is false", actual
+                )
         elif transaction.data[0] == MAKE and 10 in asked and self.statuses.lacks_enterprise():
-            self.recording.find(
+            self.recording.add_finding(
                 entry.line, KEY, section, "an error, since enterprise attestation is not supported", actual
             )
 
@@ -187,15 +189,17 @@ class AnswerJudge:
                 self.check_settings(request, data)
         except ExtensionMismatch as differs:
             level = MUST if differs.is_sure else SHOULD
-            self.recording.find(entry.line, KEY, differs.section, differs.expected, differs.actual, level)
+            self.recording.add_finding(entry.line, KEY, differs.section, differs.expected, differs.actual, level)
         except Mismatch as differs:
             fault = find_fault(request)
             is_should = isinstance(differs, UncertainMismatch) or (fault is not None and fault.section == "8")
             level = SHOULD if is_should else MUST
-            self.recording.judged(self.seen(transaction, expected, message), entry.line, differs, level)
+            self.recording.add_mismatch(
+                self.make_difference(transaction, expected, message), entry.line, differs, level
+            )
         except (KeyError, TypeError, ValueError, IndexError, AttributeError) as fault:
             shape = Mismatch("a response with the standard's structure", describe_error(fault))
-            self.recording.judged(self.seen(transaction, expected, message), entry.line, shape)
+            self.recording.add_mismatch(self.make_difference(transaction, expected, message), entry.line, shape)
         self.follow(entry, transaction, data)
 
     def check_pin_response(self, request: bytes, data: bytes) -> None:
@@ -236,13 +240,13 @@ class AnswerJudge:
             self.stored.deleted.add(named_credential_id(asked))
             self.kept.remove(named_credential_id(asked))
 
-    def seen(self, transaction: Transaction, expected: str, message: hid.Message) -> rules.Seen:
+    def make_difference(self, transaction: Transaction, expected: str, message: hid.Message) -> rules.Difference:
         """Returns the difference of a response; its section is that of the request's error, or of the command."""
         fault = find_fault(transaction.data)
         own = fault.section if fault is not None and fault.section else ""
         if self.passed_over:
             own, self.passed_over = "8", ""
-        return seen(transaction, expected, message, own)
+        return make_difference(transaction, expected, message, own)
 
     def check_info(self, transaction: Transaction, data: bytes) -> None:
         """Checks authenticatorGetInfo, and keeps its contents."""
@@ -311,11 +315,11 @@ class AnswerJudge:
             return
         asked = answers.decode_parameters(request)
         item = answers.decode_map(data)
-        words = self.words_of(asked, item, follows)
+        words = self.list_words(asked, item, follows)
         identity = self.identity(asked, item)
         kept = self.kept.get(identity)
         if identity in self.forgotten:
-            self.recording.find(
+            self.recording.add_finding(
                 transaction.by or transaction.line, KEY, "6.6", "no credential from before the reset", identity.hex()
             )
         check(identity not in self.replaced, "no replaced credential", identity)
@@ -374,7 +378,7 @@ class AnswerJudge:
         listed = asked.get(3, [])
         return bytes(listed[0]["id"]) if len(listed) == 1 else b""
 
-    def words_of(self, asked: Dict[Any, Any], item: Dict[Any, Any], follows: bool) -> List[str]:
+    def list_words(self, asked: Dict[Any, Any], item: Dict[Any, Any], follows: bool) -> List[str]:
         """Returns the expectations of an assertion, as words of a session file."""
         up = asked.get(5, {}).get("up", True)
         words = [] if follows else ["up"] if up else ["no-up"]
@@ -399,7 +403,7 @@ class AnswerJudge:
             words = ["user", kept.credential.user.hex()]
             answers.check_user_entity(item, words, self.facts)
             if not kept.discoverable:
-                self.recording.find(0, KEY, "6.2.2", "a discoverable credential", identity.hex(), SHOULD)
+                self.recording.add_finding(0, KEY, "6.2.2", "a discoverable credential", identity.hex(), SHOULD)
         is_sure = all(self.is_fresh(one, transaction) for one in mine)
         try:
             self.check_newest(asked, item, [one.credential.id for one in mine], identity)

@@ -7,7 +7,7 @@ from typing import TYPE_CHECKING, Optional, Tuple
 from hidlog_conformance import hid_packets as hid
 from hidlog_conformance import rules
 from hidlog_conformance.init_response import NMSG, WINK
-from hidlog_conformance.judged_log import SHOULD, seen
+from hidlog_conformance.judged_log import SHOULD, make_difference
 from hidlog_conformance.judged_statuses import JITTER_MS
 from hidlog_conformance.quantity import quantity
 from hidlog_conformance.transactions import BUSY, INVALID_CHANNEL, INVALID_COMMAND, NO_TIME_OUT, TIMED_OUT
@@ -37,12 +37,14 @@ class ErrorJudge:
         """Checks an ERROR."""
         code, transaction = entry.packet[7], entry.transaction
         if message is not None and not message.problem and len(message.data) != 1:
-            self.key.find(entry.line, rules.ERROR, "an ERROR of one byte", quantity(len(message.data), "byte"))
+            self.key.add_finding(entry.line, rules.ERROR, "an ERROR of one byte", quantity(len(message.data), "byte"))
         if transaction is None:
             self.check_stray_error(entry)
             return
         if transaction.cancelled is not None and transaction.whole and transaction.command == hid.CBOR:
-            self.key.find(entry.line, rules.CANCEL, "status 2d, since the request was cancelled", f"ERROR {code:02x}")
+            self.key.add_finding(
+                entry.line, rules.CANCEL, "status 2d, since the request was cancelled", f"ERROR {code:02x}"
+            )
             return
         expected = self.expected_codes(transaction, entry)
         if expected and code not in expected:
@@ -50,7 +52,7 @@ class ErrorJudge:
             section = rules.CODES.get(f"{expected[0]:02x}", rules.ERROR)
             if expected == (0x03,) and transaction.command == hid.CBOR and transaction.length == 0:
                 section = rules.CBOR
-            self.key.find(entry.line, section, f"error {words}", f"ERROR {code:02x}")
+            self.key.add_finding(entry.line, section, f"error {words}", f"ERROR {code:02x}")
         elif not expected:
             self.check_refusal(entry, transaction)
 
@@ -62,18 +64,18 @@ class ErrorJudge:
         actual = f"ERROR {entry.packet[7]:02x}"
         if last is None:
             if not self.key.is_first and not self.key.is_late_start(entry):
-                self.key.find_gap(entry.line, rules.ERROR, "an ERROR for a message of the host", actual)
+                self.key.add_gap(entry.line, rules.ERROR, "an ERROR for a message of the host", actual)
             elif self.key.open and not self.key.is_first:
-                self.key.find_gap(entry.line, rules.BUSY, "an ERROR on the channel of the refused message", actual)
+                self.key.add_gap(entry.line, rules.BUSY, "an ERROR on the channel of the refused message", actual)
         elif last.packet[4] == 0x80 | hid.CANCEL:
-            self.key.find_gap(entry.line, rules.CANCEL, "no response to CANCEL", actual)
+            self.key.add_gap(entry.line, rules.CANCEL, "no response to CANCEL", actual)
         elif last.part == "stray":
-            self.key.find_gap(
+            self.key.add_gap(
                 entry.line, rules.SEQUENCE, "no response to a continuation packet outside any transaction", actual
             )
         else:
             section = rules.ABORT if self.key.was_aborted(entry) else rules.ERROR
-            self.key.find_gap(entry.line, section, "an ERROR for a message of the host", actual)
+            self.key.add_gap(entry.line, section, "an ERROR for a message of the host", actual)
 
     def expected_codes(self, owner: Transaction, entry: Entry) -> Tuple[int, ...]:
         """Returns the possible codes for a refused message; empty if the log shows no reason for an ERROR."""
@@ -110,15 +112,15 @@ class ErrorJudge:
     def check_lock_response(self, entry: Entry, transaction: Transaction, message: hid.Message) -> None:
         """Checks a response to LOCK, and records the lock."""
         if message.data:
-            self.key.find(entry.line, rules.LOCK, "a response without data", quantity(len(message.data), "byte"))
+            self.key.add_finding(entry.line, rules.LOCK, "a response without data", quantity(len(message.data), "byte"))
         if len(transaction.data) != 1:
             actual = f"a response to {quantity(transaction.length, 'byte')}"
-            self.key.find(entry.line, rules.LOCK, "error 03, since the length is not 1", actual)
+            self.key.add_finding(entry.line, rules.LOCK, "error 03, since the length is not 1", actual)
             return
         seconds = transaction.data[0]
         if seconds > MAX_LOCK:
             actual = f"a lock of {seconds}"
-            self.key.find(entry.line, rules.LOCK, f"an error, above {MAX_LOCK} seconds", actual, SHOULD)
+            self.key.add_finding(entry.line, rules.LOCK, f"an error, above {MAX_LOCK} seconds", actual, SHOULD)
         owner, self.was_locked = transaction.channel if seconds else 0, True
         self.locked = (owner, transaction.last + 1000 * seconds - JITTER_MS, entry.at + 1000 * seconds + JITTER_MS)
 
@@ -128,7 +130,7 @@ class ErrorJudge:
         if not channel or transaction.channel == channel or transaction.command == hid.INIT:
             return
         if not self.key.recording.has_no_timestamps and transaction.began <= until and entry.at <= until:
-            self.key.find(entry.line, rules.LOCK, f"error 06, since {channel:08x} has the lock", name)
+            self.key.add_finding(entry.line, rules.LOCK, f"error 06, since {channel:08x} has the lock", name)
 
     def codes_of_unfinished(self, transaction: Transaction, entry: Entry) -> Tuple[int, ...]:
         """Returns the possible codes for an incomplete message: after a wrong sequence number, or a timeout."""
@@ -153,7 +155,7 @@ class ErrorJudge:
             self.key.unsure.add(entry.packet[:4])
             return
         if transaction.command == hid.LOCK and code == BUSY and self.was_locked:
-            self.key.find(entry.line, rules.LOCK, "a response, since no other channel has the lock", "ERROR 06")
+            self.key.add_finding(entry.line, rules.LOCK, "a response, since no other channel has the lock", "ERROR 06")
             return
         if transaction.command in (hid.MSG, hid.WINK, hid.LOCK):
             self.check_capability(transaction, code)
@@ -161,9 +163,9 @@ class ErrorJudge:
         if transaction.command in (hid.PING, hid.INIT, hid.CBOR) and not (self.key.is_first and code == BUSY):
             expected = {hid.PING: "echo", hid.INIT: "init", hid.CBOR: "status"}[transaction.command]
             actual = hid.Message(transaction.channel, hid.ERROR, bytes([code]))
-            section = rules.find_violated_section(seen(transaction, expected, actual))
+            section = rules.find_violated_section(make_difference(transaction, expected, actual))
             section = rules.LOCK if code == BUSY and self.was_locked else section
-            self.key.find(entry.line, section, "a response", f"ERROR {code:02x}")
+            self.key.add_finding(entry.line, section, "a response", f"ERROR {code:02x}")
 
     def check_capability(self, transaction: Transaction, code: Optional[int]) -> None:
         """Checks that MSG and WINK are supported as INIT's capabilities say. `code` is that of the ERROR, or None for
@@ -175,9 +177,9 @@ class ErrorJudge:
         name = hid.NAMES[transaction.command]
         if has_it and code is not None:
             expected = f"{name} supported, by the capabilities {capabilities:02x}"
-            self.key.find(transaction.line, rules.OF_COMMAND[transaction.command], expected, f"ERROR {code:02x}")
+            self.key.add_finding(transaction.line, rules.OF_COMMAND[transaction.command], expected, f"ERROR {code:02x}")
         elif not has_it and code is None:
-            self.key.find(
+            self.key.add_finding(
                 transaction.line,
                 rules.ERROR,
                 f"ERROR 01, by the capabilities {capabilities:02x}",

@@ -6,7 +6,7 @@ from typing import Dict, Optional, Set
 
 from hidlog_conformance import hid_packets as hid
 from hidlog_conformance import rules
-from hidlog_conformance.judged_log import HOST, MUST, SHOULD, Recording, section_of
+from hidlog_conformance.judged_log import HOST, MUST, SHOULD, Recording, find_section
 from hidlog_conformance.quantity import quantity
 from hidlog_conformance.requests import find_fault
 from hidlog_conformance.transactions import Entry, Transaction
@@ -37,13 +37,13 @@ class HostJudge:
         self.refused: Dict[bytes, Transaction] = {}
         self.allocated: Set[bytes] = set()
 
-    def find(self, line: int, section: str, expected: str, actual: str, level: str = MUST) -> None:
+    def add_finding(self, line: int, section: str, expected: str, actual: str, level: str = MUST) -> None:
         """Adds a finding."""
-        self.recording.find(line, HOST, section, expected, actual, level)
+        self.recording.add_finding(line, HOST, section, expected, actual, level)
 
-    def find_gap(self, line: int, section: str, expected: str, actual: str) -> None:
+    def add_gap(self, line: int, section: str, expected: str, actual: str) -> None:
         """Adds a finding about missing or misordered packets."""
-        self.recording.find_gap(line, HOST, section, expected, actual)
+        self.recording.add_gap(line, HOST, section, expected, actual)
 
     def take(self, entry: Entry) -> None:
         """Processes a packet."""
@@ -55,7 +55,7 @@ class HostJudge:
         elif entry.part in ("stray", "wrong number"):
             self.check_continuation(entry, channel)
         else:
-            self.whole(self.open.get(channel), entry)
+            self.check_message(self.open.get(channel), entry)
 
     def take_answer(self, entry: Entry, channel: bytes) -> None:
         """Records the end of a transaction."""
@@ -64,7 +64,7 @@ class HostJudge:
             self.refused[channel] = entry.transaction
             if entry.packet[7] == INVALID_CHANNEL and channel not in self.allocated and channel != b"\xff" * 4:
                 expected = "a channel allocated by INIT"
-                self.find(entry.transaction.line, rules.CHANNELS, expected, f"channel {channel.hex()}")
+                self.add_finding(entry.transaction.line, rules.CHANNELS, expected, f"channel {channel.hex()}")
         if transaction is not None and transaction.by == entry.line:
             del self.open[channel]
         message = entry.message
@@ -76,7 +76,7 @@ class HostJudge:
         command, length = entry.packet[4] & 0x7F, int.from_bytes(entry.packet[5:7], "big")
         if command == hid.CANCEL:
             if length:
-                self.find(entry.line, rules.CANCEL, "a CANCEL without data", quantity(length, "byte"))
+                self.add_finding(entry.line, rules.CANCEL, "a CANCEL without data", quantity(length, "byte"))
             return
         transaction = entry.transaction
         if transaction is None:
@@ -88,33 +88,33 @@ class HostJudge:
         if before is not None and command != hid.INIT:
             self.check_order(before, entry)
         self.open[channel] = transaction
-        self.whole(transaction, entry)
+        self.check_message(transaction, entry)
 
     def check_length(self, line: int, command: int, length: int) -> None:
         """Checks the command of a message and its length."""
         if command not in SERVED and command not in VENDOR:
             name = hid.NAMES.get(command, f"command {command:02x}")
-            self.find(line, rules.ERROR, "a command that hosts send", name)
+            self.add_finding(line, rules.ERROR, "a command that hosts send", name)
         if length > hid.LONGEST:
-            self.find(line, rules.PACKETS, f"a length of at most {hid.LONGEST}", str(length))
+            self.add_finding(line, rules.PACKETS, f"a length of at most {hid.LONGEST}", str(length))
             return
         least, most = LENGTHS.get(command, (0, hid.LONGEST))
         if not least <= length <= most:
             expected = f"a length of {least}" if least == most else f"a length of at least {least}"
-            self.find(line, rules.OF_COMMAND[command], expected, str(length))
+            self.add_finding(line, rules.OF_COMMAND[command], expected, str(length))
 
     def check_channel(self, line: int, command: int, channel: bytes) -> None:
         """Checks that no reserved channel is used."""
         if channel == bytes(4) or (channel == b"\xff" * 4 and command != hid.INIT):
-            self.find(line, rules.CHANNELS, "a channel allocated by INIT", f"channel {channel.hex()}")
+            self.add_finding(line, rules.CHANNELS, "a channel allocated by INIT", f"channel {channel.hex()}")
 
     def check_order(self, before: Transaction, entry: Entry) -> None:
         """Checks that the channel has no other transaction in progress."""
         actual = f"a new message during that of line {before.line}"
         if not before.whole:
-            self.find_gap(entry.line, rules.SEQUENCE, f"the other packets of the message of line {before.line}", actual)
+            self.add_gap(entry.line, rules.SEQUENCE, f"the other packets of the message of line {before.line}", actual)
         elif entry.at - before.last < 60000:
-            self.find_gap(entry.line, rules.BUSY, "a response first, or CANCEL or INIT", actual)
+            self.add_gap(entry.line, rules.BUSY, "a response first, or CANCEL or INIT", actual)
 
     def check_continuation(self, entry: Entry, channel: bytes) -> None:
         """Checks a continuation packet outside any message. It may be part of a message that was just refused."""
@@ -125,36 +125,38 @@ class HostJudge:
             return
         if entry.part == "stray" and self.is_of_earlier_message(channel):
             return
-        if entry.part == "stray" and not self.timed_out(channel, number):
-            self.find_gap(entry.line, rules.SEQUENCE, "an initialization packet first", f"continuation packet {number}")
+        if entry.part == "stray" and not self.is_after_timeout(channel, number):
+            self.add_gap(entry.line, rules.SEQUENCE, "an initialization packet first", f"continuation packet {number}")
         elif entry.transaction is not None:
-            expected = f"continuation packet {len(self.numbered(entry)) - 1}"
-            self.find_gap(entry.line, rules.SEQUENCE, expected, f"continuation packet {number}")
+            expected = f"continuation packet {len(self.list_lines_before(entry)) - 1}"
+            self.add_gap(entry.line, rules.SEQUENCE, expected, f"continuation packet {number}")
 
     def is_of_earlier_message(self, channel: bytes) -> bool:
         """Returns whether a continuation packet may belong to a message that began before the log."""
         return self.recording.begins_within and channel not in self.begun and channel not in self.allocated
 
-    def timed_out(self, channel: bytes, number: int) -> bool:
+    def is_after_timeout(self, channel: bytes, number: int) -> bool:
         """Returns whether a continuation packet belongs to a message that timed out before the host sent the packet."""
         last = self.begun.get(channel)
         return last is not None and last.end == "timed out" and number >= last.next
 
-    def numbered(self, entry: Entry) -> Set[int]:
+    def list_lines_before(self, entry: Entry) -> Set[int]:
         """Returns the lines of the packets before an entry in its message."""
         lines = entry.transaction.lines if entry.transaction is not None else []
         return {line for line in lines if line < entry.line}
 
-    def whole(self, transaction: Optional[Transaction], entry: Entry) -> None:
+    def check_message(self, transaction: Optional[Transaction], entry: Entry) -> None:
         """Checks a complete message at its last packet."""
         if transaction is None or not transaction.whole or transaction.lines[-1] != entry.line:
             return
         if self.recording.is_cut(transaction):
             return
         if any(transaction.padding):
-            self.find(entry.line, rules.PACKETS, "zeros as padding", "other bytes", SHOULD)
+            self.add_finding(entry.line, rules.PACKETS, "zeros as padding", "other bytes", SHOULD)
         if transaction.command == hid.CBOR and transaction.data:
             fault = find_fault(transaction.data)
             if fault is not None:
-                section = fault.section or section_of(transaction)
-                self.find(transaction.line, section, fault.expected, fault.actual, SHOULD if fault.should else MUST)
+                section = fault.section or find_section(transaction)
+                self.add_finding(
+                    transaction.line, section, fault.expected, fault.actual, SHOULD if fault.should else MUST
+                )

@@ -11,7 +11,7 @@ from hidlog_conformance.init_response import CBOR, is_valid_keepalive, check_ini
 from hidlog_conformance.judged_answers import AnswerJudge
 from hidlog_conformance.judged_errors import SERVED, ErrorJudge
 from hidlog_conformance.judged_parts import ExtensionMismatch
-from hidlog_conformance.judged_log import KEY, MUST, SHOULD, SILENCE_MS, Recording, message_of, seen
+from hidlog_conformance.judged_log import KEY, MUST, SHOULD, SILENCE_MS, Recording, make_difference, to_message
 from hidlog_conformance.quantity import quantity
 from hidlog_conformance.transactions import CANCELLED, NO_TIME_OUT, Entry, Transaction
 
@@ -62,13 +62,13 @@ class KeyJudge:
         # The time of the last KEEPALIVE, by the first line of its unfinished transaction.
         self.last_keepalive: Dict[int, int] = {}
 
-    def find(self, line: int, section: str, expected: str, actual: str, level: str = MUST) -> None:
+    def add_finding(self, line: int, section: str, expected: str, actual: str, level: str = MUST) -> None:
         """Adds a finding."""
-        self.recording.find(line, KEY, section, expected, actual, level)
+        self.recording.add_finding(line, KEY, section, expected, actual, level)
 
-    def find_gap(self, line: int, section: str, expected: str, actual: str, level: str = MUST, also: str = "") -> None:
+    def add_gap(self, line: int, section: str, expected: str, actual: str, level: str = MUST, also: str = "") -> None:
         """Adds a finding about missing or misordered packets."""
-        self.recording.find_gap(line, KEY, section, expected, actual, level, also)
+        self.recording.add_gap(line, KEY, section, expected, actual, level, also)
 
     def take(self, entry: Entry) -> None:
         """Checks a packet of either side."""
@@ -123,7 +123,7 @@ class KeyJudge:
             if entry.transaction.is_unknown:
                 self.unsure.add(entry.packet[:4])
             if entry.transaction.end not in ("answered", "refused", "timed out"):
-                self.answers.unanswered(entry.transaction)
+                self.answers.take_unanswered(entry.transaction)
         elif entry.part == "wrong number" and entry.transaction is not None:
             if entry.transaction.line not in self.disturbed:
                 self.disturbed.add(entry.transaction.line)
@@ -143,7 +143,7 @@ class KeyJudge:
             if entry.message.whole:
                 self.check_whole(entry)
             elif entry.transaction is not None:
-                self.answers.unanswered(entry.transaction)
+                self.answers.take_unanswered(entry.transaction)
         self.close(entry)
         self.is_first, self.sent_at = False, entry.at
         if entry.packet[4] & 0x80:
@@ -167,9 +167,9 @@ class KeyJudge:
                 # It continues a response that began before the log.
                 return
             expected, actual = "the packets of a message in order", message.problem
-            self.find_gap(entry.line, rules.PACKETS, expected, actual, MUST, rules.SEQUENCE)
+            self.add_gap(entry.line, rules.PACKETS, expected, actual, MUST, rules.SEQUENCE)
         elif any(message.padding):
-            self.find(entry.line, rules.PACKETS, "zeros as padding", message.padding.hex(), SHOULD)
+            self.add_finding(entry.line, rules.PACKETS, "zeros as padding", message.padding.hex(), SHOULD)
         if entry.part == "keepalive":
             self.check_keepalive(entry, message)
         elif entry.part == "error":
@@ -180,7 +180,7 @@ class KeyJudge:
     def close(self, entry: Entry) -> None:
         """Removes transactions that ended before a packet of the key or with it. Those that a new message of the host
         ended stay, since the key may not have received that message."""
-        self.open = [one for one in self.open if one.by is None or one.by > entry.line or self.is_ousted(one)]
+        self.open = [one for one in self.open if one.by is None or one.by > entry.line or self.is_replaced(one)]
         ended = entry.transaction
         if ended is not None and ended.by == entry.line:
             self.last_keepalive.pop(ended.line, None)
@@ -195,7 +195,7 @@ class KeyJudge:
         else:
             self.unsure.add(init.channel.to_bytes(4, "big"))
 
-    def is_ousted(self, transaction: Transaction) -> bool:
+    def is_replaced(self, transaction: Transaction) -> bool:
         """Returns whether another message of the host ended a transaction."""
         return transaction.end == "replaced" or (
             transaction.end == "dropped" and transaction.by != transaction.cancelled
@@ -208,17 +208,17 @@ class KeyJudge:
             self.last_keepalive[entry.transaction.line] = entry.at
         if not is_valid_keepalive(data):
             expected = "a KEEPALIVE of one byte, 01 or 02, for a request"
-            self.find(entry.line, rules.KEEPALIVE, expected, f"KEEPALIVE {data[:8].hex()}")
+            self.add_finding(entry.line, rules.KEEPALIVE, expected, f"KEEPALIVE {data[:8].hex()}")
         elif entry.transaction is None:
             self.note_channel(entry.packet[:4])
             if not self.is_late_start(entry) and entry.packet[:4] not in self.unsure:
                 section = rules.ABORT if self.was_aborted(entry) else rules.KEEPALIVE
                 expected = "a KEEPALIVE of a pending request"
-                self.find_gap(entry.line, section, expected, "no request is pending on this channel")
+                self.add_gap(entry.line, section, expected, "no request is pending on this channel")
         elif entry.transaction.command == hid.CBOR:
             self.check_cancelled_on(entry, entry.transaction)
             if data == b"\2" and not self.recording.is_cut(entry.transaction):
-                self.answers.user_needed(entry, entry.transaction)
+                self.answers.check_touch_request(entry, entry.transaction)
 
     def was_aborted(self, entry: Entry) -> bool:
         """Returns whether INIT ended the channel's last transaction."""
@@ -230,7 +230,7 @@ class KeyJudge:
         if transaction.cancelled is None or self.recording.was_unread(entry.line):
             return
         if entry.at - transaction.cancelled_at >= SILENCE_MS and transaction.cancelled < entry.line:
-            self.find(entry.line, rules.CANCEL, "status 2d, since CANCEL came", "KEEPALIVEs go on")
+            self.add_finding(entry.line, rules.CANCEL, "status 2d, since CANCEL came", "KEEPALIVEs go on")
 
     def is_late_start(self, entry: Entry) -> bool:
         """Returns whether the log may have begun within the channel's transaction."""
@@ -246,9 +246,9 @@ class KeyJudge:
         self.check_gap(entry, transaction)
         self.errors.check_lock(entry, transaction, name)
         if transaction.channel == 0 or (transaction.channel == hid.BROADCAST and command != hid.INIT):
-            self.find(entry.line, rules.CHANNELS, "error 0b", f"{name} on a reserved channel")
+            self.add_finding(entry.line, rules.CHANNELS, "error 0b", f"{name} on a reserved channel")
         if transaction.command not in SERVED and transaction.command < 0x40:
-            self.find(entry.line, rules.ERROR, "error 01", name)
+            self.add_finding(entry.line, rules.ERROR, "error 01", name)
         before = [
             element
             for element in self.open
@@ -256,13 +256,13 @@ class KeyJudge:
         ]
         before = [item for item in before if item.command != hid.INIT and self.is_waiting(item, transaction, entry)]
         if before and command != hid.INIT:
-            self.find(entry.line, rules.BUSY, f"error 06, since line {before[0].line} has the device", name)
+            self.add_finding(entry.line, rules.BUSY, f"error 06, since line {before[0].line} has the device", name)
 
     def check_gap(self, entry: Entry, transaction: Transaction) -> None:
         """Checks that a message whose packets came too slowly timed out."""
         gaps = [after - before for before, after in zip(transaction.times, transaction.times[1:])]
         if gaps and max(gaps) >= MESSAGE_TIMEOUT_MS:
-            self.find(entry.line, rules.TIMEOUT, "error 05, since the message timed out", "a response", SHOULD)
+            self.add_finding(entry.line, rules.TIMEOUT, "error 05, since the message timed out", "a response", SHOULD)
 
     def is_waiting(self, item: Transaction, other: Transaction, entry: Entry) -> bool:
         """Returns whether `item` was still in progress while `other` was processed."""
@@ -280,7 +280,7 @@ class KeyJudge:
         if (last is None and self.is_first) or entry.line in self.recording.cut or entry.packet[:4] in self.unsure:
             return
         if entry.packet[:4] == b"\xff" * 4 and command != hid.INIT:
-            self.find(
+            self.add_finding(
                 entry.line, rules.CHANNELS, "a response on the channel that asked", f"{name} on the broadcast channel"
             )
             return
@@ -292,29 +292,29 @@ class KeyJudge:
         if command == hid.INIT:
             waiting = [item for item in self.open if item.command == hid.INIT]
             actual = f"nonce {entry.packet[7:15].hex()} on {entry.packet[:4].hex()}"
-            self.find_gap(entry.line, rules.INIT, self.expected_init(waiting), actual)
+            self.add_gap(entry.line, rules.INIT, self.expected_init(waiting), actual)
             return
         on_channel = [each for each in self.open if each.channel.to_bytes(4, "big") == entry.packet[:4]]
         if on_channel and on_channel[-1].whole:
             held = on_channel[-1]
-            self.find_gap(
+            self.add_gap(
                 entry.line, rules.OF_COMMAND.get(held.command, rules.ERROR), "a response of the same command", name
             )
         elif on_channel:
-            self.find_gap(entry.line, rules.SEQUENCE, "no response before the message is complete", name)
+            self.add_gap(entry.line, rules.SEQUENCE, "no response before the message is complete", name)
         elif self.was_aborted(entry):
-            self.find_gap(entry.line, rules.ABORT, "no response to what INIT aborted", name)
+            self.add_gap(entry.line, rules.ABORT, "no response to what INIT aborted", name)
         elif last is not None and last.packet[4] == 0x80 | hid.CANCEL:
-            self.find_gap(entry.line, rules.CANCEL, "no response to CANCEL", name)
+            self.add_gap(entry.line, rules.CANCEL, "no response to CANCEL", name)
         elif last is not None and last.part == "stray":
-            self.find_gap(
+            self.add_gap(
                 entry.line, rules.SEQUENCE, "no response to a continuation packet outside any transaction", name
             )
         elif last is None and any(element.command == command and element.whole for element in self.open):
             actual = f"{name} on {entry.packet[:4].hex()}"
-            self.find_gap(entry.line, rules.CHANNELS, "a response on the channel that asked", actual)
+            self.add_gap(entry.line, rules.CHANNELS, "a response on the channel that asked", actual)
         elif last is not None:
-            self.find_gap(entry.line, rules.OF_COMMAND.get(command, rules.ERROR), "a response to a request", name)
+            self.add_gap(entry.line, rules.OF_COMMAND.get(command, rules.ERROR), "a response to a request", name)
 
     def expected_init(self, waiting: List[Transaction]) -> str:
         """Returns the expected INIT response."""
@@ -325,14 +325,14 @@ class KeyJudge:
     def check_whole(self, entry: Entry) -> None:
         """Checks a complete response."""
         assert entry.message is not None
-        transaction, message = entry.transaction, message_of(entry.message)
+        transaction, message = entry.transaction, to_message(entry.message)
         if transaction is None:
             return
         if message.command == hid.CBOR and not self.serves_cbor:
             self.serves_cbor = True
             self.check_without_cbor()
         if self.recording.is_cut(entry.message, transaction):
-            self.answers.passed(transaction)
+            self.answers.take_unreadable(transaction)
             return
         try:
             if message.command == hid.INIT:
@@ -348,12 +348,12 @@ class KeyJudge:
             elif message.command == hid.LOCK:
                 self.errors.check_lock_response(entry, transaction, message)
         except ExtensionMismatch as differs:
-            self.find(
+            self.add_finding(
                 entry.line, differs.section, differs.expected, differs.actual, MUST if differs.is_sure else SHOULD
             )
         except Mismatch as differs:
             expected = {hid.INIT: "init", hid.MSG: "message"}.get(message.command, "echo")
-            self.recording.judged(seen(transaction, expected, message), entry.line, differs)
+            self.recording.add_mismatch(make_difference(transaction, expected, message), entry.line, differs)
 
     def check_init_response(self, entry: Entry, transaction: Transaction, message: hid.Message) -> None:
         """Checks a response to INIT. The capability CBOR may be missing in a U2F-only key."""
@@ -383,7 +383,7 @@ class KeyJudge:
         """Checks earlier INIT responses without the capability CBOR, once a CBOR request was answered."""
         for line, transaction, message in self.without_cbor if self.serves_cbor else []:
             actual = Mismatch("the capability CBOR", f"capabilities {message.data[16]:02x}")
-            self.recording.judged(seen(transaction, "init", message), line, actual)
+            self.recording.add_mismatch(make_difference(transaction, "init", message), line, actual)
         self.without_cbor = [] if self.serves_cbor else self.without_cbor
 
     def check_echo(self, transaction: Transaction, message: hid.Message) -> None:
@@ -397,16 +397,18 @@ class KeyJudge:
     def check_status(self, entry: Entry, transaction: Transaction, message: hid.Message) -> None:
         """Checks a response to CBOR, also after CANCEL."""
         if not message.data:
-            self.find(entry.line, rules.CBOR, "a status", "an empty message")
+            self.add_finding(entry.line, rules.CBOR, "a status", "an empty message")
         elif not transaction.data:
             if message.data[0] == 0:
-                self.find(entry.line, rules.CBOR, "an error, since the message is empty", "response 00")
+                self.add_finding(entry.line, rules.CBOR, "an error, since the message is empty", "response 00")
         elif message.data[0] == CANCELLED and transaction.cancelled is None and not self.recording.is_single_client:
-            self.find(entry.line, rules.CANCEL, "no status 2d, since no CANCEL came on this channel", "response 2d")
+            self.add_finding(
+                entry.line, rules.CANCEL, "no status 2d, since no CANCEL came on this channel", "response 2d"
+            )
         elif transaction.cancelled is not None and len(message.data) == 1 and message.data[0] != CANCELLED:
             # CANCEL may come while another response is being sent.
             level = MUST if message.data == b"\0" and transaction.data[0] in (1, 2, 8) else SHOULD
-            self.find(
+            self.add_finding(
                 entry.line,
                 rules.CANCEL,
                 "status 2d, since the request was cancelled",
@@ -426,10 +428,12 @@ class KeyJudge:
                 continue
             if is_due and self.is_silent(owner, now, line):
                 self.missed.add(owner.line)
-                self.missing(owner)
+                self.report_missing(owner)
             elif not is_due and owner.by is None and now - owner.last >= MESSAGE_TIMEOUT_MS:
                 self.missed.add(owner.line)
-                self.find(owner.lines[-1], rules.TIMEOUT, "error 05, since the message timed out", "nothing", SHOULD)
+                self.add_finding(
+                    owner.lines[-1], rules.TIMEOUT, "error 05, since the message timed out", "nothing", SHOULD
+                )
 
     def check_parts(self, now: int, line: int) -> None:
         """Finds messages of the key that are incomplete at a time."""
@@ -439,7 +443,7 @@ class KeyJudge:
                 left = part.length - len(part.data) if part is not None else 0
                 expected = f"the other {quantity(left, 'byte')} of the message"
                 if entry.message is None or entry.message.lines[-1] <= entry.line:
-                    self.find_gap(entry.line, rules.PACKETS, expected, "nothing", MUST, rules.SEQUENCE)
+                    self.add_gap(entry.line, rules.PACKETS, expected, "nothing", MUST, rules.SEQUENCE)
                 del self.parts[channel]
 
     def is_silent(self, owner: Transaction, now: int, line: int) -> bool:
@@ -451,12 +455,12 @@ class KeyJudge:
         last = self.last_keepalive.get(owner.line, owner.last)
         return now - last >= SILENCE_MS
 
-    def missing(self, owner: Transaction) -> None:
+    def report_missing(self, owner: Transaction) -> None:
         """Adds a finding about a missing response."""
         section, expected, level = self.missing_response(owner)
         # If the response comes late, only KEEPALIVEs are missing, since the standard sets no time limit.
         level = SHOULD if owner.end in ("answered", "refused", "timed out") else level
-        self.find_gap(owner.lines[-1], section, expected, "nothing", level)
+        self.add_gap(owner.lines[-1], section, expected, "nothing", level)
 
     def missing_response(self, owner: Transaction) -> Tuple[str, str, str]:
         """Returns the rule about a missing response, what was expected, and the level."""
@@ -499,5 +503,5 @@ class KeyJudge:
             if owner is None or (entry is None and not late):
                 continue
             if owner.code != 0x04 and owner.end not in ("refused", "timed out") and not owner.is_unknown:
-                self.find_gap(wrong.line, rules.SEQUENCE, "error 04", "nothing")
+                self.add_gap(wrong.line, rules.SEQUENCE, "error 04", "nothing")
         self.wrong = []

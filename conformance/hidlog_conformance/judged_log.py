@@ -127,7 +127,7 @@ class Recording:
             self.has_lost = True
         found = _CUT.fullmatch(line)
         if found:
-            self.take_cut(number, found[1] == b">", int(found[2]), padded(found[3]), owners)
+            self.take_cut(number, found[1] == b">", int(found[2]), pad_packet(found[3]), owners)
         if line == POWER_CYCLE:
             self.power_cycles.append((number, self.walk.now))
             self.walk.restart()
@@ -148,7 +148,7 @@ class Recording:
             return False
         return any(part is not None and any(line in self.cut for line in part.lines) for part in parts)
 
-    def find(
+    def add_finding(
         self, line: int, side: str, section: str, expected: str, actual: str, level: str = MUST, also: str = ""
     ) -> None:
         """Adds a finding, once per line and rule."""
@@ -156,22 +156,22 @@ class Recording:
             self.found.add((line, side, section))
             self.findings.append(Finding(line, side, level, section, expected, actual, also if also != section else ""))
 
-    def find_gap(
+    def add_gap(
         self, line: int, side: str, section: str, expected: str, actual: str, level: str = MUST, also: str = ""
     ) -> None:
         """Adds a finding about missing or misordered packets: a SHOULD violation if the recorder may have lost them.
         The debug output of a client has all packets that it sent, but may lack packets that it received."""
         lost = self.has_lost or (self.is_single_client and side == KEY)
         self.gap = line if self.gap is None else self.gap
-        self.find(line, side, section, expected, actual, SHOULD if lost else level, also)
+        self.add_finding(line, side, section, expected, actual, SHOULD if lost else level, also)
 
-    def judged(self, seen: rules.Seen, line: int, differs: Mismatch, level: str = MUST) -> None:
+    def add_mismatch(self, difference: rules.Difference, line: int, differs: Mismatch, level: str = MUST) -> None:
         """Adds a finding for a `Mismatch`, under the rule that the conformance tests name for it."""
         encoding = "canonical CBOR" in differs.expected or differs.expected == "a map"
-        self.find(
+        self.add_finding(
             line,
             KEY,
-            rules.find_violated_section(seen),
+            rules.find_violated_section(difference),
             differs.expected,
             differs.actual,
             level,
@@ -188,46 +188,46 @@ def is_first_init(packet: bytes) -> bool:
     return packet[:5] == b"\xff" * 4 + bytes([0x80 | hid.INIT])
 
 
-def padded(digits: bytes) -> bytes:
+def pad_packet(digits: bytes) -> bytes:
     """Returns the packet that begins with these digits, padded with zeros."""
     return bytes.fromhex(digits.decode()).ljust(64, b"\0")
 
 
-def message_of(answer: Answer) -> Message:
+def to_message(answer: Answer) -> Message:
     """Returns a device's message, without its lines."""
     return Message(answer.channel, answer.command, answer.data, padding=answer.padding)
 
 
-def section_of(transaction: Transaction) -> str:
+def find_section(transaction: Transaction) -> str:
     """Returns the section about a host's request."""
     if transaction.command == hid.CBOR:
         return rules.COMMANDS.get(transaction.data[0], rules.COMMANDS_OTHER) if transaction.data else rules.CBOR
     return rules.OF_COMMAND.get(transaction.command, rules.ERROR)
 
 
-def seen(
+def make_difference(
     transaction: Optional[Transaction], expected: str, actual: Optional[Message], own: str = "", partial: bool = False
-) -> rules.Seen:
+) -> rules.Difference:
     """Returns the difference between an expectation and a response to a transaction."""
     request = transaction.data if transaction is not None and transaction.command == hid.CBOR else b""
-    section = own or (section_of(transaction) if transaction is not None else rules.PACKETS)
+    section = own or (find_section(transaction) if transaction is not None else rules.PACKETS)
     cancelled = transaction is not None and transaction.cancelled is not None
-    return rules.Seen(section, expected, actual, partial, request, cancelled)
+    return rules.Difference(section, expected, actual, partial, request, cancelled)
 
 
 def walked(log: bytes) -> bytes:
     """Returns a log as `hidlog_transactions` reads it, with the same line numbers: truncated packets are padded."""
     if b"# cut to " not in log:
         return log
-    return b"\n".join([whole_line(line) for line in log.split(b"\n")])
+    return b"\n".join([pad_line(line) for line in log.split(b"\n")])
 
 
-def whole_line(line: bytes) -> bytes:
+def pad_line(line: bytes) -> bytes:
     """Returns the padded packet's line for a comment with a truncated packet, or the line unchanged."""
     found = _CUT.fullmatch(line)
     if not found:
         return line
-    digits = padded(found[3]).hex().encode()
+    digits = pad_packet(found[3]).hex().encode()
     return b"> " + found[2] + b" " + digits if found[1] == b">" else b"< " + digits
 
 

@@ -64,7 +64,7 @@ class KnownCredentials:
         credential = kept.credential
         self.by_id[credential.id] = kept
         self.by_key[ctap_cbor.encode(credential.cose)] = kept
-        self.by_front.setdefault(id_prefix(credential.id), {})[credential.id] = kept
+        self.by_front.setdefault(read_id_prefix(credential.id), {})[credential.id] = kept
         if kept.discoverable:
             self.discoverable.setdefault(credential.rp, {})[credential.id] = kept
         if kept.extensions:
@@ -76,7 +76,7 @@ class KnownCredentials:
         if kept is None:
             return
         self.by_key.pop(ctap_cbor.encode(kept.credential.cose), None)
-        self.by_front[id_prefix(identity)].pop(identity, None)
+        self.by_front[read_id_prefix(identity)].pop(identity, None)
         self.discoverable.get(kept.credential.rp, {}).pop(identity, None)
         self.extended.get(kept.credential.rp, {}).pop(identity, None)
 
@@ -86,7 +86,7 @@ class KnownCredentials:
 
     def near(self, identity: bytes) -> Dict[bytes, Credential]:
         """Returns the credentials whose ID equals this one or is numerically close, by ID."""
-        front = id_prefix(identity)
+        front = read_id_prefix(identity)
         found = [*self.by_front.get(front - 1, {}).values(), *self.by_front.get(front, {}).values()]
         found += self.by_front.get(front + 1, {}).values()
         return {one.credential.id: one.credential for one in found}
@@ -96,7 +96,7 @@ class KnownCredentials:
         return [one.credential for of_rp in self.discoverable.values() for one in of_rp.values()]
 
 
-def id_prefix(identity: bytes) -> int:
+def read_id_prefix(identity: bytes) -> int:
     """Returns an ID without its last eight bytes as a number."""
     return int.from_bytes(identity[: max(0, len(identity) - 8)], "big")
 

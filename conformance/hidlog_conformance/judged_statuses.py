@@ -96,7 +96,7 @@ class StatusJudge:
         was_asked = any(one.packet[7] == 2 for one in transaction.keepalives)
         if needs and transaction.keepalives and not was_asked and not has_token:
             expected = "a KEEPALIVE with 02 while a touch is requested"
-            self.answers.recording.find(
+            self.answers.recording.add_finding(
                 transaction.keepalives[0].line, KEY, rules.KEEPALIVE, expected, "only KEEPALIVEs with 01", SHOULD
             )
         if (
@@ -109,7 +109,7 @@ class StatusJudge:
             return
         section = rules.COMMANDS.get(command, rules.COMMANDS_OTHER)
         expected = "a user presence test before it, shown by a KEEPALIVE with 02"
-        self.answers.recording.find(entry.line, KEY, section, expected, f"status {status:02x} at once", SHOULD)
+        self.answers.recording.add_finding(entry.line, KEY, section, expected, f"status {status:02x} at once", SHOULD)
 
     def check_refusal(self, command: int, fault: Fault, status: int) -> None:
         """Checks that an invalid request fails, with the right status."""
@@ -129,7 +129,7 @@ class StatusJudge:
         """Checks that a valid request is not refused as malformed."""
         asked = decode_parameters(transaction.data) or {}
         options = asked.get(7 if transaction.data[0] == MAKE else 5, {})
-        wrong = self.wrong_option(transaction.data[0], asked, options)
+        wrong = self.find_invalid_option(transaction.data[0], asked, options)
         if wrong:
             taken = status in (0, NO_CREDENTIALS, EXCLUDED)
             check(not taken, f"an error (2b or 2c) for the option {wrong}", f"status {status:02x}")
@@ -155,7 +155,7 @@ class StatusJudge:
         count, length = self.answers.info.get(7, 1), self.answers.info.get(8)
         return len(listed) > count or any(length is None or len(entry["id"]) > length for entry in listed)
 
-    def wrong_option(self, command: int, asked: Dict[Any, Any], options: Dict[str, Any]) -> str:
+    def find_invalid_option(self, command: int, asked: Dict[Any, Any], options: Dict[str, Any]) -> str:
         """Returns an invalid option (rk in a sign-in, up false in a registration, uv if not supported), or empty."""
         if command == GET and "rk" in options:
             return "rk"
@@ -166,7 +166,7 @@ class StatusJudge:
             return "uv"
         return ""
 
-    def listed(self, asked: Dict[Any, Any], key: int, rp: str) -> List[KnownCredential]:
+    def list_known(self, asked: Dict[Any, Any], key: int, rp: str) -> List[KnownCredential]:
         """Returns the log's credentials of this RP in a list."""
         found = [self.answers.kept.get(entry["id"]) for entry in asked.get(key, []) if entry["type"] == "public-key"]
         return [
@@ -176,7 +176,7 @@ class StatusJudge:
     def check_make_status(self, transaction: Transaction, status: int) -> None:
         """Checks the status of a registration."""
         asked = decode_parameters(transaction.data) or {}
-        excluded = self.listed(asked, 5, asked[2]["id"])
+        excluded = self.list_known(asked, 5, asked[2]["id"])
         if status == 0 and excluded:
             expected = "status 19, since the list has a credential of this key"
             check(not any(self.answers.is_fresh(one, transaction) for one in excluded), expected, "status 00")
@@ -256,7 +256,7 @@ class StatusJudge:
     def candidates(self, asked: Dict[Any, Any]) -> List[KnownCredential]:
         """Returns the credentials of the log that a sign-in may use."""
         if asked.get(3):
-            return self.listed(asked, 3, asked[1])
+            return self.list_known(asked, 3, asked[1])
         of_rp = self.answers.kept.discoverable.get(asked[1], {}).values()
         verified = 6 in asked or bool(asked.get(5, {}).get("uv"))
         return [one for one in of_rp if verified or "credProtect" not in one.extensions]

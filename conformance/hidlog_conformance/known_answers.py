@@ -110,9 +110,9 @@ class KnownAnswers(AnswerJudge):
             self.values.setdefault("key agreement key", set()).add(self.shared)
         self.shared = b""
 
-    def find_known(self, entry: Entry, command: int, expected: str, actual: str) -> None:
+    def add_known_finding(self, entry: Entry, command: int, expected: str, actual: str) -> None:
         """Adds a finding that depends on the host's secrets."""
-        self.recording.find(entry.line, KEY, rules.COMMANDS[command], expected, actual)
+        self.recording.add_finding(entry.line, KEY, rules.COMMANDS[command], expected, actual)
 
     def judge(self, entry: Entry, transaction: Transaction, message: hid.Message) -> None:
         """Checks a response."""
@@ -146,7 +146,7 @@ class KnownAnswers(AnswerJudge):
     def check_new(self, entry: Entry, command: int, kind: str, value: bytes) -> None:
         """Checks that a value is new, also since before power cycles and resets."""
         if value in self.values.setdefault(kind, set()):
-            self.find_known(entry, command, f"a new {kind}", value.hex())
+            self.add_known_finding(entry, command, f"a new {kind}", value.hex())
         self.values[kind].add(value)
 
     # authenticatorClientPIN (6.5).
@@ -157,7 +157,7 @@ class KnownAnswers(AnswerJudge):
         if kind == GET_AGREEMENT and status == 0:
             key = ctap_cbor.encode((decode_parameters(data) or {})[1])
             if key in self.values.get("key agreement key", set()):
-                self.find_known(entry, PIN, "a new key agreement key after a power cycle", key.hex())
+                self.add_known_finding(entry, PIN, "a new key agreement key after a power cycle", key.hex())
             self.shared = key
         if self.secrets.pin is None or kind == USER_TOKEN:
             return
@@ -181,7 +181,7 @@ class KnownAnswers(AnswerJudge):
             self.knows_retries = True
         if self.knows_retries and left != secrets.retries:
             words = [quantity(number, "retry", "retries") for number in (secrets.retries, left)]
-            self.find_known(entry, PIN, words[0] + ", also after a power cycle", words[1])
+            self.add_known_finding(entry, PIN, words[0] + ", also after a power cycle", words[1])
 
     def check_used(self, entry: Entry, kind: int, filled: Filled, status: int) -> None:
         """Checks the status of a request with a PIN."""
@@ -193,7 +193,7 @@ class KnownAnswers(AnswerJudge):
             allowed, why = self.after_right_pin(kind, filled)
         if status in allowed or (due and status and not self.knows_retries):
             return
-        self.find_known(entry, PIN, f"status {allowed[0]:02x}, since {why}", f"status {status:02x}")
+        self.add_known_finding(entry, PIN, f"status {allowed[0]:02x}, since {why}", f"status {status:02x}")
 
     def after_right_pin(self, kind: int, filled: Filled) -> Tuple[Tuple[int, ...], str]:
         """Returns the possible statuses of a request with the right PIN, and why: the PIN may have to be changed, or
@@ -218,7 +218,7 @@ class KnownAnswers(AnswerJudge):
         if asked.get(1) == 2:
             vector = encrypted[:VECTOR]
             if not any(vector):
-                self.find_known(entry, PIN, "a random initialization vector", vector.hex())
+                self.add_known_finding(entry, PIN, "a random initialization vector", vector.hex())
             self.check_new(entry, PIN, "initialization vector", vector)
         if not self.facts.old:
             self.check_new(entry, PIN, "pinUvAuthToken", self.platform.decrypt(encrypted))
@@ -238,16 +238,18 @@ class KnownAnswers(AnswerJudge):
             self.check_unverified(entry, request, asked, data)
             return
         rp = asked[2]["id"] if makes else asked[1]
-        why, is_sure = self.unusable(filled, MAKES if makes else GETS, rp, transaction.last)
+        why, is_sure = self.find_token_fault(filled, MAKES if makes else GETS, rp, transaction.last)
         if why and status in (0, EXCLUDED, NO_CREDENTIALS):
-            self.find_known(entry, request[0], f"status 33, since {why}", f"status {status:02x}")
+            self.add_known_finding(entry, request[0], f"status 33, since {why}", f"status {status:02x}")
         elif not why and status in (PIN_INVALID, AUTH_INVALID) and is_sure:
-            self.find_known(entry, request[0], "no such error, since the token permits this", f"status {status:02x}")
+            self.add_known_finding(
+                entry, request[0], "no such error, since the token permits this", f"status {status:02x}"
+            )
         elif not why and status == 0:
             auth = (decode_parameters(data) or {})[2]
             if not auth[32] & UV:
-                self.find_known(entry, request[0], "flag UV set", f"flags {auth[32]:02x}")
-        self.follow_use(asked, makes, rp, status)
+                self.add_known_finding(entry, request[0], "flag UV set", f"flags {auth[32]:02x}")
+        self.record_use(asked, makes, rp, status)
 
     def check_unverified(self, entry: Entry, request: bytes, asked: Dict[int, Any], data: bytes) -> None:
         """Checks that flag UV is not set without pinUvAuthParam, if the device has no other user verification."""
@@ -255,9 +257,9 @@ class KnownAnswers(AnswerJudge):
             return
         auth = (decode_parameters(data) or {})[2]
         if auth[32] & UV:
-            self.find_known(entry, request[0], "flag UV not set", f"flags {auth[32]:02x}")
+            self.add_known_finding(entry, request[0], "flag UV not set", f"flags {auth[32]:02x}")
 
-    def unusable(self, filled: Filled, needed: int, rp: str, now: int) -> Tuple[str, bool]:
+    def find_token_fault(self, filled: Filled, needed: int, rp: str, now: int) -> Tuple[str, bool]:
         """Returns why the device must refuse pinUvAuthParam, or empty; and whether it must accept it otherwise."""
         token = self.secrets.token
         if not filled.is_whole:
@@ -270,7 +272,7 @@ class KnownAnswers(AnswerJudge):
             return "the token does not permit this, or was used before", True
         return "", token.is_sure and now - token.at < FRESH
 
-    def follow_use(self, asked: Dict[int, Any], makes: bool, rp: str, status: int) -> None:
+    def record_use(self, asked: Dict[int, Any], makes: bool, rp: str, status: int) -> None:
         """Records the use of the token: a user presence test takes all permissions but lbw (6.1.2, step 14; 6.2.2, step
         9) of a device with CTAP 2.1."""
         token = self.secrets.token

@@ -47,7 +47,7 @@ class PinUser:
             return None
         command, asked = request[0], decode_parameters(request)
         rp = asked[2]["id"] if command == answers.MAKE else asked[1]
-        if KEYS[command][0] in asked or not self.device_info.requires_user(command, asked):
+        if KEYS[command][0] in asked or not self.device_info.requires_verification(command, asked):
             return None
         return str(rp)
 
@@ -75,7 +75,7 @@ class PinUser:
         request = get_cbor_request(step)
         return request[:1] == bytes([PIN]) and decode_parameters(request).get(2) == SET_PIN
 
-    def unsuited(self, session: Session) -> str:
+    def find_obstacle(self, session: Session) -> str:
         """Returns why a session cannot be played with tokens of --pin, or empty."""
         if any(map(sends_reset, session.steps)):
             return "a reset removes the PIN of --pin"
@@ -93,7 +93,7 @@ class PinUser:
             return "user verification shows what credProtect hides"
         return ""
 
-    def front(self, session: Session) -> str:
+    def find_rp_prefix(self, session: Session) -> str:
         """Returns a prefix for the RP IDs of a session that needs an authenticator without credentials, or empty if a
         prefix does not suffice. The session's credentials are deleted afterwards."""
         may_stay = may_have_own_rps(session) or self.can_replace(session)

@@ -149,28 +149,28 @@ class Platform:
             item = ctap_cbor.decode(request[1:])
         except ctap_cbor.CborError:
             return request
-        filled = self.filled(item)
+        filled = self.fill_item(item)
         return request if filled == item else request[:1] + ctap_cbor.encode(filled)
 
-    def filled(self, item: Any) -> Any:
+    def fill_item(self, item: Any) -> Any:
         """Returns an item with its placeholders replaced: those for encryption first, since their values are
         authenticated."""
         if isinstance(item, list):
-            return [self.filled(part) for part in item]
+            return [self.fill_item(part) for part in item]
         if not isinstance(item, dict):
-            return self.made(item)
-        found = {key: self.filled(value) for key, value in item.items()}
+            return self.fill_value(item)
+        found = {key: self.fill_item(value) for key, value in item.items()}
         for key, value in found.items():
             if isinstance(value, bytes):
-                found[key] = self.authentic(value, found)
+                found[key] = self.fill_auth_param(value, found)
         return found
 
-    def made(self, value: Any) -> Any:
+    def fill_value(self, value: Any) -> Any:
         """Returns the value of a placeholder."""
         if value == b"=agreement":
             return self.own_key()
         if isinstance(value, bytes) and value.startswith(b"=encrypt:"):
-            data = self.suited_data(value[9:])
+            data = self.adapt_data(value[9:])
             self.last_filled.new_pin = data.rstrip(b"\0")
             return self.encrypt(data)
         if isinstance(value, bytes) and value.startswith(b"=hash:"):
@@ -178,19 +178,19 @@ class Platform:
             return self.encrypt(hashlib.sha256(self.last_filled.pin).digest()[:16])
         return value
 
-    def suited_data(self, data: bytes) -> bytes:
+    def adapt_data(self, data: bytes) -> bytes:
         """Returns data to encrypt: a padded PIN is adapted to the device's minimum length, other data is unchanged."""
         if len(data) != PADDED_PIN or data[-1]:
             return data
         return adapt_pin(data.rstrip(b"\0"), self.min_pin_length).ljust(PADDED_PIN, b"\0")
 
-    def authentic(self, value: bytes, item: Dict[Any, Any]) -> bytes:
+    def fill_auth_param(self, value: bytes, item: Dict[Any, Any]) -> bytes:
         """Returns the value of a placeholder for pinUvAuthParam; other byte strings are unchanged."""
         if value.startswith(b"=auth:"):
             parts = [item[int(part)] for part in value[6:].split(b"+")]
             return self.authenticate(self.for_auth, b"".join(parts))
         if value.startswith((b"=token:", b"=former:", b"=cut:")):
-            return self.by_token(value[1:].split(b":"), item)
+            return self.make_param(value[1:].split(b":"), item)
         if value == b"=blob":
             front = b"\xff" * 32 + b"\x0c\0" + item[3].to_bytes(4, "little")
             return self.authenticate(self.token, front + hashlib.sha256(item[2]).digest())
@@ -200,7 +200,7 @@ class Platform:
             return self.authenticate(self.token, front + bytes([item[subcommand]]) + more)
         return value
 
-    def by_token(self, words: List[bytes], item: Dict[Any, Any]) -> bytes:
+    def make_param(self, words: List[bytes], item: Dict[Any, Any]) -> bytes:
         """Returns the pinUvAuthParam of a member by the last token or the one before it, perhaps truncated."""
         index = len(self.tokens) - (2 if words[0] == b"former" else 1)
         token = self.tokens[index] if index >= 0 else bytes(32)

@@ -37,7 +37,7 @@ def find_combined(
     """Returns the combined cases that save touches."""
     if not saves_touches(device, options):
         return []
-    return combine(sessions, lambda one: not device_info.lacking(one, device, options.touch, options.reset))
+    return combine(sessions, lambda one: not device_info.find_skip_reason(one, device, options.touch, options.reset))
 
 
 def order_sessions(
@@ -50,7 +50,7 @@ def order_sessions(
     saves = saves_touches(device, options)
     if saves and device_info.options.get("up", True) is True:
         sessions = list(map(without_needless_touches, sessions))
-    played = [one for one in sessions if not device_info.lacking(one, device, options.touch, options.reset)]
+    played = [one for one in sessions if not device_info.find_skip_reason(one, device, options.touch, options.reset)]
     combined = find_combined(device, played, options, device_info)
     alone = replace_parts(sessions, combined)
     alone.sort(key=count_touches)
@@ -86,11 +86,11 @@ def count_reused(sessions: List[Session]) -> int:
     for session in sessions:
         taken = Counter[bytes]()
         for number in range(len(session.steps)):
-            request = reuse.serves(session, number)
+            request = reuse.find_replaceable(session, number)
             if request and taken[request] < made[request]:
                 count += 1
             else:
-                made[reuse.leaves(session, number)] += 1
+                made[reuse.find_reusable(session, number)] += 1
             taken[request] += 1
     return count
 
@@ -99,7 +99,9 @@ def makes_credentials(session: Session) -> bool:
     """Returns whether a case needs no reset, and others can reuse the credential that it registers."""
     reuse = CredentialReuse()
     numbers = range(len(session.steps))
-    return any(reuse.leaves(session, number) and not reuse.serves(session, number) for number in numbers)
+    return any(
+        reuse.find_reusable(session, number) and not reuse.find_replaceable(session, number) for number in numbers
+    )
 
 
 def print_touches(played: List[Session], most: int) -> None:

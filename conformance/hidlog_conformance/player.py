@@ -53,7 +53,7 @@ class Player(SettingsReader):
             passed = 0
             for number, (step, after) in enumerate(zip(steps, steps[1:] + [None])):
                 self.number = number
-                passed = passed or self.reused_steps(number) or self.is_left_out(step)
+                passed = passed or self.reuse_credential(number) or self.is_left_out(step)
                 if passed:
                     passed -= 1
                     continue
@@ -72,7 +72,7 @@ class Player(SettingsReader):
         except CaseSkipped as unplayable:
             return Outcome(self.session, "skip", str(unplayable))
         except Mismatch as differs:
-            reason = self.excuse()
+            reason = self.find_excuse()
             if reason:
                 return Outcome(self.session, "skip", reason)
             return self.failed(differs.expected, differs.actual, step)
@@ -87,7 +87,7 @@ class Player(SettingsReader):
             self.device.close()
         return Outcome(self.session, "ok")
 
-    def reused_steps(self, number: int) -> int:
+    def reuse_credential(self, number: int) -> int:
         """Reuses a credential of another case instead of a registration, if possible; returns the number of steps to
         skip."""
         shared = self.sharing.find_credential(number) if self.sharing is not None else None
@@ -97,13 +97,13 @@ class Player(SettingsReader):
             return len(REGISTRATION)
         if self.reuse is None:
             return 0
-        request = self.reuse.serves(self.session, number)
+        request = self.reuse.find_replaceable(self.session, number)
         if not request:
-            self.keeps = self.reuse.leaves(self.session, number) or self.keeps
+            self.keeps = self.reuse.find_reusable(self.session, number) or self.keeps
             return 0
         place = self.taken.get(request, 0)
         self.taken[request] = place + 1
-        found = self.reuse.credential(request, place)
+        found = self.reuse.take_credential(request, place)
         if found is None:
             self.keeps = request
             return 0
@@ -124,8 +124,8 @@ class Player(SettingsReader):
         own = self.session.section
         partial = self.actual is None and bool(self.guest.open)
         request = self.requests.get(self.actual.channel, self.request) if self.actual else self.request
-        seen = rules.Seen(own, self.expected, self.actual, partial, request, self.cancelled)
-        broken = own if expected in (GOES_ON, IN_TIME) else self.violated or rules.find_violated_section(seen)
+        difference = rules.Difference(own, self.expected, self.actual, partial, request, self.cancelled)
+        broken = own if expected in (GOES_ON, IN_TIME) else self.violated or rules.find_violated_section(difference)
         line = step.line if step else 0
         return Outcome(self.session, "not ok", "", expected, actual, line, broken, expected == IN_TIME)
 
@@ -150,7 +150,7 @@ class Player(SettingsReader):
             return False
         return self.facts.protection >= (3 if answers.decode_parameters(self.request).get(3) else 2)
 
-    def excuse(self) -> str:
+    def find_excuse(self) -> str:
         """Returns why a difference is not a failure of the device, or empty."""
         if self.is_hidden_by_cred_protect():
             return "the device applies credProtect unasked"

@@ -308,7 +308,7 @@ class ResponseReader:
             self.packets += 1
             self.log.append("< " + packet.hex())
             check(self.packets <= self.max_packets, IN_TIME, f"more than {self.max_packets} packets")
-            if self.for_others(packet):
+            if self.is_for_others(packet):
                 self.others += 1
                 continue
             self.actual = self.guest.feed(packet)
@@ -321,7 +321,7 @@ class ResponseReader:
             actual = "KEEPALIVEs without a response" if self.asked_user else "no end"
             raise Mismatch(IN_TIME, f"{actual} after {quantity(self.packets, 'packet')}")
 
-    def for_others(self, packet: bytes) -> bool:
+    def is_for_others(self, packet: bytes) -> bool:
         """Returns whether a packet is for another host of a shared device."""
         if not self.device.lasting or len(packet) != 64:
             return False

@@ -49,7 +49,7 @@ REPLY_COMMANDS = (hid.CBOR, hid.ERROR, hid.KEEPALIVE)
 
 
 @dataclass
-class Seen:
+class Difference:
     """An expectation, and the actual response."""
 
     # The section of the session.
@@ -78,55 +78,57 @@ class Seen:
         return self.actual.data if self.actual is not None and self.actual.command == hid.CBOR else b""
 
 
-def find_violated_section(seen: Seen) -> str:
+def find_violated_section(difference: Difference) -> str:
     """Returns the section whose rule a difference violates."""
-    kind = seen.expected.split(" ")[0]
-    if kind == "zeros" or seen.partial or (seen.actual is not None and seen.actual.problem):
+    kind = difference.expected.split(" ")[0]
+    if kind == "zeros" or difference.partial or (difference.actual is not None and difference.actual.problem):
         return PACKETS
     if kind == "init":
         return INIT
-    if seen.own == LOCK:
+    if difference.own == LOCK:
         return LOCK
     if kind == "maybe":
         return TIMEOUT
-    if kind != "silence" and seen.actual is not None and seen.actual.command == hid.KEEPALIVE:
+    if kind != "silence" and difference.actual is not None and difference.actual.command == hid.KEEPALIVE:
         return KEEPALIVE
-    if kind != "error" and seen.refusal in ("04", "05", "06"):
-        return CODES[seen.refusal]
-    if kind in ("nothing", "silence") and seen.cancelled:
+    if kind != "error" and difference.refusal in ("04", "05", "06"):
+        return CODES[difference.refusal]
+    if kind in ("nothing", "silence") and difference.cancelled:
         return CANCEL
-    if len(seen.answered) > 1 and seen.answered[0] != 0:
+    if len(difference.answered) > 1 and difference.answered[0] != 0:
         # An error status has no data.
         return CBOR
-    if kind in ANSWERS and seen.actual is not None and seen.actual.command not in REPLY_COMMANDS:
+    if kind in ANSWERS and difference.actual is not None and difference.actual.command not in REPLY_COMMANDS:
         return CBOR
-    if kind in MAPS and seen.answered == b"\0":
+    if kind in MAPS and difference.answered == b"\0":
         return CBOR
     if kind in ("echo", "ping"):
-        return PING if seen.actual is not None and seen.actual.command == hid.PING else seen.own
-    if kind == "error" and seen.own != CBOR:
-        return CODES.get(seen.expected.split(" ")[1][:2], seen.own)
-    return find_response_section(kind, seen)
+        return PING if difference.actual is not None and difference.actual.command == hid.PING else difference.own
+    if kind == "error" and difference.own != CBOR:
+        return CODES.get(difference.expected.split(" ")[1][:2], difference.own)
+    return find_response_section(kind, difference)
 
 
-def find_response_section(kind: str, seen: Seen) -> str:
+def find_response_section(kind: str, difference: Difference) -> str:
     """Returns the rule that a wrong, early or missing response to a request violates."""
-    if kind == "status" and seen.cancelled and "2d" in seen.expected:
+    if kind == "status" and difference.cancelled and "2d" in difference.expected:
         return CANCEL
-    words = set(seen.expected.split(" "))
-    if seen.own.startswith("12.") and {"extension", "no-extension", "secret", "blob-key", "no-blob-key"} & words:
-        return seen.own
-    if seen.own == RESET and (kind in ("managed", "piece") or "no-extension" in words):
+    words = set(difference.expected.split(" "))
+    if difference.own.startswith("12.") and {"extension", "no-extension", "secret", "blob-key", "no-blob-key"} & words:
+        return difference.own
+    if difference.own == RESET and (kind in ("managed", "piece") or "no-extension" in words):
         # A credential or a setting was not reset.
-        return seen.own
+        return difference.own
     if kind == "keepalive":
-        return seen.of_request if seen.answered else KEEPALIVE if seen.actual is None else seen.own
-    success = seen.answered[:1] == b"\0"
+        return (
+            difference.of_request if difference.answered else KEEPALIVE if difference.actual is None else difference.own
+        )
+    success = difference.answered[:1] == b"\0"
     if kind == "rest":
-        return seen.of_request if seen.answered and not seen.own.startswith("8") else seen.own
-    if kind in MAPS and (success or seen.own.startswith("6.")):
-        return seen.of_request
-    if kind == "status" and seen.answered and not success and seen.own.startswith("6."):
+        return difference.of_request if difference.answered and not difference.own.startswith("8") else difference.own
+    if kind in MAPS and (success or difference.own.startswith("6.")):
+        return difference.of_request
+    if kind == "status" and difference.answered and not success and difference.own.startswith("6."):
         # A status other than the expected one.
-        return seen.of_request
-    return seen.own
+        return difference.of_request
+    return difference.own

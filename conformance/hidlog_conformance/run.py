@@ -167,10 +167,10 @@ def play_one(
     instead of a reset. A case that failed while the runner was late is repeated once, and is unstable if it then
     passes."""
     pin_user = make_pin_user(session, options, device_info)
-    front = pin_user.front(session) if pin_user is not None and not device.fresh else ""
+    front = pin_user.find_rp_prefix(session) if pin_user is not None and not device.fresh else ""
     needed = pin_user.without_own_pin(session) if pin_user is not None else session
-    reason = device_info.lacking(needed, device, options.touch, options.reset or bool(front))
-    reason = reason or (pin_user.unsuited(session) if pin_user is not None else "")
+    reason = device_info.find_skip_reason(needed, device, options.touch, options.reset or bool(front))
+    reason = reason or (pin_user.find_obstacle(session) if pin_user is not None else "")
     try:
         reason, sharing = (reason, None) if reason else prepare_case(device, session, options, saver, front)
     except OSError as fault:

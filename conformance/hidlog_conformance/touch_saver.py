@@ -89,7 +89,7 @@ class TouchSaver:
             return reason, None
         if not visit.resets and any(map(sends_reset, session.steps)) and "power cycle" in self.device.features:
             self.device.power_cycle(0)
-        if not self.cleans(visit):
+        if not self.undo_changes(visit):
             return self.forget().begin(session)
         user = self.pin_user() if self.state.pin else None
         self.state.enter(outline, visit)
@@ -97,7 +97,7 @@ class TouchSaver:
         credentials = [one for one in found if one is not None]
         return "", Sharing(outline, visit.group.front, credentials, visit.has_pin, user)
 
-    def cleans(self, visit: Visit) -> bool:
+    def undo_changes(self, visit: Visit) -> bool:
         """Undoes changes of earlier cases; returns whether that succeeded."""
         try:
             if visit.restores_retries:

@@ -82,7 +82,7 @@ class SettingSteps(Steps):
         if self.chance(0.1):
             return self.asks_token(self.block(), self.secrets.pin or b"", MAKES, RPS[0])
         members = {"p3": b"=agreement", "p6": b"=hash:" + (self.secrets.pin or b""), "p9": permission}
-        return self.agreed(self.block()).ask(self.pin_request(NEW_TOKEN, **members))
+        return self.get_agreement_key(self.block()).ask(self.pin_request(NEW_TOKEN, **members))
 
     # authenticatorConfig (6.11).
 
@@ -126,7 +126,7 @@ class SettingSteps(Steps):
             block.channel = 1
             block.greet_hosts().ask(INFO)
         self.asks_token(block, pin, MAKES, RPS[0])
-        return self.changes(block, pin, self.new_pin()).ask(INFO)
+        return self.change_pin(block, pin, self.new_pin()).ask(INFO)
 
     # authenticatorBioEnrollment (6.7).
 
@@ -182,5 +182,5 @@ class SettingSteps(Steps):
             return self.info()
         block = self.power_cycle() if self.chance(0.5) else self.block()
         members = {"p3": b"=agreement", "p6": b"=hash:" + self.secrets.pin, "p9": MAY_ENROLL}
-        self.agreed(block).ask(self.pin_request(NEW_TOKEN, **members))
+        self.get_agreement_key(block).ask(self.pin_request(NEW_TOKEN, **members))
         return self.add_bio(block, ENUMERATE)

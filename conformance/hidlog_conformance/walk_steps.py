@@ -92,16 +92,22 @@ class Steps:
             (14, self.make),
             (22, self.get),
             (8, self.next),
-            (3, self.accounts),
+            (3, self.sign_in_to_all),
             (4, self.info),
             (2, self.ping),
             (5, self.power_cycle),
             (2, self.wait),
-            (4, self.outdated),
+            (4, self.use_outdated),
         ]
         if self.has_pin:
-            found += [(10, self.token), (5, self.retries), (4, self.set_or_change), (4, self.two_uses), (3, self.guess)]
-            found += [(0.3, self.exhaust)]
+            found += [
+                (10, self.token),
+                (5, self.retries),
+                (4, self.set_or_change),
+                (4, self.two_uses),
+                (3, self.try_wrong_pin),
+            ]
+            found += [(0.3, self.block_pin)]
         return found
 
     @property
@@ -148,7 +154,7 @@ class Steps:
         block.tick().power_cycle()
         return block.greet_hosts()
 
-    def outdated(self) -> Block:
+    def use_outdated(self) -> Block:
         """Uses pending assertions, or a token, after a power cycle."""
         rp = self.random.choice(RPS)
         if self.secrets.pin and self.chance(0.6):
@@ -185,7 +191,7 @@ class Steps:
         """Asks for a further assertion."""
         return self.block().ask(NEXT)
 
-    def accounts(self) -> Block:
+    def sign_in_to_all(self) -> Block:
         """Signs in without a list, and asks for all further assertions, and for one more."""
         block, rp = self.block(), self.random.choice(RPS)
         asked: Dict[int, Any] = {1: rp, 2: self.random.randbytes(32)}
@@ -286,7 +292,7 @@ class Steps:
         more = {int(name[1:]): value for name, value in members.items()}
         return PIN + encode({1: self.protocol, 2: command, **more})
 
-    def agreed(self, block: Block) -> Block:
+    def get_agreement_key(self, block: Block) -> Block:
         """Gets the key agreement key."""
         return block.ask(self.pin_request(GET_AGREEMENT))
 
@@ -305,9 +311,9 @@ class Steps:
         """Adds a request for a token."""
         hashed = b"=hash:" + pin
         if not self.device_info.options.get("pinUvAuthToken") or self.chance(0.1):
-            return self.agreed(block).ask(self.pin_request(GET_TOKEN, p3=b"=agreement", p6=hashed))
+            return self.get_agreement_key(block).ask(self.pin_request(GET_TOKEN, p3=b"=agreement", p6=hashed))
         members = {"p3": b"=agreement", "p6": hashed, "p9": permissions, "p10": rp}
-        return self.agreed(block).ask(self.pin_request(NEW_TOKEN, **members))
+        return self.get_agreement_key(block).ask(self.pin_request(NEW_TOKEN, **members))
 
     def by_new_token(self, rp: str, permissions: int, add: Callable[[Block], Block]) -> Block:
         """Gets a token for an RP with the right PIN, and uses it."""
@@ -323,7 +329,7 @@ class Steps:
         rp, pin = self.random.choice(RPS), self.secrets.pin
         block = self.asks_token(self.block(), pin or b"", MAKES | GETS, rp)
         if pin and self.chance(0.3):
-            self.changes(block, pin, pin[::-1])
+            self.change_pin(block, pin, pin[::-1])
         for silent in (0.6, 0.2):
             self.add_make(block, rp, {}) if self.chance(0.5) else self.add_get(block, rp, silent)
         return block
@@ -332,7 +338,7 @@ class Steps:
         """Asks for the PIN retries."""
         return self.block().ask(self.pin_request(GET_RETRIES))
 
-    def guess(self) -> Block:
+    def try_wrong_pin(self) -> Block:
         """Tries a wrong PIN, and asks for the retries, perhaps also after a power cycle."""
         pin = self.secrets.pin
         if not pin or self.secrets.retries < MAX_RETRIES - 4:
@@ -344,7 +350,7 @@ class Steps:
             block.greet_hosts().ask(INFO)
         return block.ask(self.pin_request(GET_RETRIES))
 
-    def exhaust(self) -> Block:
+    def block_pin(self) -> Block:
         """Tries wrong PINs until the PIN is blocked, which only a reset ends: not a power cycle, nor the right PIN."""
         pin = self.secrets.pin
         if not pin or not self.chance(0.5):
@@ -368,12 +374,12 @@ class Steps:
         """Sets a PIN, or changes it with the right or a wrong one."""
         block, pin = self.block(), self.secrets.pin
         if pin and self.chance(0.9):
-            return self.changes(block, self.guessed_pin(), self.new_pin())
+            return self.change_pin(block, self.guessed_pin(), self.new_pin())
         padded = b"=encrypt:" + self.new_pin().ljust(PADDED_PIN, b"\0")
-        self.agreed(block).ask(self.pin_request(SET_PIN, p3=b"=agreement", p4=b"=auth:5", p5=padded))
+        self.get_agreement_key(block).ask(self.pin_request(SET_PIN, p3=b"=agreement", p4=b"=auth:5", p5=padded))
         return block.ask(self.pin_request(GET_RETRIES))
 
-    def changes(self, block: Block, old: bytes, new: bytes) -> Block:
+    def change_pin(self, block: Block, old: bytes, new: bytes) -> Block:
         """Adds a change of the PIN."""
         members = {"p4": b"=auth:5+6", "p5": b"=encrypt:" + new.ljust(PADDED_PIN, b"\0"), "p6": b"=hash:" + old}
-        return self.agreed(block).ask(self.pin_request(CHANGE_PIN, p3=b"=agreement", **members))
+        return self.get_agreement_key(block).ask(self.pin_request(CHANGE_PIN, p3=b"=agreement", **members))

@@ -370,7 +370,7 @@ ANSWER_MUTANTS: List[Mutant] = [
         "extensions_refused",
         CBOR,
         "An unknown extension is refused.",
-        wrap_method("extensions.asked_for", refuse_unknown_extensions),
+        wrap_method("extensions.list_requested", refuse_unknown_extensions),
     ),
     Mutant(
         "long_request_refused",

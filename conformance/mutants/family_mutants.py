@@ -225,7 +225,7 @@ FAMILY_MUTANTS: List[Mutant] = [
         "always_uv_shown_alone",
         MAKE,
         "alwaysUv is shown, but not applied.",
-        replace_method("make_wants_user", lambda key, asked: None),
+        replace_method("require_make_verification", lambda key, asked: None),
         CONFIGURABLE,
     ),
     Mutant(

@@ -162,14 +162,14 @@ LOCK_MUTANTS: List[Mutant] = [
         "min_pin_length_default",
         LENGTH,
         "RPs get the default minimum.",
-        wrap_method("extensions.of_make", return_default),
+        wrap_method("extensions.run_make", return_default),
         WITH_MIN_PIN_LENGTH,
     ),
     Mutant(
         "min_pin_length_unrequested",
         LENGTH,
         "RPs get minPINLength without a request.",
-        wrap_method("extensions.of_make", return_unrequested),
+        wrap_method("extensions.run_make", return_unrequested),
         WITH_MIN_PIN_LENGTH,
     ),
     Mutant(

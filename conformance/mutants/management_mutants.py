@@ -210,7 +210,7 @@ USER_MUTANTS: List[Mutant] = [
         "user_not_needed",
         MAKE,
         "It registers without the user.",
-        replace_method("make_wants_user", lambda key, item: None),
+        replace_method("require_make_verification", lambda key, item: None),
         FINGERPRINT,
     ),
     Mutant(
@@ -238,7 +238,7 @@ USER_MUTANTS: List[Mutant] = [
         "user_retries_stay",
         PIN,
         "Failing costs nothing.",
-        wrap_method("pin.user_seen", restore_user_retries),
+        wrap_method("pin.take_user_reply", restore_user_retries),
         FINGERPRINT,
     ),
     Mutant(
@@ -252,7 +252,7 @@ USER_MUTANTS: List[Mutant] = [
         "user_permits_nothing",
         PIN,
         "A token may permit nothing.",
-        replace_method("pin.permissible", lambda key, asked: None),
+        replace_method("pin.check_permissions", lambda key, asked: None),
         FINGERPRINT,
     ),
 ]
@@ -352,7 +352,7 @@ ARRAY_MUTANTS: List[Mutant] = [
         "blob_key_any",
         KEY,
         "It is accepted as anything, for any credential.",
-        replace_method("extensions.blob_key_wanted", lambda key, *words: None),
+        replace_method("extensions.check_blob_key_input", lambda key, *words: None),
     ),
 ]
 MORE_MUTANTS = MANAGEMENT_MUTANTS + USER_MUTANTS + ARRAY_MUTANTS

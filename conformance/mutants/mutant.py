@@ -15,7 +15,7 @@ class Mutant(NamedTuple):
 
     name: str
     section: str
-    says: str
+    description: str
     change: Change
     # Traits that differ from those of the plain reference authenticator.
     traits: DeviceTraits = DeviceTraits()

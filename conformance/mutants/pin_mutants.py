@@ -169,14 +169,14 @@ PIN_MUTANTS: List[Mutant] = [
         "rk_without_pin",
         MAKE,
         "A discoverable credential is made without the PIN.",
-        replace_method("make_wants_user", lambda key, asked: None),
+        replace_method("require_make_verification", lambda key, asked: None),
     ),
     Mutant(
         "protect_not_answered",
         PROTECT,
         "credProtect gets no response.",
         change_result(
-            "extensions.of_make",
+            "extensions.run_make",
             lambda key, found, asked, new: {name: value for name, value in found.items() if name != "credProtect"},
         ),
     ),
@@ -185,7 +185,7 @@ PIN_MUTANTS: List[Mutant] = [
         PROTECT,
         "Another level is answered.",
         change_result(
-            "extensions.of_make",
+            "extensions.run_make",
             lambda key, found, asked, new: {**found, "credProtect": 1} if "credProtect" in found else found,
         ),
     ),
@@ -206,7 +206,7 @@ PIN_MUTANTS: List[Mutant] = [
         BLOB,
         "A blob is returned empty.",
         change_result(
-            "extensions.of_get",
+            "extensions.run_get",
             lambda key, found, asked, one: {**found, "credBlob": b""} if "credBlob" in found else found,
         ),
     ),
@@ -229,7 +229,7 @@ PIN_MUTANTS: List[Mutant] = [
         "secret_any_salt",
         SECRET,
         "Salts needn't be authentic.",
-        replace_method("extensions.salt_verified", lambda key, protocol, secret, given: True),
+        replace_method("extensions.is_salt_authentic", lambda key, protocol, secret, given: True),
     ),
     Mutant(
         "secret_in_plain",
@@ -242,7 +242,7 @@ PIN_MUTANTS: List[Mutant] = [
         SECRET,
         "A registration doesn't say that there are secrets.",
         change_result(
-            "extensions.of_make",
+            "extensions.run_make",
             lambda key, found, asked, new: {name: value for name, value in found.items() if name != "hmac-secret"},
         ),
     ),

@@ -64,7 +64,7 @@ def run_mutant(name: str, whole: bool = False) -> Tuple[bool, str]:
     """Runs one mutant until two cases detect it by its section, or all; returns whether it was detected, and a
     report."""
     fault = MUTANTS[name]
-    text = f"{name} ({fault.section}): {fault.says}"
+    text = f"{name} ({fault.section}): {fault.description}"
     failed: List[Outcome] = []
     try:
         for outcome in iter_outcomes(ReferenceDevice(fault.traits, fault.change), fault.section):
@@ -94,7 +94,7 @@ def run_kept_mutant(name: str) -> Tuple[bool, str]:
     """Runs one mutant as a key that keeps its state, where cases share what saves touches; returns whether a case
     detects it, and a report."""
     fault = MUTANTS[name]
-    text = f"{name} ({fault.section}): {fault.says}"
+    text = f"{name} ({fault.section}): {fault.description}"
     options = parse_options(["--device", "reference", "--touch", "--reset"])
     device, results = KeptKey(fault.change, **vars(fault.traits)), FirstFailure(fault.section)
     try:
@@ -137,7 +137,7 @@ class FirstFailure(Results[Outcome]):
 def walk_mutant(name: str, steps: int = STEPS) -> Tuple[bool, str]:
     """Walks with one mutant; returns whether each walk detected it by its section, and a report."""
     fault = STATEFUL[name]
-    text, good = f"{name} ({fault.section}): {fault.says}", True
+    text, good = f"{name} ({fault.section}): {fault.description}", True
     for seed in SEEDS:
         device = ReferenceDevice(fault.traits, fault.change)
         found = walk(device, DeviceInfo.ask(device, True), seed, steps)

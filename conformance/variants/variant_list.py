@@ -10,13 +10,13 @@ from hidlog_conformance.reference.traits import EDDSA, ES256, DeviceTraits
 class Variant(NamedTuple):
     """A variant: its description and its traits."""
 
-    says: str
+    description: str
     traits: DeviceTraits
 
 
-def make_variant(says: str, **traits: Any) -> Variant:
+def make_variant(description: str, **traits: Any) -> Variant:
     """Returns a variant."""
-    return Variant(says, DeviceTraits(**traits))
+    return Variant(description, DeviceTraits(**traits))
 
 
 WITHOUT: Dict[str, Any] = {"extensions": (), "management": False, "large_blobs": False}

@@ -205,11 +205,11 @@ class Authenticator:
         item = asked.item
         if len(item[1]) != 32 or len(item[3]["id"]) > 64:
             raise RequestError(self.traits.wrong_length)
-        yield from self.pin_asks_for_touch(asked, 8)
-        self.token_known(asked, 8, 9)
+        yield from self.respond_to_empty_param(asked, 8)
+        self.check_pin_protocol(asked, 8, 9)
         algorithm = self.algorithm(item[4])
         self.make_options(asked)
-        self.make_wants_user(asked)
+        self.require_make_verification(asked)
         self.enterprise(item)
         self.verify(asked, 8, 9, MAKE, item[2]["id"])
         self.extensions.first(asked)
@@ -233,14 +233,14 @@ class Authenticator:
         if asked.verified and not is_before_ctap_2_1(list(self.traits.versions)):
             self.pin.used()
 
-    def pin_asks_for_touch(self, asked: Asked, key: int) -> Work:
+    def respond_to_empty_param(self, asked: Asked, key: int) -> Work:
         """Responds to an empty pinUvAuthParam after a touch: the status says whether a PIN is set."""
         if asked.item.get(key) == b"" and self.traits.has_pin:
             yield from self.consent()
             raise RequestError(0x31 if self.pin.hash else NOT_SET)
         return b""
 
-    def token_known(self, asked: Asked, key: int, protocol: int) -> None:
+    def check_pin_protocol(self, asked: Asked, key: int, protocol: int) -> None:
         """Refuses a pinUvAuthParam with an unsupported protocol."""
         if key in asked.item:
             if not self.traits.has_pin:
@@ -263,7 +263,7 @@ class Authenticator:
         if asked.options.get("up") is False:
             raise RequestError(INVALID_OPTION)
 
-    def make_wants_user(self, asked: Asked) -> None:
+    def require_make_verification(self, asked: Asked) -> None:
         """Refuses a registration without user verification if it is required."""
         without = 8 not in asked.item and not asked.options.get("uv")
         if without and self.config.always_uv:
@@ -312,7 +312,7 @@ class Authenticator:
         item = asked.item
         rp, user, discoverable = item[2]["id"], dict(item[3]), bool(asked.options.get("rk"))
         new = Credential(self.new_id(rp, user), rp, user, discoverable, algorithm, self.new_private(algorithm))
-        outputs = self.extensions.of_make(asked, new)
+        outputs = self.extensions.run_make(asked, new)
         self.is_enterprise = item.get(10) == 2
         self.store(new)
         auth = self.data(asked, new, self.start_counter(new), self.attested(new), outputs)
@@ -380,10 +380,10 @@ class Authenticator:
         item = asked.item
         if len(item[2]) != 32:
             raise RequestError(self.traits.wrong_length)
-        yield from self.pin_asks_for_touch(asked, 6)
-        self.token_known(asked, 6, 7)
+        yield from self.respond_to_empty_param(asked, 6)
+        self.check_pin_protocol(asked, 6, 7)
         self.get_options(asked)
-        self.get_wants_user(asked)
+        self.require_get_verification(asked)
         self.verify(asked, 6, 7, GET, item[1])
         found = self.applicable(asked)
         if not found:
@@ -404,7 +404,7 @@ class Authenticator:
         if "rk" in asked.options:
             raise RequestError(UNSUPPORTED)
 
-    def get_wants_user(self, asked: Asked) -> None:
+    def require_get_verification(self, asked: Asked) -> None:
         """Refuses a sign-in without user verification if it is required."""
         without = 6 not in asked.item and not asked.options.get("uv")
         if self.config.always_uv and without and asked.options.get("up", True):
@@ -455,7 +455,7 @@ class Authenticator:
 
     def assertion(self, asked: Asked, one: Credential, listed: bool) -> Dict[int, Any]:
         """Returns an assertion."""
-        outputs = self.extensions.of_get(asked, one)
+        outputs = self.extensions.run_get(asked, one)
         auth = self.data(asked, one, self.increment_counter(one), b"", outputs)
         answer: Dict[int, Any] = {1: {"id": one.id, "type": "public-key"}, 2: auth}
         answer[3] = self.sign(one, auth + asked.item[2])

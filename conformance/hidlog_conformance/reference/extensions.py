@@ -23,14 +23,14 @@ class Extensions:
     def __init__(self, authenticator: Authenticator) -> None:
         self.authenticator = authenticator
 
-    def asked_for(self, asked: Asked, place: int) -> Dict[str, Any]:
+    def list_requested(self, asked: Asked, place: int) -> Dict[str, Any]:
         """Returns the supported extensions of a request."""
         inputs = asked.item.get(place, {})
         return {name: value for name, value in inputs.items() if name in self.authenticator.traits.extensions}
 
-    def of_make(self, asked: Asked, new: Credential) -> Dict[str, Any]:
+    def run_make(self, asked: Asked, new: Credential) -> Dict[str, Any]:
         """Runs the extensions of a registration; returns their outputs."""
-        inputs, outputs = self.asked_for(asked, 6), {}
+        inputs, outputs = self.list_requested(asked, 6), {}
         unasked = self.authenticator.traits.unasked_protection
         if "credProtect" in inputs:
             outputs["credProtect"] = self.protect(new, inputs["credProtect"])
@@ -43,17 +43,17 @@ class Extensions:
         if inputs.get("minPinLength") is True and self.authenticator.config.is_authorized(new.rp):
             outputs["minPinLength"] = self.authenticator.pin.shortest
         if "largeBlobKey" in inputs:
-            self.blob_key_wanted(inputs["largeBlobKey"], new.discoverable)
+            self.check_blob_key_input(inputs["largeBlobKey"], new.discoverable)
             new.blob_key = self.new_blob_key()
         return outputs
 
     def first(self, asked: Asked) -> None:
         """Checks largeBlobKey before the touch, if the device has this trait."""
-        inputs = self.asked_for(asked, 6)
+        inputs = self.list_requested(asked, 6)
         if self.authenticator.traits.blob_key_first and "largeBlobKey" in inputs:
-            self.blob_key_wanted(inputs["largeBlobKey"], bool(asked.options.get("rk")))
+            self.check_blob_key_input(inputs["largeBlobKey"], bool(asked.options.get("rk")))
 
-    def blob_key_wanted(self, value: Any, discoverable: bool = True) -> None:
+    def check_blob_key_input(self, value: Any, discoverable: bool = True) -> None:
         """Refuses largeBlobKey unless it is true and the credential is discoverable."""
         if value is not True or not discoverable:
             raise RequestError(INVALID_OPTION)
@@ -64,10 +64,10 @@ class Extensions:
 
     def blob_key_of(self, asked: Asked, one: Credential) -> Optional[bytes]:
         """Returns a credential's large blob key, if a sign-in requests it."""
-        inputs = self.asked_for(asked, 4)
+        inputs = self.list_requested(asked, 4)
         if "largeBlobKey" not in inputs:
             return None
-        self.blob_key_wanted(inputs["largeBlobKey"])
+        self.check_blob_key_input(inputs["largeBlobKey"])
         return one.blob_key
 
     def protect(self, new: Credential, policy: Any) -> int:
@@ -83,9 +83,9 @@ class Extensions:
         new.blob = blob if fits else None
         return fits
 
-    def of_get(self, asked: Asked, one: Credential) -> Dict[str, Any]:
+    def run_get(self, asked: Asked, one: Credential) -> Dict[str, Any]:
         """Runs the extensions of a sign-in; returns their outputs."""
-        inputs, outputs = self.asked_for(asked, 4), {}
+        inputs, outputs = self.list_requested(asked, 4), {}
         if inputs.get("credBlob") is True:
             outputs["credBlob"] = one.blob or b""
         if isinstance(inputs.get("hmac-secret"), dict):
@@ -100,7 +100,7 @@ class Extensions:
             raise RequestError(MISSING)
         protocol = self.authenticator.pin.protocol({1: inputs.get(4, 1)}, 1)
         key = protocol.shared(inputs[1])
-        if not self.salt_verified(protocol, key, inputs):
+        if not self.is_salt_authentic(protocol, key, inputs):
             raise RequestError(AUTH_INVALID)
         salts = protocol.decrypt(key, inputs[2])
         if len(salts) not in (32, 64):
@@ -111,7 +111,7 @@ class Extensions:
         ]
         return protocol.encrypt(key, b"".join(parts))
 
-    def salt_verified(self, protocol: Any, key: bytes, inputs: Dict[int, Any]) -> bool:
+    def is_salt_authentic(self, protocol: Any, key: bytes, inputs: Dict[int, Any]) -> bool:
         """Returns whether saltAuth is right."""
         return bool(protocol.verify(key, inputs[2], inputs[3]))
 

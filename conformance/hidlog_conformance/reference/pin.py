@@ -247,14 +247,14 @@ class Pin:
         """getPinUvAuthTokenUsingPinWithPermissions: returns a token with permissions."""
         protocol = self.protocol(asked, 1)
         self.needed(asked, 3, 6, 9)
-        self.permissible(asked)
+        self.check_permissions(asked)
         self.check_not_blocked()
         key = protocol.shared(asked[3])
         self.compare(protocol, key, asked[6])
         self.check_unchanged()
         return self.grant(protocol, key, asked[9], asked.get(10, ""))
 
-    def permissible(self, asked: Dict[int, Any]) -> None:
+    def check_permissions(self, asked: Dict[int, Any]) -> None:
         """Refuses unsupported permissions, and mc and ga without an RP ID."""
         permissions = asked[9]
         if not permissions or permissions & (MAKE | GET) and 10 not in asked:
@@ -266,17 +266,17 @@ class Pin:
         """getPinUvAuthTokenUsingUvWithPermissions: returns a token after built-in user verification."""
         protocol = self.protocol(asked, 1)
         self.needed(asked, 3, 9)
-        self.permissible(asked)
+        self.check_permissions(asked)
         key = protocol.shared(asked[3])
         if not self.user_retries:
             raise RequestError(USER_BLOCKED)
         reply = yield
-        self.user_seen(reply)
+        self.take_user_reply(reply)
         answer = self.grant(protocol, key, asked[9], asked.get(10, ""))
         self.present = True
         return answer
 
-    def user_seen(self, reply: str) -> None:
+    def take_user_reply(self, reply: str) -> None:
         """Decrements the user verification retries on failure, and restores them on success."""
         if reply == "timeout":
             raise RequestError(USER_TIMEOUT)
