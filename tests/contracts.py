@@ -5,8 +5,8 @@ clauses.
     tests/contracts.py [CRATE ..]               default: all crates, in the order of crates.txt
     tests/contracts.py --contracts CRATE ..     with the source of each contract
 
-In a program each function counts. A function of a type is TYPE::NAME, a law laws::NAME. `requires` means that calls
-have a precondition. Needs no toolchain.
+In a program, private functions are listed, too. A function of a type is listed as TYPE::NAME, and a law as laws::NAME.
+`requires` means that calls have a precondition. Needs no toolchain.
 """
 
 from __future__ import annotations

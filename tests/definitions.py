@@ -1,7 +1,7 @@
 """The index of definitions by section of the public standards, which tests/reading.py --index prints.
 
-A definition is listed under a section where the comment above it names the section. A file is, where the comment at its
-top does.
+A definition is listed under a section if the comment above it cites the section. A file is listed if the comment at its
+top cites the section.
 """
 
 from __future__ import annotations

@@ -4,7 +4,7 @@
     tests/draw_texts.py [--seed N]                the list for a reader: 30 comments, 20 messages, 20 names
     tests/draw_texts.py --count                   how many of each kind there are, by language
 
-Each item has its file and line. The language of an item is drawn first, then the item, so that each language is seen.
+Each item has its file and line. The language of an item is drawn first, and then the item, so that all languages occur.
 Generated files, proofs and test data are excluded. The same seed and sources give the same list.
 """
 

@@ -5,7 +5,7 @@ must be named. Prints how many rows of the standard's tables have an example. Ex
     tests/examples.py           compares
     tests/examples.py --list    prints the rows with their examples
 
-A law that ties code to a definition does not find a mistake that both share. Therefore definitions are evaluated for
+A law that relates code to a definition does not detect a mistake in both. Therefore definitions are evaluated for
 inputs with results worked out from the standard by hand; the prover rejects an example whose sides differ.
 """
 

@@ -1,13 +1,13 @@
 #!/usr/bin/env python3
 """Compares the example on each library's page with the test from which it is taken.
 
-    tests/examples_shown.py            says which pages differ, and ends with 1 if any does
-    tests/examples_shown.py --write    writes the examples anew, from the tests
+    tests/examples_shown.py            prints the pages that differ; exit status 1 if there are any
+    tests/examples_shown.py --write    updates the examples from the tests
 
-A page is the comment at the top of a `lib.rt`. It names its test: `An example, which the gate runs (FILE)`. What the
-page shows in its first code block are the lines of that file after its imports, in their order, without what makes a
-test of them: the `#[test]`, the function's head and its closing brace, and a last `Ok(())`. White space may differ, since
-`rt fmt` lays out the test, and not the page.
+A page is the comment at the top of a `lib.rt`. It refers to its test: `An example, which the gate runs (FILE)`. The
+first code block of the page contains the lines of this file after the imports, in order, without the lines that make
+them a test: `#[test]`, the function's head and closing brace, and a final `Ok(())`. White space may differ, because `rt
+fmt` formats the test but not the page.
 """
 
 from __future__ import annotations

@@ -1,10 +1,10 @@
 #!/usr/bin/env python3
 """Changes the worked logs, and checks the program's results: tests/mutate_worked_logs.py [PROGRAM].
 
-The logs are those in crates/hidlog/args, which the gate compares, and one that starts with a snapshot. `check` must count
-the inputs and packets of each log, and find each packet that is changed, removed or inserted. The quiet log must not
-change if made quiet again; its replay must send only packets of the log, in order, with the same totals. The output of
-`live` must equal its own replay, and without the needs the log.
+The logs are those in crates/hidlog/args, which the gate compares, and one that starts with a snapshot. `check` must
+count the inputs and packets of each log, and find each packet that is changed, removed or inserted. The output of
+`quiet` must stay the same if `quiet` is applied to it; its replay must send only packets of the log, in order, with the
+same totals. The output of `live` must equal its own replay and, without the lines about needs, the log.
 
 Exit status: 1 if a test fails.
 """

@@ -77,7 +77,7 @@ CLAUSE = r"pub fn drive_new<.*?ensures {} \{{(.*?)\n    (?://|ensures)"
 USE = re.compile(r"pub fn drive_new<.*?ensures answered \{(.*?)\n    (?://|ensures)", re.DOTALL)
 USE = re.compile(r"use ([\w.]+)\.\{(.*)\}")
 MODIFIERS = re.compile(r"(?:(?:unfoldable|abbrev|pub) )+")
-DECLARES = re.compile(r"(?:(?:unfoldable|abbrev|pub|record|data) )*(\S+)")
+DECLARATION = re.compile(r"(?:(?:unfoldable|abbrev|pub|record|data) )*(\S+)")
 TOKEN = re.compile(r"[^\s(){}\[\],.;:]+")
 # The names of fields: `.field`, in a record's declaration, and in a record's construction.
 FIELDS = re.compile(r"(?<=[\w)])\.[a-z]\w*|^ +pub \w+ :|(?<=[{;])\s*[a-z]\w* =(?= )", re.MULTILINE)
@@ -85,7 +85,7 @@ FIELDS = re.compile(r"(?<=[\w)])\.[a-z]\w*|^ +pub \w+ :|(?<=[{;])\s*[a-z]\w* =(?
 BINDERS = re.compile(r"\(([a-z][\w ]*) :|λ \(?([a-z][\w ]*?)[.:]|let (\w+) ")
 BLOCK = re.compile(r"<!-- (definitions|code|documented|quoted|clauses)(?:: (\S+): `([^`]*)`)? -->\n((?:\n|    .*\n)*)")
 # The first line of a definition on a page: an equation, or a data type or a record in one line.
-BEGINS = re.compile(r"    (?:record |data )?(\S+?):?(?= |$)")
+PAGE_DEFINITION = re.compile(r"    (?:record |data )?(\S+?):?(?= |$)")
 SECTION = re.compile(r"^(?=## Only for )", re.MULTILINE)
 COUNTS = re.compile(r"\*\*\d+\s+definitions?,\s+[\d,]+\s+lines,\s+\d+\s+files?\*\*")
 MORE = re.compile(r"\*\*\d+\s+more\s+definitions\*\*\s+\(`(\w+)`\)")
@@ -97,7 +97,7 @@ HIDDEN = re.compile(r"<!-- .* -->")
 # The types of fields and arguments that aren't shown: in the code, bool and the types of numbers.
 PLAIN = {"ℕ", "List ℕ", "Bool"}
 PLAIN_CODE = re.compile(r"[ui]\d+|usize|bool")
-STATES = re.compile(r"[≡≤<→]")
+PROPOSITION = re.compile(r"[≡≤<→]")
 DECLARED = re.compile(r"Rattle\.(\w+)\.specs\.declared\.([\w.]+?)(\.The\w+)?")
 LINKED = re.compile(r"\[(`[^`]*`)\]\([^)]*\)")
 # How comments cite a standard, and how the pages do: there, section numbers alone refer to CTAP 2.1.
@@ -138,7 +138,7 @@ class Definition:
         equations = re.split(rf"^(?= *{re.escape(self.name)}(?: |$))", text, flags=re.MULTILINE)
         return {word for equation in equations for word in list_free_words(equation)}
 
-    def makes(self) -> set[str]:
+    def constructor_names(self) -> set[str]:
         """Returns the constructors of a data type."""
         if not re.match(r"\s*(pub )?data ", self.lines[0]):
             return set()
@@ -160,7 +160,10 @@ class Definition:
         if compact:
             return compact
         indent = len(self.lines[0]) - len(self.lines[0].lstrip())
-        code = (re.sub(rf"^( *){MODIFIERS.pattern}", r"\1", line[indent:]) for line in self.lines[self.begins() :])
+        code = (
+            re.sub(rf"^( *){MODIFIERS.pattern}", r"\1", line[indent:])
+            for line in self.lines[self.first_shown_index() :]
+        )
         return [line.rstrip() for line in code]
 
     def compact(self) -> list[str]:
@@ -176,7 +179,7 @@ class Definition:
             return format_data_type(
                 f"data {head[2]}:", [note if note.startswith("--") else part for note, part in zip(notes, parts)]
             )
-        if any(STATES.search(of) for _, _, of in split):
+        if any(PROPOSITION.search(of) for _, _, of in split):
             return []
         return wrap_lines(" ".join([f"record {head[2]}:", *group_fields([(name, of) for name, _, of in split])]))
 
@@ -184,7 +187,7 @@ class Definition:
         """Returns the lines shown on the page, without comments."""
         return [line for line in self.body() if not line.strip().startswith("--")]
 
-    def begins(self) -> int:
+    def first_shown_index(self) -> int:
         """Returns the index of the first line shown on the page. For a function, this is the first equation."""
         equation = re.compile(rf" *{re.escape(self.name)}(?: |$)(?! *:)")
         return next((place for place, line in enumerate(self.lines) if equation.match(line)), 0)
@@ -247,11 +250,13 @@ class File:
     definitions: dict[str, Definition] = field(default_factory=dict)
     uses: dict[str, tuple[str, str]] = field(default_factory=dict)
 
-    def holding(self, name: str) -> Definition | None:
+    def find_definition_or_type(self, name: str) -> Definition | None:
         """Returns the definition with this name, or the data type with this constructor, or None."""
         if name in self.definitions:
             return self.definitions[name]
-        return next((definition for definition in self.definitions.values() if name in definition.makes()), None)
+        return next(
+            (definition for definition in self.definitions.values() if name in definition.constructor_names()), None
+        )
 
 
 def handle_use_line(found: File, line: str) -> bool:
@@ -282,7 +287,7 @@ def read_definitions(path: Path) -> File:
         elif not handle_use_line(found, line):
             indent = indent if line.startswith(" ") else ""
             if not line.startswith((indent + " ", indent + "}")):
-                name = DECLARES.match(text).group(1)  # type: ignore[union-attr]
+                name = DECLARATION.match(text).group(1)  # type: ignore[union-attr]
                 current = found.definitions.setdefault(name, Definition(name, " ".join(comment)))
                 comment = []
             if current:
@@ -352,7 +357,7 @@ class Walk:
             self.visit_law(name)
             return
         here = read_definitions(name.path)
-        definition = here.holding(name.name)
+        definition = here.find_definition_or_type(name.name)
         if definition is None:
             raise SystemExit(f"tests/reading.py: {name.path.relative_to(TOP)} doesn't define {name.name}")
         found = Name(name.path, definition.name)
@@ -367,7 +372,7 @@ class Walk:
         if word in self.aside:
             return
         here = read_definitions(path)
-        if here.holding(word):
+        if here.find_definition_or_type(word):
             self.visit(Name(path, word))
         elif word in here.uses:
             module, other = here.uses[word]
@@ -464,7 +469,7 @@ def parse_block(found: re.Match[str]) -> Block:
         return Block(found[1], TOP / found[2], found[3].split())
     lines = found[4].strip("\n").splitlines()
     path = TOP / lines[0].strip().removeprefix("-- ")
-    begun = (BEGINS.match(line) for line in lines[1:])
+    begun = (PAGE_DEFINITION.match(line) for line in lines[1:])
     names = dict.fromkeys(match[1] for match in begun if match and match[1] in read_definitions(path).definitions)
     return Block(found[1], path, list(names))
 
@@ -608,7 +613,7 @@ def find_unexplained(needs: Needs, page: str) -> list[str]:
         symbol
         for part in needs.parts
         for name in part.definitions
-        for symbol in find_definition(name).makes()
+        for symbol in find_definition(name).constructor_names()
         if symbol[0].islower()
     }
     notation = set(TOKEN.findall(page.partition("## Notation")[2].partition("\n## ")[0]))

@@ -1,7 +1,8 @@
-"""Sessions of clients with security keys of known makers, as both would send them.
+"""Simulated sessions of clients with security keys of known makers.
 
-A key's file in `makers` has its getInfo and its habits, written from CTAP 2.1 (or 2.0) and public source; `CLIENTS` are
-written from what Chromium, Firefox, libfido2, python-fido2, OpenSSH and Windows send. No packet was recorded.
+A key's file in `makers` contains its getInfo response and its special behavior, written from CTAP 2.1 (or 2.0) and
+public source code. The functions in `CLIENTS` send the requests that Chromium, Firefox, libfido2, python-fido2, OpenSSH
+and Windows send. No packet was recorded.
 """
 
 from __future__ import annotations

@@ -1,6 +1,6 @@
 """`hidlog judge` reports no MUST violation if the standard leaves a choice, or if packets do not show what happened.
 
-Each log is written by hand from CTAP 2.1 (or 2.0), beside one that differs in the decisive point.
+Each log is written by hand from CTAP 2.1 (or 2.0), and compared with a log that differs in one decisive point.
 """
 
 from __future__ import annotations

@@ -1,5 +1,5 @@
-"""`hidlog judge` on settings, fingerprints, LOCK, U2F and attestation certificates: logs written by hand from CTAP 2.1 and
-U2F's raw messages, each beside one that violates the rule."""
+"""`hidlog judge` on settings, fingerprints, LOCK, U2F and attestation certificates: The logs are written by hand from
+CTAP 2.1 and U2F's raw messages. Each is compared with a log that violates the rule."""
 
 from __future__ import annotations
 
@@ -209,7 +209,7 @@ SUBJECT = {**NAME, NameOID.COMMON_NAME: "Example attestation"}
 AAGUID, AAGUID_OID = bytes(range(16)), x509.ObjectIdentifier("1.3.6.1.4.1.45724.1.1.4")
 
 
-def certify(
+def make_certificate(
     subject: dict[Any, str], aaguid: bytes | None = None, is_ca: bool = False, is_critical: bool = False
 ) -> bytes:
     """Returns a certificate that is made with the package cryptography."""
@@ -224,25 +224,25 @@ def certify(
     return builder.sign(private, hashes.SHA256()).public_bytes(serialization.Encoding.DER)
 
 
-def without(kind: Any) -> dict[Any, str]:
+def subject_without(kind: Any) -> dict[Any, str]:
     """Returns the subject of a certificate without one attribute."""
     return {name: value for name, value in SUBJECT.items() if name != kind}
 
 
 @pytest.mark.parametrize("certificate, wanted", [
-    (certify(SUBJECT), ""),
-    (certify({**SUBJECT, NameOID.COMMON_NAME: "ä" * 60}, AAGUID), ""),
-    (certify({NameOID.LOCALITY_NAME: "Lund", **SUBJECT}, AAGUID), ""),
-    (certify(without(NameOID.COUNTRY_NAME)), "a subject with C"),
-    (certify(without(NameOID.ORGANIZATION_NAME)), "a subject with C"),
-    (certify(without(NameOID.COMMON_NAME)), "a subject with C"),
-    (certify(without(NameOID.ORGANIZATIONAL_UNIT_NAME)), "the subject's OU"),
-    (certify({**SUBJECT, NameOID.ORGANIZATIONAL_UNIT_NAME: "Devices"}), "the subject's OU"),
-    (certify(SUBJECT, is_ca=True), "basic constraints"),
-    (certify(SUBJECT, bytes(16)), "the AAGUID"),
-    (certify(SUBJECT, AAGUID, is_critical=True), "an extension"),
-    (certify(SUBJECT)[:-1], "a certificate in DER"),
-    (certify(SUBJECT) + b"\0", "a certificate in DER"),
+    (make_certificate(SUBJECT), ""),
+    (make_certificate({**SUBJECT, NameOID.COMMON_NAME: "ä" * 60}, AAGUID), ""),
+    (make_certificate({NameOID.LOCALITY_NAME: "Lund", **SUBJECT}, AAGUID), ""),
+    (make_certificate(subject_without(NameOID.COUNTRY_NAME)), "a subject with C"),
+    (make_certificate(subject_without(NameOID.ORGANIZATION_NAME)), "a subject with C"),
+    (make_certificate(subject_without(NameOID.COMMON_NAME)), "a subject with C"),
+    (make_certificate(subject_without(NameOID.ORGANIZATIONAL_UNIT_NAME)), "the subject's OU"),
+    (make_certificate({**SUBJECT, NameOID.ORGANIZATIONAL_UNIT_NAME: "Devices"}), "the subject's OU"),
+    (make_certificate(SUBJECT, is_ca=True), "basic constraints"),
+    (make_certificate(SUBJECT, bytes(16)), "the AAGUID"),
+    (make_certificate(SUBJECT, AAGUID, is_critical=True), "an extension"),
+    (make_certificate(SUBJECT)[:-1], "a certificate in DER"),
+    (make_certificate(SUBJECT) + b"\0", "a certificate in DER"),
     (b"", "a certificate in DER"),
     (b"\x30\x80\0\0", "a certificate in DER"),
     (b"\x30\3\x30\1\0", "a certificate in DER"),
@@ -255,7 +255,7 @@ def test_the_certificate_of_packed_attestation(certificate: Any, wanted: str) ->
 
 
 def test_a_damaged_certificate_raises_nothing() -> None:
-    whole = certify(SUBJECT, AAGUID)
+    whole = make_certificate(SUBJECT, AAGUID)
     for place in range(len(whole)):
         for byte in (0x00, 0x80, 0xFF, whole[place] ^ 0x20):
             certificates.find_certificate_fault(whole[:place] + bytes([byte]) + whole[place + 1 :], AAGUID)

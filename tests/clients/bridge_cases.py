@@ -1,5 +1,5 @@
 #!/usr/bin/env python3
-"""Tests the bridges' state files, and flooding programs; called by tests/clients/bridges.sh.
+"""Tests the state files of the bridges, and programs that flood them with packets; called by tests/clients/bridges.sh.
 
     tests/clients/bridge_cases.py UHID [CHECKED]
 

@@ -1,7 +1,7 @@
 #!/usr/bin/env python3
 """Lets each system call of a bridge fail: the bridge of bridges/uhid, while it registers, and the OpenSSH provider of
-bridges/ssh, while it signs. Afterwards the state file must be the complete old or new one; the new one if a response
-was sent; and the exit status and message must say which.
+bridges/ssh, while it signs. Afterwards the state file must be the complete old or new one, and the new one if a
+response was sent. The exit status and the message must agree with this.
 
     tests/clients/bridge_faults.py UHID SK_CALL [--all] [--jobs N]
 

@@ -1,5 +1,5 @@
 #!/usr/bin/env python3
-"""A page that registers and signs in, in an unmodified browser with the key as a device of the kernel:
+"""A page registers and signs in with an unmodified browser, for which the key is a device of the kernel:
 uhid_package_vm.sh runs this in its virtual machine.
 
     uhid_browser_vm.py firefox|chromium

@@ -210,7 +210,7 @@ def check_replay(lines, output):
     )
 
 
-def check_check(output, run):
+def check_comparison(output, run):
     """Checks the output of `check` for a replay."""
     found = group_responses(split_lines(output))
     counted = len(found) - 1, sum(len(packets) for _, packets in found)
@@ -401,7 +401,7 @@ def judge(log, run):
         log = check_fault(log, fault, run)
     output = check_end("replay", run("replay", log), None)
     check_replay(split_lines(log), output)
-    check_check(output, run)
+    check_comparison(output, run)
     check_difference(output, run)
     check(run("replay", output) == (0, output, b""), "replay", "it changed")
     check_quiet(log, output, run)

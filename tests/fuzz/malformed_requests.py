@@ -131,7 +131,7 @@ class LogGenerator:
             asked[5] = self.descriptors(site)
         if self.happens(0.03):
             asked[8] = self.random_bytes(16)
-        return bytes([MAKE]) + encode(self.spoil_parameters(asked))
+        return bytes([MAKE]) + encode(self.corrupt_parameters(asked))
 
     def assertion(self, site):
         """Returns mostly valid parameters of authenticatorGetAssertion."""
@@ -142,9 +142,9 @@ class LogGenerator:
             asked[5] = {"up": self.happens(0.5)} if self.happens(0.8) else self.options()
         if self.happens(0.03):
             asked[6] = self.random_bytes(16)
-        return bytes([GET]) + encode(self.spoil_parameters(asked))
+        return bytes([GET]) + encode(self.corrupt_parameters(asked))
 
-    def spoil_parameters(self, asked):
+    def corrupt_parameters(self, asked):
         """Sometimes removes, adds or changes the type of a parameter."""
         if self.happens(0.15):
             asked[self.chance.randrange(12)] = self.choose(0, -1, b"", "x", [], {}, True, [[[[[]]]]], 2**64 - 1)
@@ -223,7 +223,7 @@ class LogGenerator:
             return [(">", self.random_bytes(64))]
         return [self.reply() for _ in range(self.choose(1, 2, 3))]
 
-    def fill_events(self):
+    def full_table_events(self):
         """Returns more registrations than the capacity, and a sign-in with all credentials."""
         events = self.init_packet()
         site, rk = self.choose(*self.sites), self.happens(0.5)
@@ -238,7 +238,7 @@ class LogGenerator:
             events += fragment_message(1, CBOR, bytes([NEXT])) + [("s", "02")]
         return events
 
-    def mix_flows(self, flows):
+    def interleave_hosts(self, flows):
         """Returns the events of several hosts, one after another or interleaved."""
         if self.happens(0.6):
             return [event for flow in flows for event in flow]
@@ -247,7 +247,7 @@ class LogGenerator:
         sources = [iter(flow) for flow in flows]
         return [next(sources[number]) for number in turns]
 
-    def disturb_events(self, events):
+    def corrupt_events(self, events):
         """Returns the events after some were removed, repeated, moved, or changed."""
         events = list(events)
         for _ in range(self.choose(1, 1, 2, 4)):
@@ -286,11 +286,11 @@ class LogGenerator:
     def events(self):
         """Returns the events, in order."""
         if self.happens(0.01):
-            return self.fill_events()
+            return self.full_table_events()
         flows = [self.host_events() for _ in range(self.choose(1, 2, 3, 5, 8))]
         greetings = [event for _ in range(self.hosts) for event in self.init_packet()]
-        events = greetings + self.mix_flows(flows)
-        return self.disturb_events(events) if self.happens(0.5) else events
+        events = greetings + self.interleave_hosts(flows)
+        return self.corrupt_events(events) if self.happens(0.5) else events
 
     def iter_lines(self):
         """Yields the valid lines of a log."""
@@ -321,7 +321,7 @@ class LogGenerator:
             b"< " + self.random_bytes(64).hex().upper().encode(),
         )
 
-    def bad_line(self, line):
+    def invalid_line(self, line):
         """Returns a line that is most likely not a log line."""
         place = self.chance.randrange(len(line) + 1)
         return self.choose(
@@ -358,7 +358,7 @@ class LogGenerator:
             lines.insert(self.chance.randrange(len(lines) + 1), self.extra_line())
         if self.happens(0.25):
             place = self.chance.randrange(len(lines))
-            lines[place:place] = [self.bad_line(lines[place])]
+            lines[place:place] = [self.invalid_line(lines[place])]
         return b"\n".join(lines) + self.choose(b"\n", b"\n", b"")
 
 

@@ -1,7 +1,7 @@
 """Simulates a security key of another maker, with the packets of its log and the transaction of each.
 
-A key serves one message at a time, as CTAP 2.1 (section 11.2) requires; `Behavior` has what the section leaves open. A
-recorder may lose packets of the key.
+A key serves one message at a time, as CTAP 2.1 (section 11.2) requires. `Behavior` contains the choices that the
+section leaves open. A recorder may lose packets of the key.
 """
 
 from __future__ import annotations

@@ -3,18 +3,19 @@
 
     tests/fuzz/other_keys.py [--seed N] [--count N] [--program FILE] [--only NUMBER]
 
-A key serves one message at a time, as CTAP 2.1 (section 11.2) requires. What the section leaves open, each key does in
-its own way: the timeout of an incomplete message and whether the key reports it, whether it rejects or ignores a
-message from another host or a second one on the same channel, whether a second message replaces the current one, waits,
-or is answered meanwhile, the effect of CANCEL, KEEPALIVEs for U2F, the KEEPALIVE interval, up to some
-seconds, the padding. Hosts lose packets, send some twice, don't always wait for a response, and send a request again if none came. A recorder loses some of the key's
-packets, or all of them. The transaction of each packet is recorded when it is sent. `show --json` has to name the same
-transaction or none, and `show --summary --json` at most the registrations and sign-ins that there were: none for a
-sign-in with the option `up` false, by which clients look for a credential.
+A key serves one message at a time, as CTAP 2.1 (section 11.2) requires. Where the section leaves a choice, each key
+behaves in its own way: the timeout of an incomplete message and whether the key reports it, whether it rejects or
+ignores a message from another host or a second one on the same channel, whether a second message replaces the current
+one, waits, or is answered meanwhile, the effect of CANCEL, KEEPALIVEs for U2F, the KEEPALIVE interval, up to some
+seconds, the padding. Hosts lose packets, send some twice, don't always wait for a response, and send a request again if
+there was no response. A recorder loses some of the key's packets, or all of them. The transaction of each packet is
+recorded when it is sent. `show --json` must name the same transaction or none. `show --summary --json` must not count
+more registrations and sign-ins than there were. A sign-in with the option `up` false, with which clients look for a
+credential, doesn't count.
 
 A log doesn't show when a key drops a message silently. So a continuation packet and a CANCEL may be attributed to any
-message of their channel, and a message dropped silently may be reported as open, dropped or replaced. Neither does it
-show that a response was lost, so a later one on the channel may be taken for it.
+message of their channel, and a message dropped silently may be reported as open, dropped or replaced. A log doesn't
+show either that a response was lost, so a later response on the channel may be taken for the lost one.
 """
 
 from __future__ import annotations

@@ -5,9 +5,9 @@ The change: a line is removed, duplicated, swapped with the next, later or alter
 
     tests/fuzz/reasons.py [--seed N] [--count N] [--program FILE] [--only NUMBER]
 
-What the key waits for or processes at the first difference is computed by the transport model of transactions.py from
-the remaining inputs. What it needs from the caller is what `live` writes after them. The reason of `check --json` has
-to agree.
+The transport model in transactions.py computes from the remaining inputs what the key waits for or processes at the
+first difference. `live` writes what the key needs from the caller. The reason in the output of `check --json` must
+agree with both.
 """
 
 from __future__ import annotations
@@ -168,7 +168,7 @@ def change_reply(line: bytes, chance: random.Random) -> bytes:
     return b" ".join(words)
 
 
-def break_log(lines: list[bytes], chance: random.Random) -> None:
+def change_log(lines: list[bytes], chance: random.Random) -> None:
     """Changes a line of a log in place."""
     inputs = [place for place, line in enumerate(lines) if line[:1] in (b">", b"p", b"k", b"s")]
     replies = [place for place in inputs if lines[place][:1] in (b"p", b"k", b"s")]
@@ -201,7 +201,7 @@ def check_log(task: tuple[str, str, int]) -> tuple[int, Optional[str], int]:
         return subprocess.run([program, *words], input=log, capture_output=True, timeout=600).stdout.splitlines()
 
     lines = run(HostGenerator(f"{seed}/{number}").make_log(), "replay")
-    break_log(lines, chance)
+    change_log(lines, chance)
     written = run(b"\n".join(lines) + b"\n", "check", "--json")
     found = json.loads(written[0]) if written else {"kind": "none"}
     if found["kind"] != "difference":

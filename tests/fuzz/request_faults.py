@@ -84,7 +84,7 @@ def find_missing(command: int, asked: dict[Any, Any]) -> Optional[str]:
     return None
 
 
-def find_refused(command: int, asked: dict[Any, Any]) -> str:
+def find_failed_check(command: int, asked: dict[Any, Any]) -> str:
     """Returns the first failed check other than that of missing parameters."""
     options = asked.get(7 if command == 0x01 else 5, {})
     hash_len = len(asked[1 if command == 0x01 else 2])
@@ -121,4 +121,4 @@ def find_fault(message: bytes) -> str:
     )
     if not typed:
         return "a parameter, or a member in one, has the wrong CBOR type"
-    return find_missing(command, asked) or find_refused(command, asked)
+    return find_missing(command, asked) or find_failed_check(command, asked)

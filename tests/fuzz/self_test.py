@@ -173,13 +173,13 @@ def make_altering_runner(run, command, which, change):
     """Returns a function that runs commands as `run` does, but changes the output of one run of this command."""
     seen = 0
 
-    def run_doctored(asked, log, *options):
+    def run_altered(asked, log, *options):
         nonlocal seen
         ended = run(asked, log, *options)
         seen += asked == command
         return change(ended) if asked == command and seen == which else ended
 
-    return run_doctored
+    return run_altered
 
 
 def find_violation(log, run):

@@ -4,11 +4,14 @@
     tests/fuzz/streams.py [--count N] [--seed N] [--program FILE] [--aarch64 FILE]
 
 Each run takes a malformed log (malformed_requests.py) or one of the examples and a command, and is one of these:
-- parts: the log comes through a pipe, in parts of random lengths, each after the previous one was read. Everything has to
-  be as in a plain run.
-- limit: standard output is a file that may have so many bytes. It has the first bytes of a plain run's output. If that
-  is longer, the error is a failed write, with status 1.
-- aarch64: the program for aarch64 in qemu, in parts or with a limit, as above; the plain run is of x86-64.
+
+- parts: the log comes through a pipe, in parts of random lengths, each after the previous part was read. The results
+  must be those of a plain run.
+- limit: standard output is a file with a maximum size. The file must contain the first bytes of the output of a plain
+  run. If that output is longer, the error must be a failed write, with status 1.
+- aarch64: the program for aarch64 in qemu, in parts or with a limit, as above. The plain run is that of the program for
+  x86-64.
+
 Half of the runs are on aarch64 if qemu-aarch64-static is installed. The last line is `N runs, M failed`.
 """
 

@@ -4,9 +4,9 @@
     tests/fuzz/transactions.py [--seed N] [--count N] [--program FILE] [--only NUMBER]
 
 The transaction of each packet comes from a model of the transport (CTAP 2.1, section 11.2), which processes the inputs
-and tells for which message the key sends each packet. It is independent of the program's tracking of transactions, and
-stops at a packet that the model does not expect. The needed replies come from `live`. `show --json`, `--summary` and
-`--explain` must agree.
+and determines for which message the key sends each packet. The model is independent of the program's tracking of
+transactions, and stops at a packet that it does not expect. The needed replies come from `live`. `show --json`,
+`--summary` and `--explain` must agree.
 """
 
 from __future__ import annotations

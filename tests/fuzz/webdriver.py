@@ -1,7 +1,7 @@
 #!/usr/bin/python3
 """Sends random requests to `hidlog webdriver`, byte by byte over sockets. An invalid request, by the rules in
-tests/webdriver/gate.py, never reaches the driver, nor does what follows it; each response is a WebDriver response; and
-the proxy serves the next request.
+tests/webdriver/gate.py, must not reach the driver, and neither must the bytes after it. Each response must be a
+WebDriver response, and the proxy must serve the next request.
 
     tests/fuzz/webdriver.py [--count 1500] [--seed 1]
 """

@@ -4,10 +4,10 @@
     tests/program/cases.py [PROGRAM [TEST ..]]      PROGRAM [default: release/hidlog], TEST [default: all]
 
 A case is a block of lines. The first line has the exit status and the arguments. The first character of each other line
-says where the line belongs: `-` to the log, `+` to standard output, `|` to both, `?` to standard error, `#` to none (a
-comment). Two dots at the end of a packet stand for zeros, up to 128 digits. A line `!` means that the log's last line has
-no line feed. The log is on standard input, and in the file `log`. The expected texts follow from docs/use/LOG_FORMAT.md
-and the standard.
+determines where the line belongs: `-` to the log, `+` to standard output, `|` to both, `?` to standard error, `#` to
+none (a comment). Two dots at the end of a packet stand for zeros, up to 128 digits. A line `!` means that the log's
+last line has no line feed. The log is on standard input, and in the file `log`. The expected texts follow from
+docs/use/LOG_FORMAT.md and the standard.
 
 Exit status: 1 if a test fails.
 """

@@ -1,4 +1,5 @@
-"""Makes each system call of the Python package's commands fail, after their imports, or kills the command there.
+"""Makes each system call fail that a command of the Python package makes after its imports, or kills the command at the
+call.
 
 A command must end as without the failure, or with one line of error and status 2. Its output must be complete, or the
 status must not be 0. An older file must stay complete; only a kill may leave a temporary file. With short reads and

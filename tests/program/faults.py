@@ -1,12 +1,12 @@
 #!/usr/bin/env python3
-"""Makes each system call of the program fail, or kills the program there; likewise for the Python package when it
+"""Makes each system call of the program fail, or kills the program at the call. Does the same when the Python package
 saves.
 
     tests/program/faults.py [PROGRAM] [--only NAME ..] [--jobs N] [--every]    PROGRAM [default: release/hidlog]
 
 After each run there must be a complete snapshot, the old or the new one, at its path or as a temporary file, and the
-status and the message must say which. Standard output must be complete, or reported as incomplete. At the end, a sample
-of the calls of the package's commands (command_faults.py), with --every all of them.
+exit status and the message must agree with this. Standard output must be complete, or reported as incomplete. At the
+end, a sample of the calls of the package's commands (command_faults.py), with --every all of them.
 
 Needs strace. Exit status: 1 if a call fails that is not in the table of known failures, or a known failure no longer
 occurs; 3 if strace is missing.
@@ -82,7 +82,7 @@ def find_file_error(run: Run, program: str, folder: Path, new: bytes, status: in
     if there is None and run.old is None:
         return None
     if there in whole:
-        return is_refused_after(program, path) if there in (new, SHORT) else None
+        return find_load_error(program, path) if there in (new, SHORT) else None
     copies = [other for other in others if other.read_bytes() in whole]
     if not copies:
         return f"neither the old nor the new snapshot is left: {len(there or b'')} bytes"
@@ -97,7 +97,7 @@ def find_file_error(run: Run, program: str, folder: Path, new: bytes, status: in
     )
 
 
-def is_refused_after(program: str, path: Path) -> Optional[str]:
+def find_load_error(program: str, path: Path) -> Optional[str]:
     """Returns an error if a complete snapshot cannot be loaded. Files saved by Python are not snapshots."""
     if Path(program).name != "hidlog":
         return None

@@ -2,7 +2,8 @@
 
 The responses follow from CTAP 2.1: a request that is not canonical CBOR gets status 12, a valid one waits for user
 presence, and any other gets a status other than 00. After each, the key must handle replies and respond to the next
-host's INIT. Many requests are in one log, in which each input has the timestamp 0, so a reset is within its ten seconds.
+host's INIT. Many requests are in one log, in which each input has the timestamp 0, so a reset is within its time limit
+of ten seconds.
 """
 
 from __future__ import annotations

@@ -1,7 +1,9 @@
-"""Snapshots that are loaded, saved or refused, with bytes from outside, and with each byte changed.
+"""Snapshots that are loaded, saved or rejected, snapshots written by another program, and snapshots with each byte
+changed.
 
-What may be at the places of a row was computed from the definition of a snapshot (docs/use/PROFILE.md) by a program
-outside of this repository. The bytes are changed one by one for the C library, whose hidlog_check takes microseconds.
+The valid bytes at each offset of a row were computed from the definition of a snapshot (docs/use/PROFILE.md) by a
+program outside this repository. The changed snapshots are loaded with the C library, whose hidlog_check takes
+microseconds.
 """
 
 from __future__ import annotations

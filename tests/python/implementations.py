@@ -206,7 +206,8 @@ def run_with_chromium(case: Case, driver: Driver) -> Json:
     """Runs a case with Chromium's own virtual authenticator.
 
     Chromium creates discoverable credentials only with user verification. For a case with such credentials but without
-    user verification, its authenticator verifies the user, and the flag UV is not compared. """
+    user verification, its authenticator verifies the user, and the flag UV is not compared.
+    """
     key = case.get("key", {})
     is_masked = "esidentKey" in json.dumps(case) and "verification" not in key
     driver.run(REMOVE_SCRIPT)

@@ -76,19 +76,19 @@ def test_a_worker_that_is_killed(recordings: list[Path]) -> None:
         pools.append(ProcessPoolExecutor(2))
         return pools[-1]
 
-    def killing(found: Iterator[hidlog.CheckResult]) -> Iterator[hidlog.CheckResult]:
+    def kill_worker(found: Iterator[hidlog.CheckResult]) -> Iterator[hidlog.CheckResult]:
         for number, it in enumerate(found):
             if number == 60:
                 os.kill(next(iter(pools[-1]._processes)), signal.SIGKILL)
             yield it
 
-    assert summarize(killing(hidlog.check_many(recordings, pool, block=5, at_once=4))) == check_each(recordings)
+    assert summarize(kill_worker(hidlog.check_many(recordings, pool, block=5, at_once=4))) == check_each(recordings)
     assert len(pools) == 2
     with pytest.raises(BrokenExecutor, match="a function that creates"):
-        list(killing(hidlog.check_many(recordings, pool(), block=5, at_once=4)))
+        list(kill_worker(hidlog.check_many(recordings, pool(), block=5, at_once=4)))
 
 
-def die_on_recording(block: list[Any]) -> list[hidlog.CheckResult]:
+def exit_on_recording(block: list[Any]) -> list[hidlog.CheckResult]:
     """Checks a batch in a worker that exits at one recording."""
     if any(item.path.endswith("077.log") for item in block):
         os.kill(os.getpid(), signal.SIGKILL)
@@ -96,7 +96,7 @@ def die_on_recording(block: list[Any]) -> list[hidlog.CheckResult]:
 
 
 def test_a_recording_that_kills_each_worker(recordings: list[Path], monkeypatch: pytest.MonkeyPatch) -> None:
-    monkeypatch.setattr("hidlog.batch_check.check_batch", die_on_recording)
+    monkeypatch.setattr("hidlog.batch_check.check_batch", exit_on_recording)
     found = list(hidlog.check_many(recordings, lambda: ProcessPoolExecutor(2)))
     assert sorted(result.path for result in found) == sorted(map(str, recordings))
     assert [Path(item.path).name for item in found if item.outcome == "worker-lost"] == ["077.log"]
@@ -156,7 +156,7 @@ BUSY_TOGETHER = 64
 BARRIER = threading.Barrier(BUSY_TOGETHER)
 
 
-def meet_and_check(block: list[Any], **words: Any) -> list[hidlog.CheckResult]:
+def check_when_all_busy(block: list[Any], **words: Any) -> list[hidlog.CheckResult]:
     """Checks a batch as soon as each of 64 workers has a batch."""
     BARRIER.wait(timeout=300)
     return check_batch(block, **words)
@@ -167,7 +167,7 @@ def test_64_workers_are_busy(monkeypatch: pytest.MonkeyPatch, tmp_path: Path) ->
     paths = [tmp_path / f"{number}.log" for number in range(BUSY_TOGETHER)]
     for path in paths:
         path.write_bytes(MATCHING_LOG.read_bytes())
-    monkeypatch.setattr("hidlog.batch_check.check_batch", meet_and_check)
+    monkeypatch.setattr("hidlog.batch_check.check_batch", check_when_all_busy)
     with ThreadPoolExecutor(BUSY_TOGETHER) as threads:
         assert len(list(hidlog.check_many(paths, threads, block=1))) == BUSY_TOGETHER
     distributed = pytest.importorskip("distributed")

@@ -1,10 +1,11 @@
 #!/usr/bin/python3
-"""Requests from web pages to `hidlog webdriver`, in real browsers: none must reach the driver.
+"""Requests from web pages to `hidlog webdriver`, in real browsers: none of them may reach the driver.
 
-A page of another origin sends all that a page can send to the proxy's port, and so does a page whose host name is
-changed to that port's address (DNS rebinding). As a control, the same requests must reach a driver without the gate.
+A page of another origin sends each kind of request that a page can send to the proxy's port. So does a page whose host
+name is changed to the address of this port (DNS rebinding). As a control, the same requests must reach a driver without
+the gate.
 
-    tests/webdriver/browsers.py        runs those of chromium and firefox-esr that are installed
+    tests/webdriver/browsers.py        runs chromium and firefox-esr, if installed
 """
 
 from __future__ import annotations
@@ -192,7 +193,7 @@ class VictimServer:
 
     @contextmanager
     def open_with_gate(self, driver: int, port: int) -> Iterator[int]:
-        def noted(*given: Any) -> int:
+        def admit_and_record(*given: Any) -> int:
             try:
                 return int(admit(*given))
             except DriverError as error:
@@ -201,7 +202,7 @@ class VictimServer:
 
         proxy = Proxy(Driver(f"http://127.0.0.1:{driver}"))
         server = Server(proxy.serve, port)
-        before, server_module.admit = server_module.admit, noted
+        before, server_module.admit = server_module.admit, admit_and_record
         threading.Thread(target=server.serve_forever, args=(0.05,), daemon=True).start()
         try:
             yield server.port

@@ -1,5 +1,5 @@
 #!/usr/bin/python3
-"""Failing system calls of `hidlog webdriver`: each call after startup fails or kills the process, one per run.
+"""Failures of system calls in `hidlog webdriver`: in each run, one call after startup fails or kills the process.
 
 In each run, errors must be one line without a traceback, each response must be a valid WebDriver response, the driver
 and its child processes must end, and a recording must be complete or reported as not written. Reads and writes of half

@@ -1,5 +1,5 @@
 #!/usr/bin/python3
-"""Hostile messages from pages to the proxy, from tables and random.
+"""Hostile messages from pages to the proxy, listed in tables or generated at random.
 
 Whatever a page of one origin sends, credentials of other origins must not change, their keys must not sign for it, and
 no file may be written outside the recordings' directory.

@@ -1,5 +1,6 @@
 #!/usr/bin/env python3
-"""Compares what a test suite sees of a virtual authenticator with chromedriver and with the proxy, line by line.
+"""Compares the results that a test suite gets of a virtual authenticator with chromedriver and with the proxy, line by
+line.
 
     tests/webdriver/seen.py           exits with 3 if chromedriver is missing
     tests/webdriver/seen.py --show    also prints each line
