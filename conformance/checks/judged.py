@@ -143,7 +143,7 @@ class FullPlayer(Player):
         """Plays the session."""
         outcome = super().play()
         if self.difference is not None and self.is_hidden_by_cred_protect():
-            return Outcome(self.session, "skip", "the device applies credProtect unasked")
+            return Outcome(self.session, "skip", "the device sets credProtect without a request")
         return self.difference or outcome
 
     def cancel_pending_requests(self) -> None:

@@ -28,7 +28,7 @@ def read_element(data: bytes) -> Tuple[Element, bytes]:
     length = int.from_bytes(data[2 : 2 + more], "big") if more else data[1]
     end = 2 + more + length
     if end > len(data):
-        raise DerError("it is cut")
+        raise DerError("it is truncated")
     return (data[0], data[2 + more : end]), data[end:]
 
 

@@ -241,7 +241,7 @@ class KeyJudge:
         transaction, command = entry.transaction, entry.packet[4] & 0x7F
         name = hid.NAMES.get(command, f"command {command:02x}")
         if transaction is None:
-            self.check_unasked(entry, command, name)
+            self.check_unrequested(entry, command, name)
             return
         self.check_gap(entry, transaction)
         self.errors.check_lock(entry, transaction, name)
@@ -256,7 +256,9 @@ class KeyJudge:
         ]
         before = [item for item in before if item.command != hid.INIT and self.is_waiting(item, transaction, entry)]
         if before and command != hid.INIT:
-            self.add_finding(entry.line, rules.BUSY, f"error 06, since line {before[0].line} has the device", name)
+            self.add_finding(
+                entry.line, rules.BUSY, f"error 06, since the transaction of line {before[0].line} is in progress", name
+            )
 
     def check_gap(self, entry: Entry, transaction: Transaction) -> None:
         """Checks that a message whose packets came too slowly timed out."""
@@ -274,7 +276,7 @@ class KeyJudge:
         before = [at for line, at in zip(item.lines, item.times) if line < other.line]
         return bool(before) and other.began - before[-1] < NO_TIME_OUT
 
-    def check_unasked(self, entry: Entry, command: int, name: str) -> None:
+    def check_unrequested(self, entry: Entry, command: int, name: str) -> None:
         """Checks a message that belongs to no request."""
         last = self.last.get(entry.packet[:4])
         if (last is None and self.is_first) or entry.line in self.recording.cut or entry.packet[:4] in self.unsure:
@@ -477,7 +479,7 @@ class KeyJudge:
         if owner.command not in SERVED:
             return rules.ERROR, "error 01", MUST
         if others:
-            return rules.BUSY, f"error 06, since line {others[0].line} has the device", MUST
+            return rules.BUSY, f"error 06, since the transaction of line {others[0].line} is in progress", MUST
         if self.allocated and owner.channel not in self.allocated:
             return rules.CHANNELS, "error 0b, or a response", MUST
         if owner.cancelled is not None:

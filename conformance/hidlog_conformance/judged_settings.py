@@ -195,7 +195,7 @@ class SettingsJudge:
             raise ExtensionMismatch("12.4", f"minPinLength: {self.length}", actual)
         if self.authorized_rps is not None and not is_authorized:
             # The key may always authorize this RP.
-            raise ExtensionMismatch("12.4", "no output of minPinLength, since the RP was not chosen", actual, False)
+            raise ExtensionMismatch("12.4", "no output of minPinLength, since the RP is not authorized", actual, False)
 
     # authenticatorBioEnrollment (6.7).
 

@@ -108,7 +108,7 @@ class StatusJudge:
         ):
             return
         section = rules.COMMANDS.get(command, rules.COMMANDS_OTHER)
-        expected = "a user presence test before it, shown by a KEEPALIVE with 02"
+        expected = "a user presence test before the response, shown by a KEEPALIVE with 02"
         self.answers.recording.add_finding(entry.line, KEY, section, expected, f"status {status:02x} at once", SHOULD)
 
     def check_refusal(self, command: int, fault: Fault, status: int) -> None:

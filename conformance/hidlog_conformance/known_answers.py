@@ -263,7 +263,7 @@ class KnownAnswers(AnswerJudge):
         """Returns why the device must refuse pinUvAuthParam, or empty; and whether it must accept it otherwise."""
         token = self.secrets.token
         if not filled.is_whole:
-            return "pinUvAuthParam is cut", True
+            return "pinUvAuthParam is truncated", True
         if token is None or filled.token != token.index:
             return "the token is not valid any more", True
         if token.rp is not None and token.rp != rp:

@@ -153,7 +153,7 @@ class Player(SettingsReader):
     def find_excuse(self) -> str:
         """Returns why a difference is not a failure of the device, or empty."""
         if self.is_hidden_by_cred_protect():
-            return "the device applies credProtect unasked"
+            return "the device sets credProtect without a request"
         if self.is_late_reset():
             late = quantity(int(self.device.powered_for), "second")
             return f"the reset came {late} after power-up, since the device is slow"

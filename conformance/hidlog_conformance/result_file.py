@@ -26,7 +26,7 @@ class ResultFile:
         if lines and lines[0] != header:
             wrong = next(name for name in (*header, *lines[0]) if lines[0].get(name) != header.get(name))
             text = f"expected {header.get(wrong)!r}, got {lines[0].get(wrong)!r}"
-            raise ValueError(f"{path} is of another run: {wrong}: {text}; remove the file to start over")
+            raise ValueError(f"{path} belongs to another run: {wrong}: {text}; remove the file to start over")
         by_name = {session.name: session for session in sessions}
         for line in lines[1:]:
             if line["name"] in by_name:

@@ -28,7 +28,7 @@ def parse_walk(arguments: List[str]) -> argparse.Namespace:
     """Parses the command line after `walk`."""
     parser = argparse.ArgumentParser(
         prog="hidlog-conformance walk",
-        description="Play a generated history to an authenticator, and judge it as a whole.",
+        description="Play generated steps to an authenticator, and check each response.",
     )
     add_device_options(parser)
     parser.add_argument("--steps", type=int, default=STEPS, metavar="N", help=f"play N steps (default: {STEPS})")

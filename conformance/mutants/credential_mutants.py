@@ -135,42 +135,58 @@ CREDENTIAL_MUTANTS: List[Mutant] = [
     Mutant(
         "same_key",
         MAKE,
-        "All credentials share a key pair.",
+        "All credentials have the same key pair.",
         replace_method("new_private", lambda key, a: SHARED_KEYS[a]),
     ),
-    Mutant("same_nonce", GET, "ECDSA uses the same random number twice.", replace_method("sign", sign_with_same_nonce)),
+    Mutant(
+        "same_nonce", GET, "Two ECDSA signatures have the same nonce.", replace_method("sign", sign_with_same_nonce)
+    ),
     Mutant(
         "x5c_wrong_signature",
         MAKE,
-        "The certificate's signature is of nothing.",
+        "The attestation signature covers other data.",
         set_statement_member("sig", bytes(70)),
         X5C,
     ),
-    Mutant("x5c_other_key", MAKE, "The certificate is of another key.", set_statement_member("x5c", [b"0"]), X5C),
-    Mutant("x5c_empty", MAKE, "There is no certificate in x5c.", set_statement_member("x5c", []), X5C),
+    Mutant("x5c_other_key", MAKE, "The certificate has another public key.", set_statement_member("x5c", [b"0"]), X5C),
+    Mutant("x5c_empty", MAKE, "x5c is empty.", set_statement_member("x5c", []), X5C),
     Mutant("x5c_text", MAKE, "x5c is not an array.", set_statement_member("x5c", b"0"), X5C),
-    Mutant("x5c_without_alg", MAKE, "The statement has x5c and no alg.", remove_statement_member("alg"), X5C),
-    Mutant("x5c_without_sig", MAKE, "The statement has x5c and no signature.", remove_statement_member("sig"), X5C),
-    Mutant("x5c_wrong_alg", MAKE, "The statement names another algorithm.", set_statement_member("alg", -257), X5C),
-    Mutant("self_without_alg", MAKE, "Self attestation has no alg.", remove_statement_member("alg")),
-    Mutant("self_without_sig", MAKE, "Self attestation has no signature.", remove_statement_member("sig")),
-    Mutant("self_wrong_alg", MAKE, "Self attestation names another algorithm.", set_statement_member("alg", -257)),
+    Mutant("x5c_without_alg", MAKE, "The statement with x5c has no alg.", remove_statement_member("alg"), X5C),
+    Mutant("x5c_without_sig", MAKE, "The statement with x5c has no sig.", remove_statement_member("sig"), X5C),
+    Mutant("x5c_wrong_alg", MAKE, "The statement with x5c has another alg.", set_statement_member("alg", -257), X5C),
+    Mutant("self_without_alg", MAKE, "The statement of self attestation has no alg.", remove_statement_member("alg")),
+    Mutant("self_without_sig", MAKE, "The statement of self attestation has no sig.", remove_statement_member("sig")),
     Mutant(
-        "format_unknown", MAKE, "The format has a name that nobody knows.", change_member("attestation", 1, "packaged")
+        "self_wrong_alg", MAKE, "The statement of self attestation has another alg.", set_statement_member("alg", -257)
+    ),
+    Mutant(
+        "format_unknown", MAKE, "The attestation format is not registered.", change_member("attestation", 1, "packaged")
     ),
     Mutant("format_number", MAKE, "The format is a number.", change_member("attestation", 1, 1)),
-    Mutant("none_with_statement", MAKE, "The format none has a statement.", change_member("attestation", 1, "none")),
-    Mutant("statement_missing_whole", MAKE, "There is no statement.", change_member("attestation", 3, None)),
-    Mutant("data_missing", MAKE, "There is no authenticator data.", change_member("attestation", 2, None)),
     Mutant(
-        "data_longer", MAKE, "A byte is behind the key.", change_member("attestation", 2, lambda data: data + b"\0")
+        "none_with_statement",
+        MAKE,
+        "The attestation statement of the format none is not empty.",
+        change_member("attestation", 1, "none"),
     ),
-    Mutant("data_cut", MAKE, "The key is cut.", change_member("attestation", 2, lambda data: data[:-1])),
-    Mutant("eddsa_not_served", MAKE, "EdDSA is named but not supported.", wrap_method("algorithm", never_use_eddsa)),
+    Mutant(
+        "statement_missing_whole", MAKE, "The attestation statement is missing.", change_member("attestation", 3, None)
+    ),
+    Mutant("data_missing", MAKE, "The authenticator data is missing.", change_member("attestation", 2, None)),
+    Mutant(
+        "data_longer", MAKE, "A byte follows the COSE key.", change_member("attestation", 2, lambda data: data + b"\0")
+    ),
+    Mutant("data_cut", MAKE, "The COSE key is truncated.", change_member("attestation", 2, lambda data: data[:-1])),
+    Mutant(
+        "eddsa_not_served",
+        MAKE,
+        "getInfo has EdDSA, but it is not supported.",
+        wrap_method("algorithm", never_use_eddsa),
+    ),
     Mutant(
         "last_algorithm",
         MAKE,
-        "The last algorithm of the list is accepted.",
+        "The last supported algorithm of the list is used.",
         replace_method("algorithm", use_last_algorithm),
     ),
     Mutant(
@@ -182,13 +198,13 @@ CREDENTIAL_MUTANTS: List[Mutant] = [
     Mutant(
         "no_algorithm_taken",
         MAKE,
-        "ES256 is made whatever is asked for.",
+        "ES256 is used whatever the request lists.",
         replace_method("algorithm", lambda key, a: -7),
     ),
     Mutant(
         "aaguid_differs",
         MAKE,
-        "The AAGUID isn't that of getInfo.",
+        "The AAGUID differs from that of getInfo.",
         change_result("attested", lambda key, data, new: bytes(16) + data[16:]),
     ),
     Mutant("flag_reserved_1", MAKE, "Bit 1 of the flags is set.", change_flags(lambda found: found | 0x02)),
@@ -201,25 +217,25 @@ CREDENTIAL_MUTANTS: List[Mutant] = [
     Mutant(
         "id_by_beginning",
         GET,
-        "IDs are compared by their first 16 bytes.",
+        "Only the first 16 bytes of credential IDs are compared.",
         compare_allow_list_ids(lambda a, b: a[:16] == b[:16]),
     ),
     Mutant(
         "id_with_more",
         GET,
-        "An ID with bytes behind is accepted.",
+        "A credential ID with additional bytes is accepted.",
         compare_allow_list_ids(lambda a, b: a.startswith(b)),
     ),
     Mutant(
         "id_cut_taken",
         GET,
-        "An ID that is cut is accepted.",
+        "A truncated credential ID is accepted.",
         compare_allow_list_ids(lambda a, b: len(a) > 8 and b.startswith(a)),
     ),
     Mutant(
         "id_last_byte",
         GET,
-        "The last byte of an ID isn't compared.",
+        "The last byte of credential IDs is not compared.",
         compare_allow_list_ids(lambda a, b: a[:-1] == b[:-1]),
     ),
     Mutant(
@@ -231,7 +247,7 @@ CREDENTIAL_MUTANTS: List[Mutant] = [
     Mutant(
         "list_first_only",
         GET,
-        "The first entry of an allow list counts alone.",
+        "Only the first entry of an allow list is used.",
         replace_method(
             "named", lambda key, listed, one: listed[0]["type"] == "public-key" and listed[0]["id"] == one.id
         ),
@@ -239,50 +255,52 @@ CREDENTIAL_MUTANTS: List[Mutant] = [
     Mutant(
         "other_types_as_none",
         GET,
-        "A list of other types is treated as absent.",
+        "An allow list without the type public-key is treated as missing.",
         wrap_method("applicable", accept_list_without_public_key),
     ),
-    Mutant("ids_in_a_row", MAKE, "IDs follow from one another.", replace_method("new_id", make_sequential_id)),
+    Mutant(
+        "ids_in_a_row", MAKE, "Credential IDs are consecutive numbers.", replace_method("new_id", make_sequential_id)
+    ),
     Mutant(
         "id_repeated",
         MAKE,
-        "Every credential has the same ID.",
+        "All credentials have the same ID.",
         replace_method("new_id", lambda key, rp, user: b"\7" * 32),
     ),
     Mutant(
         "id_of_user",
         MAKE,
-        "the ID holds the user's.",
+        "The credential ID contains the user ID.",
         replace_method("new_id", lambda key, rp, user: (user["id"] + secrets.token_bytes(24))[:96]),
     ),
     Mutant(
         "id_short",
         MAKE,
-        "IDs have eight bytes.",
+        "Credential IDs have 8 bytes.",
         replace_method("new_id", lambda key, rp, user: secrets.token_bytes(8)),
     ),
     Mutant(
         "id_too_long",
         MAKE,
-        "IDs have 1024 bytes.",
+        "Credential IDs have 1024 bytes.",
         replace_method("new_id", lambda key, rp, user: secrets.token_bytes(1024)),
     ),
     Mutant(
         "exclude_by_beginning",
         MAKE,
-        "Exclude lists compare the first 16 bytes.",
+        "Exclude lists compare only the first 16 bytes of IDs.",
         compare_exclude_list(lambda entry, one, rp: entry["id"][:16] == one.id[:16] and one.rp == rp),
     ),
     Mutant(
         "exclude_with_more",
         MAKE,
-        "Exclude lists take an ID with bytes behind.",
+        "Exclude lists accept an ID with additional bytes.",
         compare_exclude_list(lambda entry, one, rp: entry["id"].startswith(one.id) and one.rp == rp),
     ),
     Mutant(
         "exclude_cut",
         MAKE,
-        "Exclude lists take an ID that is cut.",
+        "Exclude lists accept a truncated ID.",
         compare_exclude_list(
             lambda entry, one, rp: len(entry["id"]) > 8 and one.id.startswith(entry["id"]) and one.rp == rp
         ),
@@ -290,46 +308,46 @@ CREDENTIAL_MUTANTS: List[Mutant] = [
     Mutant(
         "exclude_of_any_rp",
         MAKE,
-        "A credential of another RP excludes.",
+        "Exclude lists find credentials of other RPs.",
         compare_exclude_list(lambda entry, one, rp: is_excluded_entry(entry, one, one.rp)),
     ),
     Mutant(
         "exclude_of_any_type",
         MAKE,
-        "An entry of another type excludes.",
+        "Exclude lists find entries of another type.",
         compare_exclude_list(lambda entry, one, rp: entry["id"] == one.id and one.rp == rp),
     ),
     Mutant(
         "exclude_first_only",
         MAKE,
-        "The first entry excludes alone.",
+        "Only the first entry of an exclude list is used.",
         replace_method("excluded", check_first_entry_only),
     ),
-    Mutant("exclude_never", MAKE, "Nothing excludes.", replace_method("excluded", lambda key, asked: False)),
+    Mutant("exclude_never", MAKE, "The exclude list is ignored.", replace_method("excluded", lambda key, asked: False)),
     Mutant(
         "full_overwrites",
         GET,
-        "A full device loses the oldest credential.",
+        "A full device overwrites the oldest credential.",
         wrap_method("store", overwrite_oldest),
         DeviceTraits(capacity=20),
     ),
     Mutant(
         "full_forgets",
         GET,
-        "A full device loses the new credential.",
+        "A full device does not store the new credential.",
         wrap_method("store", drop_when_full),
         DeviceTraits(capacity=20),
     ),
     Mutant(
         "replaces_never",
         GET,
-        "A user has several discoverable credentials.",
+        "A new discoverable credential does not replace that of the same user.",
         replace_method("replaces", lambda key, new, old: False),
     ),
     Mutant(
         "replaces_hidden",
         GET,
-        "A non-discoverable credential is replaced too.",
+        "A discoverable credential replaces a non-discoverable one.",
         replace_method(
             "replaces", lambda key, new, old: new.discoverable and new.rp == old.rp and new.user["id"] == old.user["id"]
         ),
@@ -337,7 +355,7 @@ CREDENTIAL_MUTANTS: List[Mutant] = [
     Mutant(
         "replaced_by_hidden",
         GET,
-        "A non-discoverable credential replaces.",
+        "A non-discoverable credential replaces a discoverable one.",
         replace_method(
             "replaces", lambda key, new, old: new.rp == old.rp and new.user["id"] == old.user["id"] and old.discoverable
         ),
@@ -345,7 +363,7 @@ CREDENTIAL_MUTANTS: List[Mutant] = [
     Mutant(
         "replaces_of_any_rp",
         GET,
-        "A user of another RP is replaced.",
+        "A credential replaces that of the same user ID at another RP.",
         replace_method(
             "replaces", lambda key, new, old: new.discoverable and old.discoverable and new.user["id"] == old.user["id"]
         ),
@@ -353,13 +371,13 @@ CREDENTIAL_MUTANTS: List[Mutant] = [
     Mutant(
         "replaces_of_any_user",
         GET,
-        "Another user of the RP is replaced.",
+        "A credential replaces that of another user of the RP.",
         replace_method("replaces", lambda key, new, old: new.discoverable and old.discoverable and new.rp == old.rp),
     ),
     Mutant(
         "key_with_more",
         MAKE,
-        "The COSE key has a member more.",
+        "The COSE key has an additional member.",
         change_result("attested", lambda key, data, new: data[: 18 + len(new.id)] + encode({**new.cose(), 2: b"x"})),
     ),
     Mutant(
@@ -373,13 +391,13 @@ CREDENTIAL_MUTANTS: List[Mutant] = [
     Mutant(
         "key_other_alg",
         MAKE,
-        "The COSE key names another algorithm.",
+        "The COSE key has another alg.",
         change_result("attested", lambda key, data, new: data[: 18 + len(new.id)] + encode({**new.cose(), 3: -35})),
     ),
     Mutant(
         "id_length_wrong",
         MAKE,
-        "The length of the ID is one too great.",
+        "credentialIdLength is too great by one.",
         change_result("attested", lambda key, data, new: data[:16] + (len(new.id) + 1).to_bytes(2, "big") + data[18:]),
     ),
     Mutant(
@@ -398,11 +416,11 @@ CREDENTIAL_MUTANTS: List[Mutant] = [
             "forget", lambda key: setattr(key, "credentials", [one for one in key.credentials if not one.discoverable])
         ),
     ),
-    Mutant("reset_of_nothing", RESET, "A reset forgets nothing.", replace_method("forget", lambda key: None)),
+    Mutant("reset_of_nothing", RESET, "A reset deletes nothing.", replace_method("forget", lambda key: None)),
     Mutant(
         "reset_keeps_pending",
         NEXT,
-        "Assertions are pending after a reset.",
+        "Pending assertions survive a reset.",
         combine(
             replace_method("forget", lambda key: setattr(key, "credentials", [])),
             wrap_method(
@@ -413,7 +431,7 @@ CREDENTIAL_MUTANTS: List[Mutant] = [
     Mutant(
         "failed_keeps_pending",
         NEXT,
-        "Assertions are pending after a sign-in that failed.",
+        "Pending assertions survive a failed sign-in.",
         wrap_method(
             "transport.serve", lambda key, old, at, channel, data: keep_pending(key, old, at, channel, data, 2)
         ),
@@ -421,7 +439,7 @@ CREDENTIAL_MUTANTS: List[Mutant] = [
     Mutant(
         "make_keeps_pending",
         NEXT,
-        "Assertions are pending after a registration.",
+        "Pending assertions survive a registration.",
         wrap_method(
             "transport.serve", lambda key, old, at, channel, data: keep_pending(key, old, at, channel, data, 1)
         ),

@@ -115,12 +115,12 @@ LOCK_MUTANTS: List[Mutant] = [
         LOCKING,
     ),
     Mutant(
-        "lock_too_long", LOCK, "A lock lasts a second more.", replace_method("transport.lock", lock_longer), LOCKING
+        "lock_too_long", LOCK, "A lock lasts a second longer.", replace_method("transport.lock", lock_longer), LOCKING
     ),
     Mutant(
         "lock_in_milliseconds",
         LOCK,
-        "A lock lasts for milliseconds.",
+        "A lock lasts as many milliseconds as it should seconds.",
         replace_method("transport.lock", lock_milliseconds),
         LOCKING,
     ),
@@ -133,14 +133,14 @@ LOCK_MUTANTS: List[Mutant] = [
     Mutant(
         "lock_of_any_length",
         LOCK,
-        "LOCK takes any length.",
+        "LOCK accepts data of any length.",
         replace_method("transport.lock", lock_by_any_length),
         LOCKING,
     ),
     Mutant(
         "lock_serves_others",
         LOCK,
-        "During a lock PINGs and LOCKs of others are served.",
+        "During a lock PINGs and LOCKs of other channels are served.",
         replace_method("transport.begin", excludes_requests_alone),
         LOCKING,
     ),

@@ -69,7 +69,7 @@ def forget_old_pin(key: Any, old: Any, asked: Any) -> Any:
 
 
 PIN_MUTANTS: List[Mutant] = [
-    Mutant("pin_any", PIN, "Any PIN is right.", replace_method("pin.same", lambda key, given: True)),
+    Mutant("pin_any", PIN, "Any PIN is accepted.", replace_method("pin.same", lambda key, given: True)),
     Mutant(
         "pin_short",
         PIN,
@@ -79,14 +79,14 @@ PIN_MUTANTS: List[Mutant] = [
     Mutant(
         "pin_below_minimum",
         PIN,
-        "A PIN of five characters is accepted, though minPINLength is six.",
+        "A PIN of five characters is accepted, although minPINLength is six.",
         replace_method("pin.is_long_enough", lambda key, pin: len(pin) >= 4),
         traits=DeviceTraits(shortest_pin=6),
     ),
     Mutant(
         "pin_by_bytes",
         PIN,
-        "Bytes are counted, not letters.",
+        "The minimum length is compared with bytes instead of characters.",
         replace_method("pin.is_long_enough", lambda key, pin: 4 <= len(pin) <= 63),
     ),
     Mutant(
@@ -95,86 +95,94 @@ PIN_MUTANTS: List[Mutant] = [
         "A PIN of 63 bytes is refused.",
         replace_method("pin.is_long_enough", lambda key, pin: 4 <= len(pin.decode()) and len(pin) < 60),
     ),
-    Mutant("pin_costs_nothing", PIN, "A wrong PIN costs no retry.", wrap_method("pin.compare", restore_retries)),
+    Mutant(
+        "pin_costs_nothing",
+        PIN,
+        "A wrong PIN does not decrement the retries.",
+        wrap_method("pin.compare", restore_retries),
+    ),
     Mutant(
         "pin_never_blocked",
         PIN,
-        "Any number of wrong PINs may come in a row.",
+        "Any number of consecutive wrong PINs is accepted.",
         wrap_method("pin.check_not_blocked", reset_wrong_count),
     ),
     Mutant(
         "pin_key_stays",
         PIN,
-        "The key agreement key stays after a wrong PIN.",
+        "The key agreement key is not renewed after a wrong PIN.",
         wrap_protocol_method("renew", lambda old: None),
     ),
     Mutant(
         "pin_not_authentic",
         PIN,
-        "A wrong pinUvAuthParam sets a PIN.",
+        "setPIN accepts a wrong pinUvAuthParam.",
         wrap_protocol_method("verify", lambda old, key, data, given: True),
     ),
     Mutant(
         "pin_set_anew",
         PIN,
-        "A PIN that is set is set anew.",
+        "setPIN is accepted although a PIN is set.",
         wrap_method("pin.set", forget_old_pin),
     ),
     Mutant(
         "pin_not_said",
         PIN,
-        "getInfo never says that a PIN is set.",
+        "clientPin of getInfo is never true.",
         change_result("options", lambda key, found: {**found, "clientPin": False}),
     ),
     Mutant(
         "pin_outlasts_reset",
         PIN,
-        "A reset leaves the PIN.",
+        "The PIN survives a reset.",
         replace_method("forget", lambda key: setattr(key, "credentials", [])),
     ),
     Mutant(
-        "agreement_alg", PIN, "The key agreement key names ES256.", change_agreement_key(lambda found: {**found, 3: -7})
+        "agreement_alg",
+        PIN,
+        "The key agreement key has the alg of ES256.",
+        change_agreement_key(lambda found: {**found, 3: -7}),
     ),
     Mutant(
         "agreement_off_curve",
         PIN,
-        "The key agreement key is no point.",
+        "The key agreement key is not a point on P-256.",
         change_agreement_key(lambda found: {**found, -2: bytes(32)}),
     ),
     Mutant(
         "agreement_with_more",
         PIN,
-        "The key agreement key has a member more.",
+        "The key agreement key has an additional member.",
         change_agreement_key(lambda found: {**found, 2: b"x"}),
     ),
     Mutant(
         "token_short",
         PIN,
-        "A token has 16 bytes too few.",
+        "A token is too short by 16 bytes.",
         wrap_method(
             "pin.grant",
             lambda key, old, protocol, secret, permissions, rp: {2: old(protocol, secret, permissions, rp)[2][:-16]},
         ),
     ),
-    Mutant("token_permits_all", MAKE, "A token permits everything.", wrap_method("pin.check", grant_every_permission)),
-    Mutant("token_of_every_rp", MAKE, "A token counts at every RP.", wrap_method("pin.check", grant_every_rp)),
+    Mutant("token_permits_all", MAKE, "A token has all permissions.", wrap_method("pin.check", grant_every_permission)),
+    Mutant("token_of_every_rp", MAKE, "A token is accepted for every RP.", wrap_method("pin.check", grant_every_rp)),
     Mutant(
         "token_not_verified",
         MAKE,
-        "A pinUvAuthParam isn't verified.",
+        "pinUvAuthParam is not verified.",
         replace_method("pin.verified", lambda key, protocol, data, given: True),
     ),
-    Mutant("token_without_uv", MAKE, "With a token flag UV isn't set.", wrap_method("verify", clear_verified)),
+    Mutant("token_without_uv", MAKE, "Flag UV is not set with a token.", wrap_method("verify", clear_verified)),
     Mutant(
         "rk_without_pin",
         MAKE,
-        "A discoverable credential is made without the PIN.",
+        "A discoverable credential is made without a token although a PIN is set.",
         replace_method("require_make_verification", lambda key, asked: None),
     ),
     Mutant(
         "protect_not_answered",
         PROTECT,
-        "credProtect gets no response.",
+        "credProtect has no output.",
         change_result(
             "extensions.run_make",
             lambda key, found, asked, new: {name: value for name, value in found.items() if name != "credProtect"},
@@ -183,7 +191,7 @@ PIN_MUTANTS: List[Mutant] = [
     Mutant(
         "protect_other_level",
         PROTECT,
-        "Another level is answered.",
+        "The output of credProtect is another level.",
         change_result(
             "extensions.run_make",
             lambda key, found, asked, new: {**found, "credProtect": 1} if "credProtect" in found else found,
@@ -192,55 +200,58 @@ PIN_MUTANTS: List[Mutant] = [
     Mutant(
         "protect_hides_nothing",
         PROTECT,
-        "credProtect hides nothing.",
+        "credProtect has no effect.",
         replace_method("shown", lambda key, asked, one, listed: True),
     ),
     Mutant(
         "protect_hides_alone",
         PROTECT,
-        "Level 3 hides as level 2 does.",
+        "Level 3 of credProtect has the effect of level 2.",
         replace_method("shown", lambda key, asked, one, listed: listed or one.protection < 2),
     ),
     Mutant(
         "blob_lost",
         BLOB,
-        "A blob is returned empty.",
+        "credBlob returns an empty blob.",
         change_result(
             "extensions.run_get",
             lambda key, found, asked, one: {**found, "credBlob": b""} if "credBlob" in found else found,
         ),
     ),
     Mutant(
-        "blob_refused", BLOB, "A blob isn't kept.", replace_method("extensions.keep_blob", lambda key, new, blob: False)
+        "blob_refused",
+        BLOB,
+        "credBlob stores no blob.",
+        replace_method("extensions.keep_blob", lambda key, new, blob: False),
     ),
     Mutant(
         "secret_of_all",
         SECRET,
-        "All credentials have the same secrets.",
+        "All credentials have the same hmac-secret.",
         replace_method("extensions.random", lambda key, asked, one: bytes(32)),
     ),
     Mutant(
         "secret_changes",
         SECRET,
-        "Secrets change.",
+        "The hmac-secret of a credential changes.",
         replace_method("extensions.random", lambda key, asked, one: one.sign(b"x")[-32:].rjust(32, b"\0")),
     ),
     Mutant(
         "secret_any_salt",
         SECRET,
-        "Salts needn't be authentic.",
+        "saltAuth is not verified.",
         replace_method("extensions.is_salt_authentic", lambda key, protocol, secret, given: True),
     ),
     Mutant(
         "secret_in_plain",
         SECRET,
-        "The response has a byte more.",
+        "The output of hmac-secret is too long by one byte.",
         change_result("extensions.secret", lambda key, found, asked, one, given: found + b"\0"),
     ),
     Mutant(
         "secret_not_said",
         SECRET,
-        "A registration doesn't say that there are secrets.",
+        "hmac-secret has no output in registrations.",
         change_result(
             "extensions.run_make",
             lambda key, found, asked, new: {name: value for name, value in found.items() if name != "hmac-secret"},

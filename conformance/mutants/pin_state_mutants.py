@@ -156,25 +156,25 @@ PIN_STATE_MUTANTS: List[Mutant] = [
     Mutant(
         "retries_by_query",
         PIN,
-        "Asking for the retries restores them.",
+        "getPINRetries restores the retries.",
         change_pin_method("get_retries", restore_by_query),
     ),
     Mutant(
         "retries_by_agreement",
         PIN,
-        "A key agreement restores the retries.",
+        "getKeyAgreement restores the retries.",
         change_pin_method("agree", restore_by_agreement),
     ),
     Mutant(
         "second_guess_free",
         PIN,
-        "Each second wrong PIN costs no retry.",
+        "Every second wrong PIN does not decrement the retries.",
         change_pin_method("compare", compare_free_each_second),
     ),
     Mutant(
         "right_once",
         PIN,
-        "After the right PIN any is accepted.",
+        "After the right PIN any PIN is accepted.",
         combine(
             change_pin_method("compare", compare_unless_known),
             change_power_cycle(lambda key, before, pin: setattr(key.pin, "is_known", False)),
@@ -183,66 +183,71 @@ PIN_STATE_MUTANTS: List[Mutant] = [
     Mutant(
         "old_pin_too",
         PIN,
-        "The PIN before a change is accepted, too.",
+        "The PIN before a change is still accepted.",
         combine(change_pin_method("same", same_as_old), change_pin_method("change", change_and_keep_old)),
     ),
     Mutant(
-        "first_pin_stays", PIN, "The first PIN is set again after a reset.", change_pin_method("new_pin", set_former)
+        "first_pin_stays", PIN, "After a reset setPIN sets the former PIN.", change_pin_method("new_pin", set_former)
     ),
     Mutant(
         "blocked_until_reset",
         PIN,
-        "Three wrong PINs block it beyond a power cycle.",
+        "After three wrong PINs a power cycle does not allow further ones.",
         change_power_cycle(lambda key, before, pin: setattr(key.pin, "in_a_row", pin["in_a_row"])),
     ),
     Mutant(
         "last_retry_again",
         PIN,
-        "A power cycle gives a blocked PIN another try.",
+        "A power cycle allows another try of a blocked PIN.",
         change_power_cycle(lambda key, before, pin: setattr(key.pin, "retries", max(1, key.pin.retries))),
     ),
     Mutant(
         "four_in_a_row",
         PIN,
-        "Four wrong PINs in a row are accepted.",
+        "Four consecutive wrong PINs are accepted.",
         change_pin_method("check_not_blocked", allow_four),
     ),
     Mutant(
         "silent_use_spends",
         EITHER,
-        "A sign-in without a touch takes the token's permissions.",
+        "A sign-in without a touch clears the token's permissions.",
         replace_method("first", use_silently),
     ),
     Mutant(
         "token_rp_once",
         EITHER,
-        "A token's RP is checked at its first use alone.",
+        "The RP of a token is only checked at its first use.",
         change_pin_method("check", check_rp_once),
     ),
     Mutant(
         "token_of_previous_rp",
         EITHER,
-        "A token is for the RP of the token before.",
+        "A token is valid for the RP of the previous token.",
         change_pin_method("grant", grant_for_previous_rp),
     ),
-    Mutant("four_tokens", PIN, "One of four tokens is issued in turn.", change_pin_method("grant", grant_from_pool)),
+    Mutant("four_tokens", PIN, "Four tokens are issued in turn.", change_pin_method("grant", grant_from_pool)),
     Mutant(
         "change_deletes",
         GET,
         "A change of the PIN deletes a credential.",
         change_pin_method("change", change_and_forget),
     ),
-    Mutant("vector_of_power_up", PIN, "The initialization vector is made once.", make_lasting(keep_vector)),
+    Mutant(
+        "vector_of_power_up",
+        PIN,
+        "The initialization vector is the same until the next power cycle.",
+        make_lasting(keep_vector),
+    ),
     Mutant(
         "reset_keeps_pin",
         PIN,
-        "A reset leaves the PIN.",
+        "The PIN survives a reset.",
         change_reset(lambda key, before: setattr(key, "pin", before["pin"])),
     ),
     Mutant(
         "reset_keeps_retries",
         PIN,
-        "A new PIN has the retries of the one before.",
+        "setPIN does not restore the retries.",
         combine(
             change_pin_method("new_pin", set_and_keep_retries),
             change_reset(lambda key, before: setattr(key.pin, "retries", before["pin"].retries)),

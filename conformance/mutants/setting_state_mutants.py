@@ -114,19 +114,23 @@ SETTING_STATE_MUTANTS: List[Mutant] = [
     Mutant(
         "length_until_unplugged",
         CONFIG,
-        "A power cycle restores minPINLength.",
+        "A power cycle restores the default minPINLength.",
         power_cycle_and(restore_length),
         SETTINGS,
     ),
     Mutant(
         "forced_until_unplugged",
         CONFIG + "|" + PIN,
-        "A power cycle ends forcePINChange.",
+        "A power cycle resets forcePINChange.",
         power_cycle_and(forget_force),
         SETTINGS,
     ),
     Mutant(
-        "enterprise_until_unplugged", CONFIG, "A power cycle disables ep.", power_cycle_and(forget_enterprise), SETTINGS
+        "enterprise_until_unplugged",
+        CONFIG,
+        "A power cycle disables enterprise attestation.",
+        power_cycle_and(forget_enterprise),
+        SETTINGS,
     ),
     Mutant(
         "always_uv_until_unplugged",
@@ -145,39 +149,45 @@ SETTING_STATE_MUTANTS: List[Mutant] = [
     Mutant(
         "forced_once",
         CONFIG + "|" + PIN,
-        "forceChangePin works once.",
+        "forceChangePin only has an effect once.",
         replace_method("config.set_min_pin_length", force_once),
         SETTINGS,
     ),
     Mutant(
         "length_lowered_later",
         CONFIG,
-        "minPINLength falls later.",
+        "minPINLength can be lowered after it was raised twice.",
         replace_method("config.set_min_pin_length", lower_later),
         SETTINGS,
     ),
     Mutant(
         "length_not_applied",
         PIN,
-        "minPINLength is shown alone.",
+        "minPINLength is only shown in getInfo.",
         replace_method("pin.is_long_enough", change_any_length),
         SETTINGS,
     ),
     Mutant(
         "template_unfinished_kept",
         BIO,
-        "A power cycle completes an enrolment.",
+        "A power cycle completes an unfinished enrolment.",
         power_cycle_and(store_unfinished),
         SETTINGS,
     ),
     Mutant(
         "template_cancelled_kept",
         BIO,
-        "CANCEL completes an enrolment.",
+        "cancelCurrentEnrollment completes an enrolment.",
         replace_method("bio.serve", cancel_nothing),
         SETTINGS,
     ),
-    Mutant("template_names_lost", BIO, "A power cycle forgets names.", power_cycle_and(forget_names), SETTINGS),
+    Mutant(
+        "template_names_lost",
+        BIO,
+        "A power cycle deletes the names of templates.",
+        power_cycle_and(forget_names),
+        SETTINGS,
+    ),
 ]
 
 

@@ -197,7 +197,7 @@ STATE_MUTANTS: List[Mutant] = [
     Mutant(
         "pin_by_one_byte",
         PIN,
-        "One byte of the PIN's hash is compared.",
+        "Only one byte of the PIN hash is compared.",
         change_pin_method("same", lambda key, param: param[:1] == key.pin.hash[:1]),
     ),
     Mutant(
@@ -217,11 +217,11 @@ STATE_MUTANTS: List[Mutant] = [
     Mutant(
         "token_registers_twice",
         EITHER,
-        "A token can be used again.",
+        "A token can be used for two registrations.",
         replace_method("use_token", lambda key, asked: None),
     ),
     Mutant("token_of_always", PIN, "The token is always the same.", change_pin_method("grant", issue_same_token)),
-    Mutant("vector_of_zeros", PIN, "The initialization vector is zero.", make_lasting(use_zero_vector)),
+    Mutant("vector_of_zeros", PIN, "The initialization vector consists of zeros.", make_lasting(use_zero_vector)),
     Mutant(
         "pin_lost",
         PIN,
@@ -232,19 +232,19 @@ STATE_MUTANTS: List[Mutant] = [
     Mutant(
         "rp_hash_of_previous",
         EITHER,
-        "The RP ID hash is that of the RP before.",
+        "The RP ID hash is that of the previous request.",
         replace_method("data", hash_previous_rp),
     ),
     Mutant(
         "allow_list_stays",
         GET,
-        "The allow list of an earlier sign-in stays.",
+        "Without an allow list that of the previous sign-in is used.",
         replace_method("applicable", find_by_previous_list),
     ),
     Mutant(
         "exclude_list_stays",
         MAKE,
-        "The exclude list of an earlier registration stays.",
+        "Without an exclude list that of the previous registration is used.",
         replace_method("excluded", exclude_by_previous_list),
     ),
     Mutant(
@@ -266,7 +266,7 @@ STATE_MUTANTS: List[Mutant] = [
         change_power_cycle(lambda key, before, pin: keep_pending(key, before)),
     ),
     Mutant("counters_restart", GET, "A power cycle restarts the counters.", change_power_cycle(restart_counters)),
-    Mutant("newest_lost", GET, "A power cycle loses the newest credential.", change_power_cycle(lose_newest)),
+    Mutant("newest_lost", GET, "A power cycle deletes the newest credential.", change_power_cycle(lose_newest)),
     Mutant("pin_not_changed", PIN, "A change of the PIN has no effect.", change_pin_method("change", change_nothing)),
     Mutant(
         "retries_spent", PIN, "The right PIN does not restore the retries.", change_pin_method("compare", spend_retries)
@@ -274,18 +274,21 @@ STATE_MUTANTS: List[Mutant] = [
     Mutant(
         "permissions_add_up",
         EITHER,
-        "A token has the permissions of the one before.",
+        "A token also has the permissions of the previous one.",
         change_pin_method("grant", add_permissions),
     ),
     Mutant(
         "verified_for_ever",
         EITHER,
-        "Flag UV stays set after a token was used.",
+        "Flag UV stays set after the use of a token.",
         replace_method("flags", set_uv_forever),
     ),
-    Mutant("replaced_stays", SIGN_INS, "A replaced credential stays.", replace_method("store", keep_replaced)),
+    Mutant("replaced_stays", SIGN_INS, "A replaced credential is not deleted.", replace_method("store", keep_replaced)),
     Mutant(
-        "pairs_after_reset", MAKE, "A reset starts the key pairs anew.", replace_method("new_private", repeat_key_pair)
+        "pairs_after_reset",
+        MAKE,
+        "After a reset the same key pairs are made again.",
+        replace_method("new_private", repeat_key_pair),
     ),
 ]
 

@@ -205,7 +205,12 @@ def reverse_packets(pieces: List[bytes], command: int, data: bytes) -> List[byte
 
 
 WIRE_MUTANTS: List[Mutant] = [
-    Mutant("continuation_behind", PACKETS, "An empty continuation follows a full answer.", wrap_send(add_empty_packet)),
+    Mutant(
+        "continuation_behind",
+        PACKETS,
+        "An empty continuation packet follows a response that fills its last packet.",
+        wrap_send(add_empty_packet),
+    ),
     Mutant(
         "sequence_from_1",
         PACKETS,
@@ -218,18 +223,18 @@ WIRE_MUTANTS: List[Mutant] = [
         ),
     ),
     Mutant(
-        "packets_turned", PACKETS, "Continuation packets come the wrong way round.", change_packets(reverse_packets)
+        "packets_turned", PACKETS, "Continuation packets are sent in reverse order.", change_packets(reverse_packets)
     ),
     Mutant(
         "last_packet_lost",
         PACKETS,
-        "The last packet of a long answer is lost.",
+        "The last packet of a long response is missing.",
         change_packets(lambda pieces, command, data: pieces[:1] + pieces[1:-1] if len(pieces) > 1 else pieces),
     ),
     Mutant(
         "packet_short",
         PACKETS,
-        "The last packet has less than 64 bytes.",
+        "The last packet has fewer than 64 bytes.",
         change_packets(lambda pieces, command, data: [*pieces[:-1], pieces[-1].rstrip(b"\0")]),
     ),
     Mutant(
@@ -243,7 +248,7 @@ WIRE_MUTANTS: List[Mutant] = [
     Mutant(
         "length_of_packets",
         PACKETS,
-        "The length counts whole packets.",
+        "The length in the header includes the padding.",
         change_packets(
             lambda pieces, command, data: [
                 pieces[0][:5] + (57 + 59 * (len(pieces) - 1)).to_bytes(2, "big") + pieces[0][7:],
@@ -254,7 +259,7 @@ WIRE_MUTANTS: List[Mutant] = [
     Mutant(
         "long_taken",
         PACKETS,
-        "A length that can't be is accepted.",
+        "A length above the maximum is accepted.",
         wrap_method(
             "transport.take",
             lambda key, old, channel, command, length, data: old(channel, command, min(length, len(data)), data),
@@ -263,10 +268,10 @@ WIRE_MUTANTS: List[Mutant] = [
     Mutant(
         "length_other_code",
         PACKETS,
-        "A wrong length has another code.",
+        "A wrong length has another error code.",
         change_error_codes(lambda code: 1 if code == 3 else code),
     ),
-    Mutant("nonce_zero", INIT, "The nonce is not returned.", change_init_response(0, bytes(8))),
+    Mutant("nonce_zero", INIT, "The nonce in the INIT response is zero.", change_init_response(0, bytes(8))),
     Mutant(
         "channel_again",
         INIT,
@@ -280,7 +285,7 @@ WIRE_MUTANTS: List[Mutant] = [
         replace_method("transport.new_channel", lambda key: hid.BROADCAST),
     ),
     Mutant("channel_reserved", INIT, "Channel 0 is allocated.", replace_method("transport.new_channel", lambda key: 0)),
-    Mutant("protocol_1", INIT, "The protocol's version is 1.", change_init_response(12, b"\1")),
+    Mutant("protocol_1", INIT, "The protocol version is 1.", change_init_response(12, b"\1")),
     Mutant(
         "no_cbor",
         INIT,
@@ -296,44 +301,44 @@ WIRE_MUTANTS: List[Mutant] = [
     Mutant(
         "init_keeps_all",
         ABORT,
-        "INIT ends neither message nor request.",
+        "INIT aborts neither a message nor a request.",
         wrap_method("transport.init", keep_transaction_at_init),
     ),
     Mutant(
         "init_any_length",
         PACKETS,
-        "INIT of any length is accepted.",
+        "INIT is accepted with any length.",
         wrap_method("transport.init", accept_any_init_length),
     ),
     Mutant(
         "nmsg_lies",
         ERROR,
-        "The capabilities have NMSG, but MSG is supported.",
+        "The capability NMSG is set, but MSG is supported.",
         change_result("transport.nonce_answer", lambda key, data, *words: data[:16] + bytes([data[16] | 8])),
     ),
     Mutant(
         "msg_lies",
         MSG,
-        "MSG is not supported, without the capability.",
+        "MSG is not supported, but the capability NMSG is not set.",
         change_result("transport.serves", lambda key, found, command: found and command != hid.MSG),
     ),
     Mutant(
         "wink_lies",
         WINK,
-        "The capabilities have WINK, but it is not supported.",
+        "The capability WINK is set, but WINK is not supported.",
         change_result("transport.nonce_answer", lambda key, data, *words: data[:16] + bytes([data[16] | 1])),
     ),
     Mutant(
         "wink_hidden",
         ERROR,
-        "WINK is served, without the capability.",
+        "WINK is supported, but the capability WINK is not set.",
         change_result("transport.serves", lambda key, found, command: found or command == hid.WINK),
     ),
-    Mutant("ping_cut", PING, "PING is returned with 1024 bytes.", wrap_send(truncate_ping)),
+    Mutant("ping_cut", PING, "The response to a PING is truncated to 1024 bytes.", wrap_send(truncate_ping)),
     Mutant(
         "ping_changed",
         PING,
-        "A bit of PING's bytes is lost.",
+        "A bit of the response to a PING is wrong.",
         wrap_send(
             lambda key, old, channel, command, data: old(
                 channel, command, bytes(byte & 0x7F for byte in data) if command == hid.PING else data
@@ -343,22 +348,20 @@ WIRE_MUTANTS: List[Mutant] = [
     Mutant(
         "cancel_of_any",
         CANCEL,
-        "CANCEL of any channel ends a request.",
+        "CANCEL ends the request of any channel.",
         replace_method("transport.cancel", cancel_any_channel),
     ),
-    Mutant(
-        "cancel_never", CANCEL, "CANCEL ends nothing.", replace_method("transport.cancel", lambda key, channel: None)
-    ),
+    Mutant("cancel_never", CANCEL, "CANCEL is ignored.", replace_method("transport.cancel", lambda key, channel: None)),
     Mutant(
         "cancel_is_answered",
         CANCEL,
-        "A CANCEL without a request is answered.",
+        "The device responds to a CANCEL without a pending request.",
         wrap_method("transport.cancel", respond_to_idle_cancel),
     ),
     Mutant(
         "cancel_drops_message",
         CANCEL,
-        "CANCEL drops a message that comes in.",
+        "CANCEL aborts an incomplete message.",
         wrap_method("transport.cancel", drop_message_at_cancel),
     ),
     Mutant(
@@ -374,18 +377,18 @@ WIRE_MUTANTS: List[Mutant] = [
         replace_method("transport.cancel", lambda key, channel: drop_request(key, channel)),
     ),
     Mutant(
-        "keepalive_never", KEEPALIVE, "There are no KEEPALIVEs.", wrap_keepalives(lambda key, old, channel, data: None)
+        "keepalive_never", KEEPALIVE, "No KEEPALIVEs are sent.", wrap_keepalives(lambda key, old, channel, data: None)
     ),
     Mutant(
         "keepalive_broadcast",
         KEEPALIVE,
-        "KEEPALIVEs go to the broadcast channel.",
+        "KEEPALIVEs are sent on the broadcast channel.",
         wrap_keepalives(lambda key, old, channel, data: old(hid.BROADCAST, hid.KEEPALIVE, data)),
     ),
     Mutant(
         "keepalive_empty",
         KEEPALIVE,
-        "KEEPALIVEs have no status.",
+        "KEEPALIVEs have no status byte.",
         wrap_keepalives(lambda key, old, channel, data: old(channel, hid.KEEPALIVE, b"")),
     ),
     Mutant(
@@ -397,13 +400,13 @@ WIRE_MUTANTS: List[Mutant] = [
     Mutant(
         "keepalive_working",
         KEEPALIVE,
-        "KEEPALIVEs never say that a touch is requested.",
+        "KEEPALIVEs never have the status 02.",
         wrap_keepalives(lambda key, old, channel, data: old(channel, hid.KEEPALIVE, b"\1")),
     ),
     Mutant(
         "busy_other_code",
         BUSY,
-        "A second host gets another code.",
+        "A second host gets another error than 06.",
         change_error_codes(lambda code: 0x7F if code == 6 else code),
     ),
     Mutant(
@@ -415,14 +418,14 @@ WIRE_MUTANTS: List[Mutant] = [
     Mutant(
         "interrupted",
         BUSY,
-        "Another channel's message drops what is open.",
+        "A message on another channel aborts the transaction in progress.",
         wrap_method("transport.begin", replace_other_channel),
     ),
     Mutant("time_out_never", TIME, "An incomplete message never times out.", with_traits(time_out=10**9)),
     Mutant(
         "time_out_other_code",
         TIME,
-        "A timeout has another code.",
+        "The timeout of a message has another error code.",
         change_error_codes(lambda code: 0x7F if code == 5 else code),
     ),
     Mutant(
@@ -434,25 +437,25 @@ WIRE_MUTANTS: List[Mutant] = [
     Mutant(
         "sequence_unheard",
         SEQUENCE,
-        "A wrong number gets no response.",
+        "A wrong sequence number gets no response.",
         change_error_codes(lambda code: None if code == 4 else code),
     ),
     Mutant(
         "sequence_of_any",
         SEQUENCE,
-        "Continuation packets of any channel are accepted.",
+        "Continuation packets of other channels are accepted.",
         wrap_method("transport.go_on", accept_packets_of_any_channel),
     ),
     Mutant(
         "stray_refused",
         SEQUENCE,
-        "A continuation packet outside any message is answered.",
+        "The device responds to a continuation packet outside any transaction.",
         wrap_method("transport.go_on", respond_to_stray_packet),
     ),
     Mutant(
         "any_channel",
         CHANNELS,
-        "An unallocated channel is accepted.",
+        "An unallocated channel is served.",
         wrap_method("transport.begin", accept_unallocated_channels),
     ),
     Mutant("channel_zero", CHANNELS, "Channel 0 is served.", wrap_method("transport.begin", accept_channel_zero)),
@@ -465,7 +468,7 @@ WIRE_MUTANTS: List[Mutant] = [
     Mutant(
         "channel_other_code",
         CHANNELS,
-        "An unallocated channel gets another code.",
+        "An unallocated channel gets another error code.",
         change_error_codes(lambda code: 1 if code == 11 else code),
     ),
     Mutant(
@@ -477,13 +480,13 @@ WIRE_MUTANTS: List[Mutant] = [
     Mutant(
         "command_echoed",
         ERROR,
-        "An unknown command is returned.",
+        "An unknown command is echoed.",
         change_result("transport.serves", lambda key, found, command: True),
     ),
     Mutant(
         "cbor_as_msg",
         COMMAND,
-        "CBOR answers come as MSG.",
+        "Responses to CBOR are sent as MSG.",
         wrap_send(
             lambda key, old, channel, command, data: old(channel, hid.MSG if command == hid.CBOR else command, data)
         ),
@@ -491,28 +494,28 @@ WIRE_MUTANTS: List[Mutant] = [
     Mutant(
         "cbor_empty_taken",
         COMMAND,
-        "A CBOR message of length 0 is ignored.",
+        "A CBOR message of length 0 gets no response.",
         replace_method("transport.empty", lambda key, channel: None),
     ),
     Mutant(
         "cbor_status_alone",
         COMMAND,
-        "A success has no map.",
+        "A successful response consists only of the status.",
         wrap_send(
             lambda key, old, channel, command, data: old(channel, command, data[:1] if command == hid.CBOR else data)
         ),
     ),
-    Mutant("touch_kept", MAKE, "A touch from before the request counts.", keep_and_use_touch),
+    Mutant("touch_kept", MAKE, "A touch before the request counts.", keep_and_use_touch),
     Mutant(
         "touch_twice",
         GET,
-        "A touch counts for the next request too.",
+        "A touch counts for the next request, too.",
         wrap_method("transport.work_on", use_touch_twice),
     ),
     Mutant(
         "u2f_version",
         MSG,
-        "U2F's version is another.",
+        "The U2F version is another one.",
         change_result(
             "transport.serve_message",
             lambda key, found, at, apdu: b"U2F_V1\x90\0" if found.startswith(b"U2F_V2") else found,
@@ -521,7 +524,7 @@ WIRE_MUTANTS: List[Mutant] = [
     Mutant(
         "u2f_class",
         MSG,
-        "An unknown class is served.",
+        "An unknown class is accepted.",
         wrap_method("transport.serve_message", lambda key, old, at, apdu: old(at, b"\0" + apdu[1:])),
     ),
     Mutant(

@@ -132,7 +132,7 @@ def test_resumed_run() -> None:
         played = list_played(again.stderr)
         assert len(played) == 30 - len(written) and not played & set(written), (played, written)
         other = subprocess.run([*RUN, *words, "--warnings-as-errors"], capture_output=True, text=True)
-        assert other.returncode == 2 and "is of another run: warnings_as_errors" in other.stderr, other.stderr
+        assert other.returncode == 2 and "belongs to another run: warnings_as_errors" in other.stderr, other.stderr
     check_none_left()
     print("interrupted runs: continued by --resume")
 

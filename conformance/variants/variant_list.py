@@ -115,9 +115,9 @@ USERS: Dict[str, Variant] = {
     "user_with_any": make_variant("The user is named for every credential.", user_with_any=True),
 }
 ANSWERS: Dict[str, Variant] = {
-    "protect_unasked_1": make_variant("credProtect is returned unasked (WebAuthn 9).", unasked_protection=1),
-    "protect_unasked_2": make_variant(
-        "The same with level 2.", unasked_protection=2, **{"extensions": ("credProtect",)}
+    "default_protection_1": make_variant("credProtect is set without a request (WebAuthn, 9).", default_protection=1),
+    "default_protection_2": make_variant(
+        "The same with level 2.", default_protection=2, **{"extensions": ("credProtect",)}
     ),
     "no_extensions": make_variant("No extensions.", extensions=()),
     "blob_key_alone": make_variant("largeBlobKey alone.", extensions=("largeBlobKey",)),

@@ -31,11 +31,11 @@ class Extensions:
     def run_make(self, asked: Asked, new: Credential) -> Dict[str, Any]:
         """Runs the extensions of a registration; returns their outputs."""
         inputs, outputs = self.list_requested(asked, 6), {}
-        unasked = self.authenticator.traits.unasked_protection
+        level = self.authenticator.traits.default_protection
         if "credProtect" in inputs:
             outputs["credProtect"] = self.protect(new, inputs["credProtect"])
-        elif unasked:
-            outputs["credProtect"] = self.protect(new, unasked)
+        elif level:
+            outputs["credProtect"] = self.protect(new, level)
         if "credBlob" in inputs:
             outputs["credBlob"] = self.keep_blob(new, inputs["credBlob"])
         if inputs.get("hmac-secret") is True:

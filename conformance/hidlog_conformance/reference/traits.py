@@ -54,7 +54,7 @@ class DeviceTraits:
     id_length: int = 32
     format: str = "packed"
     flags: int = 0
-    unasked_protection: int = 0
+    default_protection: int = 0
     counter: str = "each"
     first_counter: int = 0
     user_with_any: bool = False
