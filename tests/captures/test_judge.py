@@ -331,7 +331,7 @@ def count_lines_executed(log: bytes) -> int:
 
 
 def test_work_grows_as_the_log_does(monkeypatch: pytest.MonkeyPatch) -> None:
-    monkeypatch.setattr(quiet_parts, "_PART_BYTES", 1 << 14)  # each of these logs has several parts
+    monkeypatch.setattr(quiet_parts, "_PART_BYTES", 1 << 14)  # each of these logs is checked in several parts
     once, twice, fourfold = (count_lines_executed(record_sign_ins(count)) for count in (15, 30, 60))
     assert fourfold - twice <= 1.1 * 2 * (twice - once)
 

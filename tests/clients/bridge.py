@@ -204,7 +204,7 @@ class Bridge:
 def read_credential_id(answer: bytes) -> bytes:
     """Returns the credential ID in the response to a registration: 32 bytes in its authenticator data."""
     if answer[:2] != bytes([CBOR, 0]):
-        raise ValueError(f"not a registration: {answer.hex()}")
+        raise ValueError(f"not the response to a registration: {answer.hex()}")
     at = answer.index(bytes.fromhex("0258a4")) + 3 + 37 + 16
     return answer[at + 2 : at + 34]
 
@@ -214,5 +214,5 @@ def read_credential_ids(file: bytes) -> list[bytes]:
     a checksum."""
     is_summed = file[:8] == b"hidlogS2" and sha256(file[:-32]).digest() == file[-32:]
     if not (is_summed or file[:8] == b"hidlogS1") or len(file) < 9 + 128 * file[8]:
-        raise ValueError("not a state file")
+        raise ValueError("not a state file: the magic number, length or checksum is wrong")
     return [file[9 + 128 * place : 9 + 128 * place + 32] for place in range(file[8])]

@@ -194,7 +194,11 @@ def check_replay(lines, output):
     check(output.endswith(b"\n"), "counts", "the last line has no line feed")
     written = split_lines(output)
     check_counts(written[-1], group_responses(written))
-    check(select_inputs(written) == select_inputs(lines), "lines", "the replay has other inputs or comments")
+    check(
+        select_inputs(written) == select_inputs(lines),
+        "lines",
+        "the inputs or comments of the replay differ from those of the log",
+    )
     found = group_responses(written)
     most = max(len(packets) for _, packets in found)
     check(
@@ -255,7 +259,7 @@ def check_quiet(log, output, run):
     sent = split_lines(check_end("replay", run("replay", quiet), None))
     for (line, less), (old, packets) in zip(group_responses(sent), group_responses(split_lines(output))):
         same = less == packets if line == old else is_subsequence(less, packets)
-        check(same, "quiet packets", f"{line[:99]!r} has {len(less)} packets; they are not those of the log")
+        check(same, "quiet packets", f"{line[:99]!r} has {len(less)} packets, which differ from those of the log")
     check(sent[-1] == split_lines(output)[-1], "quiet packets", f"{sent[-1]!r}")
     check(run("quiet", quiet) == (0, quiet, b""), "quiet again", "the second quiet log differs from the first")
 
@@ -371,7 +375,7 @@ def check_saved(log, output, fault, run, folder, damaged):
     check(
         (status, said) == (0, b"") and read_file(first) == read_file(second),
         "saved",
-        f"loading and saving again: status {status}, stderr {said!r}, or another snapshot",
+        f"loading and saving changes the snapshot, or fails: status {status}, stderr {said!r}",
     )
     rows, most = (int(COUNTS.fullmatch(split_lines(text)[-1])[2]) for text in (counts, output))
     check(rows <= most, "saved", f"the loaded snapshot has {rows} rows; the session had at most {most}")
@@ -390,7 +394,7 @@ def check_saved(log, output, fault, run, folder, damaged):
     check(
         is_refused or whole == wrong,
         "refused",
-        f"a snapshot with another one's checksums: status {status}, stderr {said!r}",
+        f"a snapshot with the checksums of another one: status {status}, stderr {said!r}",
     )
 
 

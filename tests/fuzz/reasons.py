@@ -132,7 +132,7 @@ def explain_status(status: int, owner: Transaction, machine: Machine, line: byte
     if status == 0x30 and owner.request == RESET:
         return f"more than 10 s have passed since power-up: it was at 0 ms, this is at {machine.now} ms"
     if status == 0x30:
-        return ""  # one of three reasons, depending on the pending assertions
+        return ""  # the reason depends on the pending assertions
     return {
         0x15: "the signature counter has reached its maximum",
         0x19: "excludeList names a credential on this key",

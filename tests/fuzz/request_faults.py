@@ -115,7 +115,7 @@ def find_fault(message: bytes) -> str:
     try:
         asked = ctap_cbor.decode(parameters)
     except ctap_cbor.CborError:
-        return ""  # this decoder may find another error first; tests/unit has each kind with its offset
+        return ""  # this decoder may find another error first; tests/unit tests each kind of error
     typed = isinstance(asked, dict) and all(
         key not in asked or test(asked[key]) for key, test in TYPES[command].items()
     )

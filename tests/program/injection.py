@@ -42,10 +42,11 @@ class Place:
         """Returns the prefix of a command with which strace injects this fault."""
         how = "signal=KILL" if self.fault == "KILL" else f"error={self.fault}"
         if how == "error=ENOMEM" and self.call == "brk":
-            how = "retval=0"  # brk returns no error; without memory, it returns the old end of the heap
+            how = "retval=0"  # brk returns no error: if memory is short, it returns the old end of the heap
         inject = f"inject={self.call}:{how}:when={self.number}"
-        trace = f"trace=openat,{self.call}"  # the first, to know which file was closed
-        # With its filter strace is many times as fast, and sends no signal.
+        # The calls of openat show which file was closed.
+        trace = f"trace=openat,{self.call}"
+        # With --seccomp-bpf, strace is many times as fast, but can't send signals.
         fast = [] if self.fault == "KILL" else ["--seccomp-bpf"]
         return ["strace", "-f", *fast, "-qq", "-o", str(log), "-e", trace, "-e", inject]
 

@@ -175,7 +175,7 @@ def test_conditional_mediation_waits_for_a_choice(make: Make) -> None:
     assert browser.get(REQUEST_OPTIONS, mediation="conditional")["id"] == made[0]["id"]
     browser.select_account()
     assert browser.get(REQUEST_OPTIONS, mediation="conditional")["id"] == made[1]["id"]
-    browser.select_account()  # WebAuthn Level 3, section 5.1.4.2: the timeout doesn't count
+    browser.select_account()  # the timeout is ignored (WebAuthn Level 3, section 5.1.4.2)
     assert browser.get({**REQUEST_OPTIONS, "timeout": 0}, mediation="conditional")["id"] == made[1]["id"]
     allowed = [{"type": "public-key", "id": made[0]["id"]}]
     browser.select_account("bob")

@@ -223,7 +223,7 @@ def test_a_signal_ends_a_command_in_a_line(folder: Path, number: int, status: in
         assert started.stdin and started.stdout and started.stderr
         started.stdin.write(b'{"id": 1, "getLog": 0}\n')
         started.stdin.flush()
-        started.stdout.readline()  # it has started
+        started.stdout.readline()  # waits until the command has started
         for _ in range(2):  # as `timeout` does
             started.send_signal(number)
         said = started.stderr.read()

@@ -33,7 +33,7 @@ def run_with_fido2(case: Case) -> Json | None:
         try:
             return run_calls(called, case)
         except (ValueError, TypeError, LookupError, AttributeError):
-            return None  # options that a page's own reader would have refused
+            return None  # a page's own parser would have rejected these options
 
 
 def select_members(one: Json) -> Json:

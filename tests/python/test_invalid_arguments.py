@@ -160,7 +160,7 @@ def test_each_call_with_each_wrong_value(name: str, tmp_path: Path, monkeypatch:
                 assert len(str(error)) < 3000, (kind, "the text is too long")
             except OSError:
                 assert name in ("save", "save_log", "load"), kind
-            except Exception as error:  # the message as printed for a user
+            except Exception as error:  # the message in the form printed for a user
                 raise AssertionError(f"{name} with {kind}: {type(error).__name__}: {error}") from error
             key.presence, key.timeout, key.presence_delay_ms = "granted", 5, 200
             key.verification, key.attachment, key.has_resident_key = "none", "cross-platform", True

@@ -43,7 +43,7 @@ def test_logs_are_as_the_program_writes_them(example: Callable[[str], bytes], tm
         own, theirs = run_both(command.split(), log, tmp_path)
         if command != "show --explain":
             assert own == theirs
-        else:  # the program explains faults too
+        else:  # the program explains errors, too
             assert (own[:2], own[2].splitlines()[:1]) == (theirs[:2], theirs[2].splitlines()[:1])
 
 

@@ -284,7 +284,7 @@ def main() -> None:
             suite = Suite(driver, page)
             try:
                 saw = getattr(suite, name)()
-            except Exception as error:  # the failure is the result that is compared
+            except Exception as error:  # the error is the result that is compared
                 saw = f"{type(error).__name__}: {str(error).splitlines()[0] if str(error) else ''}"
             print(json.dumps([name, saw]), flush=True)
             if driver.virtual_authenticator_id:
