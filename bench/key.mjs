@@ -1,5 +1,5 @@
-// Registers a credential on an in-memory key of the WebAssembly module, and signs in COUNT times, like bench/key.c.
-// Only the calls are timed.
+// Registers a credential on an in-memory key of the WebAssembly module, and signs in COUNT times, as bench/key.c does.
+// Only the calls of the module are timed.
 //
 //     node bench/key.mjs [MODULE [COUNT]]     prints the seconds for the first and the last thousand sign-ins, and the
 //                                             minimum and median of all thousands
@@ -14,7 +14,7 @@ import { INITIALIZATION_DATA, PACKET_SIZE } from "../bindings/web/key/standard.j
 const MODULE = fileURLToPath(new URL("../release/hidlog.wasm", import.meta.url));
 const [path = MODULE, count = "10000"] = process.argv.slice(2);
 if (!/^[0-9]+$/.test(count) || Number(count) < 1000 || process.argv.length > 4) {
-    console.error("usage: node bench/key.mjs [MODULE [COUNT]], at least 1000");
+    console.error("usage: node bench/key.mjs [MODULE [COUNT]] (COUNT is at least 1000)");
     process.exit(2);
 }
 const { instance } = await WebAssembly.instantiate(readFileSync(path), {});

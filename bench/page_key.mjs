@@ -1,4 +1,5 @@
-// Signs in COUNT times with the key in node, and prints the time of a sign-in and the memory the key uses.
+// Signs in COUNT times with the key of a page in node, and prints the time of a sign-in and the memory that the key
+// uses.
 //
 //     node --expose-gc bench/page_key.mjs COUNT [no]      with `no`, nothing is recorded
 import { SecurityKey } from "../bindings/web/dist/security_key.mjs";

@@ -6,7 +6,7 @@ import { SecurityKey } from "../bindings/web/dist/security_key.mjs";
 
 const [count = "1000"] = process.argv.slice(2);
 if (!/^[1-9][0-9]*$/.test(count) || process.argv.length > 3) {
-    console.error("usage: node bench/stored_sign_ins.mjs [COUNT], at least 1");
+    console.error("usage: node bench/stored_sign_ins.mjs [COUNT] (COUNT is at least 1)");
     process.exit(2);
 }
 const values = new Map();

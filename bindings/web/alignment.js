@@ -1,23 +1,23 @@
-// Two logs line by line: which lines correspond, and where they first differ. Timestamps, ticks, comments and what the
-// key asks for are left out. Sets `globalThis.hidlogAlignment`.
+// Aligns two logs line by line: which lines correspond, and where the logs first differ. Timestamps, ticks, comments
+// and needs are not compared. Sets `globalThis.hidlogAlignment`.
 "use strict";
 
 (() => {
     const { COMMANDS: { CBOR, ERROR, KEEPALIVE }, KIND } = globalThis.hidlogLog;
-    // Lines of each log that are aligned at once: the time is their product.
+    // Maximum number of lines of each log that are aligned at once. The time grows with the product of both numbers.
     const MAX_ALIGNED = 400;
     const CODED = [CBOR, ERROR, KEEPALIVE];
     const TIME = /^([>pks]) \d+ /;
     const INITIALIZATION = 0x80;
 
     /**
-     * What is compared: a line's index, its text without timestamp, what it is, whatever its other bytes, and its kind
-     * or command alone.
+     * The compared parts of a line: `place` is the index, `text` is the text without the timestamp, `shape` is the kind
+     * of line with its command and code, and `group` is only the kind or command.
      * @typedef {{ place: number, text: string, shape: string, group: string }} Compared
      */
 
     /**
-     * What a line is: a packet's sender, command and code, or a reply.
+     * The shape of a line: a packet's sender, command and code, or a reply.
      * @param {Viewer.Line} line
      */
     const findShape = (line) => {
@@ -48,7 +48,7 @@
     };
 
     /**
-     * How a pair differs, in words; "" if it is the same.
+     * The difference of a pair of lines in words, or "" if the lines are the same.
      * @param {Compared} one
      * @param {Compared} other
      */
@@ -60,7 +60,7 @@
     };
 
     /**
-     * The value of pairing two lines: exactly equal ones first.
+     * The score of pairing two lines. Equal lines have the highest score.
      * @param {Compared} one
      * @param {Compared} other
      */
@@ -72,7 +72,7 @@
     };
 
     /**
-     * The best values of pairing the ends of two lists, by where they begin.
+     * The best total scores for the ends of two lists, by the indexes at which the ends begin.
      * @param {Compared[]} ones
      * @param {Compared[]} others
      */
@@ -117,7 +117,7 @@
     };
 
     /**
-     * Pairs the lines of two sessions, a slice per step.
+     * Pairs the lines of two sessions. Each step of the generator pairs a part of them.
      * @param {Viewer.Session} one @param {Viewer.Session} other
      */
     const align = function* aligning(one, other) {

@@ -1,6 +1,6 @@
 // Converts USB captures to logs: pcap and pcapng of usbmon (Linux) and USBPcap (Windows). The key is found by its
-// packets. Comments are those of `hidlog import` of the Python package, which reads more formats, and infers replies.
-// Sets `globalThis.hidlogCaptures`.
+// packets. The comments in the logs are the same as those of `hidlog import` of the Python package, which reads more
+// formats and infers replies. Sets `globalThis.hidlogCaptures`.
 "use strict";
 
 (() => {
@@ -13,12 +13,14 @@
     const LINK_USBPCAP = 249;
     const TRANSFER_INTERRUPT = 1;
     const PACKET_BYTES = 64;
-    // A tick is inserted before a packet of the key that came at least this many milliseconds after the previous line.
+    // A tick is inserted before a packet of the key if the packet came at least this many milliseconds after the
+    // previous line.
     const TICK_MS = 100;
     const decoder = new TextDecoder("utf-8");
 
     /**
-     * A frame of a capture: when it was recorded, and whether hidlog wrote the capture; and the report of a key in it.
+     * A frame of a capture, and the HID report of a key that a frame contains. `at` is the time in milliseconds, and
+     * `isOwn` tells whether hidlog wrote the capture.
      * @typedef {{ at: number, link: number, isLittle: boolean, data: Uint8Array, comments: Uint8Array[], isOwn: boolean,
      *     number: number }} Frame
      * @typedef {{ where: string, isSent: boolean, packet: Uint8Array, at: number, status: number }} Report
@@ -34,7 +36,7 @@
     const makeView = (bytes) => new DataView(bytes.buffer, bytes.byteOffset, bytes.byteLength);
 
     /**
-     * The frames of a pcap file, with `at` in milliseconds. A truncated last frame is left out.
+     * The frames of a pcap file. A truncated last frame is left out.
      * @param {Uint8Array} bytes
      * @returns {Generator<Frame, void, void>}
      */
@@ -128,7 +130,7 @@
     }
 
     /**
-     * The HID report in a frame, with its direction and device, or null.
+     * The HID report in a frame, or null if there is none.
      * @param {Frame} frame
      * @returns {Report | null}
      */
@@ -160,7 +162,7 @@
     const isInit = ({ isSent, packet }) => isSent && toHex(packet.subarray(0, 7)) === "ffffffff860008";
 
     /**
-     * The devices to which a host sends INIT; if there are none, those to which it sends any report.
+     * The devices to which a host sends INIT. If there are none, the devices to which a host sends any report.
      * @param {Report[]} reports
      */
     const findKeys = (reports) => {
@@ -199,7 +201,7 @@
     };
 
     /**
-     * The log in a capture exported by hidlog: its other lines are comments of the frames.
+     * The log in a capture that hidlog exported. The lines that are not packets are stored as comments of the frames.
      * @param {Frame[]} frames
      */
     const readEmbeddedLog = (frames) => {
@@ -233,7 +235,7 @@
         const isPcapng = toHex(bytes.subarray(0, 4)) === SECTION_HEADER;
         const frames = [...(isPcapng ? readPcapng(bytes) : readPcap(bytes))];
         if (frames.length && !frames.some((frame) => frame.link in HEAD_BYTES)) {
-            throw new Error(`unsupported link type ${frames[0].link}; supported: USB of usbmon and USBPcap`);
+            throw new Error(`unsupported link type ${frames[0].link}; supported are USB captures of usbmon and USBPcap`);
         }
         if (frames.some((frame) => frame.isOwn)) {
             return [{ name: "exported", bytes: readEmbeddedLog(frames) }];

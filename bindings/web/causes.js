@@ -1,11 +1,11 @@
-// Why the key rejected inputs of a log: plays them on the key, and asks the core for the cause after each. Sets
-// `globalThis.hidlogCauses`.
+// Finds why the key rejected inputs of a log: passes the inputs to the key, and reads the cause from the core after
+// each. Sets `globalThis.hidlogCauses`.
 "use strict";
 
 (() => {
     const { WasmKey, playLine } = globalThis.hidlogWasmKey;
     const INPUT = /^[>tpks] /;
-    // Causes kept of a log; the page shows the latest ones.
+    // Maximum number of causes that are kept for a log. The oldest are dropped.
     const MAX_CAUSES = 1000;
     const [TIMEOUT_BEFORE, OF_INPUT] = [0, 1];
 
@@ -19,7 +19,7 @@
         [TIMEOUT_BEFORE, OF_INPUT].flatMap((which) => key.rejection(which) ?? []).map((found) => ({ line, ...found }));
 
     /**
-     * Plays the lines of a text, and calls `add` with the causes of each.
+     * Passes the lines of a text to the key, and calls `add` with the causes after each line.
      * @param {Viewer.WasmKey} key
      * @param {Viewer.TextPart} part
      * @param {(found: Viewer.Rejection[]) => void} add
@@ -35,8 +35,8 @@
 
     /**
      * Finds the causes of a log's rejections: the line of the input, the cause's code (enum hidlog_cause_code), the
-     * status, and a sentence. A line that the key's functions refuse ends the search. `report` is called with the share
-     * that is done.
+     * status, and a sentence. The search ends at a line that the key's functions reject. `report` is called with the
+     * fraction that is done.
      * @param {Viewer.Core} core
      * @param {Uint8Array} log
      * @param {Uint8Array} snapshot

@@ -1,5 +1,5 @@
-// Where the parts of a CBOR item are in its bytes, so that a member can be highlighted. It supports what CTAP2 allows:
-// items of definite length without tags. Sets `globalThis.hidlogSpans`.
+// Finds the byte ranges of the parts of a CBOR item, so that a member can be highlighted. Supports the items that CTAP2
+// allows: items of definite length without tags. Sets `globalThis.hidlogSpans`.
 "use strict";
 
 (() => {
@@ -8,7 +8,7 @@
     const [UNSIGNED, NEGATIVE, BYTES, TEXT, ARRAY, MAP, TAG] = Array(7).keys();
     const FLOAT_TEXTS = new Map([[20, "false"], [21, "true"], [22, "null"], [23, "undefined"]]);
 
-    /** Reads items from a position on. */
+    /** Reads CBOR items from an offset on. */
     class SpanReader {
         /**
          * @param {Uint8Array} bytes
@@ -68,7 +68,7 @@
     }
 
     /**
-     * An item without inner ones in diagnostic notation (RFC 8949, section 8).
+     * An item that is not a map or array, in diagnostic notation (RFC 8949, section 8).
      * @param {Uint8Array} bytes
      * @param {Viewer.Span} span
      */
@@ -93,7 +93,7 @@
     };
 
     /**
-     * The item at a position, or null if it is not as CTAP2 has it.
+     * The item at an offset, or null if the item is not valid in CTAP2.
      * @param {Uint8Array} bytes @param {number} at @returns {Viewer.Span | null}
      */
     const findSpans = (bytes, at) => {

@@ -1,4 +1,4 @@
-// Copies texts to the clipboard by the event `copy`, which needs no permission. Sets `globalThis.hidlogCopying`.
+// Copies texts to the clipboard with the event `copy`, which needs no permission. Sets `globalThis.hidlogCopying`.
 "use strict";
 
 (() => {
@@ -9,7 +9,7 @@
     let waiting = null;
 
     /**
-     * Copies a text. Returns whether the browser did.
+     * Copies a text. Returns whether the browser copied it.
      * @param {string} text
      */
     const copyText = (text) => {

@@ -1,12 +1,12 @@
-// The verified core as WebAssembly: the commands of crates/hidlog_c on bytes. A classic script, so that pages opened
-// from a file can use it; as a module it is imported for its side effect. Sets `globalThis.hidlog`.
+// The verified core as WebAssembly, with the commands of crates/hidlog_c on logs. This is a classic script, so that
+// pages opened from a file can use it. Modules import the script for its side effect. Sets `globalThis.hidlog`.
 "use strict";
 
 (() => {
     const RESULT_BYTES = 32;
     // HIDLOG_ERR_BUFFER_TOO_SMALL.
     const BUFFER_TOO_SMALL = 5;
-    // The arguments after the log of commands that take no snapshot; for hidlog_show, `explain` is 1.
+    // The arguments after the log, for commands without a snapshot. For hidlog_show, `explain` is 1.
     const SHOW_EXPLAIN = 1;
     /** @type {Record<string, number[]>} */
     const EXTRA_ARGUMENTS = { show: [SHOW_EXPLAIN], transactions: [] };
@@ -41,7 +41,7 @@
         return texts[errorCode];
     };
 
-    /** An instance of the module. Its memory grows as needed. */
+    /** An instance of the module, whose memory grows as needed. */
     class Core {
         /** @param {Record<string, any>} exports */
         constructor(exports) {
@@ -91,14 +91,14 @@
          */
         hold(part, offset, length) {
             if (this.logAt + length > MAX_MEMORY) {
-                throw new Error("the log is too long");
+                throw new Error("the log is too long for the core's memory");
             }
             this.grow(this.logAt + length);
             this.bytes.set(part, this.logAt + offset);
         }
 
         /**
-         * Calls a command on the log of `length` bytes in the memory, with an output buffer of at most `wanted`.
+         * Calls a command on the log of `length` bytes in the memory, with an output buffer of at most `wanted` bytes.
          * @param {string} command
          * @param {number} length
          * @param {Uint8Array} snapshot
@@ -111,7 +111,7 @@
             const outAt = align(snapshotAt + snapshot.length);
             const capacity = Math.min(wanted, MAX_MEMORY - outAt);
             if (capacity < 0) {
-                throw new Error("the log is too long");
+                throw new Error("the log is too long for the core's memory");
             }
             this.grow(outAt + capacity);
             this.bytes.set(snapshot, snapshotAt);
@@ -162,11 +162,11 @@
     }
 
     /**
-     * The constructor sets the views by updateViews().
+     * A Core after its constructor has called updateViews(), which sets the views.
      * @typedef {Core & { bytes: Uint8Array, result: DataView }} CoreWithViews
      */
 
-    /** The module's bytes: packed in the page, and plain in the npm package. */
+    /** The module's bytes, which are compressed in the page, but not in the npm package. */
     const readModule = () => {
         const bytes = fromBase64(globalThis.HIDLOG_WASM);
         return MODULE_MARK.every((byte, at) => bytes[at] === byte) ? bytes : unpack(bytes);
@@ -181,7 +181,7 @@
     /** @type {Promise<Viewer.Core> | null} */
     let made = null;
 
-    /** The core. It keeps no state between calls, so one instance is shared. */
+    /** The core, of which one instance is shared, since calls keep no state. */
     const load = () => (made ??= instantiate());
 
     globalThis.hidlog = { load, formatError };

@@ -1,4 +1,4 @@
-// The detail of the selected row: its fields as a tree, and their bytes beside them, both to copy. Sets
+// The detail pane of the selected row: the fields as a tree, and the bytes of the packets. Both can be copied. Sets
 // `globalThis.hidlogDetail`.
 "use strict";
 
@@ -14,7 +14,7 @@
      */
     const getElement = (id) => /** @type {HTMLElement} */ (document.getElementById(id));
 
-    /** What is shown: the tree, its packets, and the texts of the row's lines. */
+    /** The shown detail: the tree, the packets, and the texts of the row's lines. */
     const shown = {
         /** @type {InstanceType<typeof FieldTree> | null} */
         tree: null,
@@ -27,14 +27,14 @@
     const pane = new HexPane(getElement("hex"), getElement("hex-status"), (place) => shown.tree?.selectByte(place));
 
     /**
-     * The fields of lines without packets.
+     * The fields for lines that are not packets.
      * @param {string[]} lines
      * @returns {Viewer.Field[]}
      */
     const makePlainFields = (lines) => lines.map((text) => ({ text, level: 1, ranges: [], inner: [], isOpen: false }));
 
     /**
-     * Makes the tree of a row, and shows its packets. `marked` are lines to mark.
+     * Makes the tree of a row, and shows the row's packets. `isMarked` selects the lines to mark.
      * @param {Viewer.Row} row @param {Viewer.LineTexts} texts @param {(line: string) => boolean} [isMarked]
      */
     const makeTree = (row, texts, isMarked = () => false) => {
@@ -60,7 +60,7 @@
     };
 
     /**
-     * Shows a row's fields below a text.
+     * Shows a row's fields below the text `before`.
      * @param {Viewer.Row} row
      * @param {Viewer.LineTexts} texts
      * @param {string} before
@@ -74,13 +74,13 @@
 
     // ---- copying
 
-    /** The selected field's text, or all. */
+    /** The text of the selected field, or of all fields. */
     const readText = () => {
         const chosen = shown.tree?.chosen;
         return chosen ? chosen.text.trim() : getElement("detail-text").textContent ?? "";
     };
 
-    /** The selected field's bytes, or those of all packets. */
+    /** The bytes of the selected field, or of all packets. */
     const readBytes = () => {
         const { packets, tree } = shown;
         const all = packets.map(({ bytes }, at) => ({ from: at * bytes.length, to: (at + 1) * bytes.length }));
@@ -92,7 +92,7 @@
     const KEYS = { c: "copy-text", b: "copy-bytes", l: "copy-lines" };
 
     /**
-     * Copies by a button's ID, and says how much.
+     * Copies the text or the bytes, as selected by a button's ID, and reports how much was copied.
      * @param {keyof typeof READERS} id
      * @param {(text: string) => void} tell
      */
@@ -105,7 +105,7 @@
     };
 
     /**
-     * Listens to buttons and keys; `tell` shows what was copied.
+     * Adds the listeners for buttons and keys. `tell` shows what was copied.
      * @param {(text: string) => void} tell
      */
     const start = (tell) => {

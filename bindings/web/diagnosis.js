@@ -1,5 +1,5 @@
-// Says who is at fault in a log: the host, the key, the user, the caller, the capture or nobody; in which line, why,
-// and what to do. It decides from what diagnosis_work.js found. Sets `globalThis.hidlogDiagnosis`.
+// Diagnoses who is at fault in a log (the host, the key, the user, the caller, the capture or nobody), in which line,
+// why, and what to do. The diagnosis is based on the results of diagnosis_work.js. Sets `globalThis.hidlogDiagnosis`.
 "use strict";
 
 (() => {
@@ -18,7 +18,7 @@
         caller: [CAUSE.NO_KEY, CAUSE.KEY_ID, CAUSE.NO_SIGNATURE],
         key: [CAUSE.NO_CHANNEL_LEFT, CAUSE.FULL, CAUSE.COUNTER],
     };
-    // Statuses (standard/statuses.tsv) that the host did not cause.
+    // Statuses (standard/statuses.tsv) that are caused by the user, not by the host.
     const [KEEPALIVE_CANCEL, KEY_STORE_FULL] = [0x2d, 0x28];
     const USER_STATUSES = [0x27, 0x2f, 0x3a];
     /** @type {Record<Viewer.Side, string>} */
@@ -71,7 +71,7 @@
     };
 
     /**
-     * The line of a signature that the caller gave in a transaction, or the transaction's first line.
+     * The line of the signature that the caller provided in a transaction, or the line `otherwise`.
      * @param {Viewer.Transaction | null} transaction
      * @param {number} otherwise
      */
@@ -105,7 +105,7 @@
     // ---- verdicts
 
     /**
-     * A file is no log.
+     * The verdict for a file that is not a log.
      * @param {string} why
      * @param {string} advice
      * @returns {Viewer.Verdict}
@@ -115,7 +115,7 @@
     });
 
     /**
-     * The log has an invalid line, or its snapshot was rejected.
+     * The verdict for a log that has an invalid line or a rejected snapshot.
      * @param {Viewer.Fault} outcome
      * @param {string} reason
      * @param {string} text
@@ -127,7 +127,7 @@
     });
 
     /**
-     * The log is this key's, and differs from what the key sends.
+     * The verdict for a log of this key that differs from what the key sends.
      * @param {Viewer.Checked} examined
      * @param {{ difference: Viewer.KeyDifference, session: Viewer.Session }} shown
      * @returns {Viewer.Verdict}
@@ -164,7 +164,7 @@
     };
 
     /**
-     * A rule is violated.
+     * The verdict for a violated rule.
      * @param {Viewer.Checked} examined
      * @param {Viewer.Finding} finding
      * @param {Viewer.Session} session
@@ -203,7 +203,7 @@
     };
 
     /**
-     * Whether a later request for the user succeeded on the same channel.
+     * Whether a later request that involves the user succeeded on the same channel.
      * @param {Viewer.Session} session
      * @param {Viewer.Transaction} transaction
      */
@@ -226,8 +226,8 @@
     };
 
     /**
-     * Whether a request for the user was rejected, and not because the host cancelled it. Clients probe keys with other
-     * commands, so a rejection of these is no fault.
+     * Whether a request that involves the user was rejected for a reason other than a CANCEL of the host. Clients probe
+     * keys with other commands, so the rejection of such a command is not a fault.
      * @param {Viewer.Transaction} transaction
      */
     const isRejected = (transaction) => {
@@ -236,7 +236,7 @@
     };
 
     /**
-     * The last rejected request that was not repeated with success, or null.
+     * The last rejected request that was not repeated successfully, or null.
      * @param {Viewer.Session} session
      */
     const findRejected = (session) => {
@@ -261,7 +261,7 @@
     };
 
     /**
-     * The lines of a response that refer to others, such as the registration of a credential.
+     * The lines of an explained response that refer to other lines, such as the registration of a credential.
      * @param {Viewer.Transaction} transaction
      * @param {Viewer.LineTexts} shown
      */
@@ -272,7 +272,7 @@
     };
 
     /**
-     * No rule is violated, but a request was rejected.
+     * The verdict if no rule is violated, but a request was rejected.
      * @param {Viewer.Checked} examined
      * @param {Viewer.Transaction} transaction
      * @param {Viewer.Session} session
@@ -296,11 +296,12 @@
         };
     };
 
-    // Transactions at the end of a log among which one may be open: a host waits for a response before it goes on.
+    // Number of transactions at the end of a log that are searched for an open one. A host waits for a response before
+    // it sends the next request.
     const MAX_OPEN = 16;
 
     /**
-     * Says which request has no response yet, if any.
+     * Describes the request that has no response yet, if any.
      * @param {Viewer.Session} session
      */
     const describeOpen = (session) => {
@@ -311,7 +312,7 @@
     };
 
     /**
-     * Nobody is at fault.
+     * The verdict if nobody is at fault.
      * @param {Viewer.Session} session
      * @returns {Viewer.Verdict}
      */
@@ -325,7 +326,7 @@
     });
 
     /**
-     * A log that is this key's own, as a sentence.
+     * A sentence on whether the log matches what this key sends.
      * @param {Viewer.Compared} compared
      */
     const describeMatch = ({ isOwn, hasPlaceholders, outcome, says }) => {
@@ -337,7 +338,7 @@
     };
 
     /**
-     * Another side's first violation, as a sentence.
+     * A sentence on the first violation by another side.
      * @param {Viewer.Checked} examined
      * @param {Viewer.Verdict} verdict
      */
@@ -347,7 +348,7 @@
     };
 
     /**
-     * The totals of `judge`, with the violations of these findings.
+     * The totals of `judge`, with the number of violations among these findings.
      * @param {string} total
      * @param {Viewer.Finding[]} findings
      */
@@ -360,8 +361,9 @@
     };
 
     /**
-     * The findings, of which those on the key's side are its caller's if the log matches the key: it sent what it has
-     * to send for its inputs. If these are placeholders, such findings are left out.
+     * Assigns findings to sides. If the log matches what the key sends for its inputs, the caller provided wrong
+     * inputs, so findings on the key's side are assigned to the caller. If the caller's inputs are placeholders, such
+     * findings are left out.
      * @param {Viewer.Examined} examined
      * @returns {Viewer.Examined}
      */
@@ -379,7 +381,7 @@
     };
 
     /**
-     * Decides: the level, side and line, a title, reasons in sentences, and what to do.
+     * Decides on the verdict: the level, the side, the line, a title, the reasons as sentences, and what to do.
      * @param {Viewer.Checked} examined
      * @param {Viewer.ShownLog} shown
      * @returns {Viewer.Verdict}

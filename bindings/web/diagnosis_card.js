@@ -1,5 +1,5 @@
-// Diagnoses a log on opening, and shows in a card who is at fault, with the line marked, unfolded and selected. Sets
-// `globalThis.hidlogCard`.
+// Diagnoses a log when it is opened, and shows in a card who is at fault. The line is marked, unfolded and selected.
+// Sets `globalThis.hidlogCard`.
 "use strict";
 
 (() => {
@@ -14,7 +14,7 @@
     const { isUserCommand } = globalThis.hidlogStory;
     const { runInWorker } = globalThis.hidlogBackground;
     const difference = globalThis.hidlogDifference;
-    // With more bytes, progress is shown, and what is known before the rules are checked.
+    // Logs with more bytes show progress, and the first results before the rules are checked.
     const MAX_QUICK_BYTES = 256 * 1024;
     const MAX_LISTED = 200;
     const MISMATCH = 3;
@@ -31,7 +31,7 @@
         return made;
     };
 
-    /** Scrolls a window that is lower than the page to the selected row, as far as the card's title stays in sight. */
+    /** If the window is lower than the page, scrolls to the selected row, but keeps the card's title visible. */
     const scrollPage = () => {
         const row = getElement("space").querySelector("[aria-selected=true]");
         const below = row ? row.getBoundingClientRect().bottom + ROW_HEIGHT - globalThis.innerHeight : 0;
@@ -41,7 +41,7 @@
         }
     };
 
-    /** Selects the first request for the user, so that its detail is shown. */
+    /** Selects the first request that involves the user, so that its detail is shown. */
     const selectRequest = () => {
         /** @param {number} place */
         const getTransaction = (place) => rowAt(place)?.transaction;
@@ -91,7 +91,7 @@
     };
 
     /**
-     * The marks of rows, in words: of the verdict's line, and of each finding.
+     * The marks of rows as text: for the verdict's line, and for each finding.
      * @param {Viewer.Verdict} verdict
      * @param {Viewer.Finding[]} findings
      * @returns {Map<number, string>}
@@ -135,12 +135,12 @@
         ["side", "level", "line"].forEach((name) => delete card.dataset[name]);
     };
 
-    /** Whether the user has selected a row of a long log, or scrolled, while it was examined. */
+    /** Whether the user has selected a row or scrolled while a long log was examined. */
     const hasMoved = () =>
         state.bytes.length > MAX_QUICK_BYTES && (state.chosen >= 0 || getElement("scroller").scrollTop > 0);
 
     /**
-     * Shows a verdict, and goes to its line. `examined` is null if the log was not examined.
+     * Shows a verdict, and goes to the verdict's line. `examined` is null if the log was not examined.
      * @param {Viewer.Verdict} verdict
      * @param {Viewer.Examined | null} examined
      */
@@ -181,13 +181,13 @@
     };
 
     /**
-     * Whether what the log has at a difference is an error too: then the credentials are not the reason.
+     * Whether the log also has a rejection at a difference. If so, missing credentials are not the reason.
      * @param {Difference} found
      */
     const isRejection = ({ explained: [own] }) => own.some((text) => text.includes("CTAP2_ERR_NO_CREDENTIALS"));
 
     /**
-     * Finds the difference that a comparison reported, explained, and calls `done` with it.
+     * Finds and explains the difference that a comparison reported, and calls `done` with the difference.
      * @param {Viewer.Fault} outcome
      * @param {(found: Viewer.KeyDifference) => void} done
      */
@@ -205,7 +205,7 @@
     });
 
     /**
-     * Shows what was found in a log.
+     * Shows the results of an examination.
      * @param {Viewer.Examined} found
      */
     const showExamined = (found) => {
@@ -225,7 +225,7 @@
     };
 
     /**
-     * Shows what is known before the rules are checked: the difference from what the key sends, or none.
+     * Shows the first results before the rules are checked: the difference from what the key sends, if any.
      * @param {Viewer.Compared} compared
      * @param {() => boolean} isCurrent
      */
@@ -246,7 +246,7 @@
     };
 
     /**
-     * Says that the examination was cancelled, below what is known.
+     * Shows below the first results that the examination was cancelled.
      * @param {string} name
      */
     const showCancelled = (name) => {
@@ -259,7 +259,7 @@
     };
 
     /**
-     * Shows how far the examination of a log is, unless it is short.
+     * Shows the progress of the examination, unless the log is short.
      * @param {Viewer.Progress} progress
      * @param {number} length
      */
@@ -318,7 +318,8 @@
     };
 
     /**
-     * Diagnoses an opened log. `outcome` is that of playing it, `reason` a likely cause of its invalid line.
+     * Diagnoses an opened log. `outcome` is the result of replaying the log, and `reason` a likely cause of an invalid
+     * line.
      * @param {Viewer.Fault} outcome
      * @param {string} reason
      */
@@ -328,7 +329,7 @@
             const text = globalThis.hidlog.formatError(outcome);
             showVerdict(judgeUnreadable(outcome, reason, `${text[0].toUpperCase()}${text.slice(1)}`), null);
         } else {
-            // The names of all rows come first, and then the processor and the memory are for this.
+            // The diagnosis starts after all rows have names, so that both do not compete for the processor and memory.
             afterExplaining([currentSession()], examine);
         }
     };
@@ -341,7 +342,7 @@
     const showUnreadableFile = (why, advice) => showVerdict(judgeFile(why, advice), null);
 
     /**
-     * Judges a log by the rules of CTAP 2.1. Returns a promise of its findings, notes and totals.
+     * Checks a log against the rules of CTAP 2.1. Returns a promise of the findings, notes and totals.
      * @param {Uint8Array} bytes
      */
     const judge = (bytes) => runInWorker(state.core, "judge", bytes).outcome;

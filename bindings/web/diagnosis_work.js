@@ -1,12 +1,12 @@
-// What a diagnosis is made of (diagnosis.js): whether the log is this key's, the first difference from what the key
-// sends, the causes of its rejections, and the rules of CTAP 2.1 that packets violate. Runs in a worker. Sets
+// Examines a log for its diagnosis (diagnosis.js): whether this key wrote the log, the first difference from what the
+// key sends, the causes of rejections, and the rules of CTAP 2.1 that packets violate. Runs in a worker. Sets
 // `globalThis.hidlogDiagnosisWork`.
 "use strict";
 
 (() => {
-    // Lines that only this project's recorders write: replies, needs and totals.
+    // Lines that only recorders of this project write: replies, needs and totals.
     const OWN_LINES = /^(?:[pks] |# need |= held )/m;
-    // A public key whose coordinates repeat one byte each, as in examples that are written to be read.
+    // A public key whose coordinates repeat one byte each, as in examples that are written by hand.
     const PLACEHOLDER = /^k \d+ [0-9a-f]{64} (..)\1{31} (..)\2{31}$/im;
     const INIT_RESPONSE = /^< [0-9a-f]{8}860011[0-9a-f]*$/gim;
     const { hasMatch, iterateTexts } = globalThis.hidlogLog;
@@ -17,8 +17,8 @@
         [...iterateTexts(bytes)].flatMap(({ text }) => text.match(INIT_RESPONSE) ?? []).map((line) => line.toLowerCase());
 
     /**
-     * Whether a log is of this key: it matches what the key sends, or it has lines of this project's recorders, and an
-     * INIT response of the key, if it has any.
+     * Whether a log was recorded with this key. Either the log matches what the key sends, or it has lines of this
+     * project's recorders, and its INIT responses, if any, are the key's.
      * @param {Viewer.Core} core
      * @param {Uint8Array} log
      * @param {Uint8Array} snapshot
@@ -34,8 +34,8 @@
     };
 
     /**
-     * Examines a log. `report` is called with what is done next, the share of it that is done, and what was found
-     * before the rules are checked.
+     * Examines a log. `report` is called with the next stage, the fraction of the stage that is done, and the first
+     * results before the rules are checked.
      * @param {Viewer.Core} core
      * @param {Uint8Array} log
      * @param {Uint8Array} snapshot

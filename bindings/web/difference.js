@@ -1,4 +1,4 @@
-// The first difference between a log and what the key sends: its line, and both packets explained side by side. Sets
+// The first difference between a log and what the key sends: the line, and both packets explained side by side. Sets
 // `globalThis.hidlogDifference`.
 "use strict";
 
@@ -36,7 +36,7 @@
     };
 
     /**
-     * Returns the line index of an input, which are counted from 1, or -1.
+     * Returns the line index of the input with this number, counted from 1, or -1.
      * @param {Viewer.Session} session
      * @param {number} count
      */
@@ -62,11 +62,11 @@
             : `line ${has.number} is unexpected: the key sends ${packet - 1} packets ${where}`;
     };
 
-    // Shown until the explanations of the packets are known.
+    // The text that is shown until the packets are explained.
     const UNKNOWN_TEXT = "…";
 
     /**
-     * Finds the packet named by `check`, and what the key sends instead.
+     * Finds the packet that `check` reported, and the packet that the key sends instead.
      * @param {Viewer.Session} recorded
      * @param {Viewer.Session} replayed
      * @param {{ line: number, packet: number }} outcome
@@ -96,7 +96,7 @@
     };
 
     /**
-     * A packet line, with the digits marked that differ from the other one.
+     * A packet line in which the digits are marked that differ from the other packet.
      * @param {string} text
      * @param {string} other
      */
@@ -117,21 +117,21 @@
     };
 
     /**
-     * The lines, with those missing from the other log marked.
+     * The lines, where lines that are missing on the other side are marked.
      * @param {string[]} lines
      * @param {string[]} others
      */
     const markLines = (lines, others) =>
         lines.flatMap((line) => [others.includes(line) ? line : makeMark(line), "\n"]);
 
-    // Longer lines, such as bytes, are not part of the overview.
+    // Longer lines, such as those with byte strings, are not part of the overview.
     const MAX_WIDTH = 70;
 
-    // What the two sides of a difference are called.
+    // The names of the two sides of a difference.
     const LOG_AND_KEY = { own: "The log", other: "The key" };
 
     /**
-     * The overview: the short lines of each that the other lacks.
+     * The overview: for each side, the short lines that the other side lacks.
      * @param {string[]} own
      * @param {string[]} other
      * @param {{ own: string, other: string }} names
@@ -150,7 +150,7 @@
     const SNAPSHOT_HINT = "The key has no matching credential. If the log started with credentials, drop its snapshot first.\n";
 
     /**
-     * Whether only the second message says that no credential matches.
+     * Whether only the second message reports that no credential matches.
      * @param {string[]} own
      * @param {string[]} other
      */
@@ -158,15 +158,15 @@
         other.join().includes(NO_CREDENTIALS) && !own.join().includes(NO_CREDENTIALS);
 
     /**
-     * The explanations of both packets, once known.
+     * The explanations of both packets, or a text if these are not known yet.
      * @param {DifferingLines} found
      * @param {Viewer.LineTexts} shown
      */
     const explain = ({ has, sends }, shown) => [has, sends].map((line) => (line ? shown.detail(line) : []));
 
     /**
-     * The difference as DOM nodes: both packets, and their messages explained. `makeTree` makes the fields of the first
-     * message, of which it marks some.
+     * The difference as DOM nodes: both packets, and the explanations of their messages. `makeTree` makes the tree of
+     * the first message's fields, and marks the lines that its argument selects.
      * @param {Difference} found
      * @param {(isMarked: (line: string) => boolean) => HTMLElement} makeTree
      */

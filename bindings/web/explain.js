@@ -1,5 +1,5 @@
 // The output of `hidlog show --explain` for a log, with an index of each line's explanation. The core explains the
-// whole log, since a line's explanation depends on the lines before it. Sets `globalThis.hidlogExplained`.
+// whole log, since the explanation of a line depends on the preceding lines. Sets `globalThis.hidlogExplained`.
 "use strict";
 
 (() => {
@@ -7,21 +7,21 @@
     const [NEWLINE, SPACE, HOST, ZERO] = [10, 32, 62, 48];
     // HIDLOG_ERR_BUFFER_TOO_SMALL.
     const BUFFER_TOO_SMALL = 5;
-    // Bytes at the start of a long log that are explained immediately, before the rest.
+    // Number of bytes at the start of a long log that are explained immediately, before the rest.
     const FIRST_BYTES = 65536;
-    // Lines whose explanations are cached as strings.
+    // Maximum number of lines whose explanations are cached as strings.
     const MAX_CACHED = 4096;
     const decoder = new TextDecoder();
-    // The explanation of a line that is not explained yet, and of one too long to explain.
+    // The texts for a line that is not explained yet, and for a line that is too long to explain.
     /** @type {Viewer.Words} */
     const PENDING_TEXT = { head: "…", below: [] };
     /** @type {Viewer.Words} */
     const UNAVAILABLE_TEXT = { head: "(too long to explain here: use hidlog show --explain)", below: [] };
 
     /**
-     * Indexes the core's output: where each line's explanation starts, and which lines have more of it after a later
-     * line, such as a packet that only the next one shows not to be late. If the output is truncated, lines before the
-     * last packet of a host are `sure`. The index can be posted from a worker.
+     * Indexes the core's output: where each line's explanation starts, and which explanations continue after a later
+     * line. (Whether a packet is late may be known only after the next packet.) If the output is truncated, only lines
+     * before the last packet of a host are `sure`. A worker can post the index.
      * @param {Pick<Viewer.Outcome, "text" | "status" | "errorCode">} outcome
      * @param {boolean} isCut
      * @returns {Viewer.OutputIndex}
@@ -55,7 +55,7 @@
     /** The explanations of a log's lines, as far as they are known. */
     class Explained {
         /**
-         * `isLast`: no more will be known.
+         * `isLast` tells that no further output follows.
          * @param {Viewer.OutputIndex} index
          * @param {boolean} isLast
          */
@@ -64,7 +64,7 @@
         }
 
         /**
-         * Whether a line's explanation is known, or never will be.
+         * Whether a line's explanation is final: known, or known not to follow.
          * @param {number} place
          * @this {Viewer.Explained}
          */
@@ -115,7 +115,7 @@
         }
 
         /**
-         * The output lines from a line's head to the next one's.
+         * The output lines from the head of a line's explanation to the next head.
          * @param {number} place
          * @this {Viewer.Explained}
          */

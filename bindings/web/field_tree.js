@@ -1,16 +1,16 @@
-// A tree of fields (fields.js) by ARIA's pattern: arrow keys move, open and close; the selected field is announced.
-// Sets `globalThis.hidlogFieldTree`.
+// A tree of fields (fields.js), after ARIA's tree view pattern: arrow keys move, open and close; screen readers
+// announce the selected field. Sets `globalThis.hidlogFieldTree`.
 "use strict";
 
 (() => {
     /**
-     * A shown field, with its number and the count among those around it.
+     * A shown field, its number and the count among its siblings, and its parent.
      * @typedef {{ field: Viewer.Field, at: number, count: number, around: Viewer.Field | null }} Shown
      */
 
     let made = 0;
 
-    // Digits after which a line may break.
+    // Number of hexadecimal digits after which a line may break.
     const DIGITS = /(?<=(?:[0-9a-f]{8})+)(?=[0-9a-f]{8})/g;
 
     /**
@@ -44,7 +44,7 @@
         }
 
         /**
-         * The fields that are shown, from the first to the last.
+         * The shown fields, in order.
          * @returns {Shown[]}
          */
         listShown() {
@@ -81,7 +81,7 @@
         }
 
         /**
-         * Selects a field, and opens those around it.
+         * Selects a field, and opens its ancestors.
          * @param {Viewer.Field} field
          */
         select(field) {
@@ -100,7 +100,7 @@
         }
 
         /**
-         * Selects the innermost field that is about a byte.
+         * Selects the innermost field that contains a byte.
          * @param {number} place
          */
         selectByte(place) {
@@ -172,7 +172,7 @@
         }
 
         /**
-         * Opens or closes a field; if it is already, moves to the first inner one, or the one around it.
+         * Opens or closes a field. If the field is open or closed already, moves to its first child or to its parent.
          * @param {Viewer.Field} field
          * @param {boolean} isOpen
          */

@@ -1,5 +1,5 @@
-// The fields of messages: the lines of their explanation as a tree, each with the bytes of its packets that it is about.
-// Sets `globalThis.hidlogFields`.
+// The fields of messages: the lines of an explanation as a tree, each with the bytes of the packets that the line
+// describes. Sets `globalThis.hidlogFields`.
 "use strict";
 
 (() => {
@@ -10,10 +10,11 @@
     const PACKET_BYTES = PACKET_DIGITS / 2;
     // Bytes before a packet's data (CTAP 2.1, section 11.2.4).
     const [FIRST_HEAD, NEXT_HEAD] = [7, 5];
-    // Where fields of authenticator data are (WebAuthn, section 6.1); a credential ID follows its length.
+    // The ranges of fields in authenticator data (WebAuthn, section 6.1). A credential ID follows its length.
     const AUTH_DATA = new Map([["rpIdHash", [0, 32]], ["flags", [32, 33]], ["signCount", [33, 37]], ["aaguid", [37, 53]]]);
     const [ID_LENGTH_AT, ID_AT] = [53, 55];
-    // The data of messages that are no CBOR (CTAP 2.1, section 11.2.9), by command and whether the key sent it.
+    // The fields in the data of messages without CBOR (CTAP 2.1, section 11.2.9), by command and by whether the key
+    // sent the message.
     /** @type {Record<string, [string, number, number][]>} */
     const DATA_FIELDS = {
         [`${INIT} host`]: [["nonce", 0, 8]],
@@ -24,7 +25,7 @@
     const HEX = /(?:^|[ '])((?:[0-9a-f]{2}){4,})(?:$|[ '])/;
     const MEMBER = /^ *(-?\d+|\w+)/;
 
-    /** The packets of a message, and where its data are in them. */
+    /** The packets of a message, and the positions of the message's data in the packets. */
     class MessageBytes {
         /**
          * @param {{ lines: { number: number, text: string }[], received: number }} message
@@ -48,7 +49,7 @@
         }
 
         /**
-         * Where a data byte is in all packets.
+         * The offset of a data byte among the bytes of all packets.
          * @param {number} at
          */
         place(at) {
@@ -81,7 +82,7 @@
         }
 
         /**
-         * A range of a packet's head.
+         * A range in the head of the first packet.
          * @param {number} from
          * @param {number} to
          * @returns {Viewer.ByteRange[]}
@@ -92,7 +93,7 @@
     }
 
     /**
-     * Where bytes occur in a range of others, or -1.
+     * The index at which bytes occur in a range of other bytes, or -1.
      * @param {Uint8Array} bytes
      * @param {string} hex
      * @param {Viewer.ByteRange} range
@@ -107,14 +108,14 @@
     };
 
     /**
-     * A part of a message's data: a range, and its CBOR item if it is one.
+     * A part of a message's data: the range, and the CBOR item if the part is an item.
      * @typedef {Viewer.ByteRange & { span?: Viewer.Span }} Part
      */
 
     /**
-     * The part of authenticator data that a line is about.
+     * The part of authenticator data that a line describes.
      * @param {Uint8Array} data
-     * @param {number} start where the byte string's content begins
+     * @param {number} start the offset of the byte string's content
      * @param {string} name
      * @returns {Part | null}
      */
@@ -132,7 +133,7 @@
     };
 
     /**
-     * The part of the data that a line is about, within that of the line around it.
+     * The part of the data that a line describes, within the part of the enclosing line.
      * @param {Uint8Array} data
      * @param {Part} around
      * @param {string} line
@@ -189,7 +190,8 @@
     };
 
     /**
-     * The lines of a message's explanation as fields. `base` is where its packets begin among all that are shown.
+     * The lines of a message's explanation as fields. `base` is the offset of the message's packets among all shown
+     * packets.
      * @param {Viewer.Message} message @param {string[]} lines @param {number} base
      */
     const makeFields = (message, lines, base) => {
@@ -220,7 +222,7 @@
         return { fields, packets: bytes.packets, size: bytes.size };
     };
     /**
-     * Adds the inner fields of members that are maps or arrays, and have no lines of their own.
+     * Adds the inner fields of members that are maps or arrays without own lines.
      * @param {MessageBytes} bytes
      * @param {Viewer.Field[]} fields
      * @param {Viewer.Span | null} span

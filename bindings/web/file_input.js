@@ -1,5 +1,6 @@
-// Reads files of any kind: unpacks gzip, and turns UTF-16, a byte order mark, CR LF, and what copying does to lines
-// (pasted_text.js), into a log's plain lines. Refuses other files (file_kinds.js). Sets `globalThis.hidlogFileInput`.
+// Reads files of any kind: unpacks gzip, and converts UTF-16, a byte order mark, CR LF, and changes by copying
+// (pasted_text.js) to the plain lines of a log. Rejects files that are not logs or captures (file_kinds.js). Sets
+// `globalThis.hidlogFileInput`.
 "use strict";
 
 (() => {
@@ -32,7 +33,7 @@
             size += part.value.length;
             if (size > most) {
                 await reader.cancel();
-                throw new Error(`it unpacks to more than ${most} bytes`);
+                throw new Error(`the unpacked file has more than ${most} bytes`);
             }
         }
         return new Uint8Array(await new Blob(parts).arrayBuffer());
@@ -57,7 +58,7 @@
     };
 
     /**
-     * The bytes of a text as a log has them, and what was changed.
+     * Converts the bytes of a text to those of a log. Returns the bytes and a description of the changes.
      * @param {Uint8Array} bytes
      */
     const toPlainText = (bytes) => {
@@ -72,8 +73,8 @@
     };
 
     /**
-     * Reads a file of up to `most` bytes. Returns its logs, several for a capture with several keys, and what was
-     * converted. Throws if it is another kind of file.
+     * Reads a file of up to `most` bytes. Returns the file's logs (a capture with several keys has several) and a
+     * description of the conversions. Throws if the file is of another kind.
      * @param {Uint8Array} bytes
      * @param {number} most
      */

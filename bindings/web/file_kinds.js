@@ -1,4 +1,4 @@
-// What a file is that is no log and no capture, by its first bytes, and what to do with it. Sets
+// Recognizes files that are neither a log nor a capture by their first bytes, and advises what to do with them. Sets
 // `globalThis.hidlogFileKinds`.
 "use strict";
 
@@ -35,10 +35,13 @@
         [/^hidlog: line \d+: /, "the output of hidlog check", OPEN_SOURCE],
     ];
 
-    // The comments of a log, and another line of it.
+    // The comments at the start of a log, and the first other line.
     const LOG_FRONT = /^(?:(?:#.*)?\n)*[<>tpks=] /;
 
-    /** Why a file cannot be opened, and what to do. `isImportable` is whether `hidlog import` may convert it. */
+    /**
+     * The error for a file that cannot be opened, with advice. `isImportable` is whether `hidlog import` may convert
+     * the file.
+     */
     class UnreadableFileError extends Error {
         /**
          * @param {string} message
@@ -52,12 +55,12 @@
     }
 
     /**
-     * The start of a file as text, or null if it is not UTF-8, or has control characters.
+     * The start of a file as text, or null if the bytes are not UTF-8, or contain control characters.
      * @param {Uint8Array} bytes
      */
     const readText = (bytes) => {
         try {
-            // A character that is cut off at the end of the part is no error.
+            // With `stream`, an incomplete character at the end of the part is not an error.
             const decoder = new TextDecoder("utf-8", { fatal: true });
             const text = decoder.decode(bytes.subarray(0, FIRST_BYTES), { stream: true });
             return /[^\P{Cc}\t\n\r]/u.test(text) ? null : text;
@@ -67,13 +70,13 @@
     };
 
     /**
-     * The error of a file that is of another known kind, or null.
+     * The error for a file of another known kind, or null.
      * @param {Uint8Array} bytes
      */
     const findKindError = (bytes) => {
         const binary = BINARIES.find(([front]) => toHex(bytes.subarray(0, front.length / 2)) === front);
         if (binary) {
-            return new UnreadableFileError(`it is ${binary[1]}`);
+            return new UnreadableFileError(`the file is ${binary[1]}`);
         }
         const text = readText(bytes);
         if (text === null || LOG_FRONT.test(text)) {
@@ -81,19 +84,19 @@
         }
         const other = OTHERS.find(([pattern]) => pattern.test(text));
         if (other) {
-            return new UnreadableFileError(`it is ${other[1]}`, other[2]);
+            return new UnreadableFileError(`the file is ${other[1]}`, other[2]);
         }
         const importable = IMPORTABLE.find(([pattern]) => pattern.test(text));
-        return importable ? new UnreadableFileError(`it is ${importable[1]}`, "", true) : null;
+        return importable ? new UnreadableFileError(`the file is ${importable[1]}`, "", true) : null;
     };
 
-    // A line of a log that is no comment.
+    // A line of a log that is not a comment.
     const RECORD = /^(?:(?:> \d+|<) [0-9a-f]{128}|[tpks] \d+(?: .*)?)$/i;
-    // Hexadecimal digits of a packet, and characters of a line that are shown.
+    // Number of hexadecimal digits of a packet, and maximum number of characters of a line in a message.
     const [PACKET_DIGITS, MAX_SHOWN] = [128, 60];
 
     /**
-     * Why a line is no log line, as far as it is a common mistake, or "".
+     * Why a line is not a log line, if this is due to a common mistake, or "".
      * @param {string} line
      */
     const explainLine = (line) => {
@@ -106,7 +109,7 @@
     };
 
     /**
-     * The number of a file's first lines that are empty or comments, as far as it begins with text.
+     * The number of empty lines and comments at the start of a file.
      * @param {Uint8Array} bytes
      */
     const countComments = (bytes) => {
@@ -116,9 +119,9 @@
     };
 
     /**
-     * Throws if the first line of a file, after its comments, is no log line.
+     * Throws if the first line of a file after the comments is not a log line.
      * @param {Uint8Array} bytes
-     * @param {Viewer.Fault} outcome - of playing the line
+     * @param {Viewer.Fault} outcome - the result of replaying the line
      */
     const checkFirstLine = (bytes, outcome) => {
         if (outcome.status !== 1) {
@@ -127,17 +130,17 @@
         const text = readText(bytes);
         if (text === null) {
             const first = toHex(bytes.subarray(0, 4)).match(/../g) ?? [];
-            throw new UnreadableFileError(`it is not a text file: it starts with the bytes ${first.join(" ")}`);
+            throw new UnreadableFileError(`not a text file: the first bytes are ${first.join(" ")}`);
         }
         const [line, next = ""] = text.split("\n").slice(countComments(bytes));
         const shown = line.length > MAX_SHOWN ? `${line.slice(0, MAX_SHOWN)}…` : line;
         const mistake = explainLine(line) || (RECORD.test(next) ? "its beginning is missing" : "");
         const fault = `${globalThis.hidlog.formatError(outcome)}: ${mistake || `“${shown}”`}`;
-        throw new UnreadableFileError(`it is not a session log: ${fault}`, "Copy the whole log.", !mistake);
+        throw new UnreadableFileError(`not a session log: ${fault}`, "Copy the whole log.", !mistake);
     };
 
     /**
-     * What to do with a file that was not opened.
+     * Advice on what to do with a file that was not opened.
      * @param {string} name
      * @param {Error & { advice?: string, isImportable?: boolean }} error
      */
@@ -145,7 +148,7 @@
         if (!isImportable) {
             return advice ?? "";
         }
-        // A name that a shell takes literally; of others, the user knows the file.
+        // Only a name that a shell does not expand is put into the command. For other names the command has FILE.
         const isPlain = /^\w[\w.,+@ -]*$/.test(name);
         const quoted = /^[\w.,+@-]+$/.test(name) ? name : `'${name}'`;
         return `Convert it to a log: hidlog import ${isPlain ? quoted : "FILE"} -o session.log`;

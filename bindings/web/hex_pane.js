@@ -1,9 +1,9 @@
-// Shows packets as hexadecimal bytes, with those of a field marked. Sets `globalThis.hidlogHexPane`.
+// Shows packets as hexadecimal bytes, in which the bytes of a field are marked. Sets `globalThis.hidlogHexPane`.
 "use strict";
 
 (() => {
     const { toHex } = globalThis.hidlogBytes;
-    // Characters of a row beside its bytes: the offset, and the gap before the text.
+    // Number of characters of a row besides the bytes: the offset, and the gap before the text.
     const [OFFSET_WIDTH, TEXT_GAP] = [4, 2];
     const [WIDE_ROW, NARROW_ROW] = [16, 8];
     const WIDTH_PER_BYTE = 4;
@@ -19,7 +19,7 @@
     const toLetter = (byte) => (byte >= 32 && byte < 127 ? String.fromCharCode(byte) : "·");
 
     /**
-     * Describes ranges in words, by the lines of their packets.
+     * Describes ranges in words, with the lines of their packets.
      * @param {Viewer.ByteRange[]} ranges
      * @param {Viewer.Packet[]} packets
      */
@@ -38,7 +38,7 @@
     };
 
     /**
-     * The bytes of ranges in hexadecimal.
+     * Returns the bytes of ranges in hexadecimal.
      * @param {Viewer.ByteRange[]} ranges
      * @param {Viewer.Packet[]} packets
      */
@@ -93,7 +93,7 @@
             this.ranges = [];
             this.element.replaceChildren();
             this.isDrawn = false;
-            // In the next frame, since arrow keys select many rows that nobody sees.
+            // Draws in the next frame, since arrow keys may select several rows per frame.
             requestAnimationFrame(() => this.drawOnce());
         }
 
@@ -114,7 +114,7 @@
             this.mark(this.ranges, false);
         }
 
-        /** Draws it again if other rows fit now. */
+        /** Draws the pane again if another number of bytes fits in a row now. */
         fit() {
             if (this.packets.length && this.rowBytes() !== this.width) {
                 this.draw();
@@ -145,7 +145,7 @@
         }
 
         /**
-         * Marks ranges, and says where they are.
+         * Marks ranges, and reports their positions.
          * @param {Viewer.ByteRange[]} ranges
          * @param {boolean} [isScrolling]
          */
@@ -163,7 +163,7 @@
         }
 
         /**
-         * Says where the marked bytes are.
+         * Reports the positions of the marked bytes.
          * @param {boolean} isField whether a field is selected
          */
         describe(isField) {

@@ -1,27 +1,30 @@
-// What a recording lacks, if that explains why it differs from what the key sends: its end, its beginning, or packets
-// of the host. Sets `globalThis.hidlogIncomplete`.
+// Finds out whether a recording is incomplete, if this explains a difference from what the key sends: the end, the
+// beginning or packets of the host are missing. Sets `globalThis.hidlogIncomplete`.
 "use strict";
 
 (() => {
     const { KIND, COMMANDS: { ERROR, INIT } } = globalThis.hidlogLog;
     // An ERROR's code, and a channel.
     const [ERR_INVALID_CHANNEL, BROADCAST] = [0x0b, 0xffffffff];
-    // What the rules expect of a request on a channel that was not allocated (judged_host.py).
+    // The text of the rule on requests on a channel that was not allocated (judged_host.py).
     const INVALID_CHANNEL = "error 0b";
     // Data bytes of an initialization and of a continuation packet; packets and bytes of the longest message (CTAP 2.1,
     // 11.2.4).
     const [FIRST_BYTES, NEXT_BYTES, MAX_PACKETS, MAX_LENGTH] = [57, 59, 129, 7609];
-    // Lines to search for a message's first packet, or its response: all of a log would take long.
+    // Maximum number of lines that are searched for a message's first packet, or for its response.
     const MAX_LINES = 20_000;
 
-    /** Whether a packet is an initialization packet. The line index is that of a packet, here and below. */
+    /**
+     * Whether the packet at a line index is an initialization packet. Here and below, `place` is the line index of a
+     * packet.
+     */
     const isFirst = (/** @type {Viewer.Log} */ log, /** @type {number} */ place) => log.byte(place, 4) >= 0x80;
 
     const isPacket = (/** @type {Viewer.Session} */ session, /** @type {number} */ place) =>
         session.kindAt(place) <= KIND.KEY && place < session.size;
 
     /**
-     * The indexes of the packets on a packet's channel, from that of its message's first packet of the host on.
+     * The indexes of the packets on a packet's channel, starting with the first packet of the host's message.
      * @param {Viewer.Session} session
      * @param {number} place
      */
@@ -48,9 +51,9 @@
     };
 
     /**
-     * Whether the recording lacks packets of the host's message that a line belongs to, or that a line responds to: the
-     * key responded, though the recorded packets are too few for the message. Another key than the verified one may
-     * respond too early, so that of its logs a sequence number must be missing, too.
+     * Whether the recording lacks packets of the host's message to which a line belongs or responds. If so, the key
+     * responded although the recorded packets are too few for the message. A key other than the verified one may
+     * respond too early, so in its logs a sequence number must be missing as well.
      * @param {Viewer.Session} session
      * @param {number} line
      * @param {boolean} isVerified
@@ -80,7 +83,8 @@
     };
 
     /**
-     * Whether a log ends with the input of a line, or with the first packets for it: no input and no total follows.
+     * Whether a log ends with the input of a line, or with the first packets in response: no further input and no
+     * totals follow.
      * @param {Viewer.Session} session
      * @param {number} line
      */
@@ -88,8 +92,8 @@
         session.isInput(place) || session.kindAt(place) === KIND.COUNT, line) < 0;
 
     /**
-     * Whether the channel of a line's packet was allocated before the recording began: no response to an INIT in it has
-     * the channel, and the key did not reject it.
+     * Whether the channel of a line's packet was allocated before the recording began: no INIT response in the
+     * recording has the channel, and the key did not reject the channel.
      * @param {Viewer.Session} session
      * @param {number} line
      */
@@ -128,7 +132,8 @@
     };
 
     /**
-     * What a log lacks at its first difference from what the key sends: a title, a reason, and what to do; or null.
+     * Describes what is missing at the first difference from what the key sends (a title, a reason, and what to do), or
+     * returns null.
      * @param {Viewer.Session} session
      * @param {Viewer.Checked} examined
      * @param {Viewer.KeyDifference} difference
@@ -151,7 +156,7 @@
     };
 
     /**
-     * What a log lacks if that explains a violated rule, or null.
+     * Describes what is missing from a log if this explains a violated rule, or returns null.
      * @param {Viewer.Session} session
      * @param {Viewer.Finding} finding
      */

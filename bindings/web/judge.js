@@ -1,5 +1,5 @@
-// Checks a log against CTAP 2.1, by the same rules as `hidlog judge`: dist/judge.js is translated from its Python. It
-// runs in a worker (worker.js), since a long log takes seconds. Sets `globalThis.hidlogJudge`.
+// Checks a log against CTAP 2.1 with the rules of `hidlog judge`, which are translated from Python to dist/judge.js.
+// Runs in a worker (worker.js), since a long log takes seconds. Sets `globalThis.hidlogJudge`.
 "use strict";
 
 (() => {
@@ -13,13 +13,14 @@
     const toFinding = ({ line, side, level, section, also, rule, expected, actual }) =>
         ({ line, side, level, section, relatedSections: also, rule, expected, actual });
 
-    // The length of a part from which on another one begins, as far as no transaction is open.
+    // Minimum length of a part in bytes. The next part begins at the first line at which no transaction is open.
     const PART_BYTES = 1024 * 1024;
-    // Recorders' notes about what lies between the lines around them: such a log is checked as a whole.
+    // Recorders' notes about lost packets or gaps. A log with such notes is checked as a whole.
     const WHOLE = /^# (?:power cycle|cut to )/m;
 
     /**
-     * Runs the core's `transactions` on lines, before which there are others: which transaction each belongs to.
+     * Runs the core's `transactions` on lines, to find to which transaction each line belongs. `before` is the number
+     * of preceding lines.
      * @param {Viewer.Core} core
      * @param {Uint8Array} lines
      * @param {number} before
@@ -45,7 +46,7 @@
             if (transaction === number) {
                 open.add(number);
             }
-            // A response ends its transaction with its last packet; a late packet (l) ends none.
+            // The last packet of a response ends the transaction. A late packet (l) ends no transaction.
             words.filter((word) => !word.startsWith("l")).forEach((word) => open.delete(word.slice(1).split(":")[0]));
             last = open.size ? last : Number(number);
         }
@@ -53,7 +54,7 @@
     };
 
     /**
-     * Where the lines up to a position end, at least one.
+     * The end of the last line that begins before an offset.
      * @param {Uint8Array} log
      * @param {number} from
      */
@@ -63,8 +64,8 @@
     };
 
     /**
-     * The parts of a log between which no transaction is open, so that the rules hold one at a time. `report` is called
-     * with the share that is done.
+     * Splits a log where no transaction is open, so that the rules can be checked on one part at a time. `report` is
+     * called with the fraction that is done.
      * @param {Viewer.Core} core
      * @param {Uint8Array} log
      * @param {Viewer.Report} report
@@ -105,8 +106,9 @@
     };
 
     /**
-     * Judges a log: its findings, notes on what was not checked, the totals as a line, and the line from which the
-     * recorder may have lost packets (0 for the whole log), or null. `report` is called with the share that is done.
+     * Checks a log. Returns the findings, notes on what was not checked, the totals as a line, and the line from which
+     * the recorder may have lost packets (0 for the whole log), or null. `report` is called with the fraction that is
+     * done.
      * @param {Viewer.Core} core
      * @param {Uint8Array} log
      * @param {Viewer.Report} [report]

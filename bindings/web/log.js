@@ -1,6 +1,6 @@
-// A log's lines and messages as numbers in typed arrays: a long log has millions of lines, and an object for each would
-// block the page during garbage collection. Objects for lines, messages and transactions are created on demand, and
-// read these numbers and the log's bytes. Sets `globalThis.hidlogLog`.
+// Stores a log's lines and messages as numbers in typed arrays, since a long log has millions of lines, and an object
+// for each would block the page during garbage collection. Objects for lines, messages and transactions are created on
+// demand, and read these numbers and the log's bytes. Sets `globalThis.hidlogLog`.
 "use strict";
 
 (() => {
@@ -63,7 +63,7 @@
     }
 
     /**
-     * Reads decimal digits from a position: their value and the position after them, or null.
+     * Reads a decimal number at an offset. Returns the value and the offset after the number, or null.
      * @param {Uint8Array} bytes
      * @param {number} from
      * @param {number} to
@@ -112,13 +112,13 @@
             return KIND_NAMES[this.log.kinds.values[this.place]];
         }
 
-        /** Its own timestamp, or null. */
+        /** The timestamp of this line, or null. */
         get at() {
             const kind = this.log.kinds.values[this.place];
             return kind === HOST || (kind >= TICK && kind <= SIGNATURE) ? this.log.timestampAt(this.place) : null;
         }
 
-        /** The latest timestamp so far. */
+        /** The latest timestamp up to this line. */
         get timeMs() {
             const latest = this.log.latest.values[this.place];
             return latest ? this.log.timestampAt(latest - 1) : 0;
@@ -165,10 +165,10 @@
         }
     }
 
-    // Few lines have these: in a quiet log the replaced line, and its text.
+    // Only lines of a quiet log have these members: the replaced line, and its text.
     Object.assign(Line.prototype, { source: null, replaced: undefined, isFault: false });
 
-    /** A line of a quiet log that replaces an ignored input. */
+    /** A line of a quiet log, which may replace an ignored input. */
     class QuietLine extends Line {
         get source() {
             return /** @type {Viewer.Log} */ (this.log.before).line(
@@ -229,7 +229,7 @@
         }
 
         /**
-         * A data byte of its initialization packet.
+         * A data byte of the initialization packet.
          * @param {number} place
          */
         byteAt(place) {
@@ -245,7 +245,7 @@
         }
 
         /**
-         * The lines of its packets.
+         * The lines of the message's packets.
          * @returns {Viewer.Line[]}
          */
         get lines() {
@@ -261,7 +261,7 @@
     }
 
     /**
-     * A message of a host, and how it ended.
+     * A message of a host, and how the transaction ended.
      * @extends {Message<Viewer.TransactionTable>}
      */
     class Transaction extends Message {
@@ -277,13 +277,13 @@
             return END_NAMES[this.table.end.values[this.place]] || (this.isWhole ? "unanswered" : "not whole");
         }
 
-        /** The line that ended it, or null. */
+        /** The line that ended the transaction, or null. */
         get by() {
             const by = this.table.by.values[this.place];
             return by ? this.log.line(by - 1) : null;
         }
 
-        /** The code of the ERROR that ended it, or null. */
+        /** The code of the ERROR packet that ended the transaction, or null. */
         get code() {
             const code = this.table.code.values[this.place];
             return code ? code - 1 : null;
@@ -295,13 +295,13 @@
             return answer ? new KeyMessage(this.log, answer - 1) : null;
         }
 
-        /** Number of lines that belong to it. */
+        /** Number of lines that belong to the transaction. */
         get count() {
             return this.table.count.values[this.place];
         }
 
         /**
-         * All lines that belong to it.
+         * All lines that belong to the transaction.
          * @returns {Viewer.Line[]}
          */
         get all() {
@@ -330,7 +330,7 @@
         }
 
         /**
-         * The transaction it responds to, or null.
+         * The transaction to which the message responds, or null.
          * @returns {Viewer.Transaction | null}
          */
         get asks() {
@@ -339,13 +339,16 @@
         }
     }
 
-    /** A log, as far as it was read. In columns, lines, transactions and responses are numbered from 1; 0 is none. */
+    /**
+     * The part of a log that has been read. In columns, lines, transactions and responses are numbered from 1; 0 means
+     * none.
+     */
     class Log {
         /** @param {Uint8Array} bytes */
         constructor(bytes) {
             this.bytes = bytes;
-            // For each line: its start, its kind, the line with the latest timestamp so far, its transaction, and for a
-            // packet the message (> 0 a transaction, < 0 a response).
+            // For each line: the start, the kind, the line with the latest timestamp so far, the transaction, and for a
+            // packet the message (> 0 for a transaction, < 0 for a response).
             this.starts = new Column(Uint32Array);
             this.kinds = new Column(Uint8Array);
             this.latest = new Column(Uint32Array);
@@ -408,7 +411,7 @@
         }
 
         /**
-         * Where a line ends, without its newline.
+         * The offset at which a line ends, without the newline.
          * @param {number} place
          */
         endOf(place) {
@@ -452,7 +455,7 @@
         return bytes.subarray(0, end);
     };
 
-    // Bytes to decode at once.
+    // Number of bytes to decode at once.
     const TEXT_BYTES = 1024 * 1024;
 
     /**

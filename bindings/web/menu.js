@@ -1,4 +1,4 @@
-// A button with a menu of rarely used functions, by ARIA's pattern for menu buttons. Sets `globalThis.hidlogMenu`.
+// A button with a menu of rarely used functions, after ARIA's menu button pattern. Sets `globalThis.hidlogMenu`.
 "use strict";
 
 (() => {
@@ -82,7 +82,7 @@
         button.addEventListener("click", () => (menu.hidden ? open(0) : close()));
         button.addEventListener("keydown", onButtonKey);
         menu.addEventListener("keydown", onMenuKey);
-        // Before the item's own listener, which may move the focus elsewhere.
+        // Close the menu before the item's own listener runs, which may move the focus.
         menu.addEventListener("click", ({ target }) => target instanceof Element && target.closest("button") && close(), true);
         document.addEventListener("pointerdown", ({ target }) => {
             if (target instanceof Node && !menu.contains(target) && !button.contains(target)) {

@@ -19,7 +19,7 @@
         0x14: "missing parameter", 0x11: "wrong parameter type", 0x12: "invalid CBOR", 0x36: "PIN required",
     };
     const DENIED = 0x27;
-    // The meaning of DENIED after each user reply, since all have the same code.
+    // The meaning of OPERATION_DENIED for each user reply, since the code is the same.
     /** @type {Record<string, string>} */
     const DENIAL_TEXTS = {
         denied: "the user denied", timeout: "the user did not respond", granted: "denied, although the user agreed",
@@ -31,7 +31,7 @@
         0x06: "the key was busy", 0x0b: "invalid channel",
     };
     /**
-     * How many transactions of each command ended in each way.
+     * The number of transactions by command and by result.
      * @typedef {Map<string, Map<string, number>>} EndCounts
      */
 
@@ -39,7 +39,7 @@
     const toHexByte = (byte) => `0x${byte.toString(16).padStart(2, "0")}`;
 
     /**
-     * The kind of a transaction in a word or two.
+     * The kind of a transaction in one or two words.
      * @param {Viewer.Transaction} transaction
      */
     const describeKind = (transaction) => {
@@ -52,7 +52,7 @@
     };
 
     /**
-     * A status in words: by the standard's name if there are no others.
+     * A status in words, or by the standard's name if no words are defined.
      * @param {number} status
      */
     const describeStatus = (status) => {
@@ -62,7 +62,7 @@
     };
 
     /**
-     * The last presence reply in a transaction, as in the log.
+     * The word of the last presence reply in a transaction.
      * @param {Viewer.Transaction} transaction
      */
     const findReply = ({ all }) => all.filter((line) => line.kind === "presence").at(-1)?.says ?? "none";

@@ -1,4 +1,4 @@
-// Opens logs, snapshots and captures, from files and from memory, one after another, and plays the log. Sets
+// Opens logs, snapshots and captures from files and from memory, one after another, and replays the log. Sets
 // `globalThis.hidlogOpening`.
 "use strict";
 
@@ -12,7 +12,7 @@
     const { escapeInvisible } = globalThis.hidlogShown;
     const card = globalThis.hidlogCard;
     const twoLogs = globalThis.hidlogTwoLogs;
-    // A snapshot starts like a CBOR map with the version under the key 1; no log line does.
+    // The start of a snapshot: a CBOR map with the version under the key 1. No log line starts with these bytes.
     const SNAPSHOT_MARK = [0xa2, 0x01];
 
     /** @param {Uint8Array} bytes */
@@ -20,17 +20,18 @@
 
     /** @type {("view" | "compare" | "download" | "save" | "search" | "channel" | "fold")[]} */
     const TOOL_IDS = ["view", "compare", "download", "save", "search", "channel", "fold"];
-    // Bytes of a file read at once: a whole long one would block the page.
+    // Number of bytes of a file that are read at once, since reading a whole long file would block the page.
     const READ_BYTES = 8 * 1024 * 1024;
-    // Lines that are shown meanwhile.
+    // Number of lines that are shown while the rest is read.
     const FIRST_LINES = 512;
-    // Characters of a line; bytes of a file in which its comments end, and of the next line; characters shown of a name.
+    // Maximum numbers: characters of a line, bytes of the comments at the start of a file and of the next line, and
+    // characters of a shown name.
     const [MAX_LINE, FRONT_BYTES, FIRST_LINE_BYTES, MAX_NAME] = [255, 4096, 512, 80];
 
     // ---- opening
 
     /**
-     * Shows what to do as long as no log is open, in place of the rows.
+     * Shows instructions instead of the rows while no log is open.
      * @param {boolean} isEmpty
      */
     const showEmpty = (isEmpty) => {
@@ -54,7 +55,7 @@
     };
 
     /**
-     * Throws if the first line of a file, after its comments, is no log line.
+     * Throws if the first line of a file after the comments is not a log line.
      * @param {Uint8Array} bytes
      */
     const checkFirst = (bytes) => {
@@ -92,12 +93,12 @@
         }));
     };
 
-    // What was converted in the shown log's file, and what else the file has.
+    // What was converted in the file of the shown log, and the other logs in the file.
     let notes = "";
     const tell = (/** @type {string} */ text, isFault = false) => showNotice(`${text}${notes}`, isFault);
 
     /**
-     * Reports the result of playing the log.
+     * Reports the result of replaying the log.
      * @param {Viewer.Fault} outcome
      */
     const reportOutcome = (outcome) => {
@@ -142,7 +143,7 @@
         });
     };
 
-    /** Forgets a snapshot of another session: without it, the log matches the key. */
+    /** Drops a snapshot that belongs to another session, if the log matches the key without the snapshot. */
     const dropOtherSnapshot = () => {
         const { bytes, core, snapshot, snapshotName } = state;
         if (snapshot.length && core.run("check", bytes, snapshot).status && !core.run("check", bytes).status) {
@@ -161,7 +162,8 @@
     };
 
     /**
-     * The error of a long log: the core's, or one found while reading it if the core stopped before.
+     * The error of a long log: the core's error, or the first invalid line that was found while reading if the core
+     * stopped before.
      * @param {{ invalidLineNumber: number, outcome: Viewer.Fault }} reader
      * @returns {Viewer.Fault}
      */
@@ -173,7 +175,7 @@
         return invalidLineNumber ? error : /** @type {Viewer.Fault} */ ({ status: 0, line: 0 });
     };
 
-    /** Reads a long log, and meanwhile shows its first lines. */
+    /** Reads a long log, and shows its first lines while reading. */
     const playInWorker = () => {
         const { bytes } = state;
         showNotice(`${state.name}: reading ${formatMegabytes(bytes.length)}.`);
@@ -181,7 +183,7 @@
         const first = (reader) => {
             state.sessions = { recorded: reader.soFar() };
             showEmpty(false);
-            // The names of all rows are found meanwhile.
+            // The names of all rows are determined in the meantime.
             state.shown.ready([reader.log]);
             const { job } = state;
             state.job = { end: () => { job.end(); state.shown.endAll(); } };
@@ -198,7 +200,7 @@
         }, first);
     };
 
-    /** Ends all work on the shown log, and forgets what is known of it. */
+    /** Ends all work on the shown log, and drops the results. */
     const forgetLog = () => {
         state.job.end();
         state.shown.endAll();
@@ -229,7 +231,7 @@
     };
 
     /**
-     * Shows a log, and says what was converted, and what else the file has. Of a capture, the first key is shown.
+     * Shows the first log of a file, and reports what was converted and which other logs the file has.
      * @param {string} name
      * @param {{ logs: Viewer.NamedLog[], changes: string[] }} file
      */
@@ -257,7 +259,7 @@
     };
 
     /**
-     * A name as it is shown: visible characters only, and not many.
+     * Returns a name for display: visible characters only, and shortened.
      * @param {string} name
      */
     const cleanName = (name) => {
@@ -266,7 +268,7 @@
     };
 
     /**
-     * Opens a log, a capture or a snapshot. Returns whether it could.
+     * Opens a log, a capture or a snapshot. Returns whether that succeeded.
      * @param {string} anyName
      * @param {Uint8Array} bytes
      */
@@ -274,7 +276,7 @@
         const name = cleanName(anyName);
         try {
             if (!bytes.length) {
-                throw new Error("it is empty; a log must have at least one line");
+                throw new Error("the file is empty; a log must have at least one line");
             }
             if (isSnapshot(bytes)) {
                 openSnapshot(name, bytes);
@@ -289,7 +291,7 @@
     };
 
     /**
-     * Shows the first lines of a long log, while the rest is read from its file. Of other files it shows nothing.
+     * Shows the first lines of a long log while the rest of the file is read. Does nothing for other files.
      * @param {string} name
      * @param {Uint8Array} part
      */
@@ -307,13 +309,13 @@
     };
 
     /**
-     * Reads a file. `first` is called with its first part, if it has several.
+     * Reads a file. If the file is read in several parts, `first` is called with the first part.
      * @param {File} file
      * @param {(part: Uint8Array) => void} first
      */
     const readBytes = async (file, first = () => {}) => {
         if (file.size > MAX_BYTES) {
-            throw new Error(`it has ${formatMegabytes(file.size)}; the maximum is ${formatMegabytes(MAX_BYTES)}`);
+            throw new Error(`the file has ${formatMegabytes(file.size)}; the maximum is ${formatMegabytes(MAX_BYTES)}`);
         }
         const bytes = new Uint8Array(file.size);
         for (let from = 0; from < file.size; from += READ_BYTES) {
@@ -326,12 +328,12 @@
         return bytes;
     };
 
-    // What is opened waits until the core is loaded, and until what was opened before is shown.
+    // Files are opened one after another, after the core is loaded.
     /** @type {Promise<unknown>} */
     let opening = Promise.resolve();
 
     /**
-     * Lets what is opened wait for a promise.
+     * Lets the following files wait for a promise.
      * @param {Promise<unknown>} promise
      */
     const waitFor = (promise) => {
@@ -345,7 +347,7 @@
     };
 
     /**
-     * Opens a file. Returns whether it could.
+     * Opens a file. Returns whether that succeeded.
      * @param {File} file
      */
     const openOne = async (file) => {
@@ -378,7 +380,7 @@
     };
 
     /**
-     * Whether a file begins like a snapshot. A folder cannot be read.
+     * Whether a file begins like a snapshot. False for a folder, which cannot be read.
      * @param {File} file
      */
     const isSnapshotFile = async (file) => {
@@ -387,8 +389,8 @@
     };
 
     /**
-     * Opens files in any order: snapshots first, since logs are played with their credentials; a log; and beside it
-     * another one.
+     * Opens several files: first the snapshots, since logs are replayed with their credentials, then a log, and then
+     * another log beside it.
      * @param {File[]} files
      */
     const openFiles = (files) => enqueue(async () => {

@@ -1,11 +1,12 @@
-// Undoes what mail, chats and editors do to a log that is copied as text: a quotation, a code fence, blanks around
-// lines, tabs and no-break spaces. Sets `globalThis.hidlogPastedText`.
+// Undoes changes that mail programs, chats and editors make to a log that is copied as text: quotation marks, a code
+// fence, blanks around lines, tabs and no-break spaces. Sets `globalThis.hidlogPastedText`.
 "use strict";
 
 (() => {
-    // Longer texts are not copied by hand.
+    // Maximum length of a text that is restored. Longer texts are not copied by hand.
     const MAX_BYTES = 4 * 1024 * 1024;
-    // A comment, a total, an empty line, or another line as a log has it, without other blanks than between its words.
+    // A valid form of a log line: a comment, totals, an empty line, or an input or packet with single spaces between
+    // words.
     const PLAIN = /^(?:[#=].*|[<>tpks](?: [^\s\u00a0]+)+)?$/;
     const QUOTED = /^>(?: ?$| [<>tpks#=])/;
     const FENCE = /^\s*(?:```|~~~)/;
@@ -28,7 +29,7 @@
     const removeBlanks = (line) => (PLAIN.test(line) ? line : line.replace(/[\s\u00a0]+/g, " ").trim());
 
     /**
-     * The bytes of a text as a log has them, and what was changed. Each line that a log can have stays as it is.
+     * Restores the log in a text. Returns the bytes and a description of the changes. Valid log lines are not changed.
      * @param {Uint8Array} bytes
      * @returns {{ bytes: Uint8Array, changes: string[] }}
      */

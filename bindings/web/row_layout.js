@@ -1,16 +1,16 @@
-// Where rows are: evenly in the table, and in the drawing at distances that show the time between them. Sets
+// The layout of rows: evenly spaced in the table, and in the drawing at distances that show the time between them. Sets
 // `globalThis.hidlogLayout`.
 "use strict";
 
 (() => {
-    // Pixels for the time between two rows: typical, at most, and where a longer pause is cut.
+    // Pixels for the time between two rows: for a typical time, at most, and for a longer pause, which is cut.
     const [TYPICAL_GAP, MAX_GAP, CUT_GAP] = [32, 120, 44];
-    // Browsers limit the height of an element.
+    // Maximum height of all rows in pixels, since browsers limit the height of an element.
     const MAX_HEIGHT = 16_000_000;
     const BATCH_SIZE = 4096;
     const STEPS = [1, 2, 5];
 
-    /** Rows of the same height, without time between them. */
+    /** A layout with rows of the same height, which shows no time. */
     class EvenLayout {
         /**
          * @param {number} count
@@ -19,12 +19,12 @@
         constructor(count, rowHeight) {
             this.rowHeight = rowHeight;
             this.height = count * rowHeight;
-            // Pixels of a millisecond: none.
+            // No pixels per millisecond.
             this.scale = 0;
         }
 
         /**
-         * Where a row begins.
+         * The vertical position of a row.
          * @param {number} place
          */
         top(place) {
@@ -32,7 +32,7 @@
         }
 
         /**
-         * The row at a height.
+         * The row at a vertical position.
          * @param {number} y
          */
         placeAt(y) {
@@ -50,7 +50,7 @@
     }
 
     /**
-     * The largest of 1, 2, 5, 10, 20 .. and 0.5, 0.2 .. up to a number.
+     * The largest value among .., 0.2, 0.5, 1, 2, 5, 10, 20, .. that does not exceed a number.
      * @param {number} most
      */
     const roundDown = (most) => {
@@ -59,7 +59,7 @@
     };
 
     /**
-     * Pixels of a millisecond, so that a typical pause is as long as it should be.
+     * Pixels per millisecond, chosen so that a typical pause has the intended length.
      * @param {Float64Array} pauses
      */
     const findScale = (pauses) => {
@@ -67,7 +67,7 @@
         return sorted.length ? roundDown(TYPICAL_GAP / sorted[(sorted.length - 1) >> 1]) : 0;
     };
 
-    /** Rows at distances that show the time between them; a long pause is cut. */
+    /** A layout with rows at distances that show the time between them. A long pause is cut. */
     class TimedLayout extends EvenLayout {
         /**
          * @param {Float64Array} pauses milliseconds before each row
@@ -127,8 +127,8 @@
     }
 
     /**
-     * The milliseconds before each row, a slice per step: since the latest row before it, since an unfolded transaction
-     * lists some earlier packets last.
+     * The milliseconds between each row and the latest preceding one, computed in steps. (The rows of an unfolded
+     * transaction are not always in order of time.)
      * @param {number} count @param {(place: number) => number} timeOf
      */
     const findPauses = function* finding(count, timeOf) {

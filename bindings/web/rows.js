@@ -1,10 +1,10 @@
-// The rows to show of a session, as numbers, so that a million are cheap: the index of a line, or for a folded
-// transaction a negative number. Sets `globalThis.hidlogRows`.
+// The rows to show for a session. To save memory, a row is a number: the index of a line, or a negative number for a
+// folded transaction. Sets `globalThis.hidlogRows`.
 "use strict";
 
 (() => {
     const { KIND } = globalThis.hidlogLog;
-    // Not shown when folded: ticks, needs, totals and empty lines.
+    // Kinds of lines that are not shown when transactions are folded: ticks, needs, totals and empty lines.
     /** @param {number} kind */
     const isQuietKind = (kind) => kind === KIND.TICK || kind >= KIND.NEED;
     const BATCH_SIZE = 2048;
@@ -21,14 +21,15 @@
         .filter((place) => !isQuietKind(session.kindAt(place)));
 
     /**
-     * Whether a line that belongs to no transaction is shown among folded ones.
+     * Whether a line that belongs to no transaction is shown among folded transactions.
      * @param {Viewer.Session} session
      * @param {number} place
      */
     const isShownUnfolded = (session, place) => place >= session.size || !isQuietKind(session.kindAt(place));
 
     /**
-     * Makes rows, a slice per step of this generator. If `ready` is a promise, it is awaited before rows are searched.
+     * Makes the rows in steps of this generator. If `ready` is a promise, the promise is awaited before rows are
+     * searched.
      * @yields the rows so far, and the index of the last line
      * @param {Viewer.Session} session
      * @param {Viewer.RowOptions} options

@@ -16,7 +16,7 @@
     };
 
     /**
-     * A string as a literal in a script, in which no name of a file ends the script or begins a comment.
+     * Quotes a string as a literal in a script. Characters that could end the script or begin a comment are escaped.
      * @param {string} text
      */
     const quote = (text) => JSON.stringify(text).replaceAll("<", "\\u003c");
@@ -28,7 +28,7 @@
     const embedBytes = (name, bytes) => (bytes ? `globalThis.${name} = ${JSON.stringify(toBase64(bytes))};` : "");
 
     /**
-     * The scripts in page order, after one with the log.
+     * The scripts in the order of the page, after a script with the log.
      * @param {Viewer.SavedState} state
      */
     const listScripts = ({ name, bytes, snapshot }) => {
@@ -42,7 +42,7 @@
         ].join("\n");
         const own = `globalThis.HIDLOG_SOURCES = ${JSON.stringify(packed)};`;
         const named = Array.from(sources["index.html"].matchAll(SCRIPT_TAG), ([, file]) => file);
-        // The saved page has the module of the key's script, and not the key.
+        // The saved page contains the module of the key's script, but not the key.
         /** @type {Record<string, string>} */
         const made = { "dist/security_key.js": "", "wasm.js": wasmText, "dist/sources.js": own };
         const texts = named.map((file) => made[file] ?? sources[file]);
@@ -50,7 +50,7 @@
     };
 
     /**
-     * The page as one file, whose policy allows only its own scripts.
+     * Makes the page as one file, whose Content-Security-Policy allows only the scripts in the file.
      * @param {Viewer.SavedState} state
      */
     const makePage = async (state) => {

@@ -1,5 +1,5 @@
-// Draws the visible rows as a sequence diagram: a lifeline for each channel, one for the key and one for its caller.
-// Sets `globalThis.hidlogDrawing`.
+// Draws the visible rows as a sequence diagram, with a lifeline for each channel, one for the key and one for the key's
+// caller. Sets `globalThis.hidlogDrawing`.
 "use strict";
 
 (() => {
@@ -9,7 +9,7 @@
     const MAX_CHANNELS = 6;
 
     /**
-     * Places the lifelines in a width. Channels beyond the maximum share the last one.
+     * Places the lifelines in a width. Channels beyond the maximum number share the last lifeline.
      * @param {string[]} channels
      * @param {number} width
      * @returns {Viewer.Lifelines}
@@ -52,7 +52,7 @@
         colour(name) {
             if (!this.styles.has(name)) {
                 const probe = document.createElement("span");
-                // With forced colours each text would have the same one, and what is behind it, too.
+                // With forced colours, all texts and all backgrounds would have the same colours.
                 probe.style.setProperty("forced-color-adjust", "none");
                 probe.style.color = `var(--${name})`;
                 document.body.append(probe);
@@ -156,8 +156,8 @@
     const shortenText = (says) => says.replace(/^CBOR \d+ {2}|^KEEPALIVE 1 \d\d {2}/, "");
 
     /**
-     * Draws a text between two lifelines, or beside them if it only fits there. On narrow pages it starts at the first
-     * lifeline.
+     * Draws a text between two lifelines, or beside them if there is not enough space. On narrow pages, the text starts
+     * at the first lifeline.
      * @param {Viewer.Pen} pen
      * @param {Viewer.Lifelines} lanes
      * @param {number[]} ends
@@ -239,7 +239,7 @@
     };
 
     /**
-     * Draws the time before a row, if it is cut: a gap in the lifelines with its length.
+     * Draws a cut pause before a row: a gap in the lifelines, with the length of the pause.
      * @param {Viewer.Pen} pen
      * @param {Viewer.Lifelines} lanes
      * @param {Viewer.Pause} pause
@@ -259,7 +259,7 @@
     };
 
     /**
-     * Draws what was found in a row, at its end.
+     * Draws the mark of a row at the end of the row.
      * @param {Viewer.Pen} pen
      * @param {string} mark
      * @param {number} y
@@ -271,11 +271,11 @@
         }
     };
 
-    // The longest bar of the scale, and the room for it and its text, in pixels.
+    // The maximum length of the scale's bar, and the width for the bar and its text, in pixels.
     const [BAR_LENGTH, SCALE_WIDTH] = [20, 64];
 
     /**
-     * Draws how long a time is: a bar beside the text.
+     * Draws the scale of time: a bar and its duration.
      * @param {Viewer.Pen} pen
      * @param {number} scale
      */
@@ -302,7 +302,7 @@
         drawScale(pen, scale);
         const most = lanes.places.length > 1 ? lanes.places[1] - lanes.places[0] - 8 : 200;
         lanes.names.forEach((name, at) => {
-            // Not over the scale, and not beyond the edge.
+            // Keep the text outside the scale and inside the canvas.
             const x = Math.max(Math.min(lanes.places[at], pen.width - 28), SCALE_WIDTH + pen.widthOf(name) / 2);
             pen.to.fillStyle = pen.colour("ink");
             pen.to.textAlign = "center";
@@ -312,7 +312,7 @@
     };
 
     /**
-     * Draws the rows from `first` on, as far as they fit, where `layout` has them (row_layout.js).
+     * Draws the rows that fit, beginning with `first`, at the positions of `layout` (row_layout.js).
      * @param {HTMLCanvasElement} canvas
      * @param {Viewer.Drawing} drawing
      */

@@ -1,5 +1,5 @@
-// A log as a session: its lines and transactions (transactions.js). Lines are read in slices, so that the page stays
-// responsive. Sets `globalThis.hidlogSession`.
+// Reads a log as a session with lines and transactions (transactions.js). Lines are read in slices, so that the page
+// stays responsive. Sets `globalThis.hidlogSession`.
 "use strict";
 
 (() => {
@@ -21,7 +21,7 @@
     const kindOf = Array.from({ length: 256 }, (_, code) => KIND_BY_LETTER[String.fromCharCode(code)]);
 
     /**
-     * Whether a range has exactly the hex digits of a packet.
+     * Whether a range consists of the hex digits of a packet.
      * @param {Uint8Array} bytes
      * @param {number} from
      * @param {number} to
@@ -61,7 +61,7 @@
         }
 
         /**
-         * Reads until a time (performance.now()), or the end.
+         * Reads lines until a time (performance.now()), or to the end.
          * @param {number} end
          */
         readUntil(end) {
@@ -146,7 +146,7 @@
         }
 
         /**
-         * Whether a comment is `need` or `signed`, written by the program.
+         * Whether a comment is `need` or `signed`, which the program writes.
          * @param {number} from
          */
         isNeed(from) {
@@ -167,7 +167,7 @@
         }
 
         /**
-         * The lines so far, while others are read. Their transactions are not known yet.
+         * The session of the lines so far, while further lines are read. Its transactions are not known yet.
          * @returns {Viewer.Session}
          */
         soFar() {
@@ -176,7 +176,7 @@
         }
     }
 
-    /** The valid lines of a log, their number of transactions, and the first invalid line, if any. */
+    /** A session: the valid lines of a log, the number of transactions, and the first invalid line, if any. */
     class Session {
         /**
          * `channels` has only the first ones; `channelCount` is the number of all.
@@ -242,7 +242,7 @@
         }
 
         /**
-         * The kind of a line; that of a comment for the invalid line.
+         * The kind of a line. The invalid line has the kind of a comment.
          * @param {number} place
          * @this {Viewer.Session}
          */

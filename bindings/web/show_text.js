@@ -26,21 +26,22 @@
     const isItem = (line) => /^(request|answer) /.test(line);
 
     /**
-     * The head of a request or response without the item: its code and name.
+     * The head of a request or response without the CBOR item: the code and the name.
      * @param {string} line
      */
     const shortenItem = (line) => line.split(" ").slice(0, 2).join(" ") + (LAST_WORD.exec(line)?.[0] ?? "");
 
     /**
-     * The job for a log that needs too much memory.
+     * The job for a log that is too long to explain. It fails with an error.
      * @returns {Viewer.TextJob}
      */
-    const makeTooLongJob = () => ({ outcome: Promise.reject(new Error("the log is too long")), end: () => {} });
+    const makeTooLongJob = () => ({ outcome: Promise.reject(new Error("the log is too long to explain")), end: () => {} });
 
     /**
-     * The core's explanations of lines. A log of up to `atOnce` bytes is explained at once. Of a longer one, the first
-     * lines are, and once others are needed, all of it by `work`, if it has at most `most` bytes. `work` returns a
-     * promise of the index, and a function that ends it. Then `changed` is called, with the error if it failed.
+     * The core's explanations of lines. A log of up to `atOnce` bytes is explained at once. For a longer log, first
+     * only the first lines are explained. When other lines are needed, `work` explains the whole log, if it has at most
+     * `most` bytes. `work` returns a promise of the index, and a function that ends the work. Then `changed` is called,
+     * with an error if the work failed.
      */
     class LineTexts {
         /**
@@ -52,7 +53,7 @@
         }
 
         /**
-         * The explanations of a log known so far.
+         * The explanations of a log that are known so far.
          * @param {Viewer.Log} log
          * @this {Viewer.LineTexts}
          */
@@ -62,7 +63,7 @@
         }
 
         /**
-         * Explains logs completely. Returns a promise, or null if they already are.
+         * Explains logs completely. Returns a promise, or null if they are explained already.
          * @param {Viewer.Log[]} logs
          * @this {Viewer.LineTexts}
          */
@@ -83,14 +84,14 @@
         }
 
         /**
-         * Starts explaining a long log, once. Returns a promise.
+         * Starts to explain a long log, unless this has started already. Returns a promise.
          * @param {Viewer.Log} log
          * @returns {Promise<void>}
          * @this {Viewer.LineTexts}
          */
         explaining(log) {
             if (!this.jobs.has(log)) {
-                // Only logs longer than `atOnce` come here, with which `work` is given.
+                // Only logs longer than `atOnce` are explained here. With `atOnce`, the caller also sets `work`.
                 const job = log.bytes.length > this.most ? makeTooLongJob()
                     : /** @type {NonNullable<Viewer.TextOptions["work"]>} */ (this.work)(log.bytes);
                 job.done = job.outcome.then((found) => this.take(log, job, new Explained(found, true)), (error) =>
@@ -153,7 +154,7 @@
         }
 
         /**
-         * The head of a line, for packets without direction, time and channel.
+         * The head of a line's explanation. For a packet, the direction, time and channel are omitted.
          * @param {Viewer.Line} line
          * @this {Viewer.LineTexts}
          */
@@ -193,7 +194,7 @@
         }
 
         /**
-         * The request of a transaction, and how it ended.
+         * The request of a transaction, and how the transaction ended.
          * @param {Viewer.Transaction} transaction
          * @this {Viewer.LineTexts}
          */
@@ -219,7 +220,7 @@
         }
 
         /**
-         * The lines of a message. If its members have lines of their own, the item is left out.
+         * The lines of a message's explanation. If the members have own lines, the CBOR item is left out.
          * @param {Viewer.Message} message
          * @this {Viewer.LineTexts}
          */
@@ -234,7 +235,7 @@
         }
 
         /**
-         * The explanation of a line, in lines, the first of which can be replaced.
+         * The lines of a line's explanation. The first line can be replaced.
          * @param {Viewer.Line} line
          * @this {Viewer.LineTexts}
          */

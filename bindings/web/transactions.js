@@ -1,5 +1,5 @@
-// The transactions of a log, found by the core (hidlog_transactions in crates/hidlog_c/hidlog.h). Its output fills the
-// tables of log.js, a slice at a time. Sets `globalThis.hidlogTransactions`.
+// Reads the transactions of a log, which the core finds (hidlog_transactions in crates/hidlog_c/hidlog.h). The core's
+// output is parsed in slices, and fills the tables of log.js. Sets `globalThis.hidlogTransactions`.
 "use strict";
 
 (() => {
@@ -15,7 +15,7 @@
     // Number of lines to fill in before the clock is checked again.
     const BATCH_SIZE = 512;
 
-    /** Fills the tables of a log, whose lines are read, from the core's output. */
+    /** Fills the tables of a log from the core's output. The log's lines have been read before. */
     class TableFiller {
         /**
          * @param {Viewer.Log} log
@@ -84,7 +84,7 @@
         }
 
         /**
-         * Reads a word: a letter, a line number, and for some a colon and a number.
+         * Reads a word: a letter, a line number, and for some letters a colon and a further number.
          * @param {number} line
          */
         readWord(line) {
@@ -171,7 +171,7 @@
         }
 
         /**
-         * Sets how a transaction ended, and at which line.
+         * Records how a transaction ended, and at which line.
          * @param {number} id
          * @param {number} how
          * @param {number} by

@@ -1,5 +1,5 @@
-// Shows two logs side by side from their first difference: each row has the lines that correspond (alignment.js), and says
-// how they differ. Sets `globalThis.hidlogTwoLogs`.
+// Shows two logs side by side, starting at their first difference. Each row has a pair of corresponding lines
+// (alignment.js), and describes how they differ. Sets `globalThis.hidlogTwoLogs`.
 "use strict";
 
 (() => {
@@ -123,7 +123,7 @@
         const height = getRowHeight();
         const top = two.chosen * height;
         getElement("two-space").style.height = `${two.pairs.length * height}px`;
-        // The detail takes its room first.
+        // The detail is laid out first, since its height changes the number of visible rows.
         showDetail();
         if (isMiddle) {
             scroller.scrollTop = top - (scroller.clientHeight - height) / 3;
@@ -134,7 +134,7 @@
     };
 
     /**
-     * Selects the next pair that differs; the first one after the last.
+     * Selects the next pair that differs. After the last pair, selects the first one.
      * @param {(word: string) => boolean} isWanted
      */
     const selectNext = (isWanted) => {
@@ -175,7 +175,7 @@
             + ` ${two.pairs.length} lines differ, ${kinds} in kind. Timestamps are not compared.`;
     };
 
-    /** Forgets the other log. */
+    /** Closes the other log. */
     const close = () => {
         two.job.end();
         Object.assign(two, { session: null, pairs: [], chosen: -1 });

@@ -1,4 +1,4 @@
-// User input: navigation, views, saving, and what opens files (opening.js).
+// Handles user input: navigation, views, saving, and opening files (opening.js).
 "use strict";
 
 (() => {
@@ -62,7 +62,7 @@
     };
 
     /**
-     * Folds or unfolds the selected row; from a line of a transaction, Left goes to the transaction's row.
+     * Folds or unfolds the selected row. If a line of a transaction is selected, Left selects the transaction's row.
      * @param {boolean} isFolded
      */
     const setFolded = (isFolded) => {
@@ -127,7 +127,7 @@
     };
 
     /**
-     * Moves the focus in a toolbar, as by ARIA's pattern for toolbars. Text fields keep their arrow keys.
+     * Moves the focus in a toolbar, after ARIA's toolbar pattern. In text fields, arrow keys move the cursor.
      * @param {Viewer.On<KeyboardEvent>} event
      */
     const moveInToolbar = (event) => {
@@ -170,7 +170,7 @@
     };
 
     /**
-     * Opens a text. If a log is open, it asks first.
+     * Opens a text as a log. If a log is open, asks the user first.
      * @param {string} name
      * @param {string} text
      * @param {string} how
@@ -222,7 +222,7 @@
     const openExample = () => enqueue(() =>
         openBytes("service_registration.log", globalThis.hidlogBytes.fromBase64(globalThis.HIDLOG_EXAMPLE)));
 
-    /** Shows the rows that fit now. The selected row stays in sight. */
+    /** Shows the rows that fit after a resize, and keeps the selected row visible. */
     const onResize = () => {
         if (document.getElementById(`row-${state.chosen}`)) {
             scrollToRow();

@@ -1,14 +1,15 @@
-// The page's state: a log, played on the core, and the visible rows. Sets `globalThis.hidlogViewer`.
+// The page's state: a log, the result of replaying it, and the visible rows. Sets `globalThis.hidlogViewer`.
 "use strict";
 
 (() => {
     const ROW_HEIGHT = 26;
-    // Maximum bytes of a log that is played at once; longer ones are read in slices, and played by a worker.
+    // Maximum number of bytes of a log that is replayed at once. Longer logs are read in slices, and replayed by a
+    // worker.
     const MAX_BYTES_AT_ONCE = 512 * 1024;
     const MAX_BYTES = 1024 * 1024 * 1024;
-    // Explaining a log takes five times its bytes.
+    // Explaining a log needs five times its length in memory.
     const MAX_EXPLAINED_BYTES = 700 * 1024 * 1024;
-    // Milliseconds for which a letter of a search may block the page.
+    // Maximum number of milliseconds for which a letter of a search may block the page.
     const SEARCH_MS = 30;
     const CALLER_KINDS = ["presence", "new key", "signature"];
     const SHOWN_KINDS = ["host", "key", "comment", "need"];
@@ -53,7 +54,7 @@
             { tick: "time", count: "comment", empty: "comment" })[line.kind] ?? line.kind;
     };
 
-    /** A row of the table: a line, or a folded transaction. Its text is computed when it is visible. */
+    /** A row of the table: a line, or a folded transaction. The text is computed when the row becomes visible. */
     class Row {
         constructor(/** @type {Viewer.Line} */ line, /** @type {Viewer.Transaction | null} */ transaction = null) {
             Object.assign(this, { line, transaction, noise: !transaction && line.replaced !== undefined });
@@ -135,7 +136,9 @@
     const rowAt = (/** @type {number} */ place) =>
         (state.rows[place] === undefined ? null : makeRowFromNumber(state.rows[place]));
 
-    /** Returns the logs whose explanations a view shows: the quiet view also shows those of the ignored inputs. */
+    /**
+     * Returns the logs whose explanations a view shows. The quiet view also shows explanations of the ignored inputs.
+     */
     const listLogs = (/** @type {Viewer.Session} */ { log }) =>
         /** @type {Viewer.Log[]} */ ([log, log.before].filter(Boolean));
 
@@ -201,7 +204,7 @@
 
     const setLayout = (/** @type {Viewer.Layout} */ layout) => {
         state.layout = layout;
-        // Old rows would keep the scroll position.
+        // Remove the rows, since the browser would otherwise keep the scroll position.
         getElement("space").replaceChildren();
         getElement("space").style.height = `${layout.height}px`;
         getElement("space").style.marginTop = state.isDrawn ? `${HEAD_HEIGHT}px` : "0";
@@ -211,7 +214,7 @@
         render();
     };
 
-    /** Places the rows: evenly, or in the drawing by time, once all times are read. */
+    /** Places the rows: evenly in the table, or by time in the drawing after all times have been read. */
     const placeRows = () => {
         state.placing.end();
         const { rows } = state;
@@ -249,7 +252,7 @@
         detail.show(row, state.shown, replaced);
     };
 
-    /** Marks the tab of what is shown. */
+    /** Marks the tab of the current view. */
     const markTab = () => {
         const shown = state.isComparing ? "two" : state.isDrawn ? "drawing" : "table";
         ["table", "drawing", "two"].forEach((name) =>
@@ -310,7 +313,7 @@
 
     // ---- playing the log
 
-    /** Finds the transactions of a log: at once, or for a long log in a worker. */
+    /** Finds the transactions of a log. For a long log, a worker is used. */
     const findTransactions = (/** @type {Uint8Array} */ bytes) => {
         if (!isLong(bytes)) {
             return { outcome: state.core.run("transactions", bytes), end: () => {} };
@@ -319,7 +322,7 @@
         return { outcome: outcome.catch(({ message }) => ({ error: message, text: new Uint8Array(0) })), end };
     };
 
-    /** Reads a log a slice at a time, and then fills in its transactions, which the core finds meanwhile. */
+    /** Reads a log in slices, and then fills in the transactions, which the core finds in the meantime. */
     const readInSlices = /** @type {Viewer.ReadInSlices} */ (function* reading(bytes) {
         const reader = new LineReader(bytes);
         const { outcome, end } = findTransactions(bytes);
@@ -340,7 +343,7 @@
         return reader;
     });
 
-    /** Reads the quiet log, in which replaced lines know the input they replace. */
+    /** Reads the quiet log. Each replaced line refers to the input that it replaces. */
     const readQuietInSlices = /** @type {Viewer.ReadQuiet} */ (function* readingQuiet(bytes, recorded) {
         const reader = yield* readInSlices(bytes);
         const { log } = reader;
@@ -361,7 +364,9 @@
         return reader;
     });
 
-    /** Runs the steps that read a log, with a progress bar if they take long. Calls `done` with the reader. */
+    /**
+     * Runs the steps that read a log, and shows a progress bar if they take long. Then calls `done` with the reader.
+     */
     const runWithProgressBar = /** @type {Viewer.RunReading} */ ((steps, text, done, first = () => {}) => {
         const bar = getElement("bar");
         let isOver = false;
@@ -397,7 +402,7 @@
         state.job = { end: () => {} };
     };
 
-    /** Runs a command on the log: at once, or for a long log in a worker. */
+    /** Runs a command on the log. For a long log, a worker is used. */
     const runCommand = (/** @type {string} */ command, /** @type {(made: Viewer.Outcome) => void} */ done) => {
         if (!isLong()) {
             done(state.core.run(command, state.bytes, state.snapshot));
@@ -477,7 +482,10 @@
         ready.then(() => bytes === state.bytes && done());
     };
 
-    /** How lines are explained: those of a long log in a worker, after which the visible rows are updated. */
+    /**
+     * Options for explaining lines. The lines of a long log are explained in a worker, and then the visible rows are
+     * updated.
+     */
     const EXPLAIN_OPTIONS = {
         atOnce: MAX_BYTES_AT_ONCE,
         most: MAX_EXPLAINED_BYTES,

@@ -1,5 +1,5 @@
-// Long work: steps that keep the page responsive, and the core's commands on long logs, in a worker. Sets
-// `globalThis.hidlogBackground`.
+// Runs long work: in steps that keep the page responsive, or in a worker, such as the core's commands on long logs.
+// Sets `globalThis.hidlogBackground`.
 "use strict";
 
 (() => {
@@ -14,7 +14,7 @@
     const isPromise = (step) => step.value instanceof Promise;
 
     /**
-     * Runs steps for some milliseconds; the first receives `value`. Returns the last one.
+     * Runs steps of a generator for some milliseconds. The first step receives `value`. Returns the last step's result.
      * @template Part, Result
      * @param {Generator<Part, Result, any>} steps
      * @param {number} milliseconds
@@ -30,9 +30,10 @@
     };
 
     /**
-     * Runs all steps of a generator, and calls `done` with its result; synchronously, if it is quick. Between slices,
-     * `part` is called with the last step. A step that is a promise is awaited, and its value passed to the next one.
-     * `milliseconds` is the time of the first slice. Returns a job that can be ended.
+     * Runs all steps of a generator in slices, and calls `done` with the result. If the first slice suffices, `done` is
+     * called synchronously. Between slices, `part` is called with the last step's value. If the value is a promise, it
+     * is awaited, and the next step receives the result. `milliseconds` is the time of the first slice. Returns a job
+     * that can be ended.
      * @template Part, Result
      * @param {Generator<Part, Result, any>} steps
      * @param {(part: Exclude<Part, Promise<any>>) => void} part
@@ -69,9 +70,9 @@
         return job;
     };
 
-    // Bytes posted to a worker at once: a whole long log would block the page.
+    // Number of bytes that are posted to a worker at once, since a whole long log would block the page.
     const PART_BYTES = 4 * 1024 * 1024;
-    // Scripts of every worker, and those that some commands need too.
+    // Scripts of every worker, and further scripts for some commands.
     const BASE_SCRIPTS = ["dist/bytes.js", "core.js", "log.js", "explain.js"];
     /** @type {Record<string, string[]>} */
     const EXTRA_SCRIPTS = {
@@ -108,12 +109,12 @@
         };`;
 
     /**
-     * A worker's message: the outcome of its command, or an error.
+     * A message of a worker: the result of the command, or an error.
      * @typedef {{ outcome?: any, error?: string }} Reply
      */
 
     /**
-     * Posts a log to a worker in parts, the task with the first one.
+     * Posts a log to a worker in parts. The task is posted with the first part.
      * @param {Worker} worker
      * @param {Uint8Array} log
      * @param {object} task
@@ -126,7 +127,7 @@
         }
     };
 
-    // The length before packed data (pack.py).
+    // Number of bytes of the length before compressed data (pack.py).
     const LENGTH_BYTES = 4;
     /** @type {Record<string, string> | null} */
     let unpackedSources = null;
@@ -141,7 +142,10 @@
         return /** @type {Record<string, string>} */ (unpackedSources);
     };
 
-    /** Unpacks the files of the page by the browser, if it can: otherwise readSources() does when they are needed. */
+    /**
+     * Unpacks the files of the page with the browser's DecompressionStream, if it exists. Otherwise readSources()
+     * unpacks them when they are needed.
+     */
     const prepareSources = async () => {
         try {
             const packed = globalThis.hidlogBytes.fromBase64(globalThis.HIDLOG_SOURCES).subarray(LENGTH_BYTES);
@@ -165,7 +169,7 @@
     };
 
     /**
-     * Runs a command in this thread.
+     * Runs a command in the current thread.
      * @param {Viewer.Core} core
      * @param {string} command
      * @param {Uint8Array} log
@@ -181,9 +185,10 @@
     };
 
     /**
-     * Runs a command on a log in a worker, or if that is impossible in this thread: a command of the core, `judge`
-     * (judge.js) or `examine` (diagnosis_work.js). `onProgress` is called with what `examine` does. Returns a promise
-     * of its outcome, indexed for `show` (explain.js), and a function that ends it.
+     * Runs a command on a log in a worker, or in this thread if workers are not available. The command is a command of
+     * the core, `judge` (judge.js) or `examine` (diagnosis_work.js). `onProgress` is called with the progress of
+     * `examine`. Returns a promise of the result, which for `show` is an index (explain.js), and a function that ends
+     * the work.
      * @param {Viewer.Core} core
      * @param {string} command
      * @param {Uint8Array} log

@@ -1,7 +1,7 @@
 // Tests a sign-in function with node alone: node --test examples/web/sign_in.test.mjs (node 20).
 //
-// Vitest and Jest run the same lines with their own `test`. If an environment such as jsdom hides node's WebCrypto, pass
-// install the option crypto: (await import("node:crypto")).webcrypto.
+// With Vitest and Jest, use the same lines with their own `test`. If an environment such as jsdom hides node's
+// WebCrypto, pass the option crypto to install: (await import("node:crypto")).webcrypto.
 import assert from "node:assert/strict";
 import { after, before, test } from "node:test";
 import { install } from "../../bindings/web/dist/security_key.mjs";

@@ -1,4 +1,4 @@
-// A browser and its key in one process, with JSON lines as input and output, for tests in any language
+// A simulated browser with a key in one process, for tests in any language. Input and output are JSON lines
 // (docs/use/WEBDRIVER.md).
 import { createInterface } from "node:readline";
 import { install } from "./node.mjs";
@@ -43,7 +43,7 @@ const makeCommands = (key) => ({
         snapshot: Buffer.from(snapshot).toString("base64url"), log })),
 });
 
-/** Parses a line: the command, its argument, and the mediation. */
+/** Parses a line. Returns the command, the argument and the mediation. */
 const readLine = (line, commands) => {
     const request = JSON.parse(line);
     const names = Object.keys(typeof request === "object" && request !== null ? request : {});
@@ -67,7 +67,9 @@ const readId = (line) => {
     }
 };
 
-/** The response to a line. @param {string} line @param {Record<string, Function>} commands */
+/**
+ * Runs the command of a line, and returns the response. @param {string} line @param {Record<string, Function>} commands
+ */
 const respond = async (line, commands) => {
     const id = readId(line);
     const made = id === undefined ? {} : { id };
@@ -75,7 +77,7 @@ const respond = async (line, commands) => {
         const { name, argument, more } = readLine(line, commands);
         return { ...made, value: (await commands[name](argument, more)) ?? null };
     } catch (error) {
-        // An error of a line that is not a page's error is a TypeError.
+        // An error that is not a page's error is reported as a TypeError.
         const isOfPage = error instanceof DOMException || error.name !== "RangeError" || /"(create|get)"/.test(line);
         return { ...made, error: isOfPage ? error.name : "TypeError", message: error.message };
     }
@@ -106,7 +108,7 @@ export const serve = async (words) => {
     }
     const [, origin] = words;
     if (!URL.canParse(origin) || new URL(origin).origin !== origin || !/^https?:/.test(origin)) {
-        fail(`not an origin: ${origin}; expected an origin such as https://example.com or http://localhost:8080`);
+        fail(`invalid origin ${origin}; expected an origin such as https://example.com or http://localhost:8080`);
     }
     const key = install({ origin });
     const commands = makeCommands(key);

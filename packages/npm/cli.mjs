@@ -1,13 +1,13 @@
 #!/usr/bin/env node
-// `npx hidlog`. `hidlog browser` is implemented in node. Commands of the Python package are not included. All others
-// run the program, which the package has for x86-64 Linux; elsewhere the verified core as WebAssembly supports some of
-// them. HIDLOG_CLI=wasm selects it here too.
+// The command `npx hidlog`. `browser` is implemented in node. Commands of the Python package are not included. All
+// other commands run the program, which the package contains for x86-64 Linux. On other systems, or with
+// HIDLOG_CLI=wasm, some of them run on the verified core as WebAssembly.
 import { spawn } from "node:child_process";
 import { accessSync, constants } from "node:fs";
 import { fileURLToPath } from "node:url";
 
 const PROGRAM = fileURLToPath(new URL("linux-x64/hidlog", import.meta.url));
-/** The commands of the Python package; tests/one_command.py compares the list with that package. */
+/** The commands of the Python package. tests/one_command.py compares this list with the package. */
 const PYTHON_COMMANDS = ["webdriver", "import", "export", "judge", "shrink", "check-many", "mermaid"];
 
 const hasProgram = () => {

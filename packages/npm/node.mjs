@@ -1,4 +1,4 @@
-// The key in node.
+// The key for node.
 import "./node18.mjs";
 
 export * from "./security_key.mjs";

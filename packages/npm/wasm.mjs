@@ -1,8 +1,9 @@
-// `npx hidlog` without the program: check, replay, live, quiet and show, by the verified core as WebAssembly.
+// The commands check, replay, live, quiet and show of `npx hidlog` without the program: they run on the verified core
+// as WebAssembly.
 import { createReadStream, readFileSync } from "node:fs";
 
 const COMMANDS = ["check", "replay", "live", "quiet", "show"];
-/** The longest line of a log. */
+/** Maximum length of a log line. */
 const MAX_LINE = 255;
 const NEWLINE = 10;
 const getFilePath = (name) => new URL(name, import.meta.url);
@@ -20,13 +21,13 @@ const parseOptions = (words) => {
     while (rest.length) {
         const word = rest.shift();
         if (word === "--load") {
-            options.snapshot = readBytes(rest.shift() ?? fail("--load needs a snapshot", 2), "snapshot");
+            options.snapshot = readBytes(rest.shift() ?? fail("--load: expected the path of a snapshot", 2), "snapshot");
         } else if (word.startsWith("--load=")) {
             options.snapshot = readBytes(word.slice("--load=".length), "snapshot");
         } else if (word === "--explain" || word === "--plain") {
             options.explain = word === "--explain";
         } else if (/^--?\w/.test(word)) {
-            fail(`unknown option ${word}; see npx hidlog --help`, 2);
+            fail(`unknown option ${word}; run npx hidlog --help for the options`, 2);
         } else {
             options.files.push(word);
         }
@@ -50,7 +51,7 @@ const loadCore = async () => {
     return globalThis.hidlog.load();
 };
 
-/** Sets whether `show` explains, for people, or writes the fixed text. */
+/** Sets whether `show` explains the log or prints the machine-readable text. */
 const setExplain = (core, explain) => {
     const { hidlog_show: show } = core.exports;
     const flag = Number(explain);
@@ -62,11 +63,14 @@ const printError = (outcome, before = "hidlog: ") => {
     process.exitCode = Math.max(process.exitCode ?? 0, outcome.status);
 };
 
-/** Replies to the lines of a log as they arrive: each time the log so far is played again. */
+/** Prints the output for each line of a log as it arrives, by replaying the log so far. */
 const runLive = async (core, file, snapshot) => {
     let log = Buffer.alloc(0);
     let printed = 0;
-    /** Plays the first bytes of the log. Returns whether it goes on. The totals, its last line, wait for the end. */
+    /**
+     * Replays the log so far, and prints the new output. Returns whether to continue. The last line, the totals, is
+     * printed at the end only.
+     */
     const play = (length, isEnd) => {
         const outcome = core.run("live", log.subarray(0, length), snapshot);
         const totals = outcome.text.lastIndexOf(NEWLINE, outcome.text.length - 2) + 1;
@@ -98,10 +102,10 @@ const runLive = async (core, file, snapshot) => {
 const run = async (command, words) => {
     const { files, snapshot, explain } = parseOptions(words);
     if (command !== "check" && files.length > 1) {
-        fail(`${command} takes one log`, 2);
+        fail(`${command}: expected one log, got ${files.length}`, 2);
     }
     if (command === "show" ? snapshot.length : explain) {
-        fail(command === "show" ? "show takes no snapshot" : "--explain is for show", 2);
+        fail(command === "show" ? "show does not support --load" : `${command} does not support --explain`, 2);
     }
     const core = await loadCore();
     setExplain(core, explain);

@@ -1,17 +1,17 @@
-// Fuzzes the stored state of a key in a page: JSON (bindings/web/key/state.js), in node. Mutated states are refused
-// with the key's own errors, or give a key with a valid state. Guided by V8's block coverage.
+// Fuzzes the stored state of a key in a page (JSON, bindings/web/key/state.js) in node, guided by V8's block coverage.
+// A mutated state must be rejected with an error of the key, or result in a key with a valid state.
 //
 //     node tests/fuzz/page_state.mjs [SECONDS [SEED]]    default: 10 seconds
 //
-// Exit status: 1 on a finding that is not in the table of known ones.
+// Exits with 1 on a finding that is not in the table of known findings.
 import { Session } from "node:inspector/promises";
 import { SecurityKey } from "../../bindings/web/dist/security_key.mjs";
 
-/** Known findings, as patterns. One that does not occur within a minute is reported. */
+/** Known findings, as patterns. A known finding that does not occur within a minute is reported. */
 const KNOWN_FINDINGS = new Map([]);
 const SECONDS_PER_MINUTE = 60;
 const KEY_SCRIPT_PATH = "/bindings/web/dist/security_key";
-/** V8's errors about unexpected values. */
+/** Errors of V8 about unexpected values, which the key should have checked. */
 const UNEXPECTED_ERROR = /^Cannot |is not (a function|iterable|a constructor|defined|an object)|^Invalid array|call stack|^Reduce of/u;
 const REPLACEMENT_VALUES = [
     null, undefined, true, false, 0, -1, 1.5, 2 ** 32, 2 ** 53, 1e308, NaN, "", "A", "AQ", "\u0000", "__proto__", "\ud800",
@@ -31,7 +31,7 @@ const random = (bound) => {
 
 const choose = (listed) => listed[random(listed.length)];
 
-/** Returns each position in a value: its container, and its key. */
+/** Returns each position in a value as its container and its key. */
 const listPositions = (value, found = []) => {
     for (const name of Object.keys(value)) {
         found.push([value, name]);
@@ -66,7 +66,7 @@ const mutate = (text) => {
     return JSON.stringify(state);
 };
 
-/** Returns what is wrong with the state of a key made from a state, or null. */
+/** Checks the state of a key that was made from a state. Returns a description of the error, or null. */
 const findStateError = (key) => {
     const state = JSON.parse(JSON.stringify(key.state()));
     if (!Number.isFinite(state.timeMs) || state.timeMs < 0) {
@@ -79,7 +79,7 @@ const findStateError = (key) => {
     return again === JSON.stringify(state.credentials) ? null : "the state of its state is another";
 };
 
-/** Makes a key from a state. Returns what is wrong with the result, or null. */
+/** Makes a key from a state, and checks the result. Returns a description of the error, or null. */
 const tryState = (text) => {
     try {
         return findStateError(new SecurityKey({ origin: "https://example.com", state: JSON.parse(text) }));

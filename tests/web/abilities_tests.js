@@ -1,5 +1,6 @@
-// Authenticator options of the page's key, which are outside the verified core: user verification, transports, IDs of
-// other lengths, backup flags. compare.js compares them with Chromium's authenticator.
+// Tests the authenticator options of the page's key, which are outside the verified core: user verification,
+// transports, IDs of other lengths, and backup flags. compare.js compares the options with Chromium's virtual
+// authenticator.
 import { install, SecurityKey, sendDevToolsCommand } from "../../bindings/web/dist/security_key.mjs";
 import { expect, results } from "./harness.js";
 import { createCredential, getAssertion, getAssertionBy, makeOptionsForUser, expectError, toBase64url, makeKeyTest } from "./options.js";

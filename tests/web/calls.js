@@ -1,4 +1,4 @@
-// Calls for both Chromium's virtual authenticator and the key: each registers or signs in with one option or one
+// Calls for both Chromium's virtual authenticator and the key. Each call registers or signs in with an option or an
 // invalid argument, and returns what a page sees.
 import { moreCalls } from "./member_calls.js";
 
@@ -27,7 +27,7 @@ const makeAllowList = (made, more = {}) => ({
     challenge: makeChallenge(), allowCredentials: [{ type: "public-key", id: made.rawId, ...more }],
 });
 
-/** What a page sees of a registration. */
+/** The members of a registration's credential that a page sees. */
 const describeRegistration = (made) => {
     const { response } = made;
     const json = made.toJSON();
@@ -45,7 +45,7 @@ const describeRegistration = (made) => {
     };
 };
 
-/** What a page sees of a sign-in. */
+/** The members of a sign-in's credential that a page sees. */
 const describeSignIn = (used) => {
     const { response } = used;
     const json = used.toJSON();
@@ -414,7 +414,7 @@ export const listCalls = (environment) => ({
     ...callWhileUserIsAsked(environment), ...conditional,
 });
 
-// A call that takes this long never ends: no other waits for more than half a second.
+// After this time, a call is considered pending forever. No other call waits for more than half a second.
 const NEVER_MS = 30_000;
 
 const waitForNever = () => new Promise((done, fail) => {
@@ -430,7 +430,7 @@ export const getResult = async (call) => {
     }
 };
 
-/** Returns "done" or the name of the error; for several calls all of them, joined by "and". */
+/** Returns "done" or the name of the error. The results of several calls are joined by "and". */
 export const summarizeResult = ({ value, error }) => {
     const isOfSeveral = Array.isArray(value) && value.every((one) => one === "done" || /Error$/.test(one));
     return error ?? (isOfSeveral ? value.join(" and ") : "done");

@@ -1,4 +1,5 @@
-// What a page sees in every browser: arguments and errors as in Chromium, and the credentials it receives.
+// Tests what a page sees in every browser: arguments and errors as in Chromium, and the credentials that the page
+// receives.
 import { install } from "../../bindings/web/dist/security_key.mjs";
 import { listCalls, summarizeResult, getResult } from "./calls.js";
 import { loadFrame, loadResult } from "./frames.js";
@@ -7,7 +8,7 @@ import { createCredential, makeCreationOptions, getAssertion, getAssertionBy, ma
 import { AUTHENTICATOR_KINDS, mayDiffer } from "./reasons.js";
 import { isSelfAttested } from "./signatures.js";
 
-/** The calls whose result differs from that of Chromium's authenticator of this kind. */
+/** The calls whose result differs from that of Chromium's virtual authenticator with the same options. */
 const findDifferences = async (kind, expected) => {
     const key = install(AUTHENTICATOR_KINDS[kind]);
     const calls = listCalls({
@@ -66,7 +67,7 @@ const testContainer = async () => {
     expect(credentials.create === before && !Object.keys(credentials).length, "put back");
 };
 
-/** Registers in a frame, and returns its client data, which is what the key signed. */
+/** Registers in a frame, and returns the client data that the key signed. */
 const loadClientData = async (address, policy) => {
     const made = await loadResult(address, policy);
     expect(await isSelfAttested(made), `the signature over the client data of ${address}`);

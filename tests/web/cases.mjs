@@ -1,5 +1,5 @@
-// Runs tests/python/browser_cases.json, registrations and sign-ins as JSON, on a browser, and compares the results with
-// those recorded from Chromium's own authenticator.
+// Runs the registrations and sign-ins of tests/python/browser_cases.json on a simulated browser, and compares the
+// results with the recorded results of Chromium's virtual authenticator.
 import assert from "node:assert/strict";
 import { createHash } from "node:crypto";
 import { readFileSync } from "node:fs";
@@ -11,7 +11,7 @@ const RECORDED = readJson("browser_cases_chromium.json");
 const RP_ID_HASH = createHash("sha256").update("localhost").digest();
 const HAS_CREDENTIAL = 0x40;
 
-/** What the key returns where it differs from Chromium's authenticator; the table has the reasons. */
+/** Results of the key that differ from Chromium's authenticator. The table has the reasons. */
 const DIFFERENT = {
     "create, RS256 and ES256": ({ seen }) => ({ seen: { ...seen, response: { ...seen.response, publicKeyAlgorithm: -7 } } }),
     "create, attachment platform": () => ({ error: "NotAllowedError" }),
@@ -52,7 +52,7 @@ const makeOptions = ({ call, options = {}, without = [], raw, wrapped }, ids) =>
     return wrapped ? { publicKey: made } : made;
 };
 
-/** The members of a credential that are the same in each run. */
+/** The members of a credential that do not differ between runs. */
 const selectMembers = (credential, ids) => {
     const { authenticatorData, clientDataJSON, ...response } = credential.response;
     const data = decode(authenticatorData);
@@ -69,7 +69,7 @@ const selectMembers = (credential, ids) => {
     };
 };
 
-/** The options of a virtual authenticator like the key of a case. */
+/** The options of a virtual authenticator for the key of a case. */
 const makeAuthenticatorOptions = ({ verification = "none", attachment, ...key } = {}) => ({
     transport: attachment === "platform" ? "internal" : "usb", hasResidentKey: key.has_resident_key ?? true,
     hasUserVerification: verification !== "none", isUserVerified: verification === "verified",
@@ -77,7 +77,7 @@ const makeAuthenticatorOptions = ({ verification = "none", attachment, ...key } 
     defaultBackupState: key.default_backup_state ?? false,
 });
 
-/** Makes the calls of a case, and returns the result of the last one. */
+/** Makes the calls of a case, and returns the result of the last call. */
 const run = async (test, browser) => {
     await browser.start(makeAuthenticatorOptions(test.key));
     const ids = [];
@@ -96,14 +96,17 @@ const run = async (test, browser) => {
     }
 };
 
-/** What the key must return. Chromium's user can't deny, so these results are WebAuthn's (section 5.1.3). */
+/**
+ * The result that the key must return. Chromium's simulated user cannot deny, so the results of a denial are those of
+ * WebAuthn (section 5.1.3).
+ */
 const getExpected = ({ name, presence, differs }) => {
     assert.equal(Boolean(differs), name in DIFFERENT, name);
     return presence ? { error: "NotAllowedError" } : DIFFERENT[name]?.(RECORDED[name]) ?? RECORDED[name];
 };
 
 /**
- * Runs all cases on a browser, and returns their number. Fails if a result is another.
+ * Runs all cases on a browser, and returns their number. Fails if a result is not the expected one.
  * @param {{ start: Function, setPresence: Function, setUserVerified: Function, call: Function }} browser `call` returns
  * the credential's JSON, or throws an error with the DOM's name
  */

@@ -1,4 +1,5 @@
-// The cases of browser_cases.json on the key in node, and the calls whose client data the page writes itself.
+// Runs the cases of browser_cases.json on the key in node, and tests calls for which the key's script writes the client
+// data.
 import assert from "node:assert/strict";
 import { test } from "node:test";
 import { install } from "../../bindings/web/dist/security_key.mjs";
@@ -120,7 +121,7 @@ test("transports that the core's client does not know", async () => {
     }
 });
 
-// As in Chromium: a FIDO 2.0 key may make any credential discoverable, so nothing is said of it.
+// As in Chromium, credProps.rk is omitted, since a FIDO 2.0 key may make any credential discoverable.
 test("credProps by protocol", async () => {
     const options = { publicKey: { challenge: new Uint8Array(1), rp: { name: "A" }, user: USER,
         pubKeyCredParams: PARAMETERS, extensions: { credProps: true } } };

@@ -1,5 +1,5 @@
-// The same calls with Chromium's own virtual authenticator and with the key, in one page: what a page sees of each, and
-// the reasons of the differences.
+// Makes the same calls with Chromium's virtual authenticator and with the key in one page, and compares what the page
+// sees. Each difference must have a known reason.
 import { install } from "../../bindings/web/dist/security_key.mjs";
 import { listCalls, summarizeResult, getResult } from "./calls.js";
 import { post, results } from "./harness.js";
@@ -23,7 +23,7 @@ const listLeaves = (value, path = "") => {
     return Object.entries(value).flatMap(([name, inner]) => listLeaves(inner, path ? `${path}.${name}` : name));
 };
 
-/** The leaves to compare: all but an error's message and a member that Chromium adds at random. */
+/** The leaves to compare: all except error messages and a member that Chromium adds at random. */
 const selectLeaves = ({ text, ...outcome }) =>
     new Map(listLeaves(outcome).filter(([path]) => !path.includes("other_keys_can_be_added_here")));
 
@@ -61,7 +61,7 @@ const measureMedian = async () => {
     return all.sort((one, other) => one - other)[ROUNDS / 2].toFixed(2);
 };
 
-/** Reports the differences by reason, and fails if one has none. */
+/** Reports the differences by reason, and fails if a difference has no reason. */
 const reportDifferences = (kind, found, count, sameTexts) => {
     const lines = new Map();
     for (const { name, path, native, own, reason } of found) {
@@ -104,7 +104,7 @@ const runInChromium = async (abilities) => {
     }
 };
 
-/** The same with the key. */
+/** The results of the key with these options, and the median time of a registration and sign-in. */
 const runWithKey = async (abilities) => {
     const key = install(abilities);
     try {
@@ -118,7 +118,7 @@ const runWithKey = async (abilities) => {
     }
 };
 
-/** The results of both with the same options, and the differences. */
+/** The results of both authenticators with the same options, and the differences. */
 const runBoth = async (kind, abilities) => {
     const [one, other] = [await runInChromium(abilities), await runWithKey(abilities)];
     const found = [...one.outcomes].flatMap(([name, outcome]) =>
@@ -126,7 +126,10 @@ const runBoth = async (kind, abilities) => {
     return { one, other, found };
 };
 
-/** Compares both, and returns the results of Chromium's calls. Tries again if a difference is unexplained: it may be timing. */
+/**
+ * Compares both authenticators, and returns the results of Chromium's calls. Tries again if a difference is
+ * unexplained, since it may be due to timing.
+ */
 const compareBoth = async (kind, abilities) => {
     let seen = await runBoth(kind, abilities);
     for (let time = 1; time < TRIES && seen.found.some((difference) => difference.reason === undefined); time += 1) {

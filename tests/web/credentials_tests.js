@@ -1,10 +1,10 @@
-// The methods of a virtual authenticator: credentials, events, faults.
+// Tests the methods of a virtual authenticator: credentials, events and faults.
 import { installedKey, sendDevToolsCommand } from "../../bindings/web/dist/security_key.mjs";
 import { expect, results } from "./harness.js";
 import { readSignCount, createCredential, getAssertion, getAssertionBy, makeOptionsForUser, P256, expectError, toBase64url, makeKeyTest } from "./options.js";
 import { importPublicKey, isSignedBy } from "./signatures.js";
 
-// A delay in milliseconds that never ends, however slow the machine is.
+// A delay in milliseconds that does not end during a test, even on a slow machine.
 const NEVER_MS = 1_000_000;
 
 /** A key pair that the key did not create: PKCS #8 and public key. */
@@ -56,7 +56,7 @@ const signInWithOther = async (key, algorithm) => {
 
 const testOtherAlgorithms = async (key) => {
     for (const algorithm of OTHER_ALGORITHMS) {
-        // Older browsers have no Ed25519.
+        // Older browsers do not support Ed25519.
         const isThere = await crypto.subtle.generateKey(algorithm, false, ["sign", "verify"]).then(() => true, () => false);
         if (isThere) {
             await signInWithOther(key, algorithm);

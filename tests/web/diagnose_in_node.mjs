@@ -1,4 +1,4 @@
-// The page's diagnosis in node: what its card says of a log, as bindings/web/diagnosis_card.js assembles it.
+// Runs the page's diagnosis in node: computes the card for a log, as bindings/web/diagnosis_card.js does.
 import { readFileSync } from "node:fs";
 import vm from "node:vm";
 import { core, readSession, resolvePath } from "./session_in_node.mjs";
@@ -12,7 +12,7 @@ const sources = globalThis.hidlogBackground.readSources();
 const { assignFindings, decide } = globalThis.hidlogDiagnosis;
 const difference = globalThis.hidlogDifference;
 
-/** The first difference of a log from what the key sends, or null if it isn't the key's log or has none. */
+/** The first difference of a log from what the key sends, or null if the log has no difference or is not the key's. */
 const findDifference = ({ isOwn, outcome }, recorded, shown, log, snapshot) => {
     if (!isOwn || outcome.status !== 1 || outcome.errorCode !== MISMATCH) {
         return null;
@@ -24,10 +24,12 @@ const findDifference = ({ isOwn, outcome }, recorded, shown, log, snapshot) => {
     return { ...found, sentence: difference.toSentence(found), isRejection };
 };
 
-/** Whether a log has packets of the key: of a log of inputs, the page shows what the key sends. */
+/**
+ * Whether a log has packets of the key. For a log of inputs only, the page shows the packets that the key would send.
+ */
 const hasResponses = (bytes) => globalThis.hidlogLog.hasMatch(bytes, /^< /m);
 
-/** Who is at fault in a log that the key can play, and why. */
+/** The diagnosis of a log that the key can replay: who is at fault, and why. */
 export const diagnose = async (bytes, snapshot = new Uint8Array(0)) => {
     const log = hasResponses(bytes) ? bytes : core.run("replay", bytes, snapshot).text;
     const found = await globalThis.hidlogDiagnosisWork.examine(core, log, snapshot, () => {});

@@ -1,12 +1,12 @@
-// Whom the page's diagnosis blames: never the key in recordings of a conforming one, also if these are cut, begin late or
-// lack packets of the host, as recordings do.
+// Tests that the page's diagnosis does not find the key at fault in recordings of a conforming key, even if the
+// recordings are truncated, begin late or lack packets of the host.
 import assert from "node:assert/strict";
 import { readdirSync, readFileSync } from "node:fs";
 import { test } from "node:test";
 import { diagnose } from "./diagnose_in_node.mjs";
 import { resolvePath } from "./session_in_node.mjs";
 
-// Sessions with this project's key, whose logs `hidlog check` accepts, and captures and clients' sessions.
+// Folders of sessions with this project's key that pass `hidlog check`, and of captures and clients' sessions.
 const FOLDERS = ["examples/", "crates/hidlog/data/capacity_64/", "conformance/recorded/", "tests/captures/data/"];
 // Sessions that began with credentials.
 const SNAPSHOTS = { "examples/service_after_restart.log": "examples/service.snapshot" };
@@ -34,7 +34,10 @@ test("credentials of before the recording are missing, or are those of its snaps
     assert.deepEqual([verdict.side, verdict.title], ["capture", "lacks the credentials with which the session began"]);
 });
 
-/** Sessions whose parts are diagnosed: registrations and sign-ins with real keys, errors, refusals, two hosts. */
+/**
+ * Sessions of which parts are diagnosed: registrations and sign-ins with real keys, errors, denied requests, and two
+ * hosts.
+ */
 const PARTS = ["examples/service_registration.log", "examples/failing/denied_user.log", "examples/two_hosts.log",
     "examples/time_out.log", "examples/service_two_accounts.log"];
 

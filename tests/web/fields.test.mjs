@@ -1,5 +1,5 @@
-// The fields of the page's detail and their bytes: some by hand from examples/registration.log, and for all logs against
-// the digits in the core's own explanations.
+// Tests the fields of the page's detail and their bytes. Some expected values are written by hand from
+// examples/registration.log. For all logs, the bytes are compared with the digits in the core's explanations.
 import assert from "node:assert/strict";
 import { readdirSync, readFileSync } from "node:fs";
 import { test } from "node:test";
@@ -42,26 +42,28 @@ const readBytes = (packets, ranges) => ranges.map(({ from, to }) => {
 test("the bytes of a registration's fields, by hand", () => {
     const { packets, find } = findFields("examples/registration.log", 5);
     assert.deepEqual(packets.map(({ number }) => number), [4, 5]);
-    // 7 bytes of head, 1 of the command, then a5, 01 58 20 and 32 bytes, 02 a1 .., 03 a1 62 69 64 41 01.
+    // The packet has 7 bytes of head, the command byte, a5, 01 58 20 and 32 bytes, 02 a1 .., and 03 a1 62 69 64 41 01.
     assert.deepEqual(find("channel 00000001"), [[0, 4]]);
     assert.deepEqual(find("command 90"), [[4, 5]]);
     assert.deepEqual(find("length 91"), [[5, 7]]);
     assert.deepEqual(find("1 clientDataHash"), [[9, 44]]);
     assert.deepEqual(find("2 rp"), [[44, 61]]);
     assert.deepEqual(find('"id": "example.com"'), [[46, 61]]);
-    // The user's entry continues in the second packet, after its head of 5 bytes.
+    // The user entity continues in the second packet, after the head of 5 bytes.
     assert.deepEqual(find("3 user"), [[61, 64], [69, 73]]);
     assert.deepEqual(find("\"alg\": -7"), [[76, 81]]);
 });
 
 test("the bytes of an assertion's fields, by hand", () => {
     const { find } = findFields("examples/sign_in.log", 28);
-    // The second of four packets: 5 bytes of head, 02 58 25, the hash of 32 bytes, the flags 01, the counter 00000001.
+    // The second of four packets has 5 bytes of head, 02 58 25, the hash of 32 bytes, the flags 01, and the signature
+    // counter 00000001.
     assert.deepEqual(find("2 authData"), [[69, 109]]);
     assert.deepEqual(find("rpIdHash"), [[72, 104]]);
     assert.deepEqual(find("flags 01 UP"), [[104, 105]]);
     assert.deepEqual(find("signCount 1"), [[105, 109]]);
-    // 03 58 46, and 70 bytes of which 16 are in this packet; then 04 a1 62 69 64, and 41 01 in the last packet.
+    // Then follow 03 58 46 and 70 bytes, of which 16 are in this packet, and 04 a1 62 69 64 41 01, of which 41 01 is in
+    // the last packet.
     assert.deepEqual(find("3 signature"), [[109, 128], [133, 187]]);
     assert.deepEqual(find("4 user"), [[187, 192], [197, 199]]);
 });
@@ -75,7 +77,7 @@ test("the bytes of an INIT response, by hand", () => {
     assert.deepEqual(find("capabilities 0c"), [[23, 24]]);
 });
 
-/** The last digits of a field's bytes, as its text has them, or "" if it has none. */
+/** The last digits of a field's bytes in the field's text, or "" if the text has none. */
 const readDigits = (text) => {
     const [, name, value] = /^ +(?:-?\d+ )?"?(\w+)"?:? (\S.*)$/.exec(text) ?? [];
     if (!name || ["channel", "command", "length"].includes(name)) {

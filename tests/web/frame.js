@@ -1,11 +1,12 @@
-// A page in a frame, driven by a test: a key with the options of the address, and the result of a first registration.
+// The script of a page in a frame: installs a key with the options in the page's address, and stores the result of a
+// first registration.
 "use strict";
 
 const words = new URLSearchParams(location.search);
 const storages = { session: () => sessionStorage, local: () => localStorage };
 const storage = storages[words.get("store")]?.();
 globalThis.key = hidlogKey.install(storage ? { storage } : {});
-// What the first script of the page sees.
+// The WebAuthn functions that the first script of the page sees.
 globalThis.atFirst = { isKey: hidlogKey.installedKey() === key };
 
 const makePublicKeyOptions = (name = "ann") => ({

@@ -1,4 +1,4 @@
-// Frames of a test, each a page with its own key.
+// Loads frames for tests. Each frame is a page with its own key.
 
 /** Loads a page in a frame, and returns its window. */
 export const loadFrame = async (address, allow = "") => {
@@ -18,7 +18,7 @@ export const reload = async (frame) => {
     await loaded;
 };
 
-/** Loads a page that posts its result, and returns it. */
+/** Loads a page that posts a result, and returns the result. */
 export const loadResult = async (address, allow) => {
     const posted = new Promise((done) => {
         addEventListener("message", ({ data }) => done(data), { once: true });

@@ -1,5 +1,5 @@
-// Where a key can be installed, and once: frames without a URL of their own, the option `origin`, a script loaded
-// twice.
+// Tests in which pages a key can be installed, and that it is installed once: frames without an own URL, the option
+// `origin`, and a script that is loaded twice.
 import { version } from "../../bindings/web/dist/security_key.mjs";
 import { expect, getRejection } from "./harness.js";
 
@@ -33,7 +33,7 @@ const withFrame = async (attributes, run) => {
     }
 };
 
-/** Frames that inherit an origin register with it. */
+/** Frames that inherit an origin register with the inherited origin. */
 const testInheritedOrigins = async () => {
     for (const attributes of [{}, { src: "about:blank" }, { srcdoc: "<!doctype html><title>A frame</title>" }]) {
         await withFrame(attributes, async (page) => {
@@ -47,7 +47,7 @@ const testInheritedOrigins = async () => {
     }
 };
 
-/** Loaded twice, the script keeps the key that is installed. */
+/** If the script is loaded twice, the installed key is kept. */
 const testLoadedTwice = async () => withFrame({ src: "about:blank" }, async (page) => {
     await loadScript(page);
     const [first, key] = [page.hidlogKey, page.hidlogKey.install()];
@@ -60,7 +60,7 @@ const testLoadedTwice = async () => withFrame({ src: "about:blank" }, async (pag
     key.uninstall();
 });
 
-/** The option `origin` is guarded as the page's own origin is. */
+/** The option `origin` is checked in the same way as the page's origin. */
 const testOptionOrigin = async () => withFrame({ src: "about:blank" }, async (page) => {
     await loadScript(page);
     const origins = ["https://accounts.bank.com", "https://bank.com", "chrome-extension://abcdef", "https://localhost.com"];
@@ -77,7 +77,7 @@ const testOptionOrigin = async () => withFrame({ src: "about:blank" }, async (pa
     }
 });
 
-/** A sandboxed frame has an opaque origin, which gets no credential. */
+/** A sandboxed frame has an opaque origin, and gets no credential. */
 const testOpaqueOrigin = async () => {
     const text = `<!doctype html><script src="${new URL(SCRIPT, location.href)}"></script><script>
         hidlogKey.install();
@@ -93,7 +93,7 @@ const testOpaqueOrigin = async () => {
     expect(message === "NotAllowedError", message);
 };
 
-/** The script begins with its version and licence, and says its version. */
+/** The script begins with its version and licence, and exports its version. */
 const testVersion = async () => {
     const source = await fetchText("crates/hidlog/src/cli.rt");
     const [, expected] = /^const VERSION: &str = "([^"]+)";$/m.exec(source);

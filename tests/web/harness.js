@@ -21,7 +21,7 @@ export const getRejection = async (promise) => {
 
 export const sleep = (milliseconds) => new Promise((done) => setTimeout(done, milliseconds));
 
-// Polls before a condition fails: five minutes in an idle page. A busy page polls less often.
+// Maximum number of polls for a condition: five minutes in an idle page. A busy page polls less often.
 const MAX_POLLS = 30_000;
 const BEAT_MS = 5000;
 
@@ -63,7 +63,7 @@ const runTest = async (name, test) => {
     return { name, error, seconds: (performance.now() - begun) / 1000 };
 };
 
-/** Runs tests by name, or those named by `only` in the page's address, and posts the results. */
+/** Runs tests by name, or only the tests that `only` in the page's address names, and posts the results. */
 export const run = async (tests) => {
     const only = new URLSearchParams(location.search).getAll("only");
     const heartbeat = startHeartbeat();

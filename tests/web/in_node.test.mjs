@@ -1,4 +1,4 @@
-// The key in node: alone, in jsdom as Jest's environment has it, through a bundler, and with missing platform
+// Tests the key in node: alone, in jsdom as in Jest's environment, through a bundler, and with missing platform
 // functions.
 import assert from "node:assert/strict";
 import { execFileSync } from "node:child_process";

@@ -1,4 +1,4 @@
-// The unpacking of DEFLATE data in bindings/web/key/inflate.js, beside node's zlib.
+// Tests bindings/web/key/inflate.js against node's zlib.
 import assert from "node:assert/strict";
 import { readFileSync } from "node:fs";
 import { test } from "node:test";
@@ -8,7 +8,7 @@ import { unpack } from "../../bindings/web/key/inflate.js";
 
 const TOP = fileURLToPath(new URL("../../", import.meta.url));
 
-/** A generator of the same bytes each time. */
+/** Generates the same pseudorandom bytes in each run. */
 const makeBytes = (length, most, seed) => {
     let state = seed;
     return Uint8Array.from({ length }, () => {

@@ -1,5 +1,5 @@
-// What bindings/web/index.html opens: files as other systems write them, pasted text, and input before the core is
-// loaded.
+// Tests the input of bindings/web/index.html: files in the encodings of other systems, pasted text, and input before
+// the core is loaded.
 import { expect, run, waitUntil } from "./harness.js";
 import {
     dropFile, encodeText, fetchBytes, fetchExample, frame, getElement, getPage, listRows, listTexts, openLog,
@@ -18,7 +18,7 @@ const pack = async (bytes) => {
     return new Uint8Array(await new Response(packed).arrayBuffer());
 };
 
-/** The same log in other encodings is shown as it is, and matches the key; the page says what it converted. */
+/** A log in other encodings is shown like the original, and matches the key. The page reports what was converted. */
 const testEncodings = async () => {
     const bytes = await fetchExample("service_registration.log");
     const text = new TextDecoder().decode(bytes);
@@ -47,7 +47,7 @@ const testPackedCapture = async () => {
     expect((await waitForCard()).side === "none" && isShown(), readNotice());
 };
 
-/** A capture is no text, whatever bytes it has: the same one with CR LF in a field that readers ignore. */
+/** A capture is not converted as text, even if it has CR LF in a field that readers ignore. */
 const testCaptureWithReturns = async () => {
     const capture = await fetchBytes("tests/captures/data/keyboard_beside.48.pcap");
     await openLog("a.pcap", capture);
@@ -58,14 +58,17 @@ const testCaptureWithReturns = async () => {
     expect(/^a\.pcap: \d+ lines\.$/.test(readNotice()), readNotice());
 };
 
-/** Pastes text, by a plain Event with a `clipboardData`: in Firefox scripts create no paste event with data. */
+/**
+ * Pastes text with a plain Event that has `clipboardData`, since scripts in Firefox cannot create a paste event with
+ * data.
+ */
 const paste = (text) => {
     const event = new (getPage().Event)("paste", { bubbles: true });
     event.clipboardData = { getData: () => text };
     getPage().document.body.dispatchEvent(event);
 };
 
-/** Pasted text replaces an open log only after a question, and never if it is no log. */
+/** Pasted text replaces an open log only after the user confirms, and never if the text is not a log. */
 const testPaste = async () => {
     const log = new TextDecoder().decode(await fetchExample("service_registration.log"));
     await openLog("first.log", await fetchExample("failing/denied_user.log"));
@@ -114,7 +117,7 @@ const testEarlyInput = async () => {
     expect(!errors.length, errors.join());
 };
 
-/** The same, with a core that is certain to load later. */
+/** Input before the core is loaded, with a core that is certain to load later. */
 const testSlowCore = async () => {
     await openLog("", null);
     const errors = [];
@@ -142,7 +145,7 @@ const testSlowCore = async () => {
     expect(!errors.length, errors.join());
 };
 
-/** The example has real keys: its card blames nobody. */
+/** The example was recorded with real keys, so nobody is at fault in its card. */
 const testExample = async () => {
     await openLog("", null);
     getElement("example").click();
@@ -151,7 +154,7 @@ const testExample = async () => {
     expect(!text.includes("placeholders"), text);
 };
 
-/** A file that only begins like a snapshot is none. */
+/** A file that only begins like a snapshot is rejected. */
 const testNoSnapshot = async () => {
     await openLog("a.bin", Uint8Array.of(0xa2, 0x41, 1, 2, 3));
     const told = "Cannot open a.bin: it is not a text file: it starts with the bytes a2 41 01 02.";

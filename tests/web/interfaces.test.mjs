@@ -1,5 +1,5 @@
-// What scripts see of the key as WebIDL has it: members of credentials, defaults of options as JSON, and the Signal API
-// (WebAuthn Level 3, sections 5.1, 5.1.8 to 5.1.10 and 5.4), in node.
+// Tests the WebIDL interfaces of the key in node: members of credentials, defaults of options as JSON, and the Signal
+// API (WebAuthn Level 3, sections 5.1, 5.1.8 to 5.1.10 and 5.4).
 import assert from "node:assert/strict";
 import { test } from "node:test";
 import { install } from "../../bindings/web/dist/security_key.mjs";

@@ -1,10 +1,10 @@
-// The key with python-fido2's server, with navigator.credentials replaced by the key.
+// Tests the key, which replaces navigator.credentials, with python-fido2's server.
 import { install, SecurityKey } from "../../bindings/web/dist/security_key.mjs";
 import { expect, post, getRejection, results, waitUntil } from "./harness.js";
 import { makeCreationOptions, P256 } from "./options.js";
 import { importPublicKey } from "./signatures.js";
 
-// A delay in milliseconds that never ends, however slow the machine is.
+// A delay in milliseconds that does not end during a test, even on a slow machine.
 const NEVER_MS = 1_000_000;
 
 const fromText = (text) => {
@@ -12,7 +12,7 @@ const fromText = (text) => {
     return Uint8Array.from(plain, (letter) => letter.charCodeAt(0));
 };
 
-/** Converts options from a server, as a page does. */
+/** Converts the JSON options of a server, as a page does. */
 const decodeOptions = ({ publicKey }) => {
     const listIds = (list) => list?.map((descriptor) => ({ ...descriptor, id: fromText(descriptor.id) }));
     const options = { ...publicKey, challenge: fromText(publicKey.challenge) };
@@ -190,7 +190,7 @@ const registerAndSignIn = async () => {
     await key.get({ publicKey: { challenge: new Uint8Array(32), allowCredentials } });
 };
 
-/** The times of the first batch, which includes compilation, and the fastest of the later ones. */
+/** The times of the first batch, which includes compilation, and of the fastest later batch. */
 const measureBatches = async (round) => {
     const first = await measureProcessorTime(round);
     const later = [];
@@ -200,7 +200,7 @@ const measureBatches = async (round) => {
     return { first, least: Math.min(...later) };
 };
 
-/** Processor time is that of all the browser's processes, so nothing else runs meanwhile. */
+/** The processor time is that of all processes of the browser, so no other test runs at the same time. */
 const testProcessorTime = async () => {
     const all = await measureBatches(registerAndSignIn);
     const crypto = await measureBatches(callWebCrypto);

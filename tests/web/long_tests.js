@@ -1,5 +1,5 @@
-// bindings/web/index.html with long logs: rows appear while the rest is read, and the page never blocks. Times are
-// printed. They fail the tests only if the address has `quiet`, for an idle machine (bench/page.sh).
+// Tests bindings/web/index.html with long logs: rows appear while the rest is read, and the page never blocks. The
+// times are printed. They are checked only if the address has `quiet`, for an idle machine (bench/page.sh).
 import { expect, results, run, waitUntil, sleep } from "./harness.js";
 import { getElement, chooseValue, encodeText, readNotice, openLog, getPage, listRows, listTexts } from "./viewing.js";
 
@@ -9,7 +9,7 @@ const MAX_MS_TO_NAMES = isQuiet ? 15_000 : Infinity;
 const MAX_BLOCKED_MS = isQuiet ? 200 : Infinity;
 const MAX_MS_PER_LETTER = isQuiet ? 50 : Infinity;
 
-/** Measures the longest time for which the page is blocked from now on. */
+/** Starts to measure the longest time for which the page is blocked. */
 const watchLongestBlock = () => {
     let [last, longest] = [performance.now(), 0];
     const timer = getPage().setInterval(() => {
@@ -24,7 +24,10 @@ const watchLongestBlock = () => {
 
 const formatSeconds = (milliseconds) => `${(milliseconds / 1000).toFixed(2)} s`;
 
-/** A file with a log repeated up to this size in megabytes. The browser holds it, without a copy in the page. */
+/**
+ * A file with a log that is repeated up to this size in megabytes. The browser stores the file, without a copy in the
+ * page.
+ */
 const makeFile = async (name, log, megabytes) => {
     const answer = await fetch(`/long/${log}?megabytes=${megabytes}`);
     return new (getPage().File)([await answer.blob()], name);
@@ -59,7 +62,10 @@ const testScrolling = async () => {
     results.figures.push(`four jumps in it: the page never stopped for more than ${stop().toFixed(0)} ms`);
 };
 
-/** The last lines have explanations, for which the core reads the whole log. `opened` is when its file was dropped. */
+/**
+ * The last lines are explained, for which the core reads the whole log. `opened` is the time at which the file was
+ * dropped.
+ */
 const testExplanations = async (opened) => {
     const stop = watchLongestBlock();
     getElement("scroller").scrollTop = getElement("scroller").scrollHeight;
@@ -91,7 +97,9 @@ const testHugeLog = async () => {
     await openLog("", null);
 };
 
-/** Types into the search of 30 MB: each letter is handled at once, and the last search finds the rows. */
+/**
+ * Types into the search field for a log of 30 MB: each letter is handled at once, and the last search finds the rows.
+ */
 const testSearch = async () => {
     await openLog("", null);
     await openFile(await makeFile("sought.log", "sign_in.log", 30), "\\d+");

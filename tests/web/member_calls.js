@@ -1,5 +1,5 @@
-// More calls for Chromium's virtual authenticator and the key: what the members of credentials are, JSON options with
-// their defaults, and the Signal API (WebAuthn Level 3, sections 5.1 and 5.1.10).
+// Further calls for Chromium's virtual authenticator and the key: members of credentials, JSON options with their
+// defaults, and the Signal API (WebAuthn Level 3, sections 5.1 and 5.1.10).
 
 const toBytes = (...list) => Uint8Array.of(...list);
 const makeChallenge = () => new Uint8Array(32).fill(7);
@@ -32,7 +32,7 @@ const describeMember = ({ get, set, value, enumerable, configurable, writable })
     enumerable && "enumerable", configurable && "configurable", writable && "writable",
 ].filter(Boolean).join(", ");
 
-/** What a page sees of an object: its own members, those of for-in, and those of each prototype. */
+/** Describes an object as a page sees it: own members, members of for-in, and members of each prototype. */
 const describeObject = (object, names) => {
     const listed = [];
     for (const name in object) {
@@ -56,7 +56,7 @@ const ATTESTATION_MEMBERS = ["clientDataJSON", "attestationObject", "getAuthenti
     "getPublicKeyAlgorithm", "getTransports"];
 const ASSERTION_MEMBERS = ["clientDataJSON", "authenticatorData", "signature", "userHandle"];
 
-/** Calls a function that must throw, and passes its error on; or returns the value. */
+/** Calls a function without its object. The function must throw; if it does not, returns the value. */
 const callUnbound = (read) => async () => {
     const made = await register();
     const used = await signIn([made]);
@@ -107,7 +107,7 @@ const members = {
 
 // ---- options as JSON
 
-/** A value with buffers as their bytes. */
+/** Returns a value in which buffers are replaced by arrays of bytes. */
 const describeValue = (value) => {
     if (value instanceof ArrayBuffer) {
         return `ArrayBuffer ${[...new Uint8Array(value)]}`;

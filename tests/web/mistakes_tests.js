@@ -1,4 +1,4 @@
-// Files that people open by mistake in bindings/web/index.html, and files made to deceive its reader.
+// Tests files that are opened by mistake in bindings/web/index.html, and files that are made to deceive the user.
 import { expect, run, waitUntil } from "./harness.js";
 import {
     chooseValue, dropFile, encodeText, fetchBytes, fetchExample, frame, getElement, getPage, listRows, listTexts, openLog,
@@ -15,7 +15,7 @@ const dropFiles = (files) => {
     getPage().document.dispatchEvent(new (getPage().DragEvent)("drop", { dataTransfer: data, cancelable: true }));
 };
 
-/** A log as mail, chats and editors change it is opened as it was, and matches the key. */
+/** A log that mail programs, chats or editors have changed is restored when opened, and matches the key. */
 const testCopiedLogs = async () => {
     const text = await fetchText("service_registration.log");
     const copies = [
@@ -38,7 +38,7 @@ const testCopiedLogs = async () => {
     }
 };
 
-/** A log with blanks that a log can have, in comments, is not changed. */
+/** A log with additional blanks in comments, which are valid, is not changed. */
 const testUnchangedLog = async () => {
     const text = `#  a comment \n${await fetchText("service_registration.log")}#\tanother\n`;
     await openLog("own.log", encodeText(text));
@@ -46,7 +46,7 @@ const testUnchangedLog = async () => {
     expect(new TextDecoder().decode(getPage().hidlogViewer.state.bytes) === text, "the log's bytes");
 };
 
-/** What is no log is named, with what to do. */
+/** For a file that is not a log, the page shows the kind of file and advice. */
 const testOtherFiles = async () => {
     const shown = "1 > 1 ffffffff INIT 8\n2 < ffffffff INIT 17\n";
     const packets = (await fetchText("registration.log")).split("\n").filter((line) => line.startsWith("> "));
@@ -76,7 +76,7 @@ const testOtherFiles = async () => {
     }
 };
 
-/** Texts that `hidlog import` converts are named: real ones of each tool. */
+/** Texts that `hidlog import` converts are recognized. The samples are real outputs of each tool. */
 const testImportableTexts = async () => {
     const names = [
         ["libfido2_register.fido_debug.txt", "the output of libfido2's FIDO_DEBUG"],
@@ -102,7 +102,7 @@ const testCutLine = async () => {
     expect(card.text.includes("Its packet has 95 hexadecimal digits, not 128"), card.text);
 };
 
-/** A log and its snapshot can be dropped together, in any order; what cannot be opened is named. */
+/** A log and its snapshot can be dropped together, in any order. A file that cannot be opened is reported by name. */
 const testSeveralFiles = async () => {
     const [log, snapshot] = [await fetchExample("service_after_restart.log"), await fetchExample("service.snapshot")];
     const other = await fetchExample("two_hosts.log");
@@ -154,7 +154,9 @@ const chooseFile = (id, name, bytes) => {
     getElement(id).dispatchEvent(new (getPage().Event)("change"));
 };
 
-/** After a file was opened none is chosen, so that the browser reports the same file again once it was edited. */
+/**
+ * After a file was opened, the file chooser is reset, so that the same file can be chosen again after it was edited.
+ */
 const testSameFileAgain = async () => {
     await openLog("", null);
     chooseFile("file", "a.log", await fetchExample("two_hosts.log"));
@@ -165,7 +167,7 @@ const testSameFileAgain = async () => {
     expect(getElement("other-file").files.length === 0, "that choice, too");
 };
 
-/** A long log of inputs alone is shown with what the key sends, like a short one, and blames nobody. */
+/** A long log of inputs only is shown with the packets that the key sends, like a short log, and nobody is at fault. */
 const testLongInputs = async () => {
     const inputs = (await fetchText("first.log")).split("\n").filter((line) => /^[>tpks] /.test(line));
     const ping = `> 100000 000000018100010${"0".repeat(113)}\n`;
@@ -176,7 +178,10 @@ const testLongInputs = async () => {
     expect(getElement("view").value === "replayed", getElement("view").value);
 };
 
-/** After a reload no log is open, and no search, channel or view is left, which would hide lines of the next log. */
+/**
+ * After a reload, no log is open, and the search, channel and view are reset, since they would hide lines of the next
+ * log.
+ */
 const testReload = async () => {
     await openLog("a.log", await fetchExample("two_hosts.log"));
     chooseValue("search", "ping");
@@ -200,7 +205,7 @@ const HOSTILE_NAMES = [
     "</SCRIPT><h1 id=injected>.log", "<!--<script>.log", "\u2028'+alert(1)+'.log",
 ];
 
-/** A name makes no elements, reorders no text, and leaves the page as wide as it is. */
+/** A file name cannot create elements, reorder text, or make the page wider. */
 const testHostileNames = async () => {
     const log = await fetchExample("two_hosts.log");
     for (const name of HOSTILE_NAMES) {
@@ -215,7 +220,7 @@ const testHostileNames = async () => {
     }
 };
 
-/** A page saved with a hostile log and name has these as texts alone, and runs. */
+/** A page that is saved with a hostile log and file name contains these only as text, and works. */
 const testHostileSavedPage = async () => {
     const comment = "# </script><h1 id=injected>x</h1><!--<script>\n";
     for (const name of HOSTILE_NAMES) {
@@ -236,7 +241,7 @@ const testHostileSavedPage = async () => {
     }
 };
 
-/** Of long lines, as much as a reader needs is shown. */
+/** Long lines are shortened. */
 const testLongLines = async () => {
     const text = await fetchText("two_hosts.log");
     await openLog("long.log", encodeText(`${text}# ${"x".repeat(3_000_000)}\n${text}`));

@@ -1,5 +1,5 @@
-// Tests the installed npm package: npm_package.mjs FOLDER, where FOLDER/node_modules has it. Compares the output of its
-// command with the program's, byte for byte, and runs the README's lines.
+// Tests the npm package that is installed in FOLDER/node_modules: npm_package.mjs FOLDER. Compares the output of the
+// package's command with that of the program, byte for byte, and runs the code of the README.
 import assert from "node:assert/strict";
 import { spawn, spawnSync } from "node:child_process";
 import { readdirSync, readFileSync, writeFileSync } from "node:fs";
@@ -29,7 +29,7 @@ const calls = logs.flatMap((log) => [["check", log], ["replay", log], ["live", l
 const listFailingLog = (name) => join(TOP, "examples/failing", name);
 calls.push(["check", "--load", listFailingLog("alice.snapshot"), listFailingLog("wrong_snapshot.log")],
     ["check", "--load", listFailingLog("bob.snapshot"), listFailingLog("wrong_snapshot.log")], ["check", ...logs.slice(0, 4)]);
-/** The result without the reason of an error, which only the program explains. */
+/** The result without the explanation of an error, which only the program prints. */
 const dropReason = ({ stderr, ...rest }) => ({ ...rest, stderr: stderr.split("\n")[0] });
 for (const words of calls) {
     const ends = [runCommand("node", [command, ...words]), runCommand(program, words)];
@@ -42,7 +42,7 @@ for (const words of [["check"], ["check", "-"], ["replay"], ["live"], ["live", "
 }
 console.log(`ok  npx hidlog writes the program's bytes in ${calls.length + 5} calls`);
 
-// A line gets its reply before the next one is sent; a line that is wrong, or too long, ends the session like the program's.
+// Each line gets a reply before the next line is sent. An invalid or too long line ends the session, as in the program.
 const session = spawn("node", [command, "live"], { env: { ...process.env, HIDLOG_CLI: "wasm" }, cwd: folder });
 const replies = createInterface({ input: session.stdout })[Symbol.asyncIterator]();
 for (const line of ["> 0 ffffffff860008000102030405060700".padEnd(132, "0"), "t 10"]) {
@@ -60,7 +60,7 @@ for (const text of ["t 1\nwrong\nt 2\n", `t 1\n# ${"x".repeat(300)}`, "t 5\nt 6"
 }
 console.log("ok  npx hidlog live replies line by line");
 
-// Its browser, with the registrations and sign-ins recorded from Chromium.
+// Tests the package's simulated browser with the registrations and sign-ins that were recorded from Chromium.
 const browser = spawn("node", [command, "browser", "--origin", ORIGIN], { cwd: folder });
 const responses = createInterface({ input: browser.stdout })[Symbol.asyncIterator]();
 const send = async (name, argument, more = {}) => {
@@ -84,7 +84,7 @@ const count = await runCases({
 browser.stdin.end();
 console.log(`ok  npx hidlog browser: ${count} cases recorded from Chromium`);
 
-// Invalid arguments: a status, and an error message of one line that says what is valid.
+// Invalid arguments must cause an exit status, and an error message of one line that lists the valid arguments.
 for (const [words, status, expected] of [
     [["chek", "a.log"], 2, "expected one of check"], [["check", "nothing.log"], 1, "nothing.log"],
     [["check", "--lod", "x"], 2, "--help"], [["check", "--load"], 2, "snapshot"], [["browser"], 2, "--origin"],

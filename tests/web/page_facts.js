@@ -1,5 +1,5 @@
-// What is wrong with a page for its readers: faint texts, controls that overlap, are cut off or have no name, roles that
-// do not fit. Sets `globalThis.pageFacts`; each function takes the page's window.
+// Finds accessibility errors of a page: faint texts, controls that overlap, are cut off or have no name, and invalid
+// nesting of roles. Sets `globalThis.pageFacts`; each function takes the page's window.
 "use strict";
 
 (() => {
@@ -36,7 +36,7 @@
 
     const hasOwnText = (element) => [...element.childNodes].some((node) => node.nodeType === 3 && node.data.trim());
 
-    /** Texts with a contrast under 4.5:1 to what is behind them (WCAG 2.1, 1.4.3). */
+    /** Texts with a contrast of less than 4.5:1 to their background (WCAG 2.1, 1.4.3). */
     const findFaintTexts = (page) => {
         const faint = [];
         const check = (element, colour, name) => {
@@ -58,7 +58,7 @@
     const overlap = (one, other) => Math.min(one.right, other.right) - Math.max(one.left, other.left) > TOLERANCE
         && Math.min(one.bottom, other.bottom) - Math.max(one.top, other.top) > TOLERANCE;
 
-    /** Controls that overlap, and parts of the page that do. An open menu or dialog lies over the page. */
+    /** Controls that overlap, and parts of the page that overlap. An open menu or dialog may overlap the page. */
     const findOverlaps = (page) => {
         const found = [];
         for (const selector of [CONTROLS, BLOCKS]) {
@@ -90,7 +90,7 @@
     // The roles that an element of a role may contain.
     const OWNED = { tree: ["treeitem"], menu: ["menuitem"], tablist: ["tab"], grid: ["row", "rowgroup"], row: ["gridcell", "columnheader"] };
 
-    /** Controls without a name, references to nothing, and roles inside others that may not contain them. */
+    /** Controls without a name, references to missing elements, and roles inside roles that may not contain them. */
     const findRoleFaults = (page) => {
         const { document } = page;
         const faults = [...document.querySelectorAll(`${CONTROLS}, [role=tree], [role=toolbar], [role=grid]`)]
@@ -108,7 +108,7 @@
         return chosen === 1 ? faults : [...faults, `${chosen} tabs are selected`];
     };
 
-    /** Whether the focused element shows it, and is in sight. */
+    /** Whether the focused element has a visible focus mark and is in the viewport. */
     const checkFocus = (page) => {
         const element = page.document.activeElement;
         const { outlineStyle, outlineWidth } = page.getComputedStyle(element);

@@ -12,7 +12,7 @@ const readBlocks = async () =>
     Array.from((await fetchText("bindings/web/README.md")).matchAll(CODE_BLOCK),
         ([, kind, tool, text]) => ({ kind, tool, text }));
 
-/** The functions of "your page". */
+/** The functions of the page under test that the snippets call. */
 const page = {
     register: (name, { userVerification } = {}) => {
         const options = makeOptionsForUser(name);
@@ -29,7 +29,7 @@ const testSnippets = async () => {
     results.figures.push(`${texts.length} snippets of bindings/web/README.md run in turn`);
 };
 
-/** A document in a frame, whose scripts are those of the README, and what it has then. */
+/** Loads a document with the scripts of the README in a frame, and returns a result from the document. */
 const loadDocument = async (html) => {
     const frame = document.createElement("iframe");
     const loaded = new Promise((done) => frame.addEventListener("load", done, { once: true }));
@@ -47,7 +47,7 @@ const testScriptTags = async () => {
 };
 
 /**
- * Stands in for a page of Playwright or Puppeteer, which runs the scripts that it is given before the page's own.
+ * A stub for a page of Playwright or Puppeteer, which runs added scripts before the page's own scripts.
  */
 const makePageStub = () => ({
     addInitScript: async (script) => {

@@ -23,8 +23,8 @@ const WITHOUT_VERIFICATION = ["not verifying", "backed up"];
 const EVERY_CALL = null;
 
 /**
- * Reasons: the calls, the path of the difference, and the exact values of Chromium and of the key, as JSON; without a
- * value it is `done`. Kinds are given where only some differ.
+ * Reasons: the calls, the path of the difference, and the exact values of Chromium and of the key as JSON; a missing
+ * value means `done`. Kinds are listed if only some kinds of authenticators differ.
  * @type {[string[] | null, string, string, string, string, string[]?][]}
  */
 const REASONS = [
@@ -77,14 +77,14 @@ export const findReason = (kind, name, path, native, own) =>
     REASONS.find(([calls, part, one, other, , kinds]) => (calls === EVERY_CALL || calls.includes(name)) && part === path
         && one === native && other === own && (!kinds || kinds.includes(kind)))?.[4];
 
-/** How a call with this JSON value or error ended: as summarizeResult of calls.js has it. */
+/** The result of a call with this JSON value or error, in the form of summarizeResult in calls.js. */
 const summarize = (json) => {
     const value = json === "done" ? "done" : JSON.parse(json);
     const list = Array.isArray(value) ? value : [value];
     return list.every((one) => typeof one === "string") ? list.join(" and ") : "done";
 };
 
-/** Whether a call may end in another way than Chromium's. */
+/** Whether the result of a call may differ from Chromium's. */
 export const mayDiffer = (kind, name, expected, end) => REASONS.some(([calls, path, native, own, , kinds]) =>
     calls?.includes(name) && ["error", "value"].includes(path) && (!kinds || kinds.includes(kind))
     && summarize(native) === expected && summarize(own) === end);

@@ -1,4 +1,5 @@
-// Recordings in storage: one log from page to page and from tab to tab, complete and bounded; and invalid states.
+// Tests recordings in storage: one log continues from page to page and from tab to tab, and is complete and limited in
+// length. Also tests invalid states.
 import { SecurityKey } from "../../bindings/web/dist/security_key.mjs";
 import { loadFrame, reload } from "./frames.js";
 import { expect, results, waitUntil } from "./harness.js";
@@ -70,7 +71,7 @@ const testTwoTabs = async () => {
     localStorage.clear();
 };
 
-/** If another tab changes the credentials, what this tab has sent before is in a separate recording. */
+/** If another tab changes the credentials, the previous inputs of this tab are in a separate recording. */
 const testChangeDuringRequest = async () => {
     localStorage.clear();
     const key = new SecurityKey({ storage: localStorage });

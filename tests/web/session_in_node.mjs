@@ -1,4 +1,4 @@
-// The page's log reader (bindings/web/session.js) in node, with the core of bindings/web/dist/security_key.js.
+// Loads the page's log reader (bindings/web/session.js) in node, with the core of bindings/web/dist/security_key.js.
 import { readFileSync } from "node:fs";
 import vm from "node:vm";
 

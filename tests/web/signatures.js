@@ -29,6 +29,8 @@ const findAttestationSignature = (attestationObject) => {
     return bytes.slice(at + SIG_LABEL.length + 1, at + SIG_LABEL.length + 1 + bytes[at + SIG_LABEL.length]);
 };
 
-/** Whether the self attestation of a registration is valid. The arguments are what its response has. */
+/**
+ * Whether the self attestation of a registration is valid. The arguments are members of the registration's response.
+ */
 export const isSelfAttested = async ({ publicKey, attestationObject, ...data }) =>
     isSignedBy(await importPublicKey(publicKey), { ...data, signature: findAttestationSignature(attestationObject) });

@@ -1,4 +1,4 @@
-// What outlives a page: the state as a value, in storage, and in storage shared by two tabs.
+// Tests the saved state of a key: as a value, in storage, and in storage that two tabs share.
 import { SecurityKey } from "../../bindings/web/dist/security_key.mjs";
 import { loadFrame, reload } from "./frames.js";
 import { expect, results } from "./harness.js";
@@ -69,7 +69,7 @@ const testSharedStorage = async () => {
     localStorage.clear();
 };
 
-/** Changes by another tab while this one waits for its user take effect. */
+/** Changes by another tab take effect while this tab waits for the user. */
 const testChangesWhileWaiting = async () => {
     localStorage.clear();
     const key = new SecurityKey({ storage: localStorage });
@@ -105,14 +105,14 @@ const testRejectedState = async () => {
     sessionStorage.clear();
     const key = new SecurityKey({ storage: sessionStorage });
     await key.create({ publicKey: makeCreationOptions(makeOptionsForUser("ann")) });
-    // A page that clears its storage, such as on logout, removes no credential.
+    // A page that clears its storage, for example at logout, does not remove credentials.
     sessionStorage.clear();
     expect(readSignCount(await key.get(getOptions)) === 1, "the credential is kept");
     expect(new SecurityKey({ storage: sessionStorage }).state().credentials.length === 1, "the state is stored again");
     sessionStorage.clear();
 };
 
-/** If storage fails, the request fails, and the next one is served. */
+/** If the storage fails, the request fails, and the next request is served. */
 const testFullStorage = async () => {
     const full = new DOMException("full", "QuotaExceededError");
     const items = new Map();
@@ -134,7 +134,7 @@ const testFullStorage = async () => {
     expect(readSignCount(await key.get(getOptions)) === 3, "and the next");
 };
 
-/** A storage of a test: an object. */
+/** A storage for a test, which stores its values in an object. */
 const makeObjectStorage = () => {
     const items = new Map();
     return {
@@ -175,10 +175,10 @@ const signInOften = async (key, storage, options) => {
     return written;
 };
 
-/** The thousandth sign-in writes as much to a storage as the first, and the whole log is stored. */
+/** The thousandth sign-in writes as many characters to the storage as the first one, and the whole log is stored. */
 const testConstantCost = (name, makeStorage) => async () => {
     const storage = makeStorage();
-    // Each input comes at a time of the same number of digits.
+    // The timestamps of all inputs have the same number of digits.
     let timeMs = 1_000_000;
     const clock = (passed = 1) => (timeMs += passed);
     const key = new SecurityKey({ storage, clock });
@@ -203,7 +203,7 @@ const testConstantCost = (name, makeStorage) => async () => {
     storage.clear?.();
 };
 
-/** A storage of the browser, empty. */
+/** A storage of the browser, after it was cleared. */
 const emptyStorage = (name) => () => {
     const storage = globalThis[name];
     storage.clear();

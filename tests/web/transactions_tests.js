@@ -1,4 +1,5 @@
-// Transactions in bindings/web/index.html: those of long logs, found by a worker, and those that are no longer tracked.
+// Tests transactions in bindings/web/index.html: in long logs, where a worker finds them, and on channels that are not
+// tracked.
 import { expect, run, waitUntil } from "./harness.js";
 import {
     getElement, chooseValue, dropFile, encodeText, fetchExample, readNotice, openLog, getPage, listRows, readCard, search,
@@ -18,7 +19,7 @@ const openSessions = async (Worker) => {
     getPage().Worker = Worker ?? getPage().Worker;
     dropFile("sessions.log", encodeText(log));
     await waitUntil(() => /^sessions\.log: \d+ lines/.test(readNotice()) && getElement("story").textContent, "the lines");
-    // The rows come first, and their explanations later.
+    // The rows are shown first, and their explanations later.
     await waitUntil(() => listTexts().some((text) => text.includes("Registration: done at example.com")), "the first words");
     getElement("scroller").scrollTop = getElement("scroller").scrollHeight;
     const isLastRow = (row) => row?.getAttribute("aria-posinset") === row?.getAttribute("aria-setsize");
@@ -29,7 +30,7 @@ const openSessions = async (Worker) => {
     return getElement("story").textContent;
 };
 
-/** Long logs are read by a worker, or without one by the page itself. */
+/** Long logs are read by a worker, or by the page itself if workers are not available. */
 const testWithoutWorker = async () => {
     const story = await openSessions();
     expect(/^(\d+) registrations: done\. [\d,]+ sign-ins: done\./.test(story.replaceAll(",", "")), story);
@@ -52,7 +53,7 @@ const testWithoutWorker = async () => {
     }
 };
 
-/** In a long log, whose explanations come after its rows, search and differences work too. */
+/** Search and differences also work in a long log, whose explanations are shown after the rows. */
 const testLateExplanations = async () => {
     const log = await makeLongLog();
     await openLog("", null);
@@ -68,7 +69,7 @@ const testLateExplanations = async () => {
     expect(readDetail().includes("The key: signCount 2"), readDetail());
 };
 
-/** Of a long log, the difference is told before its rules are checked. This can be cancelled, and begun again. */
+/** For a long log, the difference is shown before the rules are checked. The check can be cancelled and restarted. */
 const testLongExamination = async () => {
     await openLog("", null);
     const log = (await makeLongLog()).replace("470100000002", "470100000007");
@@ -87,7 +88,7 @@ const testLongExamination = async () => {
     getElement("cancel").click();
 };
 
-/** A log of half a megabyte is examined completely. Its second session has the channel of the first one. */
+/** A log of half a megabyte is examined completely. The second session uses the same channel as the first one. */
 const testWholeExamination = async () => {
     await openLog("", null);
     const session = new TextDecoder().decode(await fetchExample("sign_in.log")).replace(/^[=#].*\n/gm, "");
@@ -101,7 +102,7 @@ const testWholeExamination = async () => {
     expect(getElement("progress").hidden, "the progress is over");
 };
 
-/** Reading a long log is cancelled, and another one is opened. */
+/** The user cancels reading a long log, and opens another log. */
 const testCancel = async () => {
     await openLog("", null);
     dropFile("long.log", encodeText(`t 1\n`.repeat(5 * 1024 * 1024)));
@@ -113,7 +114,7 @@ const testCancel = async () => {
     await waitUntil(() => /^two_hosts\.log/.test(readNotice()), "the other log");
 };
 
-/** Six open channels are tracked; for another one the page says that it is not. */
+/** Six open channels are tracked. For a further channel, the page shows that it is not tracked. */
 const testForgottenChannels = async () => {
     const makePacket = (channel) => `> 0 0000000${channel}90000104${"0".repeat(112)}\n`;
     await openLog("seven.log", encodeText([1, 2, 3, 4, 5, 6, 7].map(makePacket).join("")), true);

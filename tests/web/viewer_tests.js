@@ -1,4 +1,4 @@
-// bindings/web/index.html, driven like a user: by dropping files, keys and clicks.
+// Tests bindings/web/index.html as a user operates it: dropping files, pressing keys and clicking.
 import { expect, results, run, waitUntil } from "./harness.js";
 import "./page_facts.js";
 import {
@@ -8,7 +8,7 @@ import {
 
 const LOG_NAMES = ["first", "get_info", "registration", "selection", "sign_in", "sign_in_again", "time_out", "two_hosts"];
 
-/** There are as many rows as lines, and rows of packets have their command. */
+/** There are as many rows as lines, and the rows of packets show the command. */
 const makeShowTest = (name) => async () => {
     const bytes = await fetchExample(`${name}.log`);
     await openLog(`${name}.log`, bytes);
@@ -44,7 +44,10 @@ const testFolding = async () => {
     expect(listTexts().some((text) => text.includes("presence: granted")), "unfolded");
 };
 
-/** Rejected requests have their own colour, in the table and in the drawing; packets outside transactions say so. */
+/**
+ * Rejected requests have their own colour in the table and in the drawing. Packets outside transactions are described
+ * as such.
+ */
 const testRejectedRequests = async () => {
     await openLog("two_clients.log", await fetchExample("failing/two_clients.log"), true);
     const refused = listRows().filter((row) => row.classList.contains("refused")).map((row) => row.lastChild);
@@ -62,7 +65,7 @@ const testRejectedRequests = async () => {
     expect(drawn.has("Registration: the key was busy") && drawn.has("Registration: done at example.com"), [...drawn].join());
 };
 
-/** A request that is rejected does not get the response of the pending one. */
+/** A rejected request is not paired with the response of the pending request. */
 const testPendingRequest = async () => {
     await openLog("busy_channel.log", await fetchExample("failing/busy_channel.log"), true);
     const hasText = (title) => listTexts().some((text) => text.includes(title));
@@ -182,7 +185,7 @@ const testExtraPacket = async () => {
 
 const readCell = (place) => (row) => row.children[place].textContent;
 
-/** What the page shows of each line is what the core writes for the whole log. */
+/** The page's explanation of each line equals the core's output for the whole log. */
 const testExplanations = async () => {
     const core = await getPage().hidlog.load();
     let found = 0;
@@ -235,7 +238,7 @@ const testQuietView = async () => {
     expect(listRows().filter((row) => row.classList.contains("noise")).length === 1, "the replaced input is shown");
 };
 
-/** Files that are no logs, with what the page says of them. */
+/** Files that are not logs, and the page's messages. */
 const UNREADABLE_FILES = [
     ["picture.png", Uint8Array.of(0x89, 0x50, 0x4e, 0x47, 13, 10, 26, 10, 0, 0), "it is a picture"],
     ["empty.log", new Uint8Array(0), "it is empty; a log must have at least one line"],
@@ -262,7 +265,7 @@ const testInvalidLines = async () => {
 
 const JUMP_COUNT = 40;
 
-/** The texts of the page's last drawing from now on, each of which begins by setting the scale. */
+/** Records the texts that the page draws. Each drawing begins with setting the scale. */
 const recordDrawnTexts = () => {
     const { prototype } = getPage().CanvasRenderingContext2D;
     const { fillText, scale } = prototype;
@@ -278,7 +281,10 @@ const recordDrawnTexts = () => {
     return drawn;
 };
 
-/** Jumps, and expects exactly the visible rows; in the drawing at most one text for each. The rows are equally far apart. */
+/**
+ * Jumps, and expects that exactly the visible rows exist, or in the drawing at most one text for each row. The rows
+ * have equal distances.
+ */
 const checkJump = async (top, drawn, pitch) => {
     const scroller = getElement("scroller");
     drawn.clear();
@@ -299,7 +305,7 @@ const HEAD_COUNT = 4;
 // Pixels between lines: a row, and in the drawing a millisecond.
 const PITCH = { table: 26, drawing: 46 };
 
-/** 10,000 lines: only visible rows are created, wherever a jump leads. The times are only reported. */
+/** In a log of 10,000 lines, only visible rows are created after a jump. The times are reported, but not checked. */
 const testScrolling = async () => {
     const bytes = encodeText(Array.from({ length: 10000 }, (_, at) => `t ${at}\n`).join(""));
     const begun = performance.now();
@@ -311,7 +317,7 @@ const testScrolling = async () => {
         getElement(`${mode}-tab`).click();
         const isToScale = () => mode === "table" || getPage().hidlogViewer.state.layout.scale > 0;
         await waitUntil(isToScale, "the rows' places");
-        // What was to be drawn before the jumps is drawn.
+        // Waits until pending drawings before the jumps are finished.
         await new Promise((done) => getPage().requestAnimationFrame(() => getPage().requestAnimationFrame(done)));
         const from = performance.now();
         let texts = 0;
@@ -324,7 +330,7 @@ const testScrolling = async () => {
     }
 };
 
-/** 30 MB of packets on a channel that was never allocated. */
+/** Opens a log with 30 MB of packets on a channel that was never allocated. */
 const testLongLog = async () => {
     const line = `> 0 000000ff910000${"0".repeat(114)}\n`;
     const bytes = encodeText(line.repeat(Math.floor((30 * 1024 * 1024) / line.length)));
@@ -343,7 +349,7 @@ const testLongLog = async () => {
 const selectPacketLines = (text) =>
     text.split("\n").filter((line) => /^[<>]/.test(line)).map((line) => line.replace(/ \d+ /, " ")).join("\n");
 
-/** Captures of four kinds have the packets of the key's log of the same session. */
+/** Captures in four formats have the same packets as the key's log of the same session. */
 const testCaptures = async () => {
     const names = [
         ["libfido2_register.pcap", "libfido2_register"], ["keyboard_beside.48.pcap", "keyboard_beside"],
@@ -387,7 +393,7 @@ const testShownDifference = async () => {
     expect(readCard().text.includes(difference), readCard().text);
 };
 
-/** The saved page contains the log and its own Content-Security-Policy, and loads nothing else. */
+/** The saved page contains the log and its own Content-Security-Policy, and loads no other resource. */
 const testSavedPage = async () => {
     await openLog("sign_in_again.log", await fetchExample("sign_in_again.log"));
     dropFile("example_com.snapshot", await fetchExample("example_com.snapshot"));
@@ -409,7 +415,7 @@ const testSavedPage = async () => {
     URL.revokeObjectURL(address);
 };
 
-/** Every text has a contrast of 4.5:1 to what is behind it, in both themes (WCAG 2.1, 1.4.3). */
+/** In both themes, each text has a contrast of at least 4.5:1 to its background (WCAG 2.1, 1.4.3). */
 const testContrast = async () => {
     const text = new TextDecoder().decode(await fetchExample("registration.log"));
     await openLog("changed.log", encodeText(text.replace("< 00000001bb000102", "< 00000001bb000101")));

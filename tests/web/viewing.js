@@ -36,16 +36,16 @@ export const fetchExample = (name) => fetchBytes(`examples/${name}`);
 
 export const encodeText = (text) => new TextEncoder().encode(text);
 
-/** What the card says: its side, level and line, and its text. */
+/** Reads the card: the side, the level, the line and the text. */
 export const readCard = () => ({ ...getElement("diagnosis").dataset, text: getElement("diagnosis").textContent });
 
-/** Waits until the card has a verdict on what was opened, and returns it. */
+/** Waits until the card has a verdict on the opened file, and returns the card's contents. */
 export const waitForCard = async () => {
     await waitUntil(() => readCard().level, "the diagnosis");
     return readCard();
 };
 
-/** Reloads the page, and drops a file on it. Unfolds its lines unless `isFolded`. */
+/** Reloads the page, and drops a file on it. Unfolds the lines unless `isFolded`. */
 export const openLog = async (name, bytes, isFolded = false) => {
     const loaded = new Promise((done) => frame.addEventListener("load", done, { once: true }));
     frame.src = "../../bindings/web/index.html";

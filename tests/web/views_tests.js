@@ -1,5 +1,5 @@
-// The views of bindings/web/index.html: the fields of a row and their bytes, copying, the menu, the drawing's time, and
-// two logs side by side.
+// Tests the views of bindings/web/index.html: the fields of a row and their bytes, copying, the menu, the time scale of
+// the drawing, and two logs side by side.
 import { expect, run, waitUntil } from "./harness.js";
 import {
     encodeText, fetchExample, getElement, getPage, listRows, listTexts, openLog, pressKey, readCard, readNotice, waitForCard,
@@ -31,13 +31,15 @@ const openRegistration = async () => {
     selectLine(5);
 };
 
-/** The selected field's bytes are marked, also by a click on one of them; the request is written in the test by hand. */
+/**
+ * The bytes of the selected field are marked, also after a click on a byte. The request in the test is written by hand.
+ */
 const testFieldBytes = async () => {
     await openRegistration();
     findItem("2 rp:").click();
     expect(listMarked() === "02a16269646b6578616d706c652e636f6d", listMarked());
     expect(getElement("hex-status").textContent === "17 bytes: line 4, bytes 44 to 60", getElement("hex-status").textContent);
-    // The user's entry begins in the first packet, and ends in the second one.
+    // The user entity begins in the first packet, and ends in the second packet.
     findItem("3 user:").click();
     expect(listMarked() === "03a16269644101", listMarked());
     expect(getElement("hex-status").textContent === "7 bytes: line 4, bytes 61 to 63; line 5, bytes 5 to 8",
@@ -51,7 +53,7 @@ const testFieldBytes = async () => {
     expect(getChosen().textContent.trim() === "channel 00000001" && listMarked() === "00000001", getChosen().textContent);
 };
 
-/** The fields are a tree by ARIA's pattern: roles, levels, positions, and what arrow keys do. */
+/** The fields are a tree after ARIA's tree view pattern: roles, levels, positions and arrow keys. */
 const testFieldTree = async () => {
     await openRegistration();
     const tree = getTree();
@@ -78,7 +80,7 @@ const testFieldTree = async () => {
     expect(row.firstChild.textContent === "5", "the row is still selected");
 };
 
-/** What the event `copy` puts on the clipboard. */
+/** Returns the text that the event `copy` puts on the clipboard. */
 const readCopied = () => {
     const clipboardData = new (getPage().DataTransfer)();
     const event = new (getPage().Event)("copy", { bubbles: true, cancelable: true });
@@ -87,7 +89,7 @@ const readCopied = () => {
     return event.defaultPrevented ? clipboardData.getData("text/plain") : null;
 };
 
-/** Copies by a key or a button: what the page would put on the clipboard. */
+/** Copies with a key or a button, and returns the text that the page puts on the clipboard. */
 const copyBy = (act) => {
     let copied = null;
     getPage().document.execCommand = () => {
@@ -142,7 +144,7 @@ const testMenu = async () => {
     expect(!isOpen(), "a click elsewhere closes it");
 };
 
-/** The texts that the drawing draws from now on. */
+/** Records the texts that are drawn. */
 const recordDrawnTexts = () => {
     const { prototype } = getPage().CanvasRenderingContext2D;
     const { fillText } = prototype;
@@ -154,11 +156,14 @@ const recordDrawnTexts = () => {
     return drawn;
 };
 
-/** Where each row is in the drawing, by its line number. */
+/** The position of each row in the drawing, by line number. */
 const readTops = () => Object.fromEntries(listRows().map((row) =>
     [row.firstChild.textContent, Number(/translateY\(([\d.]+)px\)/.exec(row.style.transform)[1])]));
 
-/** The room between rows is to scale: half the time has half the room. A long pause is cut, and its length is told. */
+/**
+ * The distance between rows is to scale: half the time has half the distance. A long pause is cut, and its length is
+ * shown.
+ */
 const testTimeScale = async () => {
     const times = [0, 12, 24, 48, 54, 54, 60054];
     await openLog("times.log", encodeText(times.map((time) => `t ${time}\n`).join("")));
@@ -174,11 +179,11 @@ const testTimeScale = async () => {
     expect(room(6) === 0, `no time: ${room(6)}`);
     expect(room(7) > 20 && room(7) < 100, `a minute is cut: ${room(7)}`);
     expect(drawn.includes("1 min 0 s later, not to scale"), drawn.join());
-    // Two pixels for a millisecond, and a bar of 20 pixels.
+    // The scale is two pixels per millisecond, and the bar has 20 pixels.
     expect(room(2) === 24 && drawn.includes("10 ms"), `the scale: ${room(2)}, ${drawn.join()}`);
 };
 
-/** The row that differs is marked in words in the drawing too. */
+/** The row that differs is also marked with a text in the drawing. */
 const testDrawnMark = async () => {
     await openLog("stale.log", await fetchExample("failing/stale_sign_count.log"), true);
     await waitForCard();
@@ -201,11 +206,15 @@ const listPairs = () => [...getElement("two-space").querySelectorAll("[role=row]
     texts: [...pair.children].map((cell) => cell.textContent), isChosen: pair.getAttribute("aria-selected") === "true",
 }));
 
-/** A log beside a changed one: the first difference is selected and in sight, its members are marked. */
+/**
+ * A log is shown beside a changed log: the first difference is selected and visible, and the differing members are
+ * marked.
+ */
 const testTwoLogs = async () => {
     const text = new TextDecoder().decode(await fetchExample("sign_in.log"));
     const lines = text.split("\n");
-    // Line 35 has the second sign-in's counter; the presence of line 31 comes 5 ms later, which is no difference.
+    // Line 35 has the signature counter of the second sign-in. The presence in line 31 is 5 ms later, which does not
+    // count as a difference.
     lines[34] = lines[34].replace("470100000002", "470100000007");
     lines[30] = lines[30].replace("p 410", "p 415");
     await openTwo("one.log", encodeText(text), "other.log", encodeText(lines.join("\n")));
@@ -223,7 +232,7 @@ const testTwoLogs = async () => {
     expect(listPairs().length > 0, "and again");
 };
 
-/** Lines that only one log has are left alone; the keys go from difference to difference. */
+/** Lines that only one log has are shown without a partner. Keys select the next or previous difference. */
 const testAlignedLogs = async () => {
     const text = new TextDecoder().decode(await fetchExample("registration.log"));
     const shorter = text.split("\n").filter((_, at) => at !== 7).join("\n").replace("granted", "denied");
@@ -244,7 +253,7 @@ const testAlignedLogs = async () => {
     expect(getElement("two-summary").textContent === "Both logs have the same packets and replies.", "the same log");
 };
 
-/** A file that is no log leaves what is shown. */
+/** A file that is not a log does not replace the shown log. */
 const testUnreadableOther = async () => {
     await openLog("one.log", await fetchExample("registration.log"));
     await waitForCard();

@@ -1,4 +1,5 @@
-// Waiting for the user: what ends it, which request is served next, and the cost of a wait and a sign-in.
+// Tests waiting for the user: what ends the wait, which request is served next, and the cost of a wait and of a
+// sign-in.
 import { install, SecurityKey } from "../../bindings/web/dist/security_key.mjs";
 import { expect, results, waitUntil, sleep } from "./harness.js";
 import { readSignCount, createCredential, makeCreationOptions, getAssertion, getAssertionBy, makeOptionsForUser, expectError, makeKeyTest } from "./options.js";
@@ -52,7 +53,7 @@ const testAbortEndsAtOnce = async (key) => {
     expect(readSignCount(await second) === 1, "the next is served");
 };
 
-/** Wherever a request is aborted, the next one is served. */
+/** After a request is aborted at any point, the next request is served. */
 const testAbortAtAnyTime = async (key) => {
     const made = await createCredential();
     for (let turns = 0; turns < 30; turns += 1) {
@@ -94,7 +95,7 @@ const testPresenceChange = async (key) => {
     await waiting;
 };
 
-/** Ticks come every 100 ms or later. Missed ones are not repeated, so a slow machine has fewer. */
+/** Ticks have a distance of at least 100 ms. Missed ticks are not repeated, so there are fewer on a slow machine. */
 const testTicks = async (key) => {
     key.presence = "none";
     const listTicks = () => key.log().match(/^t \d+$/gm)?.length ?? 0;
@@ -169,7 +170,7 @@ const testStaticMethods = async () => {
 
 const FIRST_SIGN_INS = 40;
 const ROUNDS = 25;
-// If the cost grew with the log, the ratio would be far higher; other processes cannot cause this ratio.
+// If the cost grew with the log, the ratio would be far higher. Other processes cannot cause such a ratio.
 const MAX_RATIO = 5;
 const TRIES = 3;
 
@@ -189,7 +190,9 @@ const measureSignIn = async (signIn) => {
     return performance.now() - begun;
 };
 
-/** Times a new key and one with a thousand sign-ins in turn, so that both see the same machine. */
+/**
+ * Measures a new key and a key with a thousand sign-ins alternately, so that both are affected equally by other load.
+ */
 const measureAlternately = async (signInLate) => {
     const [first, late] = [[], []];
     for (let round = 0; round < ROUNDS; round += 1) {

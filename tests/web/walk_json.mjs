@@ -1,13 +1,13 @@
-// Reads paths of logs from standard input, and writes for each the page's transactions (bindings/web/transactions.js)
-// as a line of JSON: the objects `packet`, `presence`, `key`, `signature` and `transaction` of `hidlog show --json`,
-// without their other members. Members that were renamed have both names, as there.
+// Reads paths of logs from standard input, and writes the page's transactions (bindings/web/transactions.js) of each
+// log as a line of JSON: the objects `packet`, `presence`, `key`, `signature` and `transaction` of `hidlog show
+// --json`, with some of their members. As in that output, renamed members have both names.
 import { readFileSync } from "node:fs";
 import { readSession } from "./session_in_node.mjs";
 
 const [CBOR, KEEPALIVE] = [0x10, 0x3b];
 const OBJECT_KINDS = { host: "packet", key: "packet", presence: "presence", "new key": "key", signature: "signature" };
 
-/** How a transaction ended, as in `show --json`. */
+/** The word for how a transaction ended, as in `show --json`. */
 const getEnd = ({ answer, by, code, end }) => {
     if (code !== null) {
         return { end: "error", code };

@@ -64,7 +64,7 @@ const makeKeyLine = (channel, command, bytes) => `< ${makePacket(channel, comman
 const [PING, CBOR, CANCEL, KEEPALIVE, ERROR] = [0x01, 0x10, 0x11, 0x3b, 0x3f];
 const [ONE, TWO] = ["00000001", "00000002"];
 
-// Sessions of keys that behave differently from ours, with the results of the rules, by hand.
+// Sessions of keys that behave differently from this project's key. The expected results are written by hand.
 const UNUSUAL_LOGS = {
     "two requests on a channel: it is unknown which one a KEEPALIVE and a response belong to": [
         [makeHostLine(0, ONE, CBOR, [4]), makeKeyLine(ONE, KEEPALIVE, [1]), makeHostLine(5, ONE, CBOR, [4]), makeKeyLine(ONE, KEEPALIVE, [1]),
@@ -107,7 +107,7 @@ const makeContinuation = (at, channel, sequence) => `> ${at} ${channel}${toHex(s
 const padPacket = (line, length) => line.replace("0039", length.toString(16).padStart(4, "0"));
 const FIRST_DATA = Array(57).fill(4);
 
-// The core's output for logs, by hand from hidlog.h.
+// The core's output for logs, written by hand from hidlog.h.
 const LOG_TEXTS = {
     "a response, a CANCEL without a request, a comment and a tick": [
         [makeHostLine(0, ONE, CBOR, [4]), "# a comment", "t 1", makeKeyLine(ONE, CBOR, [0x2e]), makeHostLine(2, ONE, CANCEL, [])],
@@ -147,7 +147,8 @@ const LOG_TEXTS = {
     ],
 };
 
-// For the first transaction: all its lines, those with its packets, the bytes received, and those of its response.
+// For the first transaction: all its lines, the lines with its packets, the number of bytes received, and the lines of
+// its response.
 const PARTIAL_LOGS = {
     "a PING's answer of two packets": { all: [1, 2, 3, 4], own: [1, 2], received: 60, answer: [3, 4] },
     "a late packet, and one out of sequence": { all: [1, 2, 3, 5], own: [1, 2], received: 116 },

@@ -1,6 +1,6 @@
-// Compares the explanations shown by the page with `hidlog show --explain` for the whole log, line by line: in the page
-// itself in jsdom, with each row selected, before a search and after it; without jsdom, in the page's modules. The
-// program is $HIDLOG_PROGRAM, or ./hidlog.
+// Compares the page's explanations with the output of `hidlog show --explain` for the whole log, line by line. In
+// jsdom, each row of the page is selected, before and after a search. Without jsdom, only the page's modules are
+// tested. The program is $HIDLOG_PROGRAM [default: ./hidlog].
 import assert from "node:assert/strict";
 import { spawnSync } from "node:child_process";
 import { existsSync, readdirSync, readFileSync } from "node:fs";
@@ -65,7 +65,10 @@ test("each line has the explanation from the whole log", () => {
     }
 });
 
-/** Sessions with packets 150 ms apart and a comment after each: only later lines show the meaning of earlier ones. */
+/**
+ * Sessions in which packets are 150 ms apart and followed by a comment, so that the meaning of a line is known only
+ * after later lines.
+ */
 const makeSlowLog = (count) => {
     const slow = readFileSync(resolvePath("tests/web/words/slow_packets.log"), "utf8").trimEnd().split("\n");
     const delayLine = (line, by) => line.replace(/^(. )(\d+) /, (_, kind, at) => `${kind}${Number(at) + by} `);
@@ -118,7 +121,7 @@ test("lines that cannot be explained say so, and others are explained", async ()
         atOnce: 1000, most: bytes.length - 1, changed: (error) => changes.push(error.message),
     });
     await other.ready([readSession(bytes).log]);
-    assert.deepEqual(changes, ["no memory", "the log is too long"]);
+    assert.deepEqual(changes, ["no memory", "the log is too long to explain"]);
     assert.match(shown.words(session.line(session.length - 1)).head, /^\(too long to explain here/);
     assert.match(shown.words(session.line(0)).head, /^> 1 ffffffff INIT/);
     const { text } = core.run("show", bytes);
@@ -175,7 +178,7 @@ test("ends are described correctly for every cause", () => {
 
 const noJsdom = { skip: !existsSync(JSDOM) && "node-jsdom is missing" };
 const isItemLine = (line) => /^(request|answer) /.test(line);
-// The line of an item may have only its code and name, if its members have lines of their own.
+// The line of a request or response may have only the code and the name, if the CBOR members have own lines.
 const shortenLines = (lines) => lines.map((line) => (isItemLine(line)
     ? line.split(" ").slice(0, 2).join(" ") + (/ {2}\w+$/.exec(line)?.[0] ?? "") : line));
 
@@ -187,7 +190,7 @@ const openPage = async () => {
     const errors = [];
     const virtualConsole = new VirtualConsole();
     virtualConsole.on("jsdomError", (error) => errors.push(error));
-    // jsdom has no media queries: the colours never change.
+    // jsdom has no media queries, so the colours never change.
     const matchMedia = () => ({ matches: false, addEventListener: () => {} });
     const { window } = await Page.fromFile(fileURLToPath(resolvePath("bindings/web/index.html")), {
         runScripts: "dangerously", resources: "usable", pretendToBeVisual: true, virtualConsole,
@@ -213,7 +216,7 @@ class PageDriver {
         return this.window.document.getElementById(id);
     }
 
-    /** Pastes a log, and waits until it replaces the one before. */
+    /** Pastes a log, and waits until the page has replaced the previous log. */
     async paste(text) {
         const { state } = this.window.hidlogViewer;
         const before = state.bytes;

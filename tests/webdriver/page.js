@@ -1,19 +1,19 @@
-// The functions of the pages under test.
+// Functions of the pages under test.
 "use strict";
 const toBytes = (text) => new TextEncoder().encode(text);
 const base = { challenge: toBytes("a challenge"), rp: { name: "A service" },
     user: { id: toBytes("ann"), name: "ann", displayName: "Ann" }, pubKeyCredParams: [{ type: "public-key", alg: -7 }] };
-// Long enough that it never expires during a test.
+// A timeout that does not expire during a test.
 const TIMEOUT_MS = 600_000;
 const formatFlags = (data) => new Uint8Array(data)[32];
 const toCharCode = (letter) => letter.charCodeAt(0);
 const encodeId = (text) => Uint8Array.from(atob(text.replace(/-/g, "+").replace(/_/g, "/")), toCharCode);
 const toDescriptors = (list) => list.map((id) => ({ type: "public-key", id: encodeId(id) }));
 
-/** The message of the last error. */
+/** The message of the last error that a call returned. */
 let lastMessage = "";
 
-/** Registers: what a page sees of it, or the error's name. */
+/** Registers a credential. Returns what a page sees, or the name of the error. */
 const register = async ({ exclude, name = "ann", ...selection } = {}) => {
     const user = { id: toBytes(name), name, displayName: name };
     const excludeCredentials = toDescriptors(exclude ?? []);
@@ -43,5 +43,5 @@ const signIn = async ({ allow, ...more } = {}) => {
     }
 };
 const isPlatform = () => PublicKeyCredential.isUserVerifyingPlatformAuthenticatorAvailable();
-// What the page's own first script sees of its browser.
+// The WebAuthn functions that the page's first script sees.
 document.getElementById("at-first").textContent = String(/native code/.test(navigator.credentials.create));

@@ -1,4 +1,5 @@
-// What a suite's page sees, as JSON: run by seen.py as a script, with a name of `calls` and its argument.
+// Returns, as JSON, what the page of a test suite sees. seen.py runs this script with the name of a function in `calls`
+// and its argument.
 "use strict";
 const [name, words, done] = arguments;
 const toBytes = (text) => new TextEncoder().encode(text);

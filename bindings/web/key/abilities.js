@@ -1,16 +1,17 @@
-// What a browser sees of the key: user verification, transport, discoverable credentials and backup flags, by the names
-// of WebDriver's virtual authenticators (WebAuthn section 11), and what these have without an option: attestation,
-// algorithms, extensions, and whether autofill selects an account. All of it is outside the verified core.
+// Authenticator options of the key, which are outside the verified core. User verification, transport, discoverable
+// credentials and backup flags have the names of WebDriver's virtual authenticators (WebAuthn section 11). Further
+// options are attestation, algorithms, extensions, and whether autofill selects an account.
 import { ALGORITHMS, ES256 } from "./algorithms.js";
 import { checkType, checkMembers, checkName } from "./argument_checks.js";
 import { makeNotAllowed } from "./errors.js";
 
 export const TRANSPORTS = ["usb", "nfc", "ble", "smart-card", "hybrid", "internal"];
-// What a page sees. The key itself always speaks CTAP 2.1.
+// The protocols that a page sees. The core always uses CTAP 2.1.
 const U2F = "ctap1/u2f";
 const CTAP_2_1 = "ctap2_1";
 const PROTOCOLS = [U2F, "ctap2", CTAP_2_1];
-// The core's own attestation whatever a page requests; none; or by a certificate if a page requests one.
+// "self": the core's self attestation, for each request. "none": no attestation. "basic": an attestation certificate,
+// if a page requests one.
 const ATTESTATIONS = ["self", "none", "basic"];
 const AUTOFILLS = ["selected", "automatic"];
 export const EXTENSIONS = ["prf", "largeBlob", "credProtect", "credBlob", "minPinLength"];
@@ -83,7 +84,7 @@ export class AuthenticatorOptions {
     }
 
     /**
-     * Whether an extension is supported. A key with credBlob has credProtect, too, as in Chromium.
+     * Whether an extension is supported. As in Chromium, a key that supports credBlob also supports credProtect.
      * @param {string} extension
      */
     supports(extension) {
@@ -116,7 +117,7 @@ export class AuthenticatorOptions {
         const hasPasskeys = this.isVerifyingPlatform && hasResidentKey;
         const [hasProtection, hasBlob, hasPrf] = ["credProtect", "credBlob", "prf"].map(this.supports, this);
         return {
-            // As in Chromium, whose autofill lists the passkeys of a platform authenticator.
+            // As in Chromium, autofill lists only the passkeys of a platform authenticator.
             conditionalGet: autofill === "selected" || hasPasskeys,
             passkeyPlatformAuthenticator: hasPasskeys, userVerifyingPlatformAuthenticator: this.isVerifyingPlatform,
             "extension:credBlob": hasBlob, "extension:credentialProtectionPolicy": hasProtection,
@@ -134,7 +135,10 @@ export class AuthenticatorOptions {
         return { eligibility, state };
     }
 
-    /** The abilities that the core's client needs. Verifying the user succeeds for it: whether it does is found later. */
+    /**
+     * The abilities for the core's client. User verification counts as successful here; whether it succeeds is
+     * determined later.
+     */
     get bits() {
         const { hasResidentKey, hasUserVerification } = this.#values;
         return (hasUserVerification ? VERIFIES : 0) | (this.attachment === "platform" ? IS_PLATFORM : 0)
@@ -142,7 +146,7 @@ export class AuthenticatorOptions {
     }
 
     /**
-     * A transport in the words of the core's client, for which a key is one of USB or a platform.
+     * A transport by its name in the core's client, which knows only USB and platform authenticators.
      * @param {string} name
      */
     toClientTransport(name) {
@@ -152,20 +156,20 @@ export class AuthenticatorOptions {
     }
 
     /**
-     * Changes a credential's JSON from the core's client to that of this key.
+     * Changes the credential's JSON from the core's client according to these options.
      * @param {any} json
      */
     adapt({ response, clientExtensionResults: { credProps } }) {
         if (response.transports) {
             response.transports = [this.#values.transport];
         }
-        // A FIDO 2.0 key may make any credential discoverable, so the client doesn't say.
+        // A FIDO 2.0 key may make any credential discoverable, so the client omits credProps.rk.
         if (credProps && this.#values.protocol === CTAP_2_1) {
             credProps.rk ??= false;
         }
     }
 
-    /** Verifies the user, which may fail. */
+    /** Verifies the user. Throws NotAllowedError if user verification fails. */
     verifyUser() {
         if (!this.#values.isUserVerified) {
             throw makeNotAllowed("user verification failed (isUserVerified is false)");
@@ -174,7 +178,7 @@ export class AuthenticatorOptions {
 }
 
 /**
- * The authenticator options among options.
+ * Returns only the authenticator options among all options.
  * @param {Record<string, unknown>} options
  */
 export const pickAuthenticatorOptions = (options) =>

@@ -1,4 +1,4 @@
-// Which account signs in, if the key finds several.
+// Selects the account that signs in, if the key finds several.
 import { checkType } from "./argument_checks.js";
 import { raceWithSignal } from "./platform.js";
 
@@ -25,7 +25,7 @@ export const findAccount = async (accounts, selector) => {
     return found;
 };
 
-/** Selections for sign-ins with mediation "conditional", which wait for them. */
+/** Selections of accounts for sign-ins with mediation "conditional", which wait for a selection. */
 export class Selections {
     /** @type {{ selector: any, done: (account: any) => void, fail: (error: unknown) => void }[]} */
     #queue = [];
@@ -33,7 +33,7 @@ export class Selections {
     #wake = () => {};
 
     /**
-     * Selects for the pending sign-in, or the next one. Resolves to the account once it has signed in.
+     * Selects an account for the pending sign-in, or for the next one. Resolves to the account after the sign-in.
      * @param {unknown} selector
      */
     select(selector) {

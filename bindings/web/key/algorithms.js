@@ -1,4 +1,4 @@
-// The algorithms of credentials besides the core's ES256, by WebCrypto: their COSE keys (RFC 9053) and signatures.
+// Algorithms of credentials other than the core's ES256: COSE keys (RFC 9053) and signatures, with WebCrypto.
 import { concatBytes, decodeBase64url, equalBytes, fromHex } from "./bytes.js";
 import { encodeBytes, encodeMap, encodeNumber } from "./ctap_response.js";
 
@@ -20,14 +20,16 @@ const NAMES = { [EDDSA]: "EdDSA", [RS256]: "RS256" };
  * @type {[number, Uint8Array][]}
  */
 const IDENTIFIERS = [[EDDSA, fromHex("06032b6570")], [RS256, fromHex("06092a864886f70d010101")]];
-// PKCS #8 and SubjectPublicKeyInfo begin with their AlgorithmIdentifier, after a version.
+// Maximum number of bytes before the AlgorithmIdentifier in PKCS #8, where a version precedes it, and in
+// SubjectPublicKeyInfo.
 const FRONT_BYTES = 24;
 
 /** @param {number} algorithm */
 export const formatAlgorithm = (algorithm) => `${NAMES[algorithm]} (${algorithm})`;
 
 /**
- * The algorithm of a private key in PKCS #8, or of a public key: ES256 if it is no other one.
+ * The algorithm of a private key in PKCS #8, or of a public key in SubjectPublicKeyInfo. ES256 unless another algorithm
+ * is recognized.
  * @param {Uint8Array} der
  */
 export const algorithmOf = (der) => {
@@ -86,7 +88,7 @@ export const exportPublicKey = async (subtle, algorithm, key) => {
 };
 
 /**
- * Authenticator data with another public key and AAGUID. Both are after the flags and the counter.
+ * Returns authenticator data with another public key and AAGUID, which follow the flags and the signature counter.
  * @param {Uint8Array} data @param {{ aaguid: Uint8Array, cose?: Uint8Array }} parts
  */
 export const withAttestedData = (data, { aaguid, cose }) => {

@@ -1,4 +1,5 @@
-// Which pages a key can be installed in: those of tests, so that it never replaces a real authenticator by accident.
+// Restricts the pages in which a key can be installed to those of tests, so that the key never replaces a real
+// authenticator by accident.
 import { checkType } from "./argument_checks.js";
 import { makeNotAllowed } from "./errors.js";
 
@@ -9,8 +10,8 @@ const ALLOWED_TEXT = "localhost, 127.0.0.1, *.localhost, *.test, *.example and f
 let hasWarned = false;
 
 /**
- * The origin of this page, which a frame without a URL of its own (about:blank, srcdoc) has from the page that made it;
- * "null" if it is opaque, undefined without a page.
+ * The origin of this page. A frame without its own URL (about:blank, srcdoc) has the origin of the page that created
+ * it. "null" for an opaque origin, undefined without a page.
  */
 export const getPageOrigin = () => {
     const { location, origin } = globalThis;
@@ -18,7 +19,7 @@ export const getPageOrigin = () => {
 };
 
 /**
- * The origin of requests: that of the options, or the page's. Throws if it is none of http or https.
+ * The origin of requests: the option `origin`, or the page's origin. Throws if the scheme is not http or https.
  * @param {unknown} option
  */
 export const readOrigin = (option) => {
@@ -32,7 +33,7 @@ export const readOrigin = (option) => {
 };
 
 /**
- * Whether a text is an origin; one of another scheme than http and https has a host.
+ * Whether a text is an origin. An origin with a scheme other than http and https must have a host.
  * @param {unknown} text
  */
 const isOrigin = (text) => {
@@ -54,7 +55,7 @@ const checkOrigins = (allowed) => {
 };
 
 /**
- * Whether an origin is one of tests.
+ * Whether an origin belongs to a test, such as localhost.
  * @param {string} origin
  */
 const isTestOrigin = (origin) => {
@@ -76,8 +77,8 @@ const checkOrigin = (origin, allowed) => {
 };
 
 /**
- * Rejects pages that are not for tests, and other origins that a page's key is to have, unless these are allowed.
- * Without a page, as in node, every origin is.
+ * Rejects a page, and the option `origin` of a page's key, unless the origin is a test origin or in `allowed`. Without
+ * a page, as in node, every origin is allowed.
  * @param {unknown} [allowed] @param {unknown} [origin] the option `origin`
  */
 export const checkPage = (allowed = [], origin = undefined) => {
@@ -97,7 +98,7 @@ export const checkPage = (allowed = [], origin = undefined) => {
     }
 };
 
-/** Warns once, in the console of a page, that a test key is installed. */
+/** Warns once in the page's console that a test key is installed. */
 export const warnOfTestKey = () => {
     if (!hasWarned && globalThis.document) {
         hasWarned = true;

@@ -1,4 +1,4 @@
-// The credentials that a page receives, made from their JSON (WebAuthn Level 3, section 5.1).
+// Creates the credentials that a page receives from their JSON (WebAuthn Level 3, section 5.1).
 import { decodeBase64url, toArrayBuffer } from "./bytes.js";
 import { makeObject } from "./idl_objects.js";
 
@@ -12,7 +12,7 @@ const copyJson = (json) => JSON.parse(JSON.stringify(json));
 const decodeAll = (values) => Object.fromEntries(Object.entries(values).map(([name, text]) => [name, decode(text)]));
 
 /**
- * Extension outputs, with buffers.
+ * Extension outputs, with base64url texts decoded to buffers.
  * @param {any} results
  */
 const readResults = ({ getCredBlob, prf, largeBlob, ...results }) => ({

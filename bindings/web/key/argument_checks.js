@@ -1,4 +1,4 @@
-// Checks of arguments: a typo is rejected at once, with the valid names.
+// Checks of arguments. An unknown name, such as a typo, is rejected with the valid names.
 
 /** @param {unknown} value */
 const describeValue = (value) => (typeof value === "function" ? "a function" : JSON.stringify(value) ?? String(value));
@@ -35,7 +35,7 @@ export const checkMembers = (what, object, names) => {
 const warned = new Set();
 
 /**
- * Warns once of an old name, which the next version removes.
+ * Warns once about an old name, which the next version removes.
  * @param {string} old @param {string} name
  */
 export const warnRenamed = (old, name) => {
@@ -58,8 +58,8 @@ export const renameOptions = (options, names) =>
     }));
 
 /**
- * Adds an object's deprecated member names, which log a warning when used. They are not enumerable, so JSON has only the
- * new ones.
+ * Adds deprecated member names to an object, which log a warning when used. They are not enumerable, so JSON has only
+ * the new names.
  * @template {object} T @param {T} object @param {Record<string, string>} names the new names, by the old ones
  */
 export const addOldNames = (object, names) => {

@@ -1,8 +1,8 @@
-// The test root and the attestation certificate that it issued (WebAuthn Level 3, section 8.2.1), in base64, with the
-// private key of the latter. Whoever reads this file can make attestations, so a service must not trust the root.
-// bindings/python/src/hidlog/attestation_certificates.py has the same ones.
+// A test root certificate, an attestation certificate issued by the root (WebAuthn Level 3, section 8.2.1), and the
+// attestation private key, in base64. Anyone who has this file can create attestations, so a production service must
+// not trust the root. bindings/python/src/hidlog/attestation_certificates.py has the same certificates.
 
-/** The test root, for a service's list of trusted roots. */
+/** The test root certificate, for the list of trusted roots of a service under test. */
 export const ROOT_CERTIFICATE = "MIIB8TCCAZigAwIBAgIBATAKBggqhkjOPQQDAjBeMQswCQYDVQQGEwJVUzEQMA4GA1UECgwHQ29ndHppbDESMBAGA1UECwwJVGVz"
     + "dCBSb290MSkwJwYDVQQDDCBoaWRsb2cgdGVzdCByb290LCBmb3IgdGVzdHMgb25seTAgFw0yMDAxMDEwMDAwMDBaGA8yMDk5MTIz"
     + "MTAwMDAwMFowXjELMAkGA1UEBhMCVVMxEDAOBgNVBAoMB0NvZ3R6aWwxEjAQBgNVBAsMCVRlc3QgUm9vdDEpMCcGA1UEAwwgaGlk"
@@ -11,7 +11,7 @@ export const ROOT_CERTIFICATE = "MIIB8TCCAZigAwIBAgIBATAKBggqhkjOPQQDAjBeMQswCQY
     + "DwEB/wQEAwIBBjAdBgNVHQ4EFgQULd+rLj9QoFwwj+H4OERMd9xKuHcwCgYIKoZIzj0EAwIDRwAwRAIgBm+aVfSGfCMd1sKw51G+"
     + "YmsXYFvl6/v9SjVnyzoC2kICIA7M3qWGf+g7cobvcmQiwSE5lf6gQTO832kocg80sr+n";
 
-/** It has no AAGUID, so that the key may have any. */
+/** The certificate has no AAGUID extension, so that the key may have any AAGUID. */
 export const CERTIFICATE = "MIIB9jCCAZugAwIBAgIBAjAKBggqhkjOPQQDAjBeMQswCQYDVQQGEwJVUzEQMA4GA1UECgwHQ29ndHppbDESMBAGA1UECwwJVGVz"
     + "dCBSb290MSkwJwYDVQQDDCBoaWRsb2cgdGVzdCByb290LCBmb3IgdGVzdHMgb25seTAgFw0yMDAxMDEwMDAwMDBaGA8yMDk5MTIz"
     + "MTAwMDAwMFowdTELMAkGA1UEBhMCVVMxEDAOBgNVBAoMB0NvZ3R6aWwxIjAgBgNVBAsMGUF1dGhlbnRpY2F0b3IgQXR0ZXN0YXRp"

@@ -1,4 +1,4 @@
-// CTAP2 over CTAPHID to the verified core: requests in, responses out, and what the key needs is provided.
+// Sends CTAP2 requests over CTAPHID to the verified core, provides what the core needs, and returns the responses.
 import { concatBytes, equalBytes, toHex } from "./bytes.js";
 import { changeResponse } from "./ctap_response.js";
 import { Collector } from "./packets.js";
@@ -7,12 +7,12 @@ import { Recordings } from "./recordings.js";
 import { BROADCAST, CANCEL, CBOR, INIT, KEEPALIVE_MS } from "./standard.js";
 import { formatStatus } from "./statuses.js";
 
-// The first channel the key allocates: there is no other host.
+// The first channel that the key allocates. There is no other host.
 const CHANNEL = 1;
 const NOTHING = new Uint8Array(0);
-// The hash of client data, after the authenticator data in what is signed.
+// Length of the client data hash, which follows the authenticator data in the signed bytes.
 const HASH_BYTES = 32;
-// The nonce of INIT need not be random without other hosts.
+// The nonce of INIT, which need not be random without other hosts.
 const NONCE = Uint8Array.of(0, 1, 2, 3, 4, 5, 6, 7);
 
 /**
@@ -25,7 +25,7 @@ const NONCE = Uint8Array.of(0, 1, 2, 3, 4, 5, 6, 7);
  * @property {() => Promise<void>} enter is called before the credentials change, and may start another session
  */
 
-/** A response with a status other than success. */
+/** The error for a response with a status other than 0. */
 export class CtapError extends Error {
     /** @param {number} status @param {string} cause the cause, if known */
     constructor(status, cause) {
@@ -38,7 +38,7 @@ export class CtapError extends Error {
 export class Authenticator {
     #collector = new Collector(CHANNEL);
     #recordings;
-    /** @type {import("./ctap_response.js").Change | null} to the next response with the core's authenticator data */
+    /** @type {import("./ctap_response.js").Change | null} the change to apply to the next response */
     #change = null;
 
     /**
@@ -85,7 +85,7 @@ export class Authenticator {
     }
 
     /**
-     * Sends a request; INIT first, if the session has no channel yet.
+     * Sends a request. If the session has no channel yet, sends INIT first.
      * @param {Uint8Array} bytes
      */
     #send(bytes) {
@@ -103,7 +103,7 @@ export class Authenticator {
     }
 
     /**
-     * Sends a request, and returns the response. If it fails or is aborted, it is cancelled.
+     * Sends a request, and returns the response. If the request fails or is aborted, cancels it.
      * @param {Uint8Array} bytes @param {PageRequest} turn
      */
     async request(bytes, turn) {
@@ -154,7 +154,7 @@ export class Authenticator {
     }
 
     /**
-     * Asks the user, and provides presence.
+     * Asks the user, and provides user presence.
      * @param {Uint8Array} bytes @param {PageRequest} turn
      */
     async #askUser(bytes, turn) {
@@ -164,13 +164,14 @@ export class Authenticator {
             await this.#withTicks(turn.enter(), turn.signal);
         }
         throwIfAborted(turn.signal);
-        // If the credentials changed meanwhile, the request is sent again to the new session.
+        // If the credentials have changed while the user was asked, the request is sent again to the new session.
         const message = session === this.session ? null : this.#send(bytes);
         return message ?? this.#collector.add(this.session.providePresence(word));
     }
 
     /**
-     * Provides a key pair or a signature. After each wait the request may have been aborted, and replaced by another.
+     * Provides a key pair or a signature. After each await, the request may have been aborted and replaced by another
+     * request.
      * @param {PageRequest} turn
      */
     async #provide(turn) {
@@ -187,11 +188,11 @@ export class Authenticator {
             throwIfAborted(signal);
             return this.session.provideSignature(signature);
         }
-        throw new Error(`the authenticator did not respond, and needs ${need.kind}`);
+        throw new Error(`the authenticator did not respond; it needs ${need.kind}`);
     }
 
     /**
-     * Signs for the core, and prepares the change of the response.
+     * Signs for the core, and prepares the change that the response needs.
      * @param {import("./wasm_key.js").Need} need @param {PageRequest} turn
      */
     async #sign({ id, toSign }, { departures, isVerified }) {
@@ -214,7 +215,7 @@ export class Authenticator {
     }
 
     /**
-     * Applies the change of a response, if it has the authenticator data.
+     * Applies the prepared change to a response with the authenticator data. Other responses are not changed.
      * @param {Uint8Array} response
      */
     #applyChange(response) {
@@ -230,7 +231,7 @@ export class Authenticator {
     }
 
     /**
-     * Waits while time passes for the key, which sends KEEPALIVEs.
+     * Waits for a promise. Meanwhile advances the key's time, so that the key sends KEEPALIVEs.
      * @template T @param {Promise<T>} awaited @param {AbortSignal} signal
      */
     async #withTicks(awaited, signal) {

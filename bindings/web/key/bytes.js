@@ -42,7 +42,7 @@ export const encodeUtf8 = (text) => {
 };
 
 /**
- * Decodes UTF-8. Most texts are ASCII, for which no TextDecoder is needed: jsdom has none.
+ * Decodes UTF-8. ASCII is decoded without TextDecoder, which jsdom lacks.
  * @param {Uint8Array} bytes
  */
 export const decodeUtf8 = (bytes) => {
@@ -100,7 +100,7 @@ export const decodeBase64url = (text) => /** @type {Uint8Array} */ (fromBase64ur
 export const isBuffer = (value) => ArrayBuffer.isView(value) || getTypeName(value) === "ArrayBuffer";
 
 /**
- * The type name of a platform object, of any realm.
+ * The type name of a platform object, which may be from another realm.
  * @param {unknown} value
  */
 export const getTypeName = (value) => Object.prototype.toString.call(value).slice(8, -1);

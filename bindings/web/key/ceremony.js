@@ -1,5 +1,5 @@
-// A registration or a sign-in of a page: its request to the key, and the credential of the key's response. The core's
-// client checks the options and writes both (client.js); here is what it lacks.
+// A registration or a sign-in of a page: the request to the key, and the credential from the key's response. The core's
+// client (client.js) checks the options and writes both. This file adds the features that the client lacks.
 import { ES256 } from "./algorithms.js";
 import { equalBytes, fromHex, toBase64url } from "./bytes.js";
 import { ClientCall, MAX_BUFFER_BYTES } from "./client.js";
@@ -10,11 +10,12 @@ import { checkRequired, withoutRequired } from "./key_extensions.js";
 
 const PUBLIC_KEY = "public-key";
 const LISTS = { create: "excludeCredentials", get: "allowCredentials" };
-// A longer ID is sent as its hash. The client checks the options before the hash is known.
+// Maximum length of a credential ID in a request. A longer ID is sent as its hash, which is not known yet when the
+// client checks the options.
 const MAX_SENT_ID_BYTES = 64;
-// Before the hash of the client data in a request: the head of a byte string of 32 bytes.
+// The head of a byte string of 32 bytes, which precedes the client data hash in a request.
 const HASH_HEAD = [0x58, 0x20];
-// The end of a request for a discoverable credential: the member 7, {"rk": true}.
+// The end of a request for a discoverable credential: the key 7 with the value {"rk": true}.
 const DISCOVERABLE_END = fromHex("07a162726bf5");
 
 /** @typedef {import("./client.js").CeremonyName} CeremonyName */
@@ -25,7 +26,7 @@ const DISCOVERABLE_END = fromHex("07a162726bf5");
  * @param {Uint8Array} message @param {Uint8Array} hash
  */
 const withHash = (message, hash) => {
-    // Before it are at most an RP ID, which has no spaces, and heads.
+    // The first match is the hash, since only heads and an RP ID, which has no spaces, may precede it.
     const at = message.findIndex((byte, index) => byte === HASH_HEAD[0] && message[index + 1] === HASH_HEAD[1]);
     const changed = message.slice();
     changed.set(hash, at + HASH_HEAD.length);
@@ -33,14 +34,17 @@ const withHash = (message, hash) => {
 };
 
 /**
- * Rejects an RP ID that a page may not use.
+ * Rejects an RP ID that is not allowed for the page's origin.
  * @param {string} rpId @param {string} origin
  */
 export const checkRpId = (rpId, origin) => {
     new ClientCall("get", { challenge: "", rpId }, "optional", origin, 0).request();
 };
 
-/** clientDataJSON that the client can't write: of a cross-origin frame, or with a long challenge; otherwise null. */
+/**
+ * Returns the clientDataJSON of a cross-origin frame or with a long challenge, which the client cannot write; otherwise
+ * null.
+ */
 const makeOwnClientData = (/** @type {Ceremony} */ { name, options: { challenge }, origin }) => {
     const members = makeCrossOriginMembers(origin);
     const isOwn = members.crossOrigin || challenge.length > MAX_BUFFER_BYTES;
@@ -54,7 +58,7 @@ export class Ceremony {
     #ownClientData;
 
     /**
-     * Checks the options. Throws what a page gets if they are invalid.
+     * Checks the options. Throws the error that a page gets if they are invalid.
      * @param {CeremonyName} name @param {any} options converted ones @param {string} mediation @param {string} origin
      * @param {import("./abilities.js").AuthenticatorOptions} abilities
      */
@@ -82,7 +86,7 @@ export class Ceremony {
     }
 
     /**
-     * A call of the client, with these credential IDs.
+     * Creates a call of the client with these credential IDs.
      * @param {Uint8Array[]} ids
      */
     #makeCall(ids) {
@@ -94,7 +98,7 @@ export class Ceremony {
         }));
         const options = {
             ...rest, [LISTS[this.name]]: descriptors, timeout: undefined,
-            // The client refuses credProps in a sign-in even if it is false.
+            // The client rejects credProps in a sign-in, even if its value is false.
             extensions: extensions && {
                 ...withoutRequired(extensions, this.#abilities), credProps: extensions.credProps || undefined,
             },
@@ -110,24 +114,24 @@ export class Ceremony {
         return equalBytes(this.#checked.message.subarray(-DISCOVERABLE_END.length), DISCOVERABLE_END);
     }
 
-    /** Whether the user is to be verified. */
+    /** Whether the request requires user verification. */
     get isVerified() {
         return this.#checked.isVerified;
     }
 
-    /** What the user is asked. */
+    /** The question for the user. */
     get question() {
         const { name, options, rpId } = this;
         return name === "create" ? `Register ${options.user.name} at ${rpId}?` : `Sign in at ${rpId}?`;
     }
 
-    /** The names of a new credential. */
+    /** The RP ID and the user names of a new credential. */
     get label() {
         return { rpId: this.rpId, userName: this.options.user.name, userDisplayName: this.options.user.displayName };
     }
 
     /**
-     * The same sign-in with these credentials alone.
+     * Returns this sign-in, limited to these credentials.
      * @param {Uint8Array[]} ids
      */
     withCredentials(ids) {

@@ -1,5 +1,5 @@
-// The WebAuthn client of the core (release/hidlog.h): a page's options in, requests and credentials out. It checks
-// options, RP IDs and extensions as Chromium does, and keeps nothing between its calls.
+// The WebAuthn client of the core (release/hidlog.h), which converts a page's options to requests, and responses to
+// credentials. The client checks options, RP IDs and extensions as Chromium does, and keeps no state between calls.
 import { decodeUtf8, encodeUtf8, toBase64url } from "./bytes.js";
 import { instantiateCore } from "./core_module.js";
 import { makeClientError } from "./errors.js";
@@ -9,11 +9,12 @@ import { growMemory } from "./wasm_memory.js";
 const CEREMONIES = { create: 0, get: 1 };
 const REPORT_BYTES = 16;
 const MAX_OUTPUT_BYTES = 16384;
-// What the client takes of one value, in bytes and in base64url; a text of UTF-16 units has at most three bytes each.
+// Maximum lengths of a value for the client, in bytes and in base64url. Each UTF-16 unit of a text has at most three
+// bytes in UTF-8.
 export const MAX_BUFFER_BYTES = 1536;
 const MAX_TEXT_BYTES = 2048;
 const MAX_TEXT_UNITS = Math.floor(MAX_TEXT_BYTES / 3);
-// Public suffixes are those of one label.
+// Only public suffixes of one label are known.
 const PUBLIC_SUFFIX = new Uint8Array(0);
 
 /** @typedef {"create" | "get"} CeremonyName */
@@ -22,14 +23,14 @@ const PUBLIC_SUFFIX = new Uint8Array(0);
 let exports;
 
 /**
- * A text of at most what the client takes. A key stores 64 bytes of a name.
+ * Shortens a text to the maximum length for the client. A key stores only 64 bytes of a name.
  * @param {string} text
  */
 const shorten = (text) =>
     (text.length > MAX_TEXT_UNITS && encodeUtf8(text).length > MAX_TEXT_BYTES ? text.slice(0, MAX_TEXT_UNITS) : text);
 
 /**
- * Options as JSON, with buffers in base64url.
+ * Encodes options as JSON, with buffers in base64url.
  * @param {object} options
  */
 const encodeJson = (options) => encodeUtf8(JSON.stringify(options, (_, value) => {
@@ -97,7 +98,7 @@ export class ClientCall {
         return { bytes: read(0, length), isVerified };
     }
 
-    /** Checks the options. Returns the request, and whether the user is to be verified. */
+    /** Checks the options. Returns the request, and whether it requires user verification. */
     request() {
         const { bytes, isVerified } = this.#run("request");
         return { message: bytes, isVerified };

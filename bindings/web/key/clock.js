@@ -3,8 +3,8 @@ import { checkType } from "./argument_checks.js";
 import { now } from "./platform.js";
 
 /**
- * Returns a clock whose timestamps never decrease: those of `clock`, or `startMs` plus the milliseconds since this
- * call. The latest is in `state`.
+ * Returns a clock whose timestamps never decrease. They are those of `clock`, or `startMs` plus the milliseconds since
+ * this call. The latest timestamp is stored in `state`.
  * @param {((passed?: number) => number) | undefined} clock @param {number} startMs @param {{ timeMs: number }} state
  */
 export const createClock = (clock, startMs, state) => {

@@ -1,9 +1,10 @@
-// What is stored of credentials outside the verified core: IDs that do not have its 32 bytes, backup flags, extensions.
+// The data of credentials that is stored outside the verified core: IDs that do not have 32 bytes, backup flags and
+// extensions.
 import { decodeBase64url, toBase64url } from "./bytes.js";
 
 export const CORE_ID_BYTES = 32;
 export const MAX_ID_BYTES = 1023;
-// A longer unknown ID is sent to the core as its hash, so that 64 of them fit into a message.
+// Maximum length of an unknown ID in a request. A longer ID is replaced by its hash, so that 64 IDs fit into a message.
 const MAX_SENT_IDS = 64;
 // Flags of the authenticator data (WebAuthn Level 3, section 6.1).
 const FLAGS = { UV: 0x04, BE: 0x08, BS: 0x10 };
@@ -33,7 +34,7 @@ export class CredentialMetadata {
     #extensions = new Map();
 
     /**
-     * Sets what a credential keeps of its extensions.
+     * Stores the extension data of a credential.
      * @param {Uint8Array} coreId @param {import("./key_extensions.js").KeptExtensions} kept
      */
     setExtensions(coreId, kept) {
@@ -46,7 +47,7 @@ export class CredentialMetadata {
     }
 
     /**
-     * Sets the ID that the page sees for a credential.
+     * Sets the ID of a credential for the page.
      * @param {Uint8Array} coreId @param {Uint8Array} pageId
      */
     setPageId(coreId, pageId) {
@@ -58,7 +59,7 @@ export class CredentialMetadata {
     }
 
     /**
-     * The ID that the page sees.
+     * The ID of the credential for the page.
      * @param {Uint8Array} coreId @returns {Uint8Array}
      */
     pageId(coreId) {
@@ -67,7 +68,7 @@ export class CredentialMetadata {
     }
 
     /**
-     * The ID that the core has.
+     * The ID of the credential in the core.
      * @param {Uint8Array} pageId @returns {Uint8Array}
      */
     coreId(pageId) {
@@ -97,7 +98,7 @@ export class CredentialMetadata {
     }
 
     /**
-     * The flags to set in what a credential signs.
+     * The flags to set in the authenticator data that a credential signs.
      * @param {Uint8Array} coreId @param {boolean} isVerified
      */
     flags(coreId, isVerified) {

@@ -1,4 +1,4 @@
-// The credentials of a key, as in WebDriver's virtual authenticators and as rows of the core.
+// Converts the credentials of a key between the form of WebDriver's virtual authenticators and the rows of the core.
 import { ES256 } from "./algorithms.js";
 import { copyBytes, fromBase64url, isBuffer, equalBytes, toBase64url, toHex, encodeUtf8 } from "./bytes.js";
 import { checkType, checkMembers } from "./argument_checks.js";
@@ -29,7 +29,7 @@ const MEMBERS = ["credentialId", "rpId", "privateKey", "largeBlob", ...PROPERTIE
 /** @typedef {{ rpId: string, userName: string, userDisplayName: string }} Labels */
 
 /**
- * Encodes a name as UTF-8, truncated to what the core stores.
+ * Encodes a name as UTF-8, truncated to the length that the core stores.
  * @param {string} text
  */
 const encodeName = (text) => {
@@ -67,7 +67,7 @@ export const checkValues = ({ signCount, userName, userDisplayName, ...booleans 
 };
 
 export class Credentials {
-    /** @type {Map<string, Labels>} what the core does not store */
+    /** @type {Map<string, Labels>} names that the core does not store, by credential ID */
     #labels = new Map();
 
     /**
@@ -105,7 +105,8 @@ export class Credentials {
     }
 
     /**
-     * What a state has of a credential besides `fromRow`: the core's key of one with another algorithm, and extensions.
+     * The data of a credential that a state has in addition to `fromRow`: the core's private key if the algorithm is
+     * not ES256, and extension data.
      * @param {Row} row
      */
     extrasOf({ id }) {
@@ -138,7 +139,7 @@ export class Credentials {
     }
 
     /**
-     * The IDs of a credential to add: the page's and the core's.
+     * The IDs of a credential to add: the ID for the page, and the ID in the core.
      * @param {unknown} credentialId
      */
     #makeIds(credentialId) {
@@ -195,7 +196,7 @@ export class Credentials {
     }
 
     /**
-     * The rows with another one.
+     * Returns the rows with a further row.
      * @param {Row[]} rows @param {Row} row
      */
     with(rows, row) {
@@ -224,7 +225,7 @@ export class Credentials {
     }
 
     /**
-     * The rows without one.
+     * Returns the rows without a credential.
      * @param {Row[]} rows @param {any} credentialId
      */
     without(rows, credentialId) {
@@ -233,7 +234,7 @@ export class Credentials {
     }
 
     /**
-     * The rows with one updated.
+     * Returns the rows with an updated credential.
      * @param {Row[]} rows @param {any} credentialId @param {any} properties
      */
     update(rows, credentialId, properties) {

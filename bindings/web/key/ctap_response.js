@@ -1,5 +1,5 @@
-// Changes to what the core responds: other authenticator data, another attestation statement or another signature. The
-// core's responses are canonical CBOR, with the authenticator data in a byte string (CTAP 2.1, sections 6.1 and 6.2).
+// Changes the core's responses: the authenticator data, the attestation statement or the signature. The responses are
+// canonical CBOR, with the authenticator data in a byte string (CTAP 2.1, sections 6.1 and 6.2).
 import { concatBytes, encodeUtf8, equalBytes } from "./bytes.js";
 
 const BYTES = 2;
@@ -44,7 +44,7 @@ export const encodeMap = (members) => concatBytes(encodeHead(MAP, members.length
  */
 
 /**
- * The index of bytes in others, or -1.
+ * The index of `part` in `bytes`, or -1.
  * @param {Uint8Array} bytes @param {Uint8Array} part
  */
 const findBytes = (bytes, part) => {
@@ -67,7 +67,7 @@ const encodeRegistration = ({ data, statement }) => {
 };
 
 /**
- * Applies a change to a response. One without the authenticator data, such as a status, stays.
+ * Applies a change to a response. A response without the authenticator data, such as a status, is returned unchanged.
  * @param {Uint8Array} response @param {Change} change
  */
 export const changeResponse = (response, change) => {
@@ -84,7 +84,7 @@ export const changeResponse = (response, change) => {
     if (!signature) {
         return concatBytes(front, encodeBytes(data), rest);
     }
-    // The member 3: a signature of at most 72 bytes, whose length is in its second byte.
+    // The member with the key 3: a signature of at most 72 bytes, whose length is in the second byte.
     const [key, , length] = rest;
     return concatBytes(front, encodeBytes(data), Uint8Array.of(key), encodeBytes(signature), rest.subarray(3 + length));
 };

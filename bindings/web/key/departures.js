@@ -1,5 +1,5 @@
-// What a key does outside the core in one request of a page: flags, AAGUID and attestation, keys of other algorithms, and
-// extensions. The core's recording stays as it is, with a comment for each.
+// The features of a key that are added outside the core to one request of a page: flags, AAGUID, attestation, keys of
+// other algorithms, and extensions. The core's recording is not changed, except for a comment on each feature.
 import { formatAlgorithm, withAttestedData } from "./algorithms.js";
 import { concatBytes, decodeBase64url, fromBase64, fromHex, toBase64url } from "./bytes.js";
 import { formatFlags } from "./credential_metadata.js";
@@ -20,8 +20,9 @@ const REQUESTING = ["indirect", "direct", "enterprise"];
 /** @typedef {{ format: "self" | "none" | "basic", aaguid: Uint8Array }} Attestation */
 
 /**
- * The attestation that a page gets. As in Chromium, one that the page doesn't request is replaced by none, and the AAGUID
- * is cleared unless it is of a platform authenticator (WebAuthn Level 3, section 5.1.3, step 22).
+ * The attestation that a page gets. As in Chromium, an attestation that the page does not request is replaced by
+ * "none", and the AAGUID is cleared unless the key is a platform authenticator (WebAuthn Level 3, section 5.1.3, step
+ * 22).
  * @param {AuthenticatorOptions} abilities @param {string | undefined} requested
  * @returns {Attestation}
  */
@@ -64,7 +65,7 @@ export class Departures {
     }
 
     /**
-     * Stores what a new credential has outside the core.
+     * Stores the data of a new credential that is outside the core.
      * @param {Uint8Array} id
      */
     made(id) {
@@ -79,7 +80,7 @@ export class Departures {
     }
 
     /**
-     * Changes authenticator data of the core. Returns it with a description of each change.
+     * Changes authenticator data of the core. Returns the changed data with a description of each change.
      * @param {Uint8Array} id @param {Uint8Array} original @param {boolean} isVerified
      */
     async alter(id, original, isVerified) {
@@ -115,7 +116,7 @@ export class Departures {
     }
 
     /**
-     * The attestation statement of a registration, or the signature of a sign-in, if it is not the core's.
+     * The attestation statement of a registration, or the signature of a sign-in, if it replaces the core's.
      * @param {Uint8Array} id @param {Uint8Array} toSign @param {boolean} isBad whether to sign with another key
      * @returns {Promise<{ statement?: { format: string, members: Uint8Array }, signature?: Uint8Array }>}
      */

@@ -1,4 +1,4 @@
-// The WebAuthn commands of Chromium's DevTools, with the same members, on the installed key.
+// Implements the WebAuthn commands of Chromium's DevTools, with the same members, for the installed key.
 import { AUTHENTICATOR_OPTION_NAMES } from "./abilities.js";
 import { decodeBase64url } from "./bytes.js";
 import { checkType, checkMembers, checkName, warnRenamed } from "./argument_checks.js";
@@ -7,15 +7,15 @@ import { install, installedKey } from "./install.js";
 const ID = "hidlogKey";
 const BYTES_MEMBERS = ["credentialId", "privateKey", "userHandle", "largeBlob"];
 const OVERRIDE_MEMBERS = ["authenticatorId", "isBogusSignature", "isBadUV", "isBadUP"];
-// Other options of virtual authenticators, with the only value this key supports.
+// Further options of virtual authenticators, with the only value that this key supports.
 /** @type {Record<string, boolean>} */
 const FIXED_OPTIONS = { hasHmacSecret: false, hasHmacSecretMc: false };
-// Extensions, by their options.
+// The extensions that the options of addVirtualAuthenticator enable.
 /** @type {Record<string, string>} */
 const EXTENSION_OPTIONS = {
     hasPrf: "prf", hasLargeBlob: "largeBlob", hasCredBlob: "credBlob", hasMinPinLength: "minPinLength",
 };
-// Transports and protocols with other names in WebAuthn.
+// WebAuthn's names of transports and protocols, by their names in DevTools.
 /** @type {Record<string, string>} */
 const TRANSPORTS = { cable: "hybrid" };
 /** @type {Record<string, string>} */
@@ -23,7 +23,7 @@ const PROTOCOLS = { u2f: "ctap1/u2f", ctap2_0: "ctap2" };
 const KNOWN_OPTIONS = ["ctap2Version", ...Object.keys(FIXED_OPTIONS), ...Object.keys(EXTENSION_OPTIONS),
     ...AUTHENTICATOR_OPTION_NAMES];
 
-/** A credential with bytes in base64, as in DevTools. */
+/** Encodes a credential with bytes in base64, as in DevTools. */
 const encodeCredential = (/** @type {any} */ credential) => {
     const texts = BYTES_MEMBERS.filter((name) => credential[name] !== undefined).map((name) => [name, btoa(String.fromCharCode(...decodeBase64url(credential[name])))]);
     return { ...credential, ...Object.fromEntries(texts) };
@@ -43,7 +43,7 @@ const removeKey = () => {
 };
 
 /**
- * Checks options, and returns the authenticator options among them, with defaults.
+ * Checks the options of addVirtualAuthenticator, and returns the authenticator options, with defaults.
  * @param {Record<string, any>} options @returns {any}
  */
 const parseAuthenticatorOptions = (options) => {
@@ -58,7 +58,7 @@ const parseAuthenticatorOptions = (options) => {
     return {
         hasResidentKey: false, defaultBackupEligibility: false, defaultBackupState: false, extensions, ...abilities,
         protocol: PROTOCOLS[named] ?? named, transport: TRANSPORTS[transport] ?? transport, hasUserVerification,
-        // As in Chromium, the user of a key without user verification is not verified.
+        // As in Chromium, user verification fails by default on a key without user verification.
         isUserVerified: hasUserVerification && (options.isUserVerified ?? false),
     };
 };

@@ -4,7 +4,7 @@
 export const makeDomError = (name, text) => new DOMException(text, name);
 
 /**
- * NotAllowedError, which does not tell pages the reason.
+ * Returns a NotAllowedError, whose message does not disclose the reason to pages.
  * @param {string} why the reason, for readers of a test
  */
 export const makeNotAllowed = (why) => makeDomError(
@@ -22,7 +22,8 @@ const INVALID_DOMAIN = "This is an invalid domain.";
 const MISSING_PARAMETERS = "Required parameters missing in `options.publicKey`.";
 
 /**
- * Messages by the reasons of the core's client: Chromium's, or what to do with the key. Another reason is the message.
+ * Messages for the reasons of the core's client: Chromium's message, or advice on the key. A reason that is not listed
+ * is used as the message.
  * @type {Record<string, string>}
  */
 const MESSAGES = {
@@ -64,7 +65,7 @@ const MESSAGES = {
 const MAX_LIST_ERROR = "browsers take at most 64 credentials";
 
 /**
- * Makes errors, by the client's numbers (enum hidlog_client_error).
+ * Functions that make the errors for the client's error numbers (enum hidlog_client_error).
  * @type {Record<number, (text: string) => Error>}
  */
 const CLIENT_ERRORS = {
@@ -79,11 +80,11 @@ const CLIENT_ERRORS = {
 };
 
 /**
- * The error of the core's client.
+ * Returns the error for an error number of the core's client.
  * @param {number} number @param {string} member the invalid member of the options, or empty @param {string} reason
  */
 export const makeClientError = (number, member, reason) => {
-    // The client takes the origins at which browsers have WebAuthn.
+    // The client rejects only origins at which browsers do not support WebAuthn.
     if (member === "origin") {
         return makeDomError("SecurityError", INVALID_DOMAIN);
     }

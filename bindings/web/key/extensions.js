@@ -1,5 +1,5 @@
-// Checks of client extensions, as in Chromium, that the core's client lacks. check_inputs of
-// bindings/python/src/hidlog/key_extensions.py has those that apply to JSON.
+// Checks of client extensions, as in Chromium, that the core's client lacks. check_inputs in
+// bindings/python/src/hidlog/key_extensions.py has the checks that apply to JSON.
 import { fromBase64url, equalBytes } from "./bytes.js";
 import { makeDomError, makeNotSupported } from "./errors.js";
 

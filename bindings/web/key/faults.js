@@ -1,5 +1,5 @@
-// Faults injected into responses. They are injected outside the verified core, so that its log still replays; each is a
-// comment in the log.
+// Faults to inject into responses. The faults are injected outside the verified core, so the core's log still passes
+// `hidlog check`. The log has a comment for each fault.
 import { toHex, encodeUtf8 } from "./bytes.js";
 import { checkType, checkName, warnRenamed } from "./argument_checks.js";
 import { STATUSES } from "./standard.js";
@@ -68,17 +68,17 @@ const checkFault = (name, value) => {
 };
 
 /**
- * The faults of a key, all off at first.
+ * The faults of a key, which are off at first.
  *
  * status: respond to every request with this status, a number or a name.
  * delay: milliseconds before each response, with KEEPALIVEs.
  * truncateBy: number of bytes to remove from the end of each response.
  * badSignature: sign with a different private key.
  * staleSignCount: repeat the signature counter of the previous response, with a valid signature.
- * wrongRpId: the RP ID whose hash the authenticator data has, with a valid signature.
+ * wrongRpId: the RP ID whose hash replaces the one in the authenticator data, with a valid signature.
  */
 export class Faults {
-    /** @type {Map<string, number>} the signature counter sent last, by credential ID in hex */
+    /** @type {Map<string, number>} the last sent signature counter, by credential ID in hex */
     #signCounts = new Map();
     /** @param {(bytes: Uint8Array) => Promise<Uint8Array>} hash SHA-256 */
     constructor(hash) {

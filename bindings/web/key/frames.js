@@ -1,9 +1,9 @@
-// The frames around a page: the permissions policy, and clientDataJSON of a frame whose origin is another than those
-// above it, which the core's client doesn't write.
+// Frames: the permissions policy, and the clientDataJSON of a cross-origin frame, which the core's client does not
+// write.
 import { encodeUtf8, toBase64url } from "./bytes.js";
 import { makeDomError } from "./errors.js";
 
-/** The origins of the frames above this one, the top's last; null for a frame that cannot be accessed. */
+/** The origins of the ancestor frames, with the top-level origin last; null for a frame that cannot be accessed. */
 const listAncestorOrigins = () => {
     const listed = globalThis.location?.ancestorOrigins;
     if (listed) {
@@ -33,7 +33,8 @@ export const makeCrossOriginMembers = (origin) => {
     if (origins.every((ancestor) => ancestor === origin)) {
         return { crossOrigin: false };
     }
-    // If the browser does not give the top's origin, the referrer of a frame directly below it does.
+    // If the browser does not expose the top-level origin, use the referrer of a frame directly below the top-level
+    // page.
     const referrer = origins.length === 1 && globalThis.document?.referrer;
     const topOrigin = origins.at(-1) ?? (referrer ? new URL(referrer).origin : undefined);
     return { crossOrigin: true, topOrigin };

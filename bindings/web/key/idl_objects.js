@@ -1,6 +1,6 @@
-// Objects of the interfaces that pages receive: their members are getters and functions on prototypes, as in browsers.
-// In a browser these are its own prototypes, whose members pass the browser's own objects on; elsewhere such types are
-// made here.
+// Creates objects of the interfaces that pages receive. As in browsers, the members are getters and functions on
+// prototypes. In a browser, the browser's own prototypes are used, whose members still work on the browser's own
+// objects. Elsewhere the types are created here.
 
 /**
  * The interfaces by name: the parent, attributes and operations without arguments (Credential Management Level 1,
@@ -25,17 +25,17 @@ const INTERFACES = {
 const INTERFACE_NAMES = Object.keys(INTERFACES);
 
 /**
- * The objects made here: their type, and their members.
+ * The objects that were created here, with their types and members.
  * @type {WeakMap<object, { types: string[], members: any }>}
  */
 const made = new WeakMap();
 /**
- * The prototypes that have the members of their interface.
+ * The prototypes on which the members of their interface are defined.
  * @type {WeakSet<object>}
  */
 const completed = new WeakSet();
 /**
- * The types made here, by name.
+ * The types that were created here, by name.
  * @type {Map<string, any>}
  */
 const ownTypes = new Map();
@@ -122,7 +122,7 @@ export const makeType = (name) => {
 };
 
 /**
- * The platform's type of an interface, or one that is made once.
+ * The platform's type for an interface, or a type that is created once.
  * @param {string} name @returns {any}
  */
 export const getType = (name) => {

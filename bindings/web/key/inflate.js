@@ -1,5 +1,5 @@
-// Unpacks DEFLATE data (RFC 1951) synchronously, as the key's first call and saved pages need it. It is after zlib's
-// puff: a code is decoded bit by bit from the number of codes of each length.
+// Unpacks DEFLATE data (RFC 1951) synchronously, as the key's first call and saved pages require. The algorithm is that
+// of zlib's puff: a code is decoded bit by bit from the number of codes of each length.
 
 const LONGEST_CODE = 15;
 const [STORED, FIXED, DYNAMIC] = [0, 1, 2];
@@ -10,7 +10,7 @@ const LENGTH_BITS = [0, 0, 0, 0, 0, 0, 0, 0, 1, 1, 1, 1, 2, 2, 2, 2, 3, 3, 3, 3,
 const DISTANCE_BASES = [1, 2, 3, 4, 5, 7, 9, 13, 17, 25, 33, 49, 65, 97, 129, 193, 257, 385, 513, 769, 1025, 1537, 2049,
     3073, 4097, 6145, 8193, 12289, 16385, 24577];
 const DISTANCE_BITS = [0, 0, 0, 0, 1, 1, 2, 2, 3, 3, 4, 4, 5, 5, 6, 6, 7, 7, 8, 8, 9, 9, 10, 10, 11, 11, 12, 12, 13, 13];
-// The order of the code lengths of a dynamic block's own code.
+// The order of the lengths of the code length codes in a dynamic block (RFC 1951, section 3.2.7).
 const ORDER = [16, 17, 18, 0, 8, 7, 9, 6, 10, 5, 11, 4, 12, 3, 13, 2, 14, 1, 15];
 
 /** @typedef {{ counts: Uint16Array, symbols: Uint16Array }} Code the number of codes of each length, and their symbols */
@@ -75,7 +75,7 @@ class BitReader {
 }
 
 /**
- * The code with these lengths of its symbols' codes.
+ * Makes the Huffman code from the code length of each symbol.
  * @param {ArrayLike<number>} lengths @returns {Code}
  */
 const makeCode = (lengths) => {
@@ -127,7 +127,7 @@ const readCodes = (reader) => {
     return [makeCode(lengths.slice(0, literals)), makeCode(lengths.slice(literals, literals + distances))];
 };
 
-/** The unpacked bytes, which are at most `length`. */
+/** The unpacked bytes, at most `length` of them. */
 class Output {
     /** @param {number} length */
     constructor(length) {
@@ -145,7 +145,7 @@ class Output {
     }
 
     /**
-     * Repeats bytes from a distance back.
+     * Repeats bytes that are at a distance before the end.
      * @param {number} count @param {number} distance
      */
     copy(count, distance) {
@@ -185,7 +185,7 @@ const readCompressed = (reader, output, [literals, distances]) => {
 };
 
 /**
- * Unpacks DEFLATE data, after the unpacked length in four bytes, the highest first.
+ * Unpacks DEFLATE data that follows the unpacked length as a big-endian number of four bytes.
  * @param {Uint8Array} packed
  */
 export const unpack = (packed) => {

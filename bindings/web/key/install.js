@@ -1,4 +1,5 @@
-// Installing a key: it replaces functions of navigator.credentials and PublicKeyCredential, and restores them.
+// Installs and uninstalls a key: replaces functions of navigator.credentials and PublicKeyCredential, and restores
+// them.
 import { warnRenamed } from "./argument_checks.js";
 import { makeNotSupported } from "./errors.js";
 import { checkPage, warnOfTestKey } from "./allowed_origins.js";
@@ -12,7 +13,7 @@ const WEBAUTHN_TYPES = ["CredentialsContainer", "Credential", "PublicKeyCredenti
     "AuthenticatorAttestationResponse", "AuthenticatorAssertionResponse"];
 
 /**
- * The installed key, and a function that restores what it replaced.
+ * The installed key, and a function that restores the replaced functions.
  * @type {{ key: InstalledKey, undo: () => void } | null}
  */
 let installed = null;
@@ -42,7 +43,8 @@ const defineMissing = () => {
 };
 
 /**
- * A method of CredentialsContainer that handles public keys, and passes other calls to the native one.
+ * Returns a method of CredentialsContainer that handles calls with `publicKey`, and passes other calls to the native
+ * method.
  * @param {"create" | "get"} name @param {SecurityKey} key @param {Function | undefined} native
  * @param {(options: any) => void} checkOthers
  */
@@ -71,7 +73,8 @@ const rejectOthers = (/** @type {any} */ options) => {
 };
 
 /**
- * A method that rejects the key's credentials, which no browser stores, and passes others to the native one.
+ * Returns a method that rejects the key's credentials, which browsers do not store, and passes other credentials to the
+ * native method.
  * @param {Function} native
  */
 const wrapStore = (native) => ({
@@ -85,7 +88,7 @@ const wrapStore = (native) => ({
 }.store);
 
 /**
- * Replaces the functions.
+ * Replaces the functions of the page by those of a key.
  * @param {InstalledKey} key
  */
 const replaceFunctions = (key) => {
@@ -105,7 +108,7 @@ const replaceFunctions = (key) => {
 
 /** A key that replaces navigator.credentials. */
 export class InstalledKey extends SecurityKey {
-    /** Restores what `install` replaced, and aborts a pending request. */
+    /** Restores the functions that `install` replaced, and aborts a pending request. */
     uninstall() {
         this.close();
         if (installed?.key === this) {

@@ -15,12 +15,12 @@ const TRUE = Uint8Array.of(0xf5);
 /** @typedef {import("./private_keys.js").PrivateKeys} PrivateKeys */
 
 /**
- * What a credential keeps of its extensions. Bytes are base64url; a large blob is "" until a page writes one.
+ * The extension data of a credential. Bytes are in base64url; a large blob is "" until a page writes one.
  * @typedef {{ prf?: boolean, largeBlob?: string, credBlob?: string, credProtect?: number }} KeptExtensions
  */
 
 /**
- * Extensions for the core's client, which supports none: none of them is required.
+ * Returns the extensions for the core's client without required ones, since the client supports none of them.
  * @param {any} extensions @param {AuthenticatorOptions} abilities
  */
 export const withoutRequired = (extensions, abilities) => {
@@ -45,8 +45,8 @@ export const checkRequired = ({ largeBlob }, isDiscoverable) => {
 };
 
 /**
- * The protection policy of a discoverable credential for which a page requests none, as in Chromium: user verification is
- * required if a discoverable credential is, and user verification is preferred.
+ * Returns the protection policy of a discoverable credential if the page requests none. As in Chromium, user
+ * verification is required if residentKey is "required" and userVerification is "preferred".
  * @param {any} selection authenticatorSelection
  */
 const selectProtection = ({ residentKey, requireResidentKey, userVerification } = {}) => {
@@ -56,7 +56,7 @@ const selectProtection = ({ residentKey, requireResidentKey, userVerification } 
 };
 
 /**
- * What a new credential keeps.
+ * Returns the extension data of a new credential.
  * @param {any} options @param {AuthenticatorOptions} abilities @param {boolean} isDiscoverable
  * @returns {KeptExtensions}
  */
@@ -97,15 +97,15 @@ export const encodeRegistrationOutputs = ({ credBlob, credProtect }, extensions,
 };
 
 /**
- * The same of a sign-in.
+ * The extension outputs in the authenticator data of a sign-in.
  * @param {KeptExtensions} kept @param {any} extensions @param {AuthenticatorOptions} abilities
  */
 export const encodeSignInOutputs = ({ credBlob = "" }, { getCredBlob }, abilities) =>
     encodeOutputs(getCredBlob && abilities.supports("credBlob") ? [["credBlob", encodeBytes(decodeBase64url(credBlob))]] : []);
 
 /**
- * The PRF of a credential. Its secret is derived from the core's public key, so that the results are the same wherever
- * the credential is added again.
+ * Evaluates the PRF of a credential. The secret is derived from the core's public key, so the results stay the same if
+ * the credential is added to another key.
  * @param {PrivateKeys} privateKeys @param {Uint8Array} id @param {any} inputs first, and perhaps second
  */
 const evaluatePrf = async (privateKeys, id, inputs) => {
@@ -135,7 +135,7 @@ export const makeRegistrationResults = async (kept, extensions, privateKeys, id)
 };
 
 /**
- * The same of a sign-in. A large blob is written.
+ * The client extension results of a sign-in, besides those of the core's client. Writes the large blob, if requested.
  * @param {KeptExtensions} kept @param {any} extensions @param {PrivateKeys} privateKeys
  * @param {{ id: Uint8Array, pageId: Uint8Array }} ids
  */
@@ -154,8 +154,9 @@ export const makeSignInResults = async (kept, { prf, largeBlob, getCredBlob }, p
 };
 
 /**
- * Whether a credential can sign in (CTAP 2.1, section 12.1).
- * @param {KeptExtensions} kept @param {boolean} isVerified @param {boolean} isListed whether the page names it
+ * Whether the protection policy of a credential allows the sign-in (CTAP 2.1, section 12.1).
+ * @param {KeptExtensions} kept @param {boolean} isVerified @param {boolean} isListed whether the page's allow list has
+ * the credential
  */
 export const isUsable = ({ credProtect = 0 }, isVerified, isListed) =>
     isVerified || credProtect < (isListed ? VERIFIED : WITH_LIST);

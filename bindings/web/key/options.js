@@ -26,7 +26,7 @@ const makeExtensionsDictionary = (bytes, suffix) => {
     });
     return dictionary(`AuthenticationExtensionsClientInputs${suffix}`, {
         appid: optional(text), appidExclude: optional(text), credBlob: optional(bytes),
-        // Only the dictionary of JSON has this default.
+        // Only the JSON dictionary has this default.
         credProps: suffix ? optional(boolean, false) : optional(boolean),
         credentialProtectionPolicy: optional(text), enforceCredentialProtectionPolicy: optional(boolean, false),
         getCredBlob: optional(boolean), hmacCreateSecret: optional(boolean), largeBlob: optional(largeBlob),
@@ -88,7 +88,7 @@ export const readCreation = (options) => credentialCreation(options, errorPrefix
 /** @param {unknown} options of navigator.credentials.get */
 export const readRequest = (options) => credentialRequest(options, errorPrefix("get", "CredentialsContainer"));
 
-/** @param {unknown[]} args the arguments @param {string} where the front of an error's text */
+/** @param {unknown[]} args the arguments @param {string} where the prefix of an error message */
 const requireFirstArgument = (args, where) => {
     if (!args.length) {
         throw new TypeError(`${where}1 argument required, but only 0 present.`);

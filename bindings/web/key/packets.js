@@ -36,7 +36,7 @@ export class Collector {
     }
 
     /**
-     * Adds packets, and returns the message they complete, or null.
+     * Adds packets, and returns the message that they complete, or null.
      * @param {Uint8Array[]} packets
      */
     add(packets) {

@@ -1,5 +1,5 @@
-// The requests of a page: one at a time, each ended by its response, its signal, its timeout, or another that replaces
-// it.
+// Runs the requests of a page one at a time. A request ends with the response, an abort signal, the timeout, or a
+// request that replaces it.
 import { makeBusy, makeDomError, makeNotAllowed } from "./errors.js";
 import { clearTimeout, setTimeout } from "./platform.js";
 
@@ -11,7 +11,8 @@ const MAX_TIMER_MS = 2 ** 31 - 1;
  * @typedef {object} Limits what ends a request early
  * @property {AbortSignal} [signal] the page's
  * @property {number} [timeout] in milliseconds
- * @property {boolean} isConditional whether it waits for an account without a dialog, until another request replaces it
+ * @property {boolean} isConditional whether the request waits for the selection of an account, and is replaced by
+ * another request
  */
 
 /** @typedef {{ end: (reason: unknown) => void, isConditional: boolean }} Current */
@@ -21,7 +22,7 @@ export class Requests {
     #current = null;
 
     /**
-     * Runs a request. The next can start once it has ended, at once if it is aborted.
+     * Runs a request. The next request can start when this one has ended; an aborted request ends at once.
      * @template T @param {Limits} limits @param {(signal: AbortSignal) => Promise<T>} serve @returns {Promise<T>}
      */
     async run({ signal, timeout = DEFAULT_TIMEOUT_MS, isConditional }, serve) {

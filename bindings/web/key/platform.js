@@ -1,5 +1,5 @@
-// The platform functions that the key uses, as they were when this script was loaded, so that faked timers do not
-// affect it. A missing one is reported in one line.
+// The platform functions that the key uses. They are saved when this script is loaded, so that fake timers of tests do
+// not affect the key. A missing function is reported in one line.
 
 export const { setTimeout, clearTimeout, setInterval, clearInterval } = globalThis;
 

@@ -1,4 +1,4 @@
-// Plays the inputs of recorded lines on the key (docs/use/LOG_FORMAT.md).
+// Passes the inputs of recorded lines to the key (docs/use/LOG_FORMAT.md).
 import { fromHex, toHex } from "./bytes.js";
 import { PACKET_SIZE } from "./standard.js";
 import { PRESENCE_WORDS } from "./wasm_key.js";

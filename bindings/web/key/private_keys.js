@@ -1,5 +1,5 @@
-// Key pairs, by WebCrypto: on P-256, and of other algorithms beside one on P-256, which is the core's. The page holds them
-// for the key: for tests only.
+// Key pairs, generated and used with WebCrypto. A key pair of another algorithm is stored together with a P-256 key
+// pair, which the core uses. The private keys are in the page's memory, so this is for tests only.
 import {
     algorithmOf, ES256, exportPublicKey, generateOther, importOther, signOther,
 } from "./algorithms.js";
@@ -7,7 +7,7 @@ import { decodeBase64url, fromHex, equalBytes, concatBytes, toHex } from "./byte
 
 const P256 = { name: "ECDSA", namedCurve: "P-256" };
 const SIGNING_ALGORITHM = { name: "ECDSA", hash: "SHA-256" };
-// PKCS #8 of a P-256 key: the bytes before the private key, and between it and the public key.
+// PKCS #8 of a P-256 key: the bytes before the private key, and the bytes between the private key and the public key.
 const PKCS8_HEAD = fromHex("308187020100301306072a8648ce3d020106082a8648ce3d030107046d306b0201010420");
 const PKCS8_MIDDLE = fromHex("a14403420004");
 
@@ -58,8 +58,8 @@ export const isPkcs8P256 = (pkcs8) =>
     && equalBytes(pkcs8.subarray(PKCS8_HEAD.length + 32, -64), PKCS8_MIDDLE);
 
 /**
- * Parses a private key as encoded by this file, with the public key at the end; or one of another algorithm, with the
- * core's.
+ * Parses a P-256 private key that this file encoded, with the public key at the end, or a private key of another
+ * algorithm, with the core's private key.
  * @param {Uint8Array} pkcs8 @param {Uint8Array} [corePkcs8]
  * @returns {PrivateKey}
  */
@@ -183,7 +183,7 @@ export class PrivateKeys {
     }
 
     /**
-     * Signs bytes for the core; the signature is DER.
+     * Signs bytes for the core. The signature is in DER.
      * @param {PrivateKey} privateKey @param {Uint8Array} toSign
      */
     async sign(privateKey, toSign) {
@@ -193,7 +193,7 @@ export class PrivateKeys {
     }
 
     /**
-     * Signs bytes with a private key of another algorithm, or with a new one instead.
+     * Signs bytes with a private key of another algorithm, or with a new private key if `isOther`.
      * @param {PrivateKey} privateKey @param {Uint8Array} toSign @param {boolean} isOther
      */
     async signOther(privateKey, toSign, isOther) {
@@ -205,7 +205,7 @@ export class PrivateKeys {
     }
 
     /**
-     * Signs bytes with a private key that isn't a credential's, on P-256 in PKCS #8; the signature is DER.
+     * Signs bytes with a P-256 private key in PKCS #8 that belongs to no credential. The signature is in DER.
      * @param {Uint8Array} pkcs8 @param {Uint8Array} toSign
      */
     async signAs(pkcs8, toSign) {

@@ -5,7 +5,7 @@ const MAX_LINE = 255;
 const MAX_SIGNED_BYTES = 96;
 
 /**
- * Comments with what the key needs after an input.
+ * Comments that state what the key needs after an input.
  * @param {import("./wasm_key.js").Need} need
  */
 const formatNeed = ({ kind, id, toSign }) => {
@@ -20,12 +20,12 @@ const formatNeed = ({ kind, id, toSign }) => {
 };
 
 /**
- * A text as comment lines, with long lines wrapped.
+ * Formats a text as comment lines, and wraps long lines.
  * @param {string} text
  */
 const formatComment = (text) =>
     text.split("\n").flatMap((line) => {
-        // Comments that begin like this are the key's own.
+        // Comments that begin with these words are written by the key.
         const shown = (/^(need|signed) /.test(line) ? ` ${line}` : line).replace(/[^\x20-\x7e]/g, "?");
         return shown.match(new RegExp(`.{1,${MAX_LINE - 2}}`, "g"))?.map((part) => `# ${part}`) ?? ["#"];
     });
@@ -50,7 +50,7 @@ export class Recording {
     }
 
     /**
-     * Adds an input, and returns its lines.
+     * Adds an input, and returns the lines that were added.
      * @param {string} input its line
      * @param {Uint8Array[]} packets what the key sent for it
      * @param {import("./wasm_key.js").Need} need
@@ -89,7 +89,7 @@ export class Recording {
         }
     }
 
-    /** The lines so far, without a final newline. Only what is new is joined. */
+    /** The lines so far, without a final newline. Only new lines are joined to the previous result. */
     lines() {
         const more = this.#entries.slice(this.#joinedCount).join("\n");
         this.#joined += this.#joinedCount && more ? `\n${more}` : more;

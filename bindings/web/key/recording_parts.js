@@ -1,6 +1,6 @@
-// Recordings in storage, in parts: a write appends what is new, so that its cost does not depend on what is stored. The
-// state under "hidlogKey" has the number of parts of each recording; the parts are under "hidlogKey/INDEX/NUMBER", the
-// snapshot with which it starts under "hidlogKey/INDEX/snapshot".
+// Stores recordings in parts. A write appends only new lines, so its cost does not depend on the stored length. The
+// state under "hidlogKey" has the number of parts of each recording. The parts are stored under
+// "hidlogKey/INDEX/NUMBER", and the initial snapshot under "hidlogKey/INDEX/snapshot".
 
 const PREFIX = "hidlogKey/";
 
@@ -14,7 +14,7 @@ const keyOfSnapshot = (/** @type {number} */ index) => `${PREFIX}${index}/snapsh
 
 export class RecordingParts {
     /**
-     * What is stored, by index.
+     * The stored recordings, by index.
      * @type {Map<number, { snapshot: string, log: string, parts: number }>}
      */
     #stored = new Map();
@@ -25,7 +25,7 @@ export class RecordingParts {
         this.storage = storage;
     }
 
-    /** Forgets what is stored, after a page has cleared it. */
+    /** Forgets the stored recordings, after a page has cleared the storage. */
     forget() {
         this.#stored.clear();
     }
@@ -62,7 +62,7 @@ export class RecordingParts {
     }
 
     /**
-     * Appends what is new of a recording.
+     * Appends the new lines of a recording as a part.
      * @param {StoredSession} recording @returns {PartReference}
      */
     #append({ index, snapshot, log }) {
@@ -83,7 +83,7 @@ export class RecordingParts {
     }
 
     /**
-     * Stores recordings, and returns what the state says of them.
+     * Stores recordings, and returns the references for the state.
      * @param {StoredRecordings} recordings @returns {References}
      */
     write({ ended, last }) {
@@ -99,7 +99,7 @@ export class RecordingParts {
     }
 
     /**
-     * Reads a recording; one that older versions stored has its log in the state.
+     * Reads a recording. Older versions stored the log in the state.
      * @param {any} reference
      */
     #read(reference) {
@@ -118,8 +118,8 @@ export class RecordingParts {
     }
 
     /**
-     * Reads the recordings that a state refers to; undefined if a part is missing. What is no reference is returned as
-     * it is, and rejected when the state is checked.
+     * Reads the recordings to which a state refers, or returns undefined if a part is missing. An invalid reference is
+     * returned unchanged, and is rejected when the state is checked.
      * @param {any} references
      */
     read(references) {

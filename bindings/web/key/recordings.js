@@ -4,10 +4,11 @@ import { addOldNames } from "./argument_checks.js";
 import { decodeBase64url, equalBytes, toBase64url } from "./bytes.js";
 import { Session } from "./session.js";
 
-// Characters kept in storage, of the current session and of all. The oldest recordings are dropped first.
+// Maximum numbers of characters in storage, for the current session and for all sessions. The oldest recordings are
+// dropped first.
 const MAX_STORED_SESSION_LENGTH = 512 * 1024;
 const MAX_STORED_LENGTH = 1024 * 1024;
-// Characters kept in memory, of all and of the current session.
+// Maximum numbers of characters in memory, for all sessions and for the current session.
 const MAX_LENGTH_IN_MEMORY = 32 * 1024 * 1024;
 const MAX_SESSION_LENGTH_IN_MEMORY = 8 * 1024 * 1024;
 
@@ -23,7 +24,7 @@ const MAX_SESSION_LENGTH_IN_MEMORY = 8 * 1024 * 1024;
  */
 const toStored = ({ index, snapshot, log }) => ({ index, snapshot: toBase64url(snapshot), log });
 /**
- * The index of a session, which version 0.2 stored as `part`.
+ * The index of a session. Version 0.2 stored the index as `part`.
  * @param {any} stored @returns {number}
  */
 const readIndex = (stored) => stored.index ?? stored.part;
@@ -34,7 +35,7 @@ const fromStored = (stored) =>
     ({ index: readIndex(stored), snapshot: decodeBase64url(stored.snapshot), log: stored.log });
 
 /**
- * The number of newest sessions that fit into a length.
+ * The number of sessions, newest first, that fit into a length.
  * @param {RecordedSession[]} sessions @param {number} most
  */
 const countNewest = (sessions, most) => {
@@ -90,7 +91,7 @@ export class Recordings {
         return { index: this.#index, snapshot: this.#snapshot, log: this.session.log() };
     }
 
-    /** Whether something is recorded but not stored. */
+    /** Whether a recorded line is not stored yet. */
     get isAhead() {
         return this.session.recording.size > this.#kept || this.#ended.some(({ isKept }) => !isKept);
     }
@@ -105,7 +106,7 @@ export class Recordings {
     }
 
     /**
-     * Continues stored recordings, which end with these credentials.
+     * Continues stored recordings. `snapshot` has the credentials at their end.
      * @param {StoredRecordings} kept @param {Uint8Array} snapshot
      */
     take(kept, snapshot) {
@@ -118,7 +119,7 @@ export class Recordings {
             this.#resume(last, snapshot);
             return;
         }
-        // Lines that only this page has recorded become a separate recording.
+        // Lines that are not in the stored recording become a separate recording.
         if (isAhead) {
             this.#end();
         }
@@ -128,7 +129,10 @@ export class Recordings {
         this.#resume(last, snapshot);
     }
 
-    /** Plays the lines the session lacks. If that leads to other credentials than `snapshot`, starts a new session. */
+    /**
+     * Replays the stored lines that the session lacks. If the resulting credentials are not those of `snapshot`, starts
+     * a new session.
+     */
     #resume(/** @type {StoredSession} */ last, /** @type {Uint8Array} */ snapshot) {
         const played = this.session.recording.lines().length;
         const lines = last.log.slice(played).split("\n").filter(Boolean);
@@ -151,7 +155,7 @@ export class Recordings {
     }
 
     /**
-     * All sessions, with the current one so far.
+     * All sessions, including the current one.
      * @returns {RecordedSession[]}
      */
     list() {
@@ -160,7 +164,7 @@ export class Recordings {
     }
 
     /**
-     * Drops the oldest recordings if they are too long for memory.
+     * Drops the oldest recordings if all together are too long for memory.
      * @param {() => Uint8Array} snapshot
      */
     bound(snapshot) {
@@ -186,7 +190,7 @@ export class Recordings {
         return { ended: this.#ended.map(toStored), last: toStored({ ...this.#last(), log }) };
     }
 
-    /** Records that everything so far is stored. */
+    /** Marks all recorded lines as stored. */
     wasKept() {
         this.#kept = this.session.recording.size;
         this.#ended.forEach((recording) => {

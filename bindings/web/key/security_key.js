@@ -1,5 +1,5 @@
-// A security key in a page: registrations and sign-ins, as by navigator.credentials, and the methods of a virtual
-// authenticator. The key is the verified core; each session is a log that replays exactly.
+// A security key in a page, with the registrations and sign-ins of navigator.credentials and the methods of a virtual
+// authenticator. The key is the verified core. Each session is recorded as a log that replays exactly.
 import { AuthenticatorOptions, AUTHENTICATOR_OPTION_NAMES, pickAuthenticatorOptions } from "./abilities.js";
 import { readOrigin } from "./allowed_origins.js";
 import { makeCredential } from "./answers.js";
@@ -96,7 +96,7 @@ export class SecurityKey extends EventTarget {
         this.#restore(state);
         this.#clock = createClock(clock, this.#time.timeMs, this.#time);
         this.faults = this.#faults.settings();
-        // Setting an unknown property, such as a typo, throws.
+        // The object is frozen, so setting an unknown property, such as a typo, throws.
         Object.freeze(this);
     }
 
@@ -166,24 +166,24 @@ export class SecurityKey extends EventTarget {
     // Recordings and state.
 
     /**
-     * The recording since the credentials were last changed by a method: a log for `hidlog check`. It is empty without
-     * recording.
+     * The recording since a method last changed the credentials, as a log for `hidlog check`. Empty if recording is
+     * off.
      */
     log() {
         return this.recordings().at(-1)?.log ?? "";
     }
 
-    /** All recordings, each with the snapshot it starts with, for `hidlog check --load`. */
+    /** All recordings, each with its initial snapshot, for `hidlog check --load`. */
     recordings() {
         return this.#key.recordings.list();
     }
 
-    /** The credentials, with private keys and counters, and the time, as JSON. */
+    /** The state of the key as JSON: the credentials with private keys and signature counters, and the time. */
     state() {
         return exportState(this.#time.timeMs, this.#rows, this.#credentials);
     }
 
-    /** Reads what another tab has stored. */
+    /** Reads the state that another tab has stored. */
     #refresh() {
         const stored = this.#store.readChanges();
         if (stored) {
@@ -193,7 +193,7 @@ export class SecurityKey extends EventTarget {
     }
 
     /**
-     * Continues with other credentials, and with the recording that led to them, if any.
+     * Continues with other credentials, and with the recording that resulted in these credentials, if any.
      * @param {Row[]} rows @param {import("./recordings.js").StoredRecordings} [recordings]
      */
     #take(rows, recordings) {
@@ -243,7 +243,7 @@ export class SecurityKey extends EventTarget {
     // Registrations and sign-ins.
 
     /**
-     * As navigator.credentials.create.
+     * Registers a credential, as navigator.credentials.create does.
      * @param {any} options
      */
     async create(options) {
@@ -261,7 +261,7 @@ export class SecurityKey extends EventTarget {
     }
 
     /**
-     * As navigator.credentials.get.
+     * Signs in, as navigator.credentials.get does.
      * @param {any} options
      */
     async get(options) {
@@ -280,7 +280,7 @@ export class SecurityKey extends EventTarget {
     }
 
     /**
-     * Begins a registration or a sign-in. Throws what a page gets if it can't.
+     * Begins a registration or a sign-in. Throws the error that a page gets if the options are invalid.
      * @param {"create" | "get"} name @param {any} publicKey @param {string} mediation
      */
     #begin(name, publicKey, mediation) {
@@ -290,7 +290,7 @@ export class SecurityKey extends EventTarget {
     }
 
     /**
-     * Sends the request of a ceremony, and returns the response. Verifies the user.
+     * Verifies the user if the ceremony requires it, sends the request, and returns the response.
      * @param {Ceremony} ceremony @param {Turn} turn
      */
     async #send(ceremony, turn) {
@@ -304,13 +304,14 @@ export class SecurityKey extends EventTarget {
         return this.#exchange(ceremony, request, turn);
     }
 
-    /** The origin of requests: that of the options, or the page's. */
+    /** The origin of requests: the option `origin`, or the page's origin. */
     get pageOrigin() {
         return readOrigin(this.#origin);
     }
 
     /**
-     * Runs a request of the page. Changes of the credentials are stored, and other tabs are locked out meanwhile.
+     * Runs a request of the page. Changes of the credentials are stored, and other tabs are locked while the
+     * credentials change.
      * @template T @param {Ceremony} ceremony @param {AbortSignal} signal @param {(turn: Turn) => Promise<T>} run
      */
     async #during(ceremony, signal, run) {
@@ -348,7 +349,7 @@ export class SecurityKey extends EventTarget {
     }
 
     /**
-     * Sends bytes, and returns the response. Throws the error that a page sees if it fails.
+     * Sends a request, and returns the response. If the request fails, throws the error that a page gets.
      * @param {Ceremony} ceremony @param {Uint8Array} bytes @param {Turn} turn
      */
     async #exchange(ceremony, bytes, turn) {
@@ -396,7 +397,7 @@ export class SecurityKey extends EventTarget {
     }
 
     /**
-     * Changes the credentials, while no request can change them.
+     * Changes the credentials while no request is in progress.
      * @param {(rows: Row[]) => Row[] | Promise<Row[]>} change
      */
     async #change(change) {
@@ -480,7 +481,7 @@ export class SecurityKey extends EventTarget {
     }
 
     /**
-     * Sets all these authenticator options, or none if one is invalid.
+     * Sets these authenticator options. If one is invalid, sets none.
      * @param {any} options
      */
     setAuthenticatorOptions(options) {

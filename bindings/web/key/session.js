@@ -1,4 +1,5 @@
-// A session of the key: each input is passed to the verified core, and recorded with what it sends and needs.
+// A session of the key. Each input is passed to the verified core, and recorded with the packets that the core sends
+// and with what the core needs.
 import { toHex } from "./bytes.js";
 import { instantiateCore } from "./core_module.js";
 import { WasmKey } from "./wasm_key.js";
@@ -26,7 +27,10 @@ export class Session {
         this.isOpen = false;
     }
 
-    /** @param {(timeMs: number) => [string, Uint8Array[]]} input returns its line and the packets sent for it */
+    /**
+     * @param {(timeMs: number) => [string, Uint8Array[]]} input passes an input, and returns its line and the packets
+     * sent
+     */
     #play(input, passed = 1) {
         const [line, packets] = input(this.clock(passed));
         this.#record(line, packets);
@@ -77,7 +81,7 @@ export class Session {
     }
 
     /**
-     * Plays the lines of a recording. Returns whether they are what the key sent and needed, and it is now idle.
+     * Replays the lines of a recording. Returns whether the key sent and needed what the lines have, and is now idle.
      * @param {string[]} lines
      */
     resume(lines) {

@@ -1,4 +1,4 @@
-// Signing in: with one credential or several, with an account that a test selects, or with the first one found.
+// Signs in with one of the matching credentials: the account that a test selects, or the first credential.
 import { findAccount } from "./account_selection.js";
 import { decodeBase64url, toBase64url } from "./bytes.js";
 import { makeNotAllowed } from "./errors.js";
@@ -6,13 +6,13 @@ import { isUsable } from "./key_extensions.js";
 import { raceWithSignal } from "./platform.js";
 
 const GET_NEXT_ASSERTION = Uint8Array.of(8);
-// A response with the member numberOfCredentials, which is the last: status 0, and a map of five.
+// The start of a response with numberOfCredentials, the fifth member: status 0, and the head of a map of five entries.
 const MAP_OF_FIVE = [0, 0xa5];
 
 /** @typedef {import("./ceremony.js").Ceremony} Ceremony */
 /** @typedef {import("./credentials.js").Credential} Credential */
 /**
- * @typedef {object} Parts what a sign-in needs of its key
+ * @typedef {object} Parts the parts of a key that a sign-in uses
  * @property {AbortSignal} signal
  * @property {import("./credential_metadata.js").CredentialMetadata} metadata
  * @property {import("./account_selection.js").Selections} selections
@@ -45,7 +45,7 @@ export class SignIn {
     }
 
     /**
-     * The JSON of a sign-in, with the credential ID that the page sees.
+     * The credential of a sign-in as JSON, with the credential ID for the page.
      * @param {Ceremony} ceremony @param {Uint8Array} response
      */
     #readAssertion(ceremony, response) {
@@ -56,7 +56,7 @@ export class SignIn {
     }
 
     /**
-     * A sign-in without the credentials whose protection policy excludes them, if there are any.
+     * Returns the sign-in without credentials that their protection policies exclude.
      * @param {Ceremony} ceremony
      */
     async #restrict(ceremony) {
@@ -75,7 +75,7 @@ export class SignIn {
     }
 
     /**
-     * Signs in, with the account selected by `account` if there are several.
+     * Signs in. If there are several accounts, uses the account that the option `account` selects.
      * @param {Ceremony} ceremony
      */
     async #signIn(ceremony) {
@@ -94,7 +94,7 @@ export class SignIn {
     }
 
     /**
-     * Waits until a test selects an account, and signs in with it.
+     * Waits until a test selects an account, and signs in with that account.
      * @param {Ceremony} ceremony
      */
     async #signInSelected(ceremony) {

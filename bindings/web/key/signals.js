@@ -1,4 +1,5 @@
-// The Signal API (WebAuthn Level 3, section 5.1.10): a page tells the key which credentials and details are current.
+// The Signal API (WebAuthn Level 3, section 5.1.10), by which a page signals which credentials and user details are
+// current.
 import { fromBase64url } from "./bytes.js";
 import { checkRpId } from "./ceremony.js";
 import { dictionary, required, sequence, text } from "./webidl.js";
@@ -6,7 +7,7 @@ import { dictionary, required, sequence, text } from "./webidl.js";
 /** @typedef {import("./security_key.js").SecurityKey} SecurityKey */
 
 /**
- * The options by method, in the order of conversion: that of their names.
+ * The options of each method, in the order of conversion, which is alphabetical.
  * @type {Record<string, Record<string, import("./webidl.js").Member>>}
  */
 const DICTIONARIES = {
@@ -51,7 +52,7 @@ const isOfUser = (credential, { rpId, userId }) => credential.isResidentCredenti
 /** @typedef {import("./credentials.js").Credential} Credential */
 
 /**
- * What each method does with a key's credentials.
+ * How each method changes a key's credentials.
  * @type {Record<string, (key: SecurityKey, options: any, credentials: Credential[]) => Promise<void>>}
  */
 const ACTIONS = {

@@ -1,4 +1,4 @@
-// Snapshots of the credentials (docs/use/PROFILE.md), from which a session starts. The core writes them.
+// Snapshots of the credentials (docs/use/PROFILE.md), with which a session starts. The core encodes the snapshots.
 import { instantiateCore } from "./core_module.js";
 import { WasmKey } from "./wasm_key.js";
 

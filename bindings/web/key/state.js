@@ -1,5 +1,5 @@
-// What outlives a page: the credentials with counters and private keys, and the time, as JSON; in storage also the
-// recordings. A state is checked completely before any of it is used.
+// The state of a key that can be saved and restored, as JSON: the credentials with signature counters and private keys,
+// and the time. In storage, the state also has the recordings. A state is checked completely before it is used.
 import { decodeBase64url, fromBase64url, toBase64url } from "./bytes.js";
 import { checkType, addOldNames } from "./argument_checks.js";
 import { checkValues, MAX_CREDENTIALS, MAX_TEXT_BYTES } from "./credentials.js";
@@ -37,7 +37,7 @@ export const exportState = (timeMs, rows, credentials) => addOldNames({
 }, { form: "format", moment: "timeMs" });
 
 /**
- * The time of a state, which version 0.2 called moment.
+ * The time of a state. Version 0.2 stored the time as `moment`.
  * @param {any} state @returns {number}
  */
 export const readTimeMs = (state) => state.timeMs ?? state.moment;
@@ -54,11 +54,11 @@ const checkBytes = (name, text, least, most) => {
     return /** @type {Uint8Array} */ (bytes);
 };
 
-/** A credential of a state, with defaults for what older states lack. */
+/** A credential of a state, with defaults for members that older states lack. */
 const completeCredential = (/** @type {any} */ credential) =>
     ({ backupEligibility: false, backupState: false, coreId: credential.credentialId, ...credential });
 
-/** @param {any} extensions what a credential keeps of them */
+/** @param {any} extensions the extension data of a credential */
 const checkExtensions = (extensions) => {
     checkType("extensions", extensions, isObject(extensions), "an object");
     const { prf = true, credProtect = 1, largeBlob = "", credBlob = "" } = extensions;

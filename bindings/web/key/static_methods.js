@@ -4,7 +4,7 @@ import { makeDomError } from "./errors.js";
 import { readCreationJson, readRequestJson } from "./options.js";
 import { makeSignalMethods } from "./signals.js";
 
-// The capabilities of any key. The others are the key's own.
+// The capabilities that do not depend on the key's options.
 const CAPABILITIES = {
     conditionalCreate: false, hybridTransport: false, relatedOrigins: false, signalAllAcceptedCredentials: true,
     signalCurrentUserDetails: true, signalUnknownCredential: true, "extension:appid": false,

@@ -1,11 +1,11 @@
-// Storage of the state of a key, which several tabs may share; one at a time changes it.
+// Stores the state of a key. Several tabs may share a storage, and change the state one at a time.
 import { checkType } from "./argument_checks.js";
 import { setTimeout } from "./platform.js";
 import { RecordingParts } from "./recording_parts.js";
 import { checkState } from "./state.js";
 
 const STORAGE_KEY = "hidlogKey";
-// How often, and how many times, a tab polls for what another has written.
+// The interval and the maximum number of polls for a value that another tab has written.
 const POLL_MS = 5;
 const MAX_POLLS = 100;
 
@@ -84,8 +84,8 @@ export class Store {
     }
 
     /**
-     * The state that another tab has written since, or null. Throws once if it is not a state of a key; the key then
-     * keeps its own state and overwrites it.
+     * The state that another tab has written since the last read, or null. Throws once if the value is not a state of a
+     * key. The key then keeps its own state, and overwrites the value.
      * @returns {Stored | null}
      */
     readChanges() {
@@ -111,8 +111,8 @@ export class Store {
     }
 
     /**
-     * Writes a state, if there is storage, and its recordings if they fit. A lock tells other tabs the version.
-     * Returns whether the recordings were written.
+     * Writes a state, if there is a storage, and the recordings if they fit. The name of a lock shows the version to
+     * other tabs. Returns whether the recordings were written.
      * @param {() => { state: import("./state.js").State, recordings?: StoredRecordings }} kept
      */
     async write(kept) {
@@ -135,7 +135,7 @@ export class Store {
     }
 
     /**
-     * Writes a state and its recordings, these first. Returns whether they fit; otherwise none is kept.
+     * Writes the recordings, and then the state. Returns whether the recordings fit; otherwise none is kept.
      * @param {object} state @param {StoredRecordings | undefined} recordings
      */
     #putAll(state, recordings) {
@@ -193,7 +193,9 @@ export class Store {
         };
     }
 
-    /** Waits until this tab sees what the last tab wrote: browser processes synchronize with a delay. */
+    /**
+     * Waits until this tab reads the value that the last tab wrote, since browser processes synchronize with a delay.
+     */
     async #catchUp() {
         const { held } = await navigator.locks.query();
         const versions = (held ?? []).map(({ name = "" }) => Number(name.split(`${STORAGE_KEY} `)[1] ?? 0));
@@ -201,17 +203,17 @@ export class Store {
         for (let polls = 0; this.#storedVersion() < newest && polls < MAX_POLLS; polls += 1) {
             await sleep(POLL_MS);
         }
-        // If a page has cleared the storage, it never appears.
+        // If a page has cleared the storage, the value never appears.
         this.#version = Math.max(this.#version, newest);
     }
 
-    /** Releases the lock that tells other tabs the version. */
+    /** Releases the lock whose name shows the version to other tabs. */
     close() {
         this.#releaseVersion();
         this.#releaseVersion = () => {};
     }
 
-    /** The stored version, or 0 if something else is stored. */
+    /** The stored version, or 0 if the value is not a state. */
     #storedVersion() {
         try {
             return JSON.parse(this.storage?.getItem(STORAGE_KEY) ?? "{}").version ?? 0;

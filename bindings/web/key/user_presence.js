@@ -7,7 +7,7 @@ const PRESENCE_VALUES = [...PRESENCE_WORDS, "click", "none"];
 const EXPECTED_PRESENCE = `one of ${PRESENCE_VALUES.map((word) => `"${word}"`).join(", ")}, or a function that returns one of them`;
 
 /**
- * Asks with a dialog of two buttons.
+ * Asks the user with a dialog that has two buttons.
  * @param {string} question @param {AbortSignal} signal
  */
 const askInDialog = async (question, signal) => {
@@ -82,7 +82,7 @@ export class User {
     }
 
     /**
-     * Waits for what the user does at a question.
+     * Asks the user, and waits for the reply.
      * @param {string} question @param {AbortSignal} signal @returns {Promise<string>}
      */
     async answer(question, signal) {

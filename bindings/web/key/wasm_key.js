@@ -1,5 +1,6 @@
-// The verified key, in the memory of a WebAssembly instance (release/hidlog.h): one input per call, packets out. The
-// cost of a call does not depend on the number of calls before. The page's key and the viewer's causes use it.
+// The verified key in the memory of a WebAssembly instance (release/hidlog.h). Each call passes an input, and returns
+// packets. The cost of a call does not depend on the number of preceding calls. Used by the page's key, and by the
+// viewer to find causes.
 import { copyBytes, decodeUtf8 } from "./bytes.js";
 import { PACKET_SIZE } from "./standard.js";
 import { growMemory } from "./wasm_memory.js";
@@ -27,7 +28,7 @@ export const PRESENCE_WORDS = ["granted", "denied", "timeout"];
  * @property {number} signCount
  */
 
-/** Addresses in the memory: first struct hidlog_key, last its memory. */
+/** Addresses in the instance's memory. The first area is struct hidlog_key, and the last area is the key's memory. */
 const makeAddresses = (/** @type {number} */ base) => {
     const address = { key: base, packet: base + 16, need: base + 96, credential: base + 336, stats: base + 624 };
     return { ...address, input: base + 672, cause: base + 896, text: base + 928, memory: base + 928 + MAX_SENTENCE_BYTES };
@@ -151,8 +152,8 @@ export class WasmKey {
     }
 
     /**
-     * Why the last input was rejected: its cause (enum hidlog_cause_code), the status, and a sentence; null if it was
-     * not. @param {number} which 1 the input, 0 a timeout before it
+     * Why the last input was rejected: the cause (enum hidlog_cause_code), the status, and a sentence; null if the
+     * input was not rejected. @param {number} which 1 for the input, 0 for a timeout before the input
      */
     rejection(which = 1) {
         const { cause, text } = this.at;
@@ -164,7 +165,7 @@ export class WasmKey {
         return { code: this.view.getUint32(cause, true), status: this.view.getUint32(cause + 4, true), sentence };
     }
 
-    /** Why the last input was rejected, as a sentence; empty if it was not. */
+    /** Why the last input was rejected, as a sentence; empty if the input was not rejected. */
     cause() {
         return this.rejection()?.sentence ?? "";
     }

@@ -1,5 +1,5 @@
-// WebIDL conversions of arguments, with Chromium's error messages. A converter takes a value and the prefix of an error
-// message.
+// WebIDL conversions of arguments, with Chromium's error messages. The arguments of a converter are a value and the
+// prefix of an error message.
 import { copyBytes, isBuffer, getTypeName } from "./bytes.js";
 
 /** @typedef {(value: any, where: string) => any} Converter */

@@ -1,6 +1,6 @@
-// Signatures and hashes for the rules in JavaScript, in place of Python's package cryptography. The rules are synchronous
-// and WebCrypto is not: a signature not verified yet counts as valid, is verified, and then the rules run again.
-// It sets `globalThis.hidlogSha256` and `globalThis.hidlogVerified`.
+// Signatures and hashes for the rules in JavaScript, instead of Python's package cryptography. The rules are
+// synchronous, but WebCrypto is not. So a signature counts as valid until it has been verified, and then the rules are
+// run again. Sets `globalThis.hidlogSha256` and `globalThis.hidlogVerified`.
 "use strict";
 
 (() => {
@@ -51,7 +51,7 @@
 
     // ---- DER
 
-    /** The DER element at an offset: its tag, its content and its end. */
+    /** The DER element at an offset: the tag, the content and the end. */
     const readElement = (data, at) => {
         const short = data[at + 1];
         const more = short > 0x80 ? short - 0x80 : 0;
@@ -152,7 +152,10 @@
     /** The number of signatures that this browser couldn't verify. */
     let unsure = 0;
 
-    /** Returns whether a signature is valid; true for one that is not verified yet, which is then queued. */
+    /**
+     * Returns whether a signature is valid. Returns true for a signature that is not verified yet, and queues its
+     * verification.
+     */
     const getVerdict = (name, question) => {
         if (!known.has(name)) {
             asked.set(name, question);
@@ -171,8 +174,8 @@
     });
 
     /**
-     * Runs the rules, verifies the signatures that they need, and runs them again if one is invalid: the rules took each
-     * for valid.
+     * Runs the rules, and verifies the signatures that the rules queued. If one is invalid, runs the rules again, since
+     * they assumed that each is valid.
      */
     globalThis.hidlogVerified = async (rules) => {
         for (;;) {
@@ -181,7 +184,7 @@
             if (!asked.size || !globalThis.crypto?.subtle) {
                 return { found, unsure };
             }
-            // All at once: the browser verifies in threads of its own.
+            // Verifies all signatures concurrently, since the browser uses its own threads.
             const answers = await Promise.all([...asked].map(async ([name, question]) => {
                 const answer = await verifySignature(question);
                 unsure += answer === null ? 1 : 0;

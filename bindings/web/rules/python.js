@@ -1,5 +1,5 @@
-// Python's values in JavaScript, as far as the rules of the conformance tests use them: the output of translate.py calls
-// these functions. This script sets `globalThis.hidlogPython`.
+// Implements the Python values and operators that the rules of the conformance tests use. The output of translate.py
+// calls these functions. This script sets `globalThis.hidlogPython`.
 //
 // Safe integers are numbers, larger ones BigInts. None is null. Strings, booleans and lists are JavaScript's. Byte
 // strings, tuples, dictionaries and sets are classes.
@@ -8,7 +8,7 @@
 (() => {
     const HEX_BYTES = Array.from({ length: 256 }, (_, byte) => byte.toString(16).padStart(2, "0"));
 
-    /** A character per byte, converted in chunks because a call has a limited number of arguments. */
+    /** Converts each byte to a character, in chunks, because a call has a limited number of arguments. */
     const toCharacters = (data) => {
         let text = "";
         for (let at = 0; at < data.length; at += 8192) {
@@ -105,7 +105,7 @@
         return found ? found[1] : Array.isArray(value) ? "list" : value.constructor.name;
     };
 
-    /** A built-in type of Python: how it is called, and which values are instances. */
+    /** A built-in type of Python: the constructor, and a function that checks whether a value is an instance. */
     class Type {
         constructor(name, make, check = (value) => getTypeName(value) === name) {
             Object.assign(this, { name, make, check, __name__: name });
@@ -213,7 +213,7 @@
         throw makeTypeError(`object of type '${getTypeName(value)}' has no len()`);
     };
 
-    const isTrue = (value) => {
+    const isTruthy = (value) => {
         if (value === null || value === undefined) {
             return false;
         }
@@ -265,7 +265,7 @@
         return isText ? left[place].codePointAt(0) < right[place].codePointAt(0) : lt(left[place], right[place]);
     };
 
-    /** Less or equal; for sets: subset. */
+    /** The operator <=, which for sets tests for a subset. */
     const le = (a, b) => {
         const isSets = a instanceof PySet && b instanceof PySet;
         return isSets ? [...a.kept.keys()].every((key) => b.kept.has(key)) : !lt(b, a);
@@ -296,7 +296,7 @@
         return Number.isSafeInteger(number) ? number : big;
     };
 
-    /** An operation on integers (as BigInts if numbers aren't exact) and on other values. */
+    /** Makes an operator for integers (with BigInts if numbers are not exact) and for other values. */
     const makeOperation = (sign, quick, exact, other) => (a, b) => {
         if (isInteger(a) && isInteger(b)) {
             const found = quick(Number(a), Number(b));
@@ -408,7 +408,7 @@
     const setItem = (holder, key, value) => {
         if (holder instanceof Dict) {
             const known = toKey(key);
-            // An existing key stays.
+            // As in Python, an existing key is kept.
             holder.kept.set(known, [holder.kept.get(known)?.[0] ?? key, value]);
         } else {
             holder[toIndex(holder.length, key)] = value;
@@ -432,7 +432,7 @@
     globalThis.hidlogPython = {
         ...numbers, AttributeError, Bytes, Dict, IndexError, KeyError, Match, Object: PyObject, PyException, PySet,
         Tuple, Type, TypeError: TypeError_, UnicodeDecodeError, ValueError, bytes, makeDict, eq, contains, parseHex,
-        isTrue, isInteger, getItem, iter, toKey, toLatin1, le, len, toText, lt, getTypeName, pairs, toIndex, setItem,
+        isTruthy, isInteger, getItem, iter, toKey, toLatin1, le, len, toText, lt, getTypeName, pairs, toIndex, setItem,
         defineError, deleteItem, makeSet, getSlice, toSmallNumber, unpackItems, toInteger, makeTypeError,
     };
 })();

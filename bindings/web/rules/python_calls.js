@@ -1,11 +1,10 @@
-// Strings, methods, calls and built-in functions: the second part of Python's values in JavaScript. It adds to
-// `globalThis.hidlogPython`.
+// Implements the Python methods, calls and built-in functions that the rules use. Extends `globalThis.hidlogPython`.
 "use strict";
 
 (() => {
     const $ = globalThis.hidlogPython;
     const {
-        Bytes, Dict, Match, Object: PyObject, PyException, PySet, Tuple, Type, bytes, makeDict, eq, parseHex, isTrue,
+        Bytes, Dict, Match, Object: PyObject, PyException, PySet, Tuple, Type, bytes, makeDict, eq, parseHex, isTruthy,
         isInteger, getItem, iter, toKey, toLatin1, len, toText, lt, getTypeName, pairs, toIndex, setItem, defineError,
         makeSet, getSlice, toSmallNumber, toInteger, makeTypeError, AttributeError, IndexError, KeyError,
         UnicodeDecodeError, ValueError,
@@ -257,7 +256,7 @@
     // ---- built-in functions
 
     const made = {
-        bool: new Type("bool", (value = false) => isTrue(value)),
+        bool: new Type("bool", (value = false) => isTruthy(value)),
         int: new Type("int", (value) => toSmallNumber(BigInt(value instanceof Bytes ? fromLatin(value) : value)), isInteger),
         str: new Type("str", (value = "") => str(value)),
         bytes: new Type("bytes", (value = 0) => (isInteger(value) ? new Bytes(new Uint8Array(Number(value))) : bytes(iter(value)))),
@@ -287,7 +286,7 @@
         return other[0];
     };
 
-    /** A range, which may be huge and isn't stored. */
+    /** A range, whose values are computed on demand. */
     class Range {
         constructor(low, high) {
             Object.assign(this, { low, high });
@@ -311,7 +310,7 @@
 
     const anyItem = (items) => {
         for (const value of iter(items)) {
-            if (isTrue(value)) {
+            if (isTruthy(value)) {
                 return true;
             }
         }
@@ -320,7 +319,7 @@
 
     const allItems = (items) => {
         for (const value of iter(items)) {
-            if (!isTrue(value)) {
+            if (!isTruthy(value)) {
                 return false;
             }
         }
@@ -370,7 +369,7 @@
     };
     const run = new Map();
 
-    /** The exports of a module, which is executed once. */
+    /** The exports of a module, which is executed when it is first imported. */
     const module = (name) => {
         if (!run.has(name)) {
             run.set(name, { ...modules[name](), $isModule: true });
@@ -378,7 +377,7 @@
         return run.get(name);
     };
 
-    /** A function that keeps its last results, as functools.lru_cache: those of `size` different arguments. */
+    /** Returns a function that caches the results for the last `size` arguments, as functools.lru_cache does. */
     const makeCached = (make, size) => {
         const kept = new Map();
         return (...words) => {

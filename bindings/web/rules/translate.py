@@ -104,7 +104,7 @@ class Expressions:
             return f"!{self.write_condition(node.operand)}"
         if isinstance(node, ast.Compare):
             return f"({self.write_expression(node)})"
-        return f"$.isTrue({self.write_expression(node)})"
+        return f"$.isTruthy({self.write_expression(node)})"
 
     def write_list(self, nodes: List[ast.expr]) -> str:
         """Writes a list of expressions; a starred one is spread."""
@@ -178,7 +178,7 @@ class Expressions:
         for part in reversed(first):
             name = self.new_name()
             chosen = f"{text} : {name}" if isinstance(node.op, ast.And) else f"{name} : {text}"
-            text = f"($.isTrue({name} = {part}) ? {chosen})"
+            text = f"($.isTruthy({name} = {part}) ? {chosen})"
         return text
 
     def write_Compare(self, node: ast.Compare) -> str:

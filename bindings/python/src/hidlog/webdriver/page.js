@@ -1,9 +1,9 @@
-// The proxy's script in the documents of a session, after the script of the key. A document has the credentials that its
-// own origin may use, and no others. If the browser has a channel to the proxy, private keys stay in the proxy, and this
-// script requests signatures; otherwise they are in its closure.
+// The script that the proxy adds to the documents of a session, after the script of the key. A document gets only the
+// credentials that its origin may use. If the browser has a channel to the proxy, private keys stay in the proxy, and
+// this script requests signatures. Otherwise the private keys are in this script's closure.
 const hidlogPage = (() => {
     const { parse, stringify } = JSON;
-    // A window opened by a page is empty at first, with the page's origin, and may become another document.
+    // A window that a page opens is empty at first, has the page's origin, and may navigate to another document.
     const { origin } = globalThis;
     const isPage = /^https?:/.test(origin);
     const FORMAT = "hidlog web key 1";
@@ -23,7 +23,7 @@ const hidlogPage = (() => {
     let faultsSet = "{}";
     let selections = null;
     let known = [];
-    // Identifies this document among those of its origin.
+    // Identifies this document among all documents of its origin.
     const id = isPage ? toBase64(crypto.getRandomValues(new Uint8Array(12))) : "";
     const sent = new Map();
     const listIds = (credentials) => credentials.map((credential) => credential.credentialId);
@@ -50,15 +50,16 @@ const hidlogPage = (() => {
         return { call, reply };
     };
 
-    /** Algorithms by their names in WebCrypto: the COSE number, and what imports a public key. */
+    /** Algorithms by their names in WebCrypto: the COSE number, and the parameters for importing a public key. */
     const ALGORITHMS = {
         ECDSA: { number: -7 }, Ed25519: { number: -8, parameters: { name: "Ed25519" } },
         "RSASSA-PKCS1-v1_5": { number: -257, parameters: { name: "RSASSA-PKCS1-v1_5", hash: "SHA-256" } },
     };
 
     /**
-     * Returns a WebCrypto whose extractable private keys stay in the proxy. A page names each by its public key: x and y on
-     * P-256, which end its placeholder in PKCS #8; otherwise SubjectPublicKeyInfo, which is also its placeholder.
+     * Returns an implementation of WebCrypto whose extractable private keys stay in the proxy. A page identifies each
+     * private key by its public key. On P-256 these are x and y, which are also the end of a placeholder in PKCS #8.
+     * For other algorithms this is the SubjectPublicKeyInfo, which is also the placeholder.
      */
     const makeProxyCrypto = ({ call }) => {
         const { subtle } = crypto;
@@ -119,7 +120,7 @@ const hidlogPage = (() => {
         if (key.account !== account.selector) {
             key.account = account.selector;
         }
-        // A selection made since the last settings is for a sign-in that waits for it.
+        // A selection that was made after the last settings is for a sign-in that is waiting for a selection.
         if (selections !== null && selections !== account.selections && key.autofill === "selected") {
             key.selectAccount(account.selector).catch(() => {});
         }
@@ -135,10 +136,10 @@ const hidlogPage = (() => {
         }
     };
 
-    /** Credentials as text, whatever the order of their members. */
+    /** Returns credentials as text that does not depend on the order of their members. */
     const toComparable = (credentials) => stringify(credentials.map((credential) => Object.entries(credential).sort()));
 
-    /** Sets the key's credentials, unless it already has them. */
+    /** Sets the key's credentials, unless the key already has these credentials. */
     const restore = async (credentials) => {
         const state = key.state();
         if (toComparable(credentials) !== toComparable(state.credentials)) {
@@ -152,10 +153,10 @@ const hidlogPage = (() => {
         await restore(settings.credentials);
     };
 
-    /** Returns what was appended to each recording since the last call, with its offset in the log. */
+    /** Returns the text that was appended to each recording since the last call, with the text's offset in the log. */
     const listRecordingChanges = () => key.recordings().flatMap(({ index, log, snapshot }) => {
         const before = sent.get(index) ?? "";
-        // The last line has the totals, which change, so it is sent again.
+        // The last line has the totals, which change, so this line is sent again.
         const same = before.slice(0, before.lastIndexOf("\n", before.length - 2) + 1);
         const from = log.startsWith(same) ? same.length : 0;
         if (log === before || !/^> /m.test(log)) {
@@ -165,7 +166,9 @@ const hidlogPage = (() => {
         return [{ index, from, text: log.slice(from), snapshot: toHex(snapshot) }];
     });
 
-    /** Returns the key's credentials, the IDs of removed ones, and what was appended to the recordings. */
+    /**
+     * Returns the key's credentials, the IDs of removed credentials, and the text that was appended to the recordings.
+     */
     const report = () => {
         const { credentials } = key.state();
         const ids = listIds(credentials);
@@ -174,7 +177,7 @@ const hidlogPage = (() => {
         return { credentials, gone, recordings: listRecordingChanges(), document: id };
     };
 
-    /** Replaces a method of navigator.credentials by one that synchronizes the proxy and the key before and after. */
+    /** Wraps a method of navigator.credentials: synchronizes the key with the proxy before and after each call. */
     const wrapMethod = (name) => {
         const { prototype } = CredentialsContainer;
         const served = prototype[name];
@@ -192,7 +195,7 @@ const hidlogPage = (() => {
         Object.defineProperty(prototype, name, { ...Object.getOwnPropertyDescriptor(prototype, name), value: around });
     };
 
-    /** The same for a method of the Signal API. */
+    /** Wraps a method of the Signal API in the same way. */
     const wrapSignal = (name) => {
         const served = PublicKeyCredential[name];
         const around = { async [name](...args) {
@@ -233,8 +236,9 @@ const hidlogPage = (() => {
         Object.defineProperty(globalThis, "hidlogUpdate", { value: update, configurable: true });
     };
 
-    // Without a channel: the proxy calls `sync` from time to time. What it has not seen when the page navigates away is in
-    // sessionStorage, encrypted with a secret that the proxy gives to documents of this origin only.
+    // Without a channel, the proxy calls `sync` from time to time. Before the page navigates away, changes since the
+    // last call are stored in sessionStorage, encrypted with a secret that the proxy passes only to documents of this
+    // origin.
 
     let seal = null;
     let used = 0;
@@ -259,7 +263,10 @@ const hidlogPage = (() => {
         }
     };
 
-    /** Returns the proxy's credentials, with those that this page added, removed or used since the last call. */
+    /**
+     * Returns the proxy's credentials, updated with the credentials that this page added, removed or used since the
+     * last call.
+     */
     const mergeCredentials = (proxy) => {
         const { credentials } = key.state();
         const own = new Map(credentials.map((credential) => [credential.credentialId, credential]));
@@ -290,7 +297,7 @@ const hidlogPage = (() => {
         return null;
     };
 
-    /** Synchronizes this page with the proxy, and returns what changed in the page. */
+    /** Synchronizes this page with the proxy, and returns the changes that the page made. */
     const sync = async (settings) => {
         const before = key ? { used, serial } : await start(settings);
         used = Math.max(settings.used, before?.serial === settings.serial ? before.used : 0);
@@ -302,7 +309,7 @@ const hidlogPage = (() => {
         return { credentials: key.state().credentials, gone, recordings: listRecordingChanges(), document: id, used, serial };
     };
 
-    /** Removes the key from this document. Returns an object with the library, which restores this script's functions. */
+    /** Removes the key from this document. Returns an object with the library, which can install the key again. */
     const remove = () => {
         const { library } = globalThis.hidlogPage;
         key?.uninstall();
@@ -310,7 +317,7 @@ const hidlogPage = (() => {
             [SEALED, PROOF].forEach((name) => sessionStorage.removeItem(name));
         }
         ["hidlogReply", "hidlogUpdate", "hidlogPage", "hidlogKey"].forEach((name) => delete globalThis[name]);
-        // An object, because the browser would return a function as its source text.
+        // The result is an object, because the browser would convert a function to its source text.
         return { library };
     };
 
