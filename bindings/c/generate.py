@@ -6,8 +6,8 @@ Writes to DIR:
     hidlog_module.h    the module's functions and data, for hidlog.c
     hidlog.def         the functions of a DLL, those of hidlog.h beside the module
 
-Of what wasm2c writes, machine.h replaces the runtime. The same module and wabt give the same bytes. Needs wasm2c of
-wabt; 1.0.32, of Debian 12, is known to work. Ends with 3 if it is missing.
+machine.h replaces the runtime of wasm2c. The output depends only on the module and the version of wabt. Needs wasm2c of
+wabt, tested with 1.0.32 of Debian 12. Exits with 3 if wasm2c is missing.
 """
 
 from __future__ import annotations
@@ -63,7 +63,7 @@ def _run(*words: str | Path) -> str:
 
 
 def _run_wasm2c(module: Path) -> tuple[str, str]:
-    """Returns the source and the header that wasm2c writes."""
+    """Runs wasm2c, and returns the source and the header."""
     with tempfile.TemporaryDirectory() as folder:
         source = Path(folder, "module.c")
         _run("wasm2c", module, "-n", _NAME, "-o", source)
@@ -71,10 +71,10 @@ def _run_wasm2c(module: Path) -> tuple[str, str]:
 
 
 def _find(pattern: str, text: str) -> str:
-    """Returns the only match's group 1."""
+    """Returns group 1 of the only match of a pattern."""
     found = re.findall(pattern, text, re.DOTALL | re.MULTILINE)
     if len(found) != 1:
-        raise GenerateError(f"wasm2c's output has {len(found)} parts like {pattern!r}; expected 1")
+        raise GenerateError(f"wasm2c's output has {len(found)} matches of {pattern!r}; expected 1")
     return str(found[0])
 
 
@@ -87,7 +87,7 @@ def translate(module: Path) -> str:
     )
     numbers = re.fullmatch(known, allocated)
     if numbers is None:
-        raise GenerateError(f"the module's memory is set up in an unknown way: {allocated}")
+        raise GenerateError(f"unexpected allocation of the module's memory: {allocated}")
     # The functions without parameters.
     constants = dict(
         re.findall(r"^(\w+)\(\) => i64:(\d+)$", _run("wasm-interp", module, "--run-all-exports"), re.MULTILINE)

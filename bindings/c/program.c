@@ -118,7 +118,7 @@ static int read_snapshot(const char *path, struct bytes *snapshot) {
     free(sums_path);
     if (sums != NULL) {
         fclose(sums);
-        print_error("cannot read snapshot\n  this program does not check its .hidlog-sum: remove that file",
+        print_error("cannot read snapshot\n  this program cannot verify the checksum file SNAPSHOT.hidlog-sum: remove that file",
                     EXIT_FAILED);
         return 0;
     }

@@ -1,4 +1,4 @@
-"""Writes the scripts with the viewer's data, packed and in base64.
+"""Writes the scripts with the viewer's data, compressed and in base64.
 
     embed.py example LOG              the example log, and the name of the module in dist/security_key.js
     embed.py sources FOLDER NAME ..   the sources of the page in FOLDER, for its worker and for saving it

@@ -1,4 +1,4 @@
-"""Packs bytes for scripts: DEFLATE in base64, as bindings/web/key/inflate.js unpacks.
+"""Compresses bytes for scripts: DEFLATE in base64, which bindings/web/key/inflate.js unpacks.
 
     pack.py FILE EXISTING    prints a module with the packed file as its default export. If EXISTING, a script, has the same
                              data packed, those bytes are kept: each zlib packs otherwise
@@ -13,15 +13,16 @@ import zlib
 from pathlib import Path
 
 LINE_WIDTH = 1000
-# The letters of capitals and a number between other characters.
+# A label: capital letters and a number between other characters.
 LABEL_PATTERN = re.compile(r"(?<![A-Za-z0-9])[A-Z]+(?=[0-9]+(?![A-Za-z0-9]))")
 LINES_PATTERN = re.compile(r'\[\s*((?:"[A-Za-z0-9+/=]+",?\s*)+)\]\.join\(""\)')
 
 
 def base64_lines(data: bytes) -> str:
-    """Returns bytes in base64, as an expression of many lines.
+    """Returns an expression of many lines for bytes in base64.
 
-    A line ends within what looks like a label, such as `/A1/`, so that a search of the sources for labels finds none.
+    Lines are split within text that looks like a label, such as `/A1/`, so that a search of the sources for labels
+    finds none here.
     """
     digits = base64.b64encode(data).decode()
     lines, at = [], 0
@@ -35,7 +36,7 @@ def base64_lines(data: bytes) -> str:
 
 
 def unpack(packed: bytes) -> bytes:
-    """Returns what pack packed, or nothing if the bytes are others."""
+    """Returns the bytes that pack compressed, or nothing if the bytes are not compressed data."""
     try:
         return zlib.decompress(packed[4:], -zlib.MAX_WBITS)
     except zlib.error:
@@ -43,13 +44,14 @@ def unpack(packed: bytes) -> bytes:
 
 
 def pack(data: bytes) -> bytes:
-    """Returns the length in four bytes, and the data by DEFLATE, for bindings/web/key/inflate.js."""
+    """Returns the length in four bytes, and the data compressed with DEFLATE, for bindings/web/key/inflate.js."""
     packer = zlib.compressobj(9, zlib.DEFLATED, -zlib.MAX_WBITS)
     return len(data).to_bytes(4, "big") + packer.compress(data) + packer.flush()
 
 
 def packed_lines(data: bytes, existing: Path) -> str:
-    """Returns packed bytes in base64. If a script has the same data packed, these are kept: each zlib packs otherwise."""
+    """Returns compressed bytes in base64. If a script already has the same data, its bytes are kept, since the output
+    of zlib differs between versions."""
     text = existing.read_text(encoding="utf-8") if existing.exists() else ""
     for lines in LINES_PATTERN.findall(text):
         packed = base64.b64decode("".join(re.findall(r'"([^"]*)"', lines)))

@@ -32,7 +32,7 @@ export const formatAlgorithm = (algorithm) => `${NAMES[algorithm]} (${algorithm}
  * is recognized.
  * @param {Uint8Array} der
  */
-export const algorithmOf = (der) => {
+export const getAlgorithm = (der) => {
     const front = der.subarray(0, FRONT_BYTES);
     const found = IDENTIFIERS.find(([, identifier]) =>
         front.some((_, at) => equalBytes(front.subarray(at, at + identifier.length), identifier)));

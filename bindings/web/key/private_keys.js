@@ -1,7 +1,7 @@
 // Key pairs, generated and used with WebCrypto. A key pair of another algorithm is stored together with a P-256 key
 // pair, which the core uses. The private keys are in the page's memory, so this is for tests only.
 import {
-    algorithmOf, ES256, exportPublicKey, generateOther, importOther, signOther,
+    getAlgorithm, ES256, exportPublicKey, generateOther, importOther, signOther,
 } from "./algorithms.js";
 import { decodeBase64url, fromHex, equalBytes, concatBytes, toHex } from "./bytes.js";
 
@@ -68,7 +68,7 @@ export const parsePrivateKey = (pkcs8, corePkcs8) => {
         return { pkcs8, x: pkcs8.slice(-64, -32), y: pkcs8.slice(-32) };
     }
     const core = parsePrivateKey(corePkcs8);
-    return { pkcs8, x: core.x, y: core.y, algorithm: algorithmOf(pkcs8), core };
+    return { pkcs8, x: core.x, y: core.y, algorithm: getAlgorithm(pkcs8), core };
 };
 
 export class PrivateKeys {
@@ -147,7 +147,7 @@ export class PrivateKeys {
      * @param {Uint8Array} pkcs8 @returns {Promise<PrivateKey>}
      */
     async import(pkcs8) {
-        const algorithm = algorithmOf(pkcs8);
+        const algorithm = getAlgorithm(pkcs8);
         try {
             if (algorithm === ES256) {
                 return await this.#export(await this.#importKey(pkcs8));

@@ -9,8 +9,8 @@ const PREFIX = "hidlogKey/";
 /** @typedef {{ index: number, parts: number }} PartReference */
 /** @typedef {{ ended: PartReference[], last: PartReference }} References */
 
-const keyOfPart = (/** @type {number} */ index, /** @type {number} */ number) => `${PREFIX}${index}/${number}`;
-const keyOfSnapshot = (/** @type {number} */ index) => `${PREFIX}${index}/snapshot`;
+const makePartKey = (/** @type {number} */ index, /** @type {number} */ number) => `${PREFIX}${index}/${number}`;
+const makeSnapshotKey = (/** @type {number} */ index) => `${PREFIX}${index}/snapshot`;
 
 export class RecordingParts {
     /**
@@ -46,8 +46,8 @@ export class RecordingParts {
      */
     #remove(index) {
         const { parts = 0 } = this.#stored.get(index) ?? {};
-        Array.from({ length: parts }, (_, number) => keyOfPart(index, number)).forEach((key) => this.#removeItem(key));
-        this.#removeItem(keyOfSnapshot(index));
+        Array.from({ length: parts }, (_, number) => makePartKey(index, number)).forEach((key) => this.#removeItem(key));
+        this.#removeItem(makeSnapshotKey(index));
         this.#stored.delete(index);
     }
 
@@ -72,11 +72,11 @@ export class RecordingParts {
         }
         const { log: known = "", parts = 0 } = this.#stored.get(index) ?? {};
         if (!parts) {
-            this.storage.setItem(keyOfSnapshot(index), snapshot);
+            this.storage.setItem(makeSnapshotKey(index), snapshot);
         }
         const isAhead = log.length > known.length || !parts;
         if (isAhead) {
-            this.storage.setItem(keyOfPart(index, parts), log.slice(known.length));
+            this.storage.setItem(makePartKey(index, parts), log.slice(known.length));
         }
         this.#stored.set(index, { snapshot, log, parts: parts + (isAhead ? 1 : 0) });
         return { index, parts: parts + (isAhead ? 1 : 0) };
@@ -107,8 +107,8 @@ export class RecordingParts {
             return reference;
         }
         const { index, parts } = reference;
-        const texts = Array.from({ length: parts }, (_, number) => this.storage.getItem(keyOfPart(index, number)));
-        const snapshot = this.storage.getItem(keyOfSnapshot(index));
+        const texts = Array.from({ length: parts }, (_, number) => this.storage.getItem(makePartKey(index, number)));
+        const snapshot = this.storage.getItem(makeSnapshotKey(index));
         if (snapshot === null || texts.includes(null)) {
             return null;
         }

@@ -2,7 +2,7 @@
 // authenticator. The key is the verified core. Each session is recorded as a log that replays exactly.
 import { AuthenticatorOptions, AUTHENTICATOR_OPTION_NAMES, pickAuthenticatorOptions } from "./abilities.js";
 import { readOrigin } from "./allowed_origins.js";
-import { makeCredential } from "./answers.js";
+import { makeCredential } from "./page_credentials.js";
 import { Authenticator, CtapError } from "./authenticator.js";
 import { equalBytes } from "./bytes.js";
 import { Ceremony } from "./ceremony.js";

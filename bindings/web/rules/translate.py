@@ -1,8 +1,8 @@
 """Translates the rules of the conformance tests into one JavaScript script: translate.py FOLDER MODULE..
 
-The rules are written in Python, and the web page judges with the same rules. The output runs on
+The rules are written in Python, and the web page checks logs with the same rules. The output needs
 bindings/web/rules/python.js, which implements Python's values. Only the subset of Python that the rules use is
-supported; anything else is an error.
+supported; any other syntax is an error.
 """
 
 from __future__ import annotations
@@ -14,7 +14,7 @@ from pathlib import Path
 from typing import Callable, Dict, List, Optional, Set, Tuple
 
 PACKAGE = "hidlog_conformance"
-# Modules that are only for type annotations, and decorators that the class statement handles.
+# Modules that are only used in type annotations, and decorators that the class statement handles.
 SKIPPED_MODULES = ("__future__", "typing", "dataclasses", "functools")
 GENERIC_TYPES = ("Tuple", "Dict", "List", "Optional", "Callable")
 BUILTIN_NAMES = (
@@ -52,7 +52,7 @@ COMPARISONS = {
 
 
 class UntranslatableError(Exception):
-    """A construct that isn't supported, with its line."""
+    """The syntax at a line is not supported."""
 
 
 def rename(name: str) -> str:
@@ -61,7 +61,7 @@ def rename(name: str) -> str:
 
 
 def list_stored_names(nodes: List[ast.stmt]) -> Set[str]:
-    """Returns the names that a function's body binds, without those of comprehensions and nested functions."""
+    """Returns the names that a function's body binds, except names in comprehensions and nested functions."""
     found: Set[str] = set()
     waiting: List[ast.AST] = list(nodes)
     while waiting:
@@ -107,7 +107,7 @@ class Expressions:
         return f"$.isTruthy({self.write_expression(node)})"
 
     def write_list(self, nodes: List[ast.expr]) -> str:
-        """Writes a list of expressions; a starred one is spread."""
+        """Writes a list of expressions. A starred expression becomes spread syntax."""
         return ", ".join(
             f"...$.iter({self.write_expression(node.value)})"
             if isinstance(node, ast.Starred)
@@ -189,7 +189,7 @@ class Expressions:
         parts, before = [], self.write_expression(node.left)
         for operator, right in zip(node.ops, node.comparators):
             name = self.new_name()
-            # The right side is kept for the next comparison.
+            # The right side is stored for the next comparison.
             parts.append(
                 f"({name} = {self.write_expression(right)}, {COMPARISONS[type(operator)].format(before, name)})"
             )
@@ -224,7 +224,7 @@ class Expressions:
         return f"(({self.write_parameters(node.args)}) => {self.write_expression(node.body)})"
 
     def write_Call(self, node: ast.Call) -> str:
-        """Writes a call: of a method by name, of anything else by value."""
+        """Writes a call. A method is called by name, any other function by value."""
         words, keywords = self.write_list(node.args), ""
         if node.keywords:
             keywords = (
@@ -344,7 +344,7 @@ class Statements(Expressions):
         return self.write_assignment(node.target, value) + "\n"
 
     def write_target(self, target: ast.expr) -> ast.expr:
-        """Returns a target as an expression that is read."""
+        """Returns an assignment target as an expression that reads the value."""
         return ast.parse(ast.unparse(target), mode="eval").body
 
     def write_If(self, node: ast.If) -> str:
@@ -471,7 +471,7 @@ class Statements(Expressions):
 
 
 def list_imported_names(nodes: List[ast.stmt]) -> Set[str]:
-    """Returns the names that imports bind, also those inside functions."""
+    """Returns the names that imports bind, including imports inside functions."""
     found: Set[str] = set()
     for node in nodes:
         for part in ast.walk(node):
