@@ -224,20 +224,20 @@ func TestFaults(t *testing.T) {
 	before := signCount(t, signIn())
 	key.Faults = hidlog.Faults{StaleSignCount: true}
 	if used := signIn(); signCount(t, used) != before || !isVerified(t, made, used) {
-		t.Fatal("the signature counter should be stale, with a valid signature")
+		t.Fatal("StaleSignCount: expected the previous signature counter and a valid signature")
 	}
 	key.Faults = hidlog.Faults{BadSignature: true}
 	if isVerified(t, made, signIn()) {
-		t.Fatal("the signature should be invalid")
+		t.Fatal("BadSignature: expected an invalid signature, got a valid one")
 	}
 	key.Faults = hidlog.Faults{WrongRPID: "example.org"}
 	rp, used := sha256.Sum256([]byte("example.org")), signIn()
 	if !bytes.HasPrefix(decodeBase64URL(t, used.Response.AuthenticatorData), rp[:]) || !isVerified(t, made, used) {
-		t.Fatal("the RP ID hash should be example.org's, with a valid signature")
+		t.Fatal("WrongRPID: expected the RP ID hash of example.org and a valid signature")
 	}
 	key.Faults = hidlog.Faults{TruncateBy: 4}
 	if used := signIn(); len(decodeBase64URL(t, used.Response.AuthenticatorData)) != 33 {
-		t.Fatal("the authenticator data should be four bytes short")
+		t.Fatal("TruncateBy: expected 33 bytes of authenticator data")
 	}
 	key.Faults = hidlog.Faults{Status: 0x30}
 	if _, err := browser.Get(get); !isDOMError(err, "NotAllowedError") {
@@ -245,7 +245,7 @@ func TestFaults(t *testing.T) {
 	}
 	key.Faults = hidlog.Faults{}
 	if used := signIn(); !isVerified(t, made, used) || signCount(t, used) < before+5 {
-		t.Fatal("without faults the sign-in should be valid")
+		t.Fatal("without faults: expected a valid sign-in")
 	}
 }
 
@@ -280,23 +280,23 @@ func TestCredentials(t *testing.T) {
 	}
 	again.Close()
 	if _, err := again.Tick(1); err != hidlog.ErrClosed || again.Add(bob) != hidlog.ErrClosed || again.Need().Kind != 0 {
-		t.Fatal("calls on a closed authenticator should return ErrClosed")
+		t.Fatal("expected ErrClosed from calls on a closed authenticator")
 	}
 	second := hidlog.Credential{ID: hidlog.CredentialID{8}, RPIDHash: rp, UserID: []byte("bob"), Discoverable: true}
 	if err := key.Add(second); err == nil {
-		t.Fatal("a second discoverable credential for the user should be rejected")
+		t.Fatal("expected an error for a second discoverable credential of the user")
 	}
 	if err := key.Add(hidlog.Credential{UserID: make([]byte, 65)}); err == nil {
-		t.Fatal("a user handle of 65 bytes should be rejected")
+		t.Fatal("expected an error for a user handle of 65 bytes")
 	}
 	if err := key.Remove(hidlog.CredentialID{9}); err == nil {
-		t.Fatal("removing a missing credential should fail")
+		t.Fatal("expected an error for removing a missing credential")
 	}
 	if err := key.Clear(); err != nil || len(key.Credentials()) != 0 || len(key.Recordings()) != 3 {
 		t.Fatal(err)
 	}
 	if _, err := hidlog.NewAuthenticator([]byte{1}); err == nil {
-		t.Fatal("an invalid snapshot should be rejected")
+		t.Fatal("expected an error for an invalid snapshot")
 	}
 }
 
@@ -374,13 +374,13 @@ func TestPackets(t *testing.T) {
 		t.Fatal(err, sent)
 	}
 	if _, err = key.ProvidePresence(300, 3); err == nil {
-		t.Fatal("presence 3 should be rejected")
+		t.Fatal("expected an error for the invalid presence 3")
 	}
 	if _, err = key.ProvideSignature(300, make([]byte, 73)); err == nil {
-		t.Fatal("a signature of 73 bytes should be rejected")
+		t.Fatal("expected an error for a signature of 73 bytes")
 	}
 	if _, err = key.Reject(300, hidlog.NeedPresence); err == nil {
-		t.Fatal("Reject(NeedPresence) should fail")
+		t.Fatal("expected an error for Reject(NeedPresence)")
 	}
 	checkRecordings(t, key)
 }
