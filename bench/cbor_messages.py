@@ -1,8 +1,8 @@
 #!/usr/bin/env python3
 """Writes 1,000 varied makeCredential and getAssertion requests as canonical CBOR, without the command byte.
 
-Each is preceded by its length, two bytes, little-endian. The first byte of the output is the number of rounds, from the
-first argument. The second argument, if given, is a file for a table of the lengths.
+Each is preceded by its length, two bytes, little-endian. The first byte of the output is the number of rounds, which is
+the first argument. The second argument, if any, is a file to which a table of the lengths is written.
 """
 import random
 import sys

@@ -1,7 +1,7 @@
 #!/usr/bin/env python3
-"""Checks the costs of this clone by counts, which hardly depend on the machine, and fails if one is over its limit.
+"""Measures costs of this clone as counts, which hardly depend on the machine, and fails if a cost exceeds its limit.
 
-    bench/costs.py [NAME ..]      checks all costs, or those whose names begin so
+    bench/costs.py [NAME ..]      checks all costs, or the costs whose names begin with NAME
 
     flow      instructions of a flow of bench/flows.py on release/hidlog, by callgrind
     portable  instructions of a sign-in with the portable library, as a multiple of the proved library's
@@ -57,14 +57,14 @@ LIMITS = {
     "memory Python key": 100000,
     "calls idle user": 4,
 }
-# Each number of sign-ins, recordings or credentials is twice the one before, so that constant costs cancel.
+# Each number of sign-ins, recordings or credentials is twice the previous one, so that constant costs cancel out.
 SIGN_IN_COUNTS = (100, 200, 400)
 CREDENTIAL_COUNTS = (16, 32, 64)
 KEY_SIGN_IN_COUNTS = (1000, 2000)
-# For memory: the shorter session has more packets than an import holds at a time. What an import held before may be
-# there until Python collects it, so the longer one is much longer.
+# Session lengths for memory. The shorter session has more packets than an import keeps in memory at a time. The longer
+# session is much longer, since released memory may not be collected yet.
 LONG_SIGN_IN_COUNTS = (800, 6400)
-# What each kind of cost needs besides Python: a command, or a module of Debian's Python.
+# Dependencies of each kind of cost besides Python: a command, or a module of Debian's Python.
 NEEDS = {
     "flow": ("valgrind",),
     "portable": ("valgrind", "wasm2c", "cc", "make"),
@@ -187,7 +187,7 @@ def count_key_sign_in(folder: str, library: str) -> float:
 
 
 def portable() -> Iterator[tuple[str, float]]:
-    """Yields the instructions of a sign-in with the portable library, by those with the proved library."""
+    """Yields the instructions of a sign-in with the portable library, divided by those with the proved library."""
     with tempfile.TemporaryDirectory() as folder:
         run(str(TOP / "bindings/c/sources.sh"), folder)
         run("make", "-C", folder, "libhidlog.a")
@@ -227,7 +227,8 @@ def to_slope(counts: list[int]) -> float:
 
 
 def slopes() -> Iterator[tuple[str, float]]:
-    """Yields the slope of each command, by logs of SIGN_IN_COUNTS sign-ins, and those of other costs."""
+    """Yields the slope of each command, measured with logs of SIGN_IN_COUNTS sign-ins, and the slopes of other
+    costs."""
     with tempfile.TemporaryDirectory() as folder:
         counts: dict[str, list[int]] = {}
         for sign_ins in SIGN_IN_COUNTS:
@@ -250,13 +251,14 @@ def slopes() -> Iterator[tuple[str, float]]:
 
 
 def stored() -> Iterator[tuple[str, float]]:
-    """Yields what the thousandth sign-in writes to a page's storage, by what the first one does."""
+    """Yields the number of characters that the thousandth sign-in writes to a page's storage, divided by that of the
+    first sign-in."""
     first, last = map(int, run("node", str(TOP / "bench/stored_sign_ins.mjs")).stdout.split())
     yield "stored sign-in", last / first
 
 
 def growth() -> Iterator[tuple[str, float]]:
-    """Yields the bytes of memory of each command for each byte that its input is longer."""
+    """Yields, for each command, the additional memory in bytes for each additional byte of input."""
     with tempfile.TemporaryDirectory() as folder:
         peaks: dict[str, list[tuple[int, int]]] = {}
         for sign_ins in LONG_SIGN_IN_COUNTS:
@@ -271,18 +273,18 @@ def growth() -> Iterator[tuple[str, float]]:
 
 
 def memory() -> Iterator[tuple[str, float]]:
-    """Yields the bytes of a key."""
+    """Yields the memory of a key in bytes."""
     yield "memory C key", int(run(PYTHON, "-c", KEY_SIZE).stdout)
     yield "memory Python key", int(run(PYTHON, "-c", MEMORY).stdout)
 
 
 def report_calls() -> Iterator[tuple[str, float]]:
-    """Yields the function calls of a report of Locust's worker, by user whose key did not change."""
+    """Yields the number of function calls of a report of Locust's worker for each user whose key did not change."""
     yield "calls idle user", float(run(PYTHON, "-W", "ignore", "-c", REPORT).stdout)
 
 
 def find_missing(kinds: list[str]) -> str | None:
-    """Returns something that the costs need and that is missing."""
+    """Returns a missing dependency of the costs, if any."""
     for name in (need for kind in kinds for need in NEEDS.get(kind, ())):
         if name in MODULES:
             is_there = (
@@ -296,7 +298,7 @@ def find_missing(kinds: list[str]) -> str | None:
 
 
 def main() -> int:
-    """Prints each cost beside its limit."""
+    """Prints each cost and its limit."""
     chosen = tuple(sys.argv[1:]) or ("",)
     kinds: dict[str, Callable[[], Iterator[tuple[str, float]]]] = {
         "flow": flows,

@@ -5,8 +5,9 @@
     bench/flows.py --logs DIR       write a log of each flow to DIR, and count nothing
 
 A flow is the log lines of one transaction: a registration is authenticatorMakeCredential in two packets, user presence,
-a key pair and a signature; a sign-in is authenticatorGetAssertion, user presence and a signature. Each count is that of
-1,000 flows minus that of none, divided by 1,000, by callgrind, so it hardly depends on the machine. Needs valgrind.
+a key pair and a signature; a sign-in is authenticatorGetAssertion, user presence and a signature. Each count is the
+difference between 1,000 flows and none, divided by 1,000, measured with callgrind, so it hardly depends on the machine.
+Needs valgrind.
 """
 
 from __future__ import annotations
@@ -36,7 +37,7 @@ GRANTED, SIGNED = "p 5 granted", f"s 5 {'dd' * 70}"
 
 
 def make_registration(number: int) -> list[str]:
-    """Returns the lines of a registration of the same user, with a new credential ID."""
+    """Returns the lines of a registration for the same user, with a new credential ID."""
     return [*MAKE_CREDENTIAL, GRANTED, f"k 5 {number:064x} {'bb' * 32} {'cc' * 32}", SIGNED]
 
 

@@ -1,10 +1,10 @@
 #!/usr/bin/env python3
-"""Lists the arguments that library functions only pass on, unchanged.
+"""Lists the parameters that library functions only pass on to other functions, unchanged.
 
     bench/pass_through_args.py FUNCTIONS    a file with names of functions, written by bench/functions.sh
 
-Each line is a chain of functions that only pass their parameter to the next one; the last function passes it to one
-that uses it. The chain's length comes first. The sources are parsed as text, and calls are matched by name.
+Each line has the length of a chain, and a chain of functions that only pass a parameter to the next function. The last
+function passes the parameter to a function that uses it. The sources are parsed as text, and calls are matched by name.
 """
 
 from __future__ import annotations
@@ -17,13 +17,13 @@ from pathlib import Path
 
 CRATES = Path(__file__).resolve().parent.parent / "crates"
 OPENING, CLOSING = "([{<", ")]}>"
-# Comments, characters and strings, whose brackets count for nothing.
+# Comments, characters and strings, whose brackets are ignored.
 UNPARSED = re.compile(r"""//[^\n]*|'(?:\\.|[^\\'\n])'|r#".*?"#|"(?:\\.|[^"\\])*\"""", re.DOTALL)
 
 
 @dataclass(frozen=True)
 class Function:
-    """A function, with its parameters' names in order; `self` is first in a method."""
+    """A function with the names of its parameters in order. In a method, `self` is the first."""
 
     crate: str
     name: str
@@ -44,7 +44,7 @@ class Value:
 
 
 def find_closing(text: str, start: int) -> int:
-    """Returns the index of the bracket that closes the one at `start`, counting only its kind."""
+    """Returns the index of the bracket that closes the bracket at `start`. Only brackets of this kind are counted."""
     opened, closed = text[start], CLOSING[OPENING.index(text[start])]
     depth = 0
     for place in range(start, len(text)):
@@ -72,7 +72,7 @@ def parse_functions(crate: str, text: str) -> list[Function]:
     for head in re.finditer(r"\bfn (\w+)", text):
         begin = text.index("(", head.end())
         end = find_closing(text, begin)
-        # Clauses are on lines between the head and the body, and the body's brace starts a line.
+        # Contract clauses are on lines between the head and the body. The body's brace starts a line.
         brace = re.compile(r"^\s*\{", re.MULTILINE).search(text, end)
         following = re.compile(r"\bfn \w+").search(text, end)
         if not brace or (following and following.start() < brace.start()):
@@ -85,7 +85,7 @@ def parse_functions(crate: str, text: str) -> list[Function]:
 
 
 def find_passed_on(function: Function, called: dict[str, list[Function]]) -> dict[str, list[Value]]:
-    """Returns the parameters that a function only passes on, each with those that receive it."""
+    """Returns the parameters that a function only passes on, each with the parameters to which it is passed."""
     takers: dict[str, list[Value]] = {}
     count: dict[str, int] = {}
     for call in re.finditer(r"(\.?)\b(\w+)(?:::<[^>]*>)?\(", function.body):

@@ -21,7 +21,7 @@ is_same_output() {
 
 python3 bench/flows.py --logs "$work"
 for flow in "$work"/*.log; do
-    is_same_output "$flow" || { echo "bench/peer.sh: the outputs differ for $flow" >&2; exit 1; }
+    is_same_output "$flow" || { echo "bench/peer.sh: the outputs of both programs differ for $flow" >&2; exit 1; }
 done
 count=0
 for log in crates/hidlog/data/capacity_64/*.log; do

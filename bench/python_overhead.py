@@ -1,12 +1,14 @@
 #!/usr/bin/env python3
-"""Measures the Python package of this clone and of another one, alternating: bench/python_overhead.py OTHER [ROUNDS]
+"""Compares the costs of the Python package in this clone and in another clone, alternately.
 
-    import      milliseconds that `import hidlog` adds to starting Python
+    bench/python_overhead.py OTHER [ROUNDS]
+
+    import      milliseconds that `import hidlog` adds to the start of Python
     sign in     milliseconds of a sign-in with an allow list, through the package's browser
     register    milliseconds of a registration and a sign-in, with a new key each time
     count       milliseconds of `len(key.credentials)` with 64 credentials
     change      milliseconds of a change of the signature counter of the oldest of 64 credentials
-    newest      the same for the newest one
+    newest      milliseconds of the same change for the newest credential
     memory      peak megabytes of pytest with 4,000 tests with a key, minus 4,000 without
 
 Each figure is the median of ROUNDS runs [default: 15] in separate processes, alternating between the clones. OTHER must

@@ -36,7 +36,7 @@ import resource
 import subprocess
 import sys
 
-# Without setarch -R, the stack would start at a random offset within 8 kB.
+# Disables address space randomization, since the stack would otherwise start at a random offset within 8 kB.
 ADDR_NO_RANDOMIZE = 0x0040000
 SYSTEM = ctypes.CDLL(None)
 SNAPSHOT = ["--load", "examples/example_com.snapshot"]

@@ -1,10 +1,11 @@
 #!/usr/bin/python3
-"""Compares the duration of commands with chromedriver and with `hidlog webdriver` in front of it, alternating.
+"""Compares the duration of commands with chromedriver alone and with `hidlog webdriver` as a proxy, alternately.
 
     bench/webdriver.py [--rounds 100]
 
-Needs chromedriver. Each figure is a median: of a command that the proxy passes on, of a page's registration and sign-in
-with the driver's own authenticator and with the proxy's, and of adding and removing an authenticator.
+Needs chromedriver. Each figure is a median: for a command that the proxy passes on, for a page's registration and
+sign-in with chromedriver's authenticator and with the proxy's authenticator, and for adding and removing an
+authenticator.
 """
 
 from __future__ import annotations

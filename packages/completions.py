@@ -24,7 +24,7 @@ OPTION = re.compile(r"^ +(?:(-\w), )?(--[\w-]+)( <\w+>)? +(\S.*)$", re.MULTILINE
 
 @dataclass(frozen=True)
 class Option:
-    """An option: its names, whether it takes a file, and its help text."""
+    """An option: the names, whether the value is a file, and the help text."""
 
     short: str
     long: str
@@ -34,7 +34,7 @@ class Option:
 
 @dataclass(frozen=True)
 class Command:
-    """A command: its name, help text and options, and whether it takes log files."""
+    """A command: the name, help text and options, and whether the arguments are log files."""
 
     name: str
     summary: str
@@ -65,7 +65,8 @@ def read_commands(program: str) -> list[Command]:
 
 
 def to_bash(commands: list[Command]) -> str:
-    """Returns the completions for bash. Paths are completed after options that take a file, and for logs."""
+    """Returns the completions for bash. Paths are completed after options whose value is a file, and for log
+    arguments."""
     words = {command.name: [option.long for option in command.options] for command in commands}
     options = (option for command in commands for option in command.options)
     files = "|".join(sorted({option.long for option in options if option.takes_file}))

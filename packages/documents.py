@@ -1,8 +1,8 @@
 #!/usr/bin/env python3
 """Copies pages of docs/use into a package: documents.py ROOT NAME ..
 
-A link to a file that is not in the package becomes its text and the path in the sources. A note below the title
-explains that.
+A link to a file that is not in the package is replaced by the link's text and the path in the sources. A note below the
+title explains this.
 """
 
 from __future__ import annotations

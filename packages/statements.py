@@ -21,8 +21,8 @@ from pathlib import Path
 from typing import Any
 
 TOP = Path(__file__).resolve().parent.parent
-# The crates of the toolchain's kit used by the program and the library: the version of the Rust crate on which each is
-# based, according to its README, and its license.
+# Crates of the toolchain that the program and the library use. For each crate, the version of the Rust crate on which
+# it is based, according to its README, and the license.
 CRATES = {
     "arrayvec": ("0.7.8", "MIT OR Apache-2.0"),
     "base64": ("0.23.1", "MIT OR Apache-2.0"),
@@ -38,7 +38,7 @@ CRATES = {
 LIBC = {"8e5252c4b87e3d58": "2.36-9+deb12u14", "e8e575befa51c934": "2.36-8cross1"}
 # The C libraries in the programs, by the lines in release/BUILD on how they are linked: name, and Debian package.
 LIBRARIES = {"linker": ("glibc", "libc6-dev"), "linker for aarch64": ("glibc-arm64", "libc6-dev-arm64-cross")}
-# Sources of packages other than release/: directories and files of each set.
+# Sets of package sources outside release/: directories and files.
 OTHER_SOURCES = {
     "python": ("bindings/python", "dissector", "conformance/hidlog_conformance", "bindings/web/dist/security_key.js"),
     "npm": ("bindings/web/dist", "bindings/web/core.js", "packages/npm"),
@@ -49,7 +49,7 @@ OTHER_SOURCES = {
     "arm64": ("packages/arm64",),
     "portable": ("bindings/c",),
 }
-# The sets of sources of each package, by the prefix of its name; the first match counts.
+# The sets of sources of each package, by the prefix of the package's name. The first match is used.
 PACKAGE_PARTS = (
     ("hidlog-uhid_", ("uhid", "docs")),
     ("python3-hidlog_", ("python", "docs")),
@@ -100,7 +100,8 @@ def run_git(*words: str) -> str:
 
 
 def read_commit() -> list[Json]:
-    """Returns the current commit, and whether a file differs from it; an empty list in an unpacked archive."""
+    """Returns the current commit, and whether a file differs from the commit. Returns an empty list in an unpacked
+    archive."""
     if not (TOP / ".git").exists() or not (name := run_git("rev-parse", "HEAD")):
         return []
     is_changed = run_git("status", "--porcelain", "--untracked-files=no") != ""
@@ -108,7 +109,7 @@ def read_commit() -> list[Json]:
 
 
 def compute_sha256(paths: tuple[str, ...]) -> str:
-    """Returns a SHA-256 sum of files: that of the output of sha256sum for them."""
+    """Returns a SHA-256 sum of several files: the hash of the output of sha256sum for the files."""
     files = sorted(
         source for path in paths for source in ([TOP / path] if (TOP / path).is_file() else (TOP / path).rglob("*"))
     )
@@ -174,7 +175,7 @@ def list_materials(facts: dict[str, str]) -> list[Json]:
 
 
 def list_parts(name: str, version: str, parts: list[Json]) -> list[Json]:
-    """Returns the materials of a package: all crates, its own sources, and the C library of its program."""
+    """Returns the materials of a package: all crates, the package's own sources, and the C library of its program."""
     plain = name.replace(version, "VERSION")
     sets = next(found for front, found in PACKAGE_PARTS if plain.startswith(front))
     own = {f"hidlog-sources-{name}" for name in OTHER_SOURCES if name not in sets}
@@ -187,7 +188,8 @@ def list_parts(name: str, version: str, parts: list[Json]) -> list[Json]:
 
 
 def make_relationships(packages: list[Json], parts: list[Json], version: str) -> list[Json]:
-    """Returns the relationships: the document describes each package, each of which is generated from its materials."""
+    """Returns the relationships: the document describes the packages, and each package is generated from its
+    materials."""
 
     def relation(first: str, kind: str, second: str) -> Json:
         return {"spdxElementId": first, "relationshipType": kind, "relatedSpdxElement": second}

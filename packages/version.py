@@ -2,7 +2,7 @@
 """Checks the version in all files against VERSION in crates/hidlog/src/cli.rt, from which packages/build_release.sh
 writes release/BUILD.
 
-    packages/version.py           list the files with another version, and exit with 1 if there are any
+    packages/version.py           list the files with a different version, and exit with 1 if there are any
     packages/version.py --write   write the version to them, except in release/, which packages/build_release.sh creates
 
 Wheels, Debian packages, npm's, Go's zip and the crates read it from release/BUILD.
@@ -33,7 +33,7 @@ RELEASE_HEADING = (
     ("release/hidlog.pc", rf"^Version: ({NUMBER})$"),
     ("release/hidlog-256.pc", rf"^Version: ({NUMBER})$"),
 )
-# The latest heading is written by hand, with the changes.
+# The heading of the latest version is written by hand, together with the changes.
 MANUAL_PLACES = ("CHANGELOG.md",)
 
 
@@ -60,7 +60,7 @@ def replace_version(text: str, pattern: str, number: str) -> str:
 
 
 def main() -> int:
-    """Writes the version, or lists the files with another one."""
+    """Writes the version, or lists the files with a different version."""
     number, wrong = version(), []
     for name, pattern in (*VERSION_PATTERNS, *RELEASE_HEADING):
         path = TOP / name

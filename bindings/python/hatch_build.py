@@ -21,7 +21,7 @@ class CustomBuildHook(BuildHookInterface[Any]):
     """Adds the files of the release."""
 
     def initialize(self, version: str, build_data: dict[str, Any]) -> None:
-        """Adds the target's files that are not sources."""
+        """Adds the files that are not sources to a target."""
         added: dict[Path, str] = {}
         self._folder = tempfile.TemporaryDirectory()
         if self.target_name == "sdist":

@@ -1,10 +1,10 @@
 """Files of the release for the wheel and the sdist: the version, the program and the C library.
 
-They are in ../../release in a clone, and in prebuilt/ in an sdist. A wheel is for the processor of this machine, or for
-the one in HIDLOG_PROCESSOR: x86_64 or aarch64 for Linux; win_amd64, whose library mingw-w64 compiles; or portable. On
-other systems than Linux on x86_64 and aarch64 the portable library is compiled, by $CC, cc, gcc, clang or cl, and there
-is no program. Its sources are in prebuilt/portable in an sdist; in a clone wabt generates them. HIDLOG_PORTABLE names
-another folder with these, and with hidlog.dll if it is compiled already.
+They are in ../../release in a clone, and in prebuilt/ in an sdist. A wheel is for the processor in HIDLOG_PROCESSOR
+[default: this machine's]: x86_64 or aarch64 for Linux, win_amd64, whose library mingw-w64 compiles, or portable. On
+systems other than Linux on x86_64 and aarch64, the portable library is compiled with $CC, cc, gcc, clang or cl, and the
+wheel has no program. The library's sources are in prebuilt/portable in an sdist; in a clone wabt generates them.
+HIDLOG_PORTABLE is another folder with the sources, and with hidlog.dll if it is compiled already.
 """
 
 from __future__ import annotations
@@ -24,10 +24,10 @@ CORPUS = "hidlog_conformance"
 LIBRARY = "libhidlog.so.1"
 PAGE_SCRIPT = "security_key.js"
 DISSECTOR = "ctaphid.lua"
-# Program and library do not depend on a C library, so both run on any Linux of their processor.
+# The program and the library do not depend on a C library, so both run on any Linux of their processor.
 TAG = "py3-none-manylinux_2_17_{0}.manylinux2014_{0}.musllinux_1_1_{0}"
 WINDOWS, PORTABLE = "win_amd64", "portable"
-# Paths in a clone of the files in prebuilt/PROCESSOR, by processor.
+# Paths, in a clone, of the files in prebuilt/PROCESSOR, by processor.
 FILES = {
     "x86_64": {"hidlog": "../../release/hidlog", LIBRARY: f"../../release/{LIBRARY}"},
     "aarch64": {"hidlog": "../../release/aarch64/hidlog", "libhidlog.a": "../../release/aarch64/libhidlog.a"},
@@ -35,7 +35,7 @@ FILES = {
 
 
 def check_release(processor: str, name: str) -> Path:
-    """Returns a file of the release."""
+    """Returns the path of a file of the release."""
     for path in (TOP / "prebuilt" / processor / name, TOP / FILES[processor][name]):
         if path.is_file():
             return path
@@ -67,7 +67,7 @@ def read_page_script() -> Path:
 
 
 def find_dissector() -> Path:
-    """Returns the dissector for Wireshark, whose path `hidlog export --dissector-path` prints."""
+    """Returns the path of the Wireshark dissector, which `hidlog export --dissector-path` prints."""
     for path in (TOP / "prebuilt" / DISSECTOR, TOP.parents[1] / "dissector" / DISSECTOR):
         if path.is_file():
             return path
@@ -81,7 +81,7 @@ def version() -> str:
 
 
 def detect_processor() -> str:
-    """Returns the processor of the wheel, or PORTABLE if its library has to be compiled."""
+    """Returns the processor of the wheel, or PORTABLE if the library has to be compiled."""
     named = os.environ.get("HIDLOG_PROCESSOR")
     if named and named not in (*FILES, WINDOWS, PORTABLE):
         raise SystemExit(f"python: HIDLOG_PROCESSOR is {named}; it must be {', '.join(FILES)}, {WINDOWS} or {PORTABLE}")
@@ -150,7 +150,7 @@ def link_library(archive: Path, folder: Path) -> Path:
 
 
 def list_sdist_files(folder: Path) -> dict[Path, str]:
-    """Returns the sdist's files that are not sources, with their paths in it. The portable library's sources are
+    """Returns the sdist's files that are not sources, with their paths in the sdist. The portable library's sources are
     generated in the folder."""
     files = {read_build_info(): "prebuilt/BUILD", read_page_script(): f"prebuilt/{PAGE_SCRIPT}"}
     files[find_dissector()] = f"prebuilt/{DISSECTOR}"
@@ -169,13 +169,13 @@ def list_sdist_files(folder: Path) -> dict[Path, str]:
 
 
 def is_source(path: Path) -> bool:
-    """Returns whether a file of the portable library is a source, and not compiled."""
+    """Returns whether a file of the portable library is a source file."""
     return path.suffix in (".c", ".h", ".def")
 
 
 def list_wheel_files(processor: str, folder: Path) -> dict[Path, str]:
-    """Returns a wheel's files that are not sources, with their paths in it. The linked or compiled library is written to
-    the folder."""
+    """Returns the wheel's files that are not sources, with their paths in the wheel. The linked or compiled library is
+    written to the folder."""
     files = {read_build_info(): "hidlog/BUILD", read_page_script(): f"hidlog/webdriver/{PAGE_SCRIPT}"}
     files[find_dissector()] = f"hidlog/captures/{DISSECTOR}"
     files.update({path: f"hidlog/corpus/{CORPUS}/{path.name}" for path in list_corpus_files()})

@@ -1,8 +1,8 @@
 #!/usr/bin/env python3
 """Builds the wheel with only the standard library and pip's own modules: wheel.py DIR
 
-Used by action.yml, so that building the package downloads nothing. bindings/python/build.sh builds the wheels of a
-release with hatchling, and tests/outside.sh compares the two. Prints the wheel's path.
+action.yml uses this script, so that building the package downloads nothing. bindings/python/build.sh builds the wheels
+of a release with hatchling, and tests/outside.sh compares the two. Prints the path of the wheel.
 """
 
 from __future__ import annotations

@@ -13,7 +13,7 @@ class Visitor(SecurityKeyUser):
     wait_time = constant(0)
 
     def on_start(self):
-        """Starts with a sign-in: the first task may replace a returning user by a new one."""
+        """Starts with a sign-in, since the first task may replace a returning user by a new user."""
         super().on_start()
         self.sign_in()
 

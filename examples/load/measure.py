@@ -2,7 +2,8 @@
 
 BEFORE and AFTER are the key files before and after the run. At least USERS of the users in BEFORE must have signed in;
 without BEFORE, AFTER must have at least USERS users.
-Exit status: 1 if a ceremony failed; 4 if none did, but the run was too short for USERS users, as on a busy machine.
+Exit status: 1 if a ceremony failed, or 4 if no ceremony failed, but the run was too short for USERS users, as on a busy
+machine.
 """
 
 import csv

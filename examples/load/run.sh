@@ -7,7 +7,7 @@
 #
 # The service, a master and the workers run on this machine, with this clone's package. There are two runs of SECONDS
 # [default: 10, with 20 users and 2 workers]. A run that is too short on a busy machine is repeated with more time. The
-# second run signs in with the users of the first. If HIDLOG_KILL is set, a worker is killed between the runs. Exits
+# second run signs in with the users of the first. If HIDLOG_KILL is set, a worker is killed during the first run. Exits
 # with 3 if a Debian package is missing, and with 1 if a ceremony fails or the users of the first run cannot sign in.
 set -euo pipefail
 here=$(cd "$(dirname "${BASH_SOURCE[0]}")" && pwd)
@@ -64,7 +64,7 @@ until "$python" -c "import socket; socket.create_connection(('127.0.0.1', $port)
 done
 
 # Runs Locust once, and then measure.py with the same arguments: run_locust NAME USERS [BEFORE] AFTER. BEFORE and AFTER
-# are databases of the security keys: the initial one, and the one to write.
+# are the files of the security keys before and after the run.
 run_locust() {
     local words=("$python" -W ignore -m locust -f "$here/locustfile.py" --loglevel WARNING --security-keys "$work/keys.db"
         --failed-logs "$work/failed") each ran=() master

@@ -1,6 +1,6 @@
 """A sign-in service with python-fido2's server, versions 0.9 to 2.2. Options and responses are JSON.
 
-Replace it by your own service.
+Replace this module by your own service.
 """
 
 import importlib

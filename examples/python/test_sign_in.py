@@ -76,7 +76,7 @@ def test_the_page_aborts(site):
 
 
 def test_two_accounts(site):
-    """The newest credential comes first, and each sign-in has signatures of both."""
+    """Two accounts: the newest credential is used by default, and `account` selects the other one."""
     site.register("alice")
     site.register("bob")
     assert [site.sign_in(account=account)[0] for account in (0, "alice")] == [b"bob", b"alice"]
@@ -91,7 +91,7 @@ def test_restart(site, tmp_path):
 
 
 def test_a_wrong_signature(site):
-    """A service must refuse a signature by a different private key."""
+    """A service must reject a signature by a different private key."""
     site.register("alice")
     site.key.faults.bad_signature = True
     with pytest.raises(ValueError, match="Invalid signature"):
@@ -99,14 +99,15 @@ def test_a_wrong_signature(site):
 
 
 def test_a_cloned_key(site):
-    """Its signature counter does not rise, which a service should detect. This one leaves that to its caller."""
+    """The signature counter does not increase, which a service should detect. This service leaves the check to its
+    caller."""
     site.register("alice")
     site.key.faults.stale_sign_count = True
     assert [site.sign_in()[1] for _ in range(2)] == [0, 0]
 
 
 def test_user_verification(site):
-    """A key without user verification is refused. With it, the UV flag is set, which the service requires."""
+    """The service requires user verification: a key without it is rejected, and with it the flag UV is set."""
     with pytest.raises(NotAllowedError, match="the key has no user verification"):
         site.register("alice", verification="required")
     site.key.verification = "verified"
@@ -118,7 +119,7 @@ def test_user_verification(site):
 
 
 def test_a_user_who_is_not_verified_is_refused_by_the_service(site):
-    """If a page requires less than its service, the service must check the UV flag."""
+    """If the page does not require user verification, but the service does, the service must check the flag UV."""
     site.register("alice")
     options = site.service.sign_in_options(verification="required")
     found = site.browser.get({**options, "userVerification": "discouraged"})

@@ -1,5 +1,5 @@
 #!/usr/bin/python3
-"""A test suite for Chromium's own virtual authenticator that also runs with the key: only one class differs.
+"""A test suite for Chromium's virtual authenticator that also runs with the key. Only one class differs.
 
     examples/web/selenium_devtools.py           Debian: apt-get install python3-selenium chromium chromium-driver
 
@@ -31,12 +31,12 @@ class BrowserAuthenticator:
         driver.execute_script("hidlogKey.installedKey().uninstall()")
 
     def send(self, command, **parameters):
-        """Sends a DevTools command."""
+        """Sends a DevTools command to Chromium's virtual authenticator."""
         return self.driver.execute_cdp_cmd(command, parameters)
 
 
 class InjectedKey:
-    """The key in the page."""
+    """Sends the commands to the key in the page."""
 
     SCRIPT = (
         "const [command, parameters, done] = arguments; hidlogKey.sendDevToolsCommand(command, parameters).then(done)"
@@ -46,7 +46,7 @@ class InjectedKey:
         self.driver = driver
 
     def send(self, command, **parameters):
-        """Sends the same command to the key."""
+        """Sends a DevTools command to the key in the page."""
         return self.driver.execute_async_script(self.SCRIPT, command, parameters)
 
 

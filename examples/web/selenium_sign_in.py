@@ -17,10 +17,10 @@ from selenium.webdriver.support.ui import WebDriverWait
 
 SCRIPT = Path(__file__).resolve().parents[2] / "bindings" / "web" / "dist" / "security_key.js"
 
-# Timeout: only a hanging page takes this long.
+# Timeout in seconds. Only a hanging page takes this long.
 TIMEOUT_SECONDS = 300
 
-# The page under test. A service would verify the page's result; here the page shows it.
+# The page under test. A real service would verify the result; here the page only shows it.
 PAGE = """<!doctype html><title>A service</title>
 <button id="register">Register</button> <button id="sign-in">Sign in</button> <p id="result"></p>
 <script>
@@ -63,7 +63,7 @@ def start_browser():
     options.add_argument("--disable-dev-shm-usage")
     driver = webdriver.Chrome(options=options, service=Service("/usr/bin/chromedriver"))
     driver.set_script_timeout(TIMEOUT_SECONDS)
-    # The lines of bindings/web/README.md.
+    # These lines are also in bindings/web/README.md.
     source = SCRIPT.read_text() + "\nhidlogKey.install({ storage: sessionStorage });"
     driver.execute_cdp_cmd("Page.addScriptToEvaluateOnNewDocument", {"source": source})
     return driver
@@ -97,7 +97,7 @@ def test_user_denies(driver, url):
 
 
 def test_service_is_full(driver, url):
-    """The key is full."""
+    """A registration fails if the key is full."""
     driver.get(url)
     driver.execute_script('hidlogKey.installedKey().faults.status = "KEY_STORE_FULL"')
     click(driver, "register", "NotAllowedError")

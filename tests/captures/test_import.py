@@ -373,12 +373,15 @@ def test_several_keys_at_the_command(tmp_path: Path) -> None:
     file = tmp_path / "two.pcap"
     file.write_bytes(encode_pcap(read_events() + other))
     ran = run_hidlog("import", file)
-    assert ran.returncode == 2 and b"has several keys; select one, with --key 1 to 2\n  1 bus 1 device 3" in ran.stderr
+    assert (
+        ran.returncode == 2
+        and b"has several keys; select a key with --key 1 to --key 2\n  1 bus 1 device 3" in ran.stderr
+    )
     assert read_packets(run_hidlog("import", "--key", "2", file).stdout) == read_log("keyboard_beside")
 
 
 def test_a_session_log_is_no_capture() -> None:
     log = DATA.parents[2] / "examples" / "registration.log"
     ran = subprocess.run([sys.executable, "-m", "hidlog", "import", log], capture_output=True, text=True)
-    expected = f"hidlog import: {log}: it is a session log already: `hidlog show` and `hidlog judge` read it\n"
+    expected = f"hidlog import: {log}: the file is already a session log: use `hidlog show` or `hidlog judge`\n"
     assert (ran.returncode, ran.stderr) == (2, expected)

@@ -260,7 +260,7 @@ def test_a_log_of_utf_16() -> None:
     log = ("\ufeff" + iter_altered_logs().decode().replace("\n", "\r\n")).encode("utf-16-le")
     assert run_judge("-", standard_input=log).stdout == run_judge("-", standard_input=iter_altered_logs()).stdout
     ran = run_judge("-", standard_input=b"\xff\xfe\x00\xd8\x00\x00")
-    assert ran.returncode == 2 and b"starts like UTF-16 but is not" in ran.stderr
+    assert ran.returncode == 2 and b"starts like UTF-16 but is not valid" in ran.stderr
 
 
 def test_several_files() -> None:

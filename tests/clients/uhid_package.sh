@@ -38,7 +38,7 @@ if [ ! -e "$system/.whole" ]; then
     touch "$system/.whole"
 fi
 find_kernel
-# Installs the package with apt-get, removes it, and installs it again.
+# Removes the package of an earlier run, if any, and installs the new package with apt-get.
 rm -rf "$system/packages"
 mkdir "$system/packages"
 cp "$packages"/hidlog_*_amd64.deb "$packages"/hidlog-uhid_*_amd64.deb "$system/packages"

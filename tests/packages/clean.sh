@@ -1,8 +1,8 @@
 #!/usr/bin/env bash
 # Installs each package with its language's tool in a clean Debian system, and runs the commands of the package's
-# README, including a registration and a sign-in: Python, node, C, Go, Rust, Ruby and Java. Prints the time of each in
-# seconds, including the download of Debian's packages. Needs root, debootstrap and a Debian mirror; exits with 3 if one
-# of these is missing.
+# README, including a registration and a sign-in: Python, node, C, Go, Rust, Ruby and Java. Prints the time for each
+# package in seconds, including the download of Debian's packages. Needs root, debootstrap and a Debian mirror; exits
+# with 3 if one of these is missing.
 #
 #     tests/packages/clean.sh FOLDER [PACKAGES]    FOLDER is created by debootstrap or reused; PACKAGES [default: built]
 #     HIDLOG_CASES=node                            only the cases whose name contains this

@@ -87,7 +87,7 @@ class RelyingParty:
         )
         row = next(credential for credential in known if credential.data.credential_id == used.credential_id)
         if data.counter <= row.counter:
-            raise ValueError(f"the counter did not increase: {data.counter} after {row.counter}")
+            raise ValueError(f"the signature counter did not increase: {data.counter} after {row.counter}")
         row.counter = data.counter
         return {"counter": data.counter, "user": userHandle and websafe_decode(userHandle).decode()}
 

@@ -136,7 +136,7 @@ _MODULES = {
     ),
 }
 _MODULE_OF = {name: module for module, names in _MODULES.items() for name in names}
-# Old names, up to version 0.2. They work with a DeprecationWarning for one version.
+# Old names, up to version 0.2. They work for one version, with a DeprecationWarning.
 _RENAMED = {
     "Checked": "CheckResult",
     "KeyBusy": "KeyBusyError",
@@ -155,7 +155,7 @@ _RENAMED = {
 
 
 def __getattr__(name: str) -> "Any":
-    """Imports an exported name, or returns the version."""
+    """Imports and returns an exported name, or returns the version."""
     from importlib import import_module
 
     if name in _RENAMED:

@@ -1,7 +1,7 @@
 """The command `hidlog` of the package, also as `python -m hidlog`.
 
-`COMMANDS` are implemented by the package, all others by the program. If there is no program for the processor, the
-library provides the commands on logs, and `--help` prints `help.txt`, which the program wrote.
+The package implements the commands in `COMMANDS`; the program implements all others. If there is no program for the
+processor, the library provides the commands on logs, and `--help` prints `help.txt`, a copy of the program's help.
 """
 
 from __future__ import annotations
@@ -20,14 +20,15 @@ from .subprocess_key import find_program
 
 
 class Command(NamedTuple):
-    """A command of the package: its module, its function, which takes the arguments, and a summary."""
+    """A command of the package: the module, the function that is called with the arguments, and a summary."""
 
     module: str
     function: str
     summary: str
 
 
-# By name. packages/command.sh and packages/npm/cli.mjs have the same list; tests/one_command.py compares them.
+# The commands by name. packages/command.sh and packages/npm/cli.mjs have the same list; tests/one_command.py compares
+# the lists.
 COMMANDS = {
     "webdriver": Command("webdriver.command", "main", "WebDriver proxy that provides virtual authenticators"),
     "browser": Command("browser_process", "main", "Registrations and sign-ins over JSON lines"),
@@ -45,7 +46,7 @@ HELP_WORDS = (["--help"], ["-h"], ["help"])
 
 
 def main() -> int:
-    """Runs a command of the package, or becomes the program, with the arguments of this process."""
+    """Runs a command of the package, or replaces this process by the program, with the arguments of this process."""
     args = sys.argv[1:]
     if len(args) > 1 and args[0] == "help" and args[1] in COMMANDS:
         args = [args[1], "--help"]
@@ -59,7 +60,7 @@ def main() -> int:
 
 
 def _load(command: Command) -> Callable[[list[str]], int]:
-    """Returns a command, which imports its module when it runs."""
+    """Returns a function that imports a command's module and runs the command."""
 
     def run(args: list[str]) -> int:
         module = importlib.import_module(f".{command.module}", __package__)

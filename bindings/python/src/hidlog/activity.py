@@ -1,5 +1,5 @@
-"""What pages did with a key, in WebAuthn's terms, for the report of a failed test: who registered and signed in, what was
-refused and why, and the injected faults."""
+"""Describes how pages used a key, for the report of a failed test: registrations and sign-ins, rejected requests with
+the reasons, and injected faults."""
 
 from __future__ import annotations
 
@@ -14,12 +14,12 @@ if TYPE_CHECKING:
     from .key import SecurityKey
 
 Json = dict[str, Any]
-# The last events are kept.
+# Maximum number of events; the last ones are kept.
 _MAX_EVENTS = 40
 _CALLS = {"create": "registration", "get": "sign-in"}
 _FLAGS = {0x04: "user verified", 0x08: "backup eligible", 0x10: "backed up"}
 _FAULT_LINE = re.compile(rb"^# fault: (.*)$", re.MULTILINE)
-# The totals of `hidlog show --summary` that say that nothing happened.
+# Totals of `hidlog show --summary` that are 0.
 _ZERO_LINE = re.compile(r"^[a-zA-Z ]+: 0\n?", re.MULTILINE)
 
 
@@ -29,14 +29,14 @@ def drop_zeros(summary: str) -> str:
 
 
 def _get_member(options: Any, *path: str) -> str:
-    """Returns a text in options whose types may be wrong, or ""."""
+    """Returns a text from options whose types may be wrong, or ""."""
     for name in path:
         options = options.get(name) if isinstance(options, Mapping) else None
     return options if isinstance(options, str) else ""
 
 
 class _Report:
-    """A context in which one call of a page is made. Its events are formatted only if a test fails."""
+    """A context in which a page makes one call. The call is formatted only if a test fails."""
 
     __slots__ = ("_events", "_call")
 
@@ -56,7 +56,7 @@ class _Report:
 
 
 class Activity:
-    """The last calls of a key's browsers, each with its result: a credential or an error."""
+    """The last calls of a key's browsers, each with the result: a credential or an error."""
 
     __slots__ = ("_events",)
 
@@ -64,11 +64,12 @@ class Activity:
         self._events: deque[tuple[Any, ...]] = deque(maxlen=_MAX_EVENTS)
 
     def reporting(self, ceremony: str, origin: str, options: Any) -> _Report:
-        """Returns a context for a call, which provides a function that reports its credential."""
+        """Returns a context for a call. The context provides a function that reports the resulting credential."""
         return _Report(self._events, ceremony, origin, options)
 
     def describe(self, key: SecurityKey) -> str:
-        """Returns the calls, and the faults that are on or took effect, one per line; empty if there are none."""
+        """Returns the calls, and the faults that are switched on or took effect, one per line. Empty if there are
+        none."""
         # A key in a separate process without a recording can't list its credentials, and a plain client has no calls.
         listed = key.credentials if self._events and key.log else ()
         names = {b64url_encode(credential.id): credential.user_name for credential in listed}
@@ -81,7 +82,7 @@ class Activity:
 
 
 def _format_call(ceremony: str, origin: str, options: Any, result: Any, *, names: dict[str, str]) -> str:
-    """Returns one line on a call."""
+    """Describes a call in one line."""
     inner = options.get("publicKey", options) if isinstance(options, Mapping) else {}
     rp_id = _get_member(inner, "rp", "id") or _get_member(inner, "rpId")
     place = f"{rp_id} ({origin})" if rp_id and rp_id not in origin else origin

@@ -1,6 +1,6 @@
 """The algorithms of credentials besides the core's ES256: EdDSA (Ed25519) and RS256, with their COSE keys (RFC 9053).
 
-For tests only: private keys are held in clear text.
+For tests only: private keys are in memory in clear text.
 """
 
 from __future__ import annotations
@@ -35,14 +35,14 @@ def algorithm_of(private: AnyKey) -> int:
 
 
 def make_other_key(algorithm: int, random: Callable[[int], bytes]) -> OtherKey:
-    """Makes a private key of EdDSA from 32 random bytes, or one of RS256, whose primes are never from `random`."""
+    """Generates a private key: for EdDSA from 32 bytes of `random`, for RS256 always with primes from the system."""
     if algorithm == EDDSA:
         return ed25519.Ed25519PrivateKey.from_private_bytes(random(32))
     return rsa.generate_private_key(_RSA_EXPONENT, _RSA_BITS)
 
 
 def load_other_key(encoded: bytes) -> OtherKey:
-    """Returns a private key of another algorithm than ES256 from PKCS #8 in DER."""
+    """Returns a private key of an algorithm other than ES256 from PKCS #8 in DER."""
     private = private_keys.parse_private_key(encoded)
     if not isinstance(private, _OTHER_KEYS):
         raise ArgumentError("the private key must be of Ed25519 or RSA")

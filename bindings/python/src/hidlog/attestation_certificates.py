@@ -1,8 +1,8 @@
-"""The test root and the attestation certificate that it issued (WebAuthn Level 3, section 8.2.1), in DER, with the private
-key of the latter in PKCS #8.
+"""A test root certificate and an attestation certificate issued by the root (WebAuthn Level 3, section 8.2.1), in DER,
+and the attestation private key in PKCS #8.
 
-Whoever reads this file can make attestations, so a service must not trust the root outside of tests.
-bindings/web/key/attestation_certificates.js has the same ones.
+Anyone who has this file can create attestations, so a service must not trust the root outside of tests.
+bindings/web/key/attestation_certificates.js has the same certificates.
 """
 
 from base64 import b64decode
@@ -16,7 +16,7 @@ ROOT_CERTIFICATE = b64decode(
     "DwEB/wQEAwIBBjAdBgNVHQ4EFgQULd+rLj9QoFwwj+H4OERMd9xKuHcwCgYIKoZIzj0EAwIDRwAwRAIgBm+aVfSGfCMd1sKw51G+"
     "YmsXYFvl6/v9SjVnyzoC2kICIA7M3qWGf+g7cobvcmQiwSE5lf6gQTO832kocg80sr+n"
 )
-# It has no AAGUID, so that the key may have any.
+# The certificate has no AAGUID extension, so that the key may have any AAGUID.
 CERTIFICATE = b64decode(
     "MIIB9jCCAZugAwIBAgIBAjAKBggqhkjOPQQDAjBeMQswCQYDVQQGEwJVUzEQMA4GA1UECgwHQ29ndHppbDESMBAGA1UECwwJVGVz"
     "dCBSb290MSkwJwYDVQQDDCBoaWRsb2cgdGVzdCByb290LCBmb3IgdGVzdHMgb25seTAgFw0yMDAxMDEwMDAwMDBaGA8yMDk5MTIz"

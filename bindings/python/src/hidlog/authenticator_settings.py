@@ -1,5 +1,5 @@
-"""The authenticator as browsers see it: user verification, attachment, discoverable credentials, backup flags,
-attestation, algorithms, extensions, and what answers autofill. All of it is outside the verified core."""
+"""The settings of an authenticator as browsers see it: user verification, attachment, discoverable credentials, backup
+flags, attestation, algorithms, extensions and autofill. All of these are outside the verified core."""
 
 from __future__ import annotations
 
@@ -22,7 +22,7 @@ _NO_AAGUID = UUID(int=0)
 
 
 def _check_list(name: str, values: Any, known: tuple[Any, ...]) -> tuple[Any, ...]:
-    """Returns a list as a tuple, each of whose items must be known."""
+    """Returns a list as a tuple. Each item must be a known value."""
     listed = tuple(values) if isinstance(values, Iterable) and not isinstance(values, str) else (values,)
     for value in listed:
         check_choice(name, value, known)
@@ -30,7 +30,7 @@ def _check_list(name: str, values: Any, known: tuple[Any, ...]) -> tuple[Any, ..
 
 
 class AuthenticatorSettings:
-    """The settings of a key's authenticator. SecurityKey documents them."""
+    """The settings of a key's authenticator, which SecurityKey documents."""
 
     def _set_up(self, **settings: Any) -> None:
         """Sets all settings."""
@@ -39,7 +39,7 @@ class AuthenticatorSettings:
 
     @property
     def verification(self) -> str:
-        """Result of the browser asking for user verification: "none" (unsupported), "verified" or "failed"."""
+        """The result of user verification: "none" (unsupported), "verified" or "failed"."""
         return self._verification
 
     @verification.setter
@@ -138,7 +138,7 @@ class AuthenticatorSettings:
 
     @property
     def autofill(self) -> str:
-        """What answers mediation "conditional": "selected", an account of `select_account`; or "automatic"."""
+        """How sign-ins with mediation "conditional" get an account: "selected" (by `select_account`) or "automatic"."""
         return self._autofill
 
     @autofill.setter
@@ -156,7 +156,8 @@ class AuthenticatorSettings:
         self._extensions = _check_list("an extension", extensions, EXTENSIONS)
 
     def supports(self, extension: str) -> bool:
-        """Returns whether an extension is supported. A key with credBlob has credProtect, too, as in Chromium."""
+        """Returns whether an extension is supported. As in Chromium, a key that supports credBlob also supports
+        credProtect."""
         return extension in self._extensions or (extension == "credProtect" and "credBlob" in self._extensions)
 
     @property
@@ -167,5 +168,5 @@ class AuthenticatorSettings:
 
     @property
     def authenticator_options(self) -> AuthenticatorOptions:
-        """The authenticator, as the library's client needs it."""
+        """The authenticator's abilities, for the library's client."""
         return AuthenticatorOptions(self._verification, self._attachment, self._has_resident_key)

@@ -31,23 +31,25 @@ from .files import read_input
 from .logs import check
 from .recording_files import snapshot_path
 
-# The outcome in a worker that must be sent the data.
+# The outcome if a worker does not have the file, so that the data must be sent.
 _ELSEWHERE = "elsewhere"
-# Tasks per worker thread, so that none waits for the next one, and how often their number is read from a cluster.
+# Number of tasks per worker thread, so that no thread waits for the next task, and the interval at which the number of
+# threads is read from a cluster.
 _TASKS_PER_WORKER = 2
 _TASKS_PER_COUNT = 100
-# Number of workers of an executor that does not tell it.
+# Assumed number of workers of an executor if it is unknown.
 _DEFAULT_WORKERS = 8
 Paths = Iterable[Union[str, "os.PathLike[str]"]]
 Executors = Union[Executor, Callable[[], Executor]]
 
 
-# Size and time of change of a recording's log and snapshot; (-1, -1) for none.
+# Size and modification time of a recording's log and snapshot; (-1, -1) for a missing file.
 Stamp = tuple[int, int, int, int]
 
 
 class Recorded(NamedTuple):
-    """A recording: its path, log and snapshot. If the log is None, the worker reads both, if they have this stamp."""
+    """A recording: the path, the log and the snapshot. If the log is None, the worker reads both files, if they have
+    this stamp."""
 
     path: str
     log: Optional[bytes] = None
@@ -77,7 +79,7 @@ def read_recording(path: str) -> Recorded:
 
 
 def read_stamp(path: str) -> Stamp:
-    """Returns the stamp of a recording. If it cannot be read, that of no file."""
+    """Returns the stamp of a recording. If the files cannot be read, the stamp is that of missing files."""
     stamp = []
     for name in (path, str(snapshot_path(Path(path)))):
         try:
@@ -90,7 +92,7 @@ def read_stamp(path: str) -> Stamp:
 
 
 def check_batch(block: list[Recorded], *, is_short: bool = False) -> list[CheckResult]:
-    """Checks some recordings, in a worker. `is_short` leaves out those that match."""
+    """Checks some recordings in a worker. With `is_short`, matching recordings are left out of the results."""
     found = [_check_recording(recorded) for recorded in block]
     return [result for result in found if result.outcome != "match"] if is_short else found
 
@@ -122,7 +124,7 @@ class _Options(NamedTuple):
 
 
 class _Batch(NamedTuple):
-    """Recordings of a task, how often it was tried, and whether workers are sent the data."""
+    """The recordings of a task, the number of attempts, and whether the data is sent to workers."""
 
     block: list[Recorded]
     tries: int = 0
@@ -138,7 +140,7 @@ class _Run:
         self.waiting: list[_Batch] = []
         self.in_progress: dict[Future[list[CheckResult]], _Batch] = {}
         self.is_broken = False
-        # Whether a worker had not the files of this machine.
+        # Whether a worker did not have the files of this machine.
         self.is_remote = False
         self.submitted = self.at_once = 0
 
@@ -155,8 +157,8 @@ class _Run:
                 return
 
     def next_batch(self) -> _Batch | None:
-        """Returns the next batch, or None at the end or while the last attempt of a batch must wait: it runs alone, so
-        that a recording that kills its worker affects no other."""
+        """Returns the next batch, or None at the end, or while the last attempt of a batch must wait. The last attempt
+        runs alone, so that a recording that kills its worker affects no other recording."""
         if not self.waiting:
             block = [Recorded(path) for path in islice(self.paths, self.options.block)]
             return _Batch(block, is_sent=self.is_remote) if block else None
@@ -165,7 +167,7 @@ class _Run:
         return self.waiting.pop()
 
     def has_room(self) -> bool:
-        """Returns whether another task may be submitted. A cluster may grow meanwhile."""
+        """Returns whether another task may be submitted. A cluster may grow during the check."""
         if self.submitted % _TASKS_PER_COUNT == 0:
             self.at_once = self.options.at_once or _TASKS_PER_WORKER * _count_workers(self.executor)
         return len(self.in_progress) < self.at_once
@@ -188,7 +190,7 @@ class _Run:
                 return
 
     def collect(self, future: Future[list[CheckResult]]) -> list[CheckResult]:
-        """Returns the results of a batch. If its worker died, each recording is tried again, alone."""
+        """Returns the results of a batch. If the worker died, each recording is tried again in its own task."""
         work = self.in_progress.pop(future)
         try:
             return self.send_missing(work, future.result())
@@ -205,7 +207,8 @@ class _Run:
         return []
 
     def send_missing(self, work: _Batch, found: list[CheckResult]) -> list[CheckResult]:
-        """Returns the results, without those of recordings that the worker has not. They are sent to a worker then."""
+        """Returns the results. Recordings whose files the worker does not have are left out, and are sent to a worker
+        later."""
         missing = [Recorded(result.path) for result in found if result.outcome == _ELSEWHERE]
         if not missing:
             return found
@@ -230,7 +233,8 @@ class _Run:
 
 
 def _count_workers(executor: Any) -> int:
-    """Returns the number of threads or processes of an executor: of concurrent.futures, or those of a Dask cluster."""
+    """Returns the number of threads or processes of an executor, which is of concurrent.futures or of a Dask
+    cluster."""
     client = getattr(executor, "_client", None)
     if client is not None:
         return max(1, int(sum(client.nthreads().values())))
@@ -238,23 +242,24 @@ def _count_workers(executor: Any) -> int:
 
 
 def _is_worker_failure(error: Exception) -> bool:
-    """Returns whether a worker died or its work was cancelled, as Dask does if it loses a worker. Other errors, such as
-    a module missing in a worker, end the check."""
+    """Returns whether a worker died or its work was cancelled, which Dask does if a worker is lost. Other errors, such
+    as a missing module in a worker, end the check."""
     names = ("KilledWorker", "CommClosedError")
     is_lost = isinstance(error, (BrokenExecutor, CancelledError)) or type(error).__name__ in names
     return is_lost or _is_of_lost_result(error)
 
 
 def _is_of_lost_result(error: Exception) -> bool:
-    """Returns whether a worker died after its result was read, and before Dask passed it on: then Dask unpacks the
-    result as if it were an error, in its module cfexecutor. The error of a task ends in the task's code."""
+    """Returns whether a worker died after its result was read, but before Dask passed the result on. In this case Dask
+    unpacks the result as if it were an error, in the module cfexecutor. In contrast, the traceback of a task's error
+    ends in the task's code."""
     frames = [frame for frame, _ in traceback.walk_tb(error.__traceback__)]
     is_unpacking = isinstance(error, (TypeError, ValueError)) and bool(frames)
     return is_unpacking and frames[-1].f_globals.get("__name__") == "distributed.cfexecutor"
 
 
 def _load_if_local(recorded: Recorded) -> Recorded:
-    """Returns a recording with its data, if its file is on this machine."""
+    """Returns a recording with its data, if the files are on this machine."""
     return read_recording(recorded.path) if Path(recorded.path).is_file() else recorded
 
 
@@ -271,7 +276,7 @@ def check_many(
     """Yields the result of each recording as it arrives: each path once, in any order.
 
     executor   an executor, which stays open; or a function that creates one, called again if one broke.
-    send       send the data to workers that have not the same file (by size and time of change), because they may be on
+    send       send the data to workers that do not have the same file (by size and time of change), because they may be on
                other machines. Send processes paths: in Python 3.11, a pool whose worker dies may hang while more than a
                pipe's 64 kB are queued for it.
     block      recordings per task.

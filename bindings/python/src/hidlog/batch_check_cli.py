@@ -25,7 +25,7 @@ from .batch_check import CheckResult, check_many
 _DASK = "dask://"
 _PROGRESS_SECONDS = 0.5
 _MAX_IN_MEMORY = 1 << 20
-# Characters that XML can't have.
+# Characters that are not allowed in XML.
 _CONTROL_REPLACEMENTS = {code: "\ufffd" for code in (*range(32), 0xFFFE, 0xFFFF) if code not in (9, 10, 13)}
 
 
@@ -39,7 +39,7 @@ def _make_parser() -> argparse.ArgumentParser:
 
 
 def _iter_logs(names: Sequence[str]) -> Iterator[Path]:
-    """Yields the logs named, and the files *.log in directories, each directory's by name. Other than regular files are
+    """Yields the named logs, and the files *.log in named directories, sorted by name. Files that are not regular are
     skipped with a warning."""
     for path in map(Path, names):
         if not path.is_dir():
@@ -64,7 +64,7 @@ def _to_printable(path: str) -> str:
 
 
 class _Checks:
-    """The checks of recordings: those listed so far, and the number of each outcome."""
+    """The state of a check of recordings: the recordings listed so far, and the number of each outcome."""
 
     def __init__(self, paths: Iterator[Path], report: str):
         self._paths, self._report = paths, report
@@ -73,10 +73,11 @@ class _Checks:
         self.counts: Counter[str] = Counter()
 
     def run(self, jobs: int, executor: str | None) -> Iterator[CheckResult]:
-        """Yields the results, in the text report only of recordings that do not match."""
+        """Yields the results. For the text report, yields only those of recordings that do not match."""
         paths, matches = self._iter_paths(), self._report != "text"
         if executor is None:
-            # The library runs without Python's lock, so threads are as fast as processes, and can't be left behind.
+            # Calls of the library do not hold Python's lock, so threads are as fast as processes, and no process can be
+            # left running.
             found = check_many(paths, lambda: ThreadPoolExecutor(jobs), at_once=4 * jobs, matches=matches)
         else:
             found = check_many(paths, _connect(executor).get_executor(pure=False), send=True, matches=matches)
@@ -86,7 +87,7 @@ class _Checks:
         self.counts["match"] = self.listed - sum(self.counts.values()) + self.counts["match"]
 
     def _iter_paths(self) -> Iterator[Path]:
-        """Yields the paths, and shows how many these are so far if standard error is a terminal."""
+        """Yields the paths. If standard error is a terminal, shows the number of paths so far."""
         for path in self._paths:
             self.listed += 1
             if sys.stderr.isatty() and time.monotonic() - self._shown > _PROGRESS_SECONDS:
@@ -97,7 +98,7 @@ class _Checks:
             print("\r", end="", file=sys.stderr)
 
     def print_results(self, jobs: int, executor: str | None) -> None:
-        """Prints the results as they arrive; JUnit XML, which begins with their number, at the end."""
+        """Prints the results as they arrive. JUnit XML, which begins with their number, is printed at the end."""
         found = self.run(jobs, executor)
         if self._report == "junit":
             self._print_junit(found)

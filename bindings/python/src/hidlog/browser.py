@@ -1,7 +1,8 @@
-"""A browser at an origin: a service's options in, a credential out, both as the JSON of WebAuthn Level 3.
+"""A simulated browser at an origin. A call gets a service's options, and returns a credential, both as the JSON of
+WebAuthn Level 3.
 
-The library's client checks options, origins and RP IDs as Chromium does (webauthn_client.py). Failures are the DOM's
-errors (webauthn_errors.py).
+The library's client checks options, origins and RP IDs as Chromium does (webauthn_client.py). Errors are those of the
+DOM (webauthn_errors.py).
 """
 
 from __future__ import annotations
@@ -41,11 +42,11 @@ Json = dict[str, Any]
 Account = Union[int, str, bytes, Callable[[list[Credential]], Any]]
 _GET_NEXT_REQUEST = bytes([GET_NEXT_ASSERTION])
 _DESCRIPTOR_LISTS = ("allowCredentials", "excludeCredentials")
-# A base64url ID of at most this length has at most 64 bytes. The core has longer IDs by their hash.
+# Length of an ID of 64 bytes in base64url. In requests to the core, longer IDs are replaced by their hashes.
 _SENT_LETTERS = 86
 # The status and the first byte of a CBOR map with five members.
 _MAP_OF_FIVE = b"\x00\xa5"
-# The end of a request for a discoverable credential: the member 7, {"rk": true}.
+# The end of a request for a discoverable credential: the key 7 with the value {"rk": true}.
 _DISCOVERABLE_END = bytes.fromhex("07a162726bf5")
 
 
@@ -57,7 +58,7 @@ class Signal(Protocol):
 
 
 class _PendingCall(NamedTuple):
-    """A call with valid options, its request, and what it has outside the core, if anything."""
+    """A call with valid options, the request to the key, and the features outside the core, if any."""
 
     call: ClientCall
     request: Request
@@ -77,7 +78,7 @@ class Browser:
         return f"Browser({self.origin!r})"
 
     def create(self, options: Mapping[str, Any], *, mediation: str = "optional", signal: Signal | None = None) -> Json:
-        """Registers, as navigator.credentials.create does. The signal cancels it, as an AbortSignal does."""
+        """Registers, as navigator.credentials.create does. The signal cancels the call, as an AbortSignal does."""
         with self._key.activity.reporting("create", self.origin, options) as report, self._key.ceremony():
             started = self._begin("create", options, mediation, signal)
             ending = _Cancellation(self._key, signal, started.request.timeout_ms)
@@ -94,8 +95,8 @@ class Browser:
     ) -> Json:
         """Signs in, as navigator.credentials.get does.
 
-        account     which of several accounts: its index, newest first; its user name; its credential ID; or a function
-                    of the credentials that returns one of them.
+        account     the account to use if there are several: an index, newest first; a user name; a credential ID; or a
+                    function that returns one of the credentials.
         mediation   "conditional" waits until `select_account` is called.
         """
         _check_account(account)
@@ -133,7 +134,7 @@ class Browser:
         )
 
     def select_account(self, account: Account = 0) -> None:
-        """Selects the account for the sign-in with mediation "conditional" that waits for one, or for the next one."""
+        """Selects the account for the pending sign-in with mediation "conditional", or for the next one."""
         _check_account(account)
         self._choices.put(account)
 
@@ -145,7 +146,8 @@ class Browser:
     # Requests to the key.
 
     def _begin(self, ceremony: str, options: object, mediation: object, signal: Signal | None) -> _PendingCall:
-        """Checks a call's options, and writes its request. A signal that is set is reported after type errors."""
+        """Checks a call's options, and builds the request. Type errors are reported before a signal that is already
+        set."""
         inner = _get_public_key(options)
         departs = not self._key.is_plain and isinstance(inner, Mapping)
         given = {"publicKey": adapt_options(ceremony, dict(inner), self._key)} if departs else options
@@ -163,7 +165,7 @@ class Browser:
         return _PendingCall(call, request, self._make_departures(ceremony, dict(inner), request) if departs else None)
 
     def _make_departures(self, ceremony: str, options: Json, request: Request) -> Departures:
-        """Returns what a call has outside the core."""
+        """Returns the features of a call that are outside the core."""
         is_discoverable = request.message.endswith(_DISCOVERABLE_END)
         made = Departures(self._key, self._key._metadata, ceremony, options, is_discoverable)
         if self._key.supports("largeBlob") and requires_blob(made.inputs) and not is_discoverable:
@@ -171,14 +173,14 @@ class Browser:
         return made
 
     def _complete(self, started: _PendingCall, made: Json) -> Json:
-        """Returns a credential's JSON with what it has outside the core."""
+        """Returns a credential's JSON, completed with the features outside the core."""
         if started.departures is not None:
             core_id = self._key.core_id(b64url_decode(made["id"]))
             started.departures.adapt(made, core_id, b"".join(public_point(self._key.private_keys[core_id])))
         return made
 
     def _without_protected(self, started: _PendingCall, options: Any, signal: Signal | None) -> _PendingCall:
-        """Returns a sign-in without the credentials whose protection policy (credProtect) excludes them."""
+        """Returns a sign-in without the credentials that their protection policies (credProtect) exclude."""
         if not self._key._metadata.extensions or started.request.is_verified:
             return started
         members = cbor.decode(started.request.message[1:])
@@ -256,7 +258,7 @@ class Browser:
             return self._serve(self._client, message, ending)
 
     def _serve(self, client: Client, message: bytes, ending: _Cancellation) -> bytes:
-        """Has the key serve a request: directly if possible, otherwise packet by packet."""
+        """Lets the key serve a request: directly if possible, otherwise packet by packet."""
         response = None if ending.is_over() else self._key.serve(client.channel, message, ending.limit)
         return client.transact(CBOR, message, ending.is_over) if response is None else response
 
@@ -283,7 +285,7 @@ class Browser:
     def _select_conditionally(
         self, started: _PendingCall, options: Any, account: Account, signal: Signal | None
     ) -> _PendingCall:
-        """Returns a call that allows only the credential of the selected account, for which it waits if needed."""
+        """Returns a call that allows only the credential of the selected account. Waits for the selection if needed."""
         is_automatic = self._key.autofill == "automatic"
         selected = account if is_automatic else self._wait_for_choice(signal)
         found = self._list_accounts(started)
@@ -318,7 +320,8 @@ class Browser:
 
 
 class _Cancellation:
-    """The reasons to cancel a ceremony: the page's signal, and its timeout by the key's clock."""
+    """The reasons to cancel a ceremony: the page's signal, and the timeout of the options, measured with the key's
+    clock."""
 
     __slots__ = ("_key", "_signal", "_timeout", "_begun")
 
@@ -328,7 +331,7 @@ class _Cancellation:
 
     @property
     def limit(self) -> int:
-        """Timestamp of the timeout."""
+        """The timestamp at which the request times out."""
         return self._begun + self._timeout
 
     def is_over(self) -> bool:
@@ -353,7 +356,7 @@ class _Cancellation:
 
 
 def _get_public_key(options: Any) -> Any:
-    """Returns the options, or their member publicKey if they have one: services send both."""
+    """Returns the options, or their member publicKey. Services send both forms."""
     return options.get("publicKey", options) if isinstance(options, Mapping) else options
 
 
@@ -371,7 +374,7 @@ def _read_number_of_credentials(response: bytes) -> int:
     try:
         number = cbor.decode(response[1:]).get(5, 1)
     except cbor.CborError:
-        return 1  # the library's client refuses the response
+        return 1  # the library's client rejects the response
     return number if isinstance(number, int) else 1
 
 
@@ -403,13 +406,13 @@ def _find_account(account: Account, found: list[Credential]) -> int:
 
 
 class _AnySignal:
-    """A signal that is set if one of two is."""
+    """A signal that is set if at least one of two signals is set."""
 
     def __init__(self, ended: threading.Event, signal: Optional[Signal]):
         self._ended, self._signal = ended, signal
 
     def is_set(self) -> bool:
-        """Returns whether one of the two is set."""
+        """Returns whether at least one of the two signals is set."""
         return self._ended.is_set() or (self._signal is not None and self._signal.is_set())
 
 

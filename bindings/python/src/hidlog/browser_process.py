@@ -1,4 +1,5 @@
-"""`hidlog browser --origin URL`: a browser and its key in one process, with JSON lines as input and output.
+"""The command `hidlog browser --origin URL`: a simulated browser with a key in one process. Input and output are JSON
+lines.
 
 For tests in any language. docs/use/WEBDRIVER.md describes the protocol, which `npx hidlog browser` also serves.
 """
@@ -53,7 +54,7 @@ def _check_choice(name: str, value: Any, words: Any) -> Any:
 
 
 def _make_error_response(text: str) -> str:
-    """Returns the response to a line that is not read."""
+    """Returns the response to a line that cannot be parsed."""
     return json.dumps({"error": "SyntaxError", "message": text})
 
 
@@ -68,13 +69,13 @@ def _check_object(name: str, value: Any) -> Json:
 
 
 class Process:
-    """A key and its browser, and the commands of the protocol."""
+    """A key, a browser, and the commands of the protocol."""
 
     def __init__(self, origin: str):
         self.key = SecurityKey()
         self.browser = self.key.browser(origin)
         host = urlsplit(origin).hostname or ""
-        # RP IDs by their hashes, which is all that the key has.
+        # RP IDs by their hashes, since the key stores only the hashes.
         self._rp_ids = {sha256(host.encode()).digest(): host}
         self._account: Any = 0
 
@@ -186,7 +187,7 @@ class Process:
         return self._describe_credential(made)
 
     def respond(self, line: bytes) -> str:
-        """Returns the response line to a line."""
+        """Runs the command of a line, and returns the response line."""
         if len(line) > MAX_LINE:
             return _make_error_response(f"the line has more than {MAX_LINE} bytes")
         try:
@@ -245,7 +246,7 @@ def main(args: list[str] | None = None) -> int:
 
 
 def _read_lines(file: BufferedReader) -> Iterator[bytes]:
-    """Yields the lines as they arrive. A line that is too long is cut, but stays too long."""
+    """Yields the lines as they arrive. A line that is too long is truncated, but is still longer than the maximum."""
     rest = b""
     while piece := file.read1(_READ_BYTES):
         first, *more = piece.split(b"\n")

@@ -1,4 +1,4 @@
-"""CTAP2 canonical CBOR (CTAP 2.1, section 8), as far as keys send and store it."""
+"""The subset of CTAP2 canonical CBOR (CTAP 2.1, section 8) that keys send and store."""
 
 from __future__ import annotations
 
@@ -14,11 +14,11 @@ _MAX_LEVELS = 16
 
 
 class CborError(ArgumentError):
-    """Bytes that are not CBOR, or a value that cannot be encoded."""
+    """The bytes are not valid CBOR, or the value cannot be encoded."""
 
 
 def encode_head(major: int, number: int) -> bytes:
-    """Returns the shortest head of a major type with its argument."""
+    """Returns the shortest head for a major type and an argument."""
     if number < 24:
         return bytes([major << 5 | number])
     for code, length in _LENGTHS.items():
@@ -101,7 +101,7 @@ def _find_encoder(value: Any) -> _Encoder:
 
 
 def decode(data: bytes) -> Any:
-    """Decodes one CBOR item, which must be all of the data."""
+    """Decodes data that must be exactly one CBOR item."""
     item = check_bytes("CBOR", data)
     value, at = _read_item(item, 0, 0)
     if at != len(item):
@@ -110,7 +110,7 @@ def decode(data: bytes) -> Any:
 
 
 def decode_first(data: bytes) -> tuple[Any, bytes]:
-    """Decodes the first CBOR item. Returns its value, and the bytes after it."""
+    """Decodes the first CBOR item. Returns the item's value, and the bytes after the item."""
     item = check_bytes("CBOR", data)
     value, at = _read_item(item, 0, 0)
     return value, item[at:]

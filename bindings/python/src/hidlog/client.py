@@ -1,4 +1,4 @@
-"""A client of any key: messages over packets, and CTAP2 requests. It has no dependencies."""
+"""A CTAPHID client for any key: sends messages in packets, and CTAP2 requests. Has no dependencies."""
 
 from __future__ import annotations
 
@@ -26,7 +26,8 @@ class Connection(Protocol):
 
 
 class Client:
-    """A client with its own channel. Threads may share one, or use one each: requests wait for each other."""
+    """A client with its own channel. Threads may share a client, or each use one. In both cases only one request is in
+    progress at a time."""
 
     def __init__(self, connection: Connection):
         for name in ("write_packet", "read_packet"):
@@ -36,11 +37,11 @@ class Client:
                 )
         self._connection = connection
         own = threading.RLock()
-        # A key has one exchange at a time, among all clients.
+        # A key serves one message at a time, among all clients.
         self._exclusive: Callable[[], AbstractContextManager[Any]] = getattr(connection, "exchange", lambda: own)
-        # This package's keys report the cause of a refusal, others do not.
+        # Only keys of this package report the cause of a rejection.
         self._cause: Callable[[int], str] = getattr(connection, "cause", lambda _: "")
-        # A fixed nonce, so that a recording can be played back to the client.
+        # The nonce is constant, so that a recording can be played back to the client.
         nonce = sha256(b"hidlog").digest()[:8]
         response = self.transact(packets.INIT, nonce, channel=packets.BROADCAST)
         if response[:8] != nonce or len(response) < _INIT_BYTES:

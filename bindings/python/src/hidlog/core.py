@@ -1,7 +1,8 @@
-"""Bindings of the C library (release/hidlog.h): the commands on logs, and a key in memory. No other module calls it.
+"""Bindings to the C library (release/hidlog.h): the commands on logs, and a key in memory. No other module calls the
+library.
 
-The library is part of the package; a clone has it as release/libhidlog.so.1. The variable HIDLOG_LIBRARY names another:
-libhidlog-256.so.1 has the same functions, and its keys hold 256 credentials instead of 64.
+The library is part of the package; a clone has release/libhidlog.so.1. The environment variable HIDLOG_LIBRARY selects
+another library: libhidlog-256.so.1 has the same functions, and its keys can store 256 credentials instead of 64.
 """
 
 from __future__ import annotations
@@ -15,7 +16,8 @@ from typing import Any
 
 from .errors import ArgumentError, HidlogError, KeyClosedError, MissingDependencyError, SnapshotError
 
-# By system; the wheel for Windows, and those that are built elsewhere, have the portable library.
+# File name of the library by system. The wheel for Windows, and wheels that are built on other systems, have the
+# portable library.
 _LIBRARY_NAME = {"win32": "hidlog.dll", "darwin": "libhidlog.dylib"}.get(sys.platform, "libhidlog.so.1")
 _ERROR_TEXTS = {
     -1: "the key is not initialized",
@@ -34,7 +36,7 @@ _SNAPSHOT_ERRORS = (-17, -18, -19)
 _PRESENCE = {"granted": 0, "denied": 1, "timeout": 2}
 # HIDLOG_KEY_ERR_DUPLICATE_USER and HIDLOG_KEY_ERR_FULL.
 _FULL_ERRORS = (-8, -18)
-# The totals in a log's last line, by their names there, as members of struct hidlog_stats.
+# Members of struct hidlog_stats by the names of the totals in a log's last line.
 _STATS_FIELDS = {
     "held": "peak_message_bytes",
     "rows": "peak_credentials",
@@ -43,16 +45,16 @@ _STATS_FIELDS = {
     "bytes": "bytes",
     "steps": "steps",
 }
-# HIDLOG_CAPACITY of libraries without hidlog_key_capacity.
+# Capacity of a library without the function hidlog_key_capacity.
 _DEFAULT_CAPACITY = 64
 # enum hidlog_need_kind.
 _NEED_NAMES = ("nothing", "presence", "key", "signature")
 _NEED_SIGNATURE = 3
-# `which` of hidlog_key_cause: the last input, not what timed out before it. No sentence is longer than _MAX_SENTENCE.
+# Argument `which` of hidlog_key_cause for the last input, and maximum length of a sentence.
 _CAUSE_OF_INPUT = 1
 _MAX_SENTENCE = 160
-# hidlog_key_replay_lines writes at most 18,000 bytes for a line, 17,000 of them for a response. Inputs are passed in
-# batches of at most MAX_LINES, of which one has a response.
+# hidlog_key_replay_lines writes at most 18,000 bytes for a line, of which 17,000 are for a response. Inputs are passed
+# in batches of at most MAX_LINES, in which only one input gets a response.
 _MAX_TEXT_BYTES = 36_000
 _Text = ctypes.c_char * _MAX_TEXT_BYTES
 
@@ -156,7 +158,7 @@ def load_library() -> ctypes.CDLL:
 
 @lru_cache(maxsize=None)
 def capacity() -> int:
-    """Returns how many credentials a key of the library can hold."""
+    """Returns the number of credentials that a key of the library can store."""
     function = getattr(load_library(), "hidlog_key_capacity", None)
     if function is None:
         return _DEFAULT_CAPACITY
@@ -186,7 +188,7 @@ def show(log: bytes, explain: bool, capacity: int) -> tuple[Result, bytes]:
 
 
 def transactions(log: bytes, capacity: int) -> tuple[Result, bytes]:
-    """Returns the result and the text of hidlog_transactions: which transaction each line belongs to."""
+    """Returns the result and the text of hidlog_transactions, which assigns lines to transactions."""
     out, result, size = ctypes.create_string_buffer(capacity), Result(), ctypes.c_size_t
     load_library().hidlog_transactions(log, size(len(log)), out, size(capacity), ctypes.byref(result))
     return result, ctypes.string_at(out, result.written)
@@ -231,7 +233,7 @@ _NO_FUNCTIONS: dict[int, int] = {}
 
 @lru_cache(maxsize=None)
 def _key_functions() -> dict[str, Any] | None:
-    """Returns the functions of a key in memory, or None if the library lacks one."""
+    """Returns the functions of a key in memory, or None if one is missing in the library."""
     if not hasattr(load_library(), "hidlog_key_size"):
         return None
     found = {}
@@ -250,7 +252,7 @@ def supports_in_process() -> bool:
 
 
 class Handle:
-    """A struct hidlog_key and its memory. Calls that return an error raise it."""
+    """A struct hidlog_key and its memory. If a call returns an error, an exception is raised."""
 
     def __init__(self, snapshot: bytes):
         functions = _key_functions()
@@ -268,7 +270,7 @@ class Handle:
         self.call("init", bytes(16), 0, snapshot, len(snapshot))
 
     def call(self, name: str, *words: Any) -> int:
-        """Calls hidlog_key_{name} and returns its result. Checks the length of each buffer first."""
+        """Checks the length of each buffer, calls hidlog_key_{name}, and returns the result."""
         for place, length in _BUFFERS.get(name, _NO_FUNCTIONS).items():
             wanted = words[place + 1] if length == _LENGTH_FOLLOWS else length
             if len(words[place]) != wanted:
@@ -308,7 +310,8 @@ class Handle:
         return _NEED_NAMES[kind], bytes(need.id), bytes(need.to_sign)[: need.to_sign_len]
 
     def cause(self, status: int | None) -> str:
-        """Returns the reason for the last refusal, or "" if the last input was not refused, or not with this status."""
+        """Returns the cause of the last rejection, or "" if the last input was not rejected, or was rejected with
+        another status."""
         cause, text = _Cause(), ctypes.create_string_buffer(_MAX_SENTENCE)
         length = self.call("cause", _CAUSE_OF_INPUT, ctypes.byref(cause), text, _MAX_SENTENCE)
         return text.raw[:length].decode() if status in (None, cause.status) else ""
@@ -324,8 +327,8 @@ class Handle:
         return [self.credential(place) for place in range(self.call("credential_count"))]
 
     def put(self, credential: CCredential) -> bool:
-        """Appends a credential, and removes an earlier one with the same ID. Returns False if another discoverable
-        credential has the same relying party and user, or the key is full."""
+        """Appends a credential, and removes an earlier credential with the same ID. Returns False if another
+        discoverable credential has the same relying party and user, or the key is full."""
         words = self._pointer, 0, ctypes.byref(credential)
         code: int = self._functions["add_credential"](*words)
         if code < 0 and code not in _FULL_ERRORS:
@@ -351,8 +354,8 @@ class Handle:
         return ("= " + " ".join(f"{name} {count}" for name, count in self.stats().items()) + "\n").encode()
 
     def lines(self, lines: bytes) -> tuple[Result, bytes]:
-        """Plays log lines, at most one of which gets a response. Returns the result and the output of `hidlog live` for
-        them."""
+        """Passes log lines to the key, of which at most one gets a response. Returns the result and the output of
+        `hidlog live` for the lines."""
         out, result = _Text(), Result()
         self.call("replay_lines", lines, len(lines), out, _MAX_TEXT_BYTES, ctypes.byref(result))
         return result, ctypes.string_at(out, result.written)

@@ -11,7 +11,7 @@ if TYPE_CHECKING:
 
 CORE_ID = 32
 MAX_ID = 1023
-# A longer unknown ID is sent to the core as its hash, so that 64 of them fit into a message.
+# Maximum length of an unknown ID in a request. A longer ID is replaced by its hash, so that 64 IDs fit into a message.
 _MAX_SENT = 64
 # Flags of authenticator data (WebAuthn Level 3, section 6.1).
 UV, BE, BS = 0x04, 0x08, 0x10
@@ -19,7 +19,7 @@ _NAMES = {UV: "UV", BE: "BE", BS: "BS"}
 
 
 class Backup(NamedTuple):
-    """Whether a credential may be backed up (flag BE), and whether it is (flag BS)."""
+    """Whether a credential may be backed up (flag BE), and whether it is backed up (flag BS)."""
 
     eligibility: bool = False
     state: bool = False
@@ -34,7 +34,7 @@ _NO_BACKUP = Backup()
 
 
 class CredentialMetadata:
-    """What the core doesn't store, by its credential ID.
+    """Data of credentials that the core does not store, by the core's credential ID.
 
     others      private keys of other algorithms than the core's ES256.
     extensions  what a credential keeps of its extensions (key_extensions.py).
@@ -54,16 +54,16 @@ class CredentialMetadata:
 
     @property
     def has_page_ids(self) -> bool:
-        """Whether any credential has an ID for pages that differs from the core's."""
+        """Whether any credential has an ID for pages that differs from the ID in the core."""
         return bool(self._pages)
 
     def name(self, core_id: bytes, page_id: bytes) -> None:
-        """Sets the ID for pages of a core credential."""
+        """Sets the ID that pages see for a credential of the core."""
         if core_id != page_id:
             self._pages[core_id], self._cores[page_id] = page_id, core_id
 
     def page_id(self, core_id: bytes) -> bytes:
-        """Returns the ID for pages."""
+        """Returns the ID that pages see."""
         return self._pages.get(core_id, core_id)
 
     def core_id(self, page_id: bytes) -> bytes:

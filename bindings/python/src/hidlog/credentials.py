@@ -1,4 +1,4 @@
-"""The credentials of a key, and snapshots of them."""
+"""The credentials of a key, and snapshots of credentials."""
 
 from __future__ import annotations
 
@@ -36,11 +36,11 @@ class Credential:
     public_key_x, public_key_y   coordinates of the public key on P-256, 32 bytes each.
     user_id        user handle, up to 64 bytes.
     user_name      user name, up to 64 bytes of UTF-8.
-    discoverable   whether a sign-in without an allow list finds it.
+    discoverable   whether a sign-in without an allow list finds the credential.
     sign_count     signature counter.
-    backup_eligibility, backup_state   the flags BE and BS in what a browser returns for it.
+    backup_eligibility, backup_state   the flags BE and BS in a browser's responses for the credential.
     algorithm      COSE algorithm of the public key for pages: ES256 (-7), EdDSA (-8) or RS256 (-257).
-    large_blob     its large blob, or None if it has none.
+    large_blob     the large blob, or None.
     """
 
     rp_id_hash: bytes
@@ -88,7 +88,7 @@ class Credential:
         return made
 
     def belongs_to(self, rp_id: str) -> bool:
-        """Returns whether it belongs to the relying party with this ID."""
+        """Returns whether the credential belongs to the relying party with this ID."""
         return self.rp_id_hash == rp_hash(rp_id)
 
 
@@ -133,7 +133,7 @@ def read_snapshot(data: bytes) -> list[Credential]:
 
 
 def _check_map(name: str, value: Any, members: Iterable[int]) -> dict[int, Any]:
-    """Returns the value, which must be a CBOR map with these members."""
+    """Returns a value that must be a CBOR map with these members."""
     if not isinstance(value, dict):
         raise ArgumentError(f"{name} is not a CBOR map")
     for member in members:
@@ -167,7 +167,7 @@ def _alone(call: _Call) -> _Call:
 
 
 class _CredentialHolder(Protocol):
-    """What Credentials needs from its key."""
+    """The interface of a key that Credentials needs."""
 
     private_keys: dict[bytes, private_keys.PrivateKey]
 
@@ -188,19 +188,20 @@ class _CredentialHolder(Protocol):
 
     @property
     def capacity(self) -> int:
-        """Number of credentials the key can hold."""
+        """Number of credentials that the key can store."""
 
     def snapshot(self) -> bytes:
         """Returns a snapshot of the credentials."""
 
     def _update_in_process(self, change: Callable[[InProcessKey], bool]) -> bool:
-        """Changes the credentials of a key in this process. Returns False, with nothing changed, if it can't."""
+        """Changes the credentials of a key in this process. If this is not possible, returns False and changes
+        nothing."""
 
     def _count(self) -> int:
         """Returns the number of credentials."""
 
     def ceremony(self) -> AbstractContextManager[Any]:
-        """Returns a lock for a whole registration or sign-in."""
+        """Returns a lock that is held for a whole registration or sign-in."""
 
     def _load_snapshot(self, snapshot: bytes) -> None:
         """Replaces the credentials by a snapshot's."""
@@ -212,8 +213,8 @@ class _CredentialHolder(Protocol):
 class Credentials(Sequence[Credential]):
     """The credentials of a key, newest last.
 
-    Each change starts a new session: what follows is recorded in a log of its own, whose snapshot has the credentials.
-    The clock and the clients' channels stay.
+    Each change starts a new session, which is recorded in a separate log with a snapshot of the credentials. The clock
+    and the clients' channels are kept.
     """
 
     def __init__(self, key: _CredentialHolder):
@@ -231,7 +232,7 @@ class Credentials(Sequence[Credential]):
         return [self._describe(held) for held in self._key._held()]
 
     def _describe(self, held: Credential) -> Credential:
-        """Returns the core's credential with its ID for pages and its backup flags."""
+        """Returns a credential of the core with the ID that pages see and the backup flags."""
         metadata = self._key._metadata
         backup, name = metadata.backup(held.id), metadata.page_id(held.id)
         other, kept = metadata.others.get(held.id), metadata.extensions.get(held.id, {})
@@ -247,12 +248,12 @@ class Credentials(Sequence[Credential]):
         )
 
     def _with_core_id(self, shown: Credential) -> Credential:
-        """Returns a credential with the core's ID."""
+        """Returns a credential with the ID in the core."""
         core = self._key._metadata.core_id(shown.id)
         return shown if core is shown.id else replace(shown, id=core)
 
     def _take(self, listed: Sequence[Credential]) -> None:
-        """Replaces the credentials, and drops the private keys and metadata of removed ones."""
+        """Replaces the credentials, and drops the private keys and metadata of removed credentials."""
         before = [credential.id for credential in self._key._held()]
         rows = [self._with_core_id(credential) for credential in listed]
         self._key._load_snapshot(write_snapshot(rows))
@@ -269,7 +270,7 @@ class Credentials(Sequence[Credential]):
         self._key._metadata.forget(core_id)
 
     def _replace(self, held: Credential, changed: Credential) -> None:
-        """Replaces a core credential by one with the same ID, relying party and user."""
+        """Replaces a credential of the core by a credential with the same ID, relying party and user."""
         if not self._key._update_in_process(lambda key: key.replace_last(changed)):
             before, _, after = self._key.snapshot().partition(_encode_row(held))
             self._key._load_snapshot(before + _encode_row(changed) + after)
@@ -329,8 +330,9 @@ class Credentials(Sequence[Credential]):
         """Adds a credential, with a new key pair unless a private key is given.
 
         A private key is PEM (bytes or str), PKCS #8 in DER, or cryptography's, of one of the key's algorithms. A
-        credential ID has 1 to 1023 bytes; the core has another one if its length isn't 32. A discoverable credential
-        replaces the one with the same relying party and user. A large blob needs the extension largeBlob.
+        credential ID has 1 to 1023 bytes; if it does not have 32, the core uses another ID. A discoverable credential
+        replaces the discoverable credential with the same relying party and user. A large blob needs the extension
+        largeBlob.
         """
         private, other = self._read_private_key(private_key)
         extensions = self._read_extensions(large_blob, discoverable)
@@ -365,7 +367,7 @@ class Credentials(Sequence[Credential]):
         return made
 
     def _read_private_key(self, value: Any) -> tuple[private_keys.PrivateKey, algorithms.OtherKey | None]:
-        """Returns the core's private key, and the credential's if it is of another algorithm."""
+        """Returns the core's private key, and the credential's private key if the algorithm is not ES256."""
         if value is None:
             return private_keys.make_private_key(self._key._random_bytes), None
         private = algorithms.load_any_key(value)
@@ -378,7 +380,7 @@ class Credentials(Sequence[Credential]):
         return private_keys.make_private_key(self._key._random_bytes), private
 
     def _read_extensions(self, large_blob: bytes | None, discoverable: bool) -> dict[str, Any]:
-        """Returns what an added credential keeps of its extensions."""
+        """Returns the extension data of an added credential."""
         kept: dict[str, Any] = {"prf": True} if self._key.supports("prf") else {}
         if large_blob is not None:
             if not self._key.supports("largeBlob") or not discoverable:
@@ -387,12 +389,12 @@ class Credentials(Sequence[Credential]):
         return kept
 
     def _put(self, made: Credential) -> bool:
-        """Appends a credential in the core. Returns False if its ID exists, it would replace another credential, or the
-        key is in a separate process."""
+        """Appends a credential in the core. Returns False if the ID exists, if the credential would replace another
+        one, or if the key is in a separate process."""
         return self._key._find(made.id) is None and self._key._update_in_process(lambda key: key.put(made))
 
     def _list_after_adding(self, made: Credential) -> list[Credential]:
-        """Returns the credentials that remain when this one is added."""
+        """Returns the credentials that remain after this credential is added."""
         listed = self._snapshot_list()
         if any(credential.id == made.id for credential in listed):
             raise ArgumentError(f"the key already has a credential with ID {made.id.hex()}")

@@ -1,4 +1,4 @@
-"""Changes to what the core responds: other authenticator data, another attestation statement or another signature."""
+"""Changes the core's responses: the authenticator data, the attestation statement or the signature."""
 
 from __future__ import annotations
 
@@ -8,7 +8,7 @@ from . import cbor
 
 
 class Change(NamedTuple):
-    """A change to the next response with some authenticator data.
+    """A change to the next response with authenticator data.
 
     original, data   the core's authenticator data, and what replaces it.
     is_fault         whether a fault changed it.
@@ -23,7 +23,8 @@ class Change(NamedTuple):
     signature: Optional[bytes] = None
 
     def apply(self, response: bytes) -> bytes:
-        """Returns a response with authenticator data, changed. Its members are those of CTAP 2.1, sections 6.1, 6.2."""
+        """Applies a change to a response with authenticator data. The members are those of CTAP 2.1, sections 6.1 and
+        6.2."""
         if not self.statement and not self.signature and len(self.data) == len(self.original):
             return response.replace(self.original, self.data, 1)
         members: dict[int, Any] = {**cbor.decode(response[1:]), 2: self.data}

@@ -1,7 +1,7 @@
-"""What a key does outside the core in one registration or sign-in: flags, AAGUID and attestation, keys of other
-algorithms, and extensions. The core's recording stays as it is, with a comment for each.
+"""The features of a key that are added outside the core to a registration or sign-in: flags, AAGUID, attestation, keys
+of other algorithms, and extensions. The core's recording is not changed, except for a comment on each feature.
 
-bindings/web/key/departures.js is the same for pages.
+bindings/web/key/departures.js does the same for pages.
 """
 
 from __future__ import annotations
@@ -34,7 +34,7 @@ _PUBLIC_KEY = "public-key"
 
 
 class Completed(NamedTuple):
-    """What replaces the core's attestation statement or signature, if anything."""
+    """The replacement for the core's attestation statement or signature, if any."""
 
     statement: Optional[tuple[str, dict[str, Any]]] = None
     signature: Optional[bytes] = None
@@ -52,7 +52,7 @@ def select_algorithm(parameters: Any, algorithms: tuple[int, ...]) -> int:
 
 
 def adapt_options(ceremony: str, options: Json, settings: AuthenticatorSettings) -> Json:
-    """Returns options for the library's client and the core, which have neither other algorithms nor extensions."""
+    """Returns options for the library's client and the core, which support neither other algorithms nor extensions."""
     made = dict(options)
     if isinstance(options.get("extensions"), Mapping):
         made["extensions"] = key_extensions.drop_required(dict(options["extensions"]), settings)
@@ -63,7 +63,8 @@ def adapt_options(ceremony: str, options: Json, settings: AuthenticatorSettings)
 
 
 class Departures:
-    """What one request has outside the core. Without a ceremony: a request of another client than the browser."""
+    """The features of one request that are outside the core. Without a ceremony, the request is not from the
+    browser."""
 
     def __init__(
         self,
@@ -84,10 +85,10 @@ class Departures:
             self._format, self._aaguid = self._select_attestation(given.get("attestation"))
 
     def _select_attestation(self, requested: Any) -> tuple[str, bytes]:
-        """Returns the attestation that a page gets, and its AAGUID.
+        """Returns the attestation that a page gets, and the AAGUID.
 
-        As in Chromium, one that the page doesn't request is replaced by none, and the AAGUID is cleared unless it is of
-        a platform authenticator (WebAuthn Level 3, section 5.1.3, step 22).
+        As in Chromium, an attestation that the page does not request is replaced by "none", and the AAGUID is cleared
+        unless the key is a platform authenticator (WebAuthn Level 3, section 5.1.3, step 22).
         """
         chosen, aaguid = self._settings.attestation, self._settings.aaguid.bytes
         if chosen != "basic" or requested in _REQUESTING:
@@ -95,7 +96,7 @@ class Departures:
         return "none", aaguid if self._settings.attachment == "platform" else bytes(16)
 
     def add(self, core_id: bytes, random: Callable[[int], bytes]) -> None:
-        """Stores what a new credential has outside the core."""
+        """Stores the data of a new credential that is outside the core."""
         if self.algorithm != ES256:
             self._metadata.others[core_id] = make_other_key(self.algorithm, random)
         if self._ceremony == "create":
@@ -104,7 +105,7 @@ class Departures:
                 self._metadata.extensions[core_id] = kept
 
     def alter(self, core_id: bytes, original: bytes) -> tuple[bytes, list[str]]:
-        """Changes authenticator data of the core. Returns it with a description of each change."""
+        """Changes authenticator data of the core. Returns the changed data with a description of each change."""
         flags = UV * self.is_verified | self._metadata.backup(core_id).flags
         comments = [f"flags {flag_names(flags)}, and the signature over them"] if flags else []
         if not self._ceremony and core_id not in self._metadata.others:
@@ -137,7 +138,8 @@ class Departures:
         return data[:_AAGUID] + self._aaguid + data[_LENGTH:end] + cose
 
     def complete(self, core_id: bytes, signed: bytes, is_bad: bool, random: Callable[[int], bytes]) -> Completed:
-        """Returns the attestation statement of a registration, or the signature of a sign-in, if not the core's.
+        """Returns the attestation statement of a registration, or the signature of a sign-in, if it replaces the
+        core's.
 
         is_bad   sign with another private key.
         """

@@ -1,7 +1,7 @@
 """A key as python-fido2's CtapDevice.
 
-Tested with version 0.9. For 1.x and 2.x it follows the documented interface of fido2.ctap.CtapDevice (`call`,
-`capabilities`, `close`, `list_devices`), and is untested.
+Tested with version 0.9. For versions 1.x and 2.x, the class follows the documented interface of fido2.ctap.CtapDevice
+(`call`, `capabilities`, `close`, `list_devices`), but is not tested.
 """
 
 from __future__ import annotations
@@ -22,7 +22,7 @@ except ImportError as missing:
 
 
 class DeviceError(CtapError, FidoError):
-    """A transport error of a key, as an exception of python-fido2 and of this package."""
+    """A transport error of a key, which is an exception of python-fido2 and of this package."""
 
     def __init__(self, status: int, cause: str = ""):
         FidoError.__init__(self, status)
@@ -56,7 +56,7 @@ class KeyDevice(CtapDevice):
     def call(
         self, cmd: int, data: bytes = b"", event: Any = None, on_keepalive: Callable[[int], None] | None = None
     ) -> bytes:
-        """Sends a command, and returns the response. Setting the event cancels it."""
+        """Sends a command, and returns the response. Setting the event cancels the request."""
 
         def seen(status: int) -> None:
             if on_keepalive:
@@ -68,9 +68,9 @@ class KeyDevice(CtapDevice):
             raise DeviceError(error.status, error.cause) from None
 
     def close(self) -> None:
-        """Does nothing: others may use the key."""
+        """Does nothing, since other clients may use the key."""
 
     @classmethod
     def list_devices(cls) -> Iterator[KeyDevice]:
-        """Yields nothing: keys are created by tests."""
+        """Yields nothing, since tests create the keys."""
         return iter(())

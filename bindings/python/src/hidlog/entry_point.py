@@ -1,6 +1,6 @@
-"""The entry point of every command. A failure prints one line on standard error, and exits with a status of its own.
+"""The entry point of every command. On a failure, prints one line to standard error.
 
-The status is 1 for a finding (a mismatch, a violation), 2 for a usage error or a failure, 130 for SIGINT, 143 for
+The exit status is 1 for a finding (a mismatch, a violation), 2 for a usage error or a failure, 130 for SIGINT, 143 for
 SIGTERM, and 129 for SIGHUP. If standard output cannot be written, the message is that of the program `hidlog`.
 """
 
@@ -43,8 +43,8 @@ class StoppedError(BaseException):
 
 
 class _Output(io.RawIOBase):
-    """Standard output or standard error. After the first failure, which raises on standard output, writes do
-    nothing."""
+    """A stream to standard output or standard error. The first failure raises an exception on standard output. After a
+    failure, writes do nothing."""
 
     def __init__(self, number: int):
         self._number = number
@@ -71,9 +71,9 @@ class _Output(io.RawIOBase):
 
 
 def _open_closed_descriptors() -> None:
-    """Opens /dev/null at each closed descriptor of 0 to 2, in a direction in which it can't be used.
+    """Opens /dev/null at each closed descriptor from 0 to 2, in the direction in which using it fails.
 
-    Otherwise the next file opened would become standard input, output or error."""
+    Otherwise the next opened file would become standard input, output or error."""
     for number, flags in enumerate((os.O_WRONLY, os.O_RDONLY, os.O_RDONLY)):
         try:
             os.fstat(number)
@@ -107,12 +107,12 @@ def _raise_stopped(number: int, _: object) -> None:
 
 
 def _ignore_second_signal(_number: int, _frame: object) -> None:
-    """Ignores the second signal, because `timeout` sends each one twice. A third one ends the process at once."""
+    """Ignores the second signal, because `timeout` sends each signal twice. A third signal ends the process at once."""
     _handle_signals(_ignore_second_signal, signal.SIG_DFL)
 
 
 def _catch_signals() -> None:
-    """Makes signals raise StoppedError, except ignored ones, as under nohup."""
+    """Lets signals raise StoppedError, except signals that are ignored, as under nohup."""
     if threading.current_thread() is not threading.main_thread():
         return
     for number, before in _DEFAULT_HANDLERS.items():
@@ -121,7 +121,7 @@ def _catch_signals() -> None:
 
 
 def _handle_signals(before: Any, handler: Any = None) -> None:
-    """Replaces a handler by another one, by default by the handler before the command."""
+    """Replaces a signal handler [default: by the handler before the command]."""
     for number, first in _DEFAULT_HANDLERS.items():
         if signal.getsignal(number) is before:
             with suppress(OSError):
@@ -129,7 +129,7 @@ def _handle_signals(before: Any, handler: Any = None) -> None:
 
 
 def restore_signals() -> None:
-    """Restores the signal handling of the program: Python ignores SIGXFSZ. Both ignore SIGPIPE."""
+    """Restores the signal handling that the program expects, since Python ignores SIGXFSZ. Both ignore SIGPIPE."""
     _handle_signals(_raise_stopped, signal.SIG_DFL)
     if hasattr(signal, "SIGXFSZ"):
         signal.signal(signal.SIGXFSZ, signal.SIG_DFL)
@@ -195,7 +195,7 @@ def _run(name: str, command: Callable[[], int]) -> int:
 
 
 def _flush() -> None:
-    """Flushes what a command printed before it failed, if possible."""
+    """Flushes the output of a command that failed, if possible."""
     with suppress(OutputError, OSError):
         if sys.stdout is not None:
             sys.stdout.flush()
@@ -226,5 +226,5 @@ def _run_and_flush(command: Callable[[], int]) -> int:
     sys.stdout.flush()
     raw = getattr(getattr(sys.stdout, "buffer", None), "raw", None)
     if not status and isinstance(raw, _Output) and raw.has_failed:
-        raise OutputError  # the command took it for another error
+        raise OutputError  # the command raised another error because of the signal
     return status

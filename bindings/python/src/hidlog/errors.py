@@ -1,4 +1,4 @@
-"""The exceptions of the package. Every one of them is a HidlogError."""
+"""The exceptions of the package, which are all subclasses of HidlogError."""
 
 from __future__ import annotations
 
@@ -16,7 +16,7 @@ _SHORT_REPR.maxstring = _SHORT_REPR.maxother = 100
 
 
 class HidlogError(Exception):
-    """Any error of this package."""
+    """The base class of all errors of this package."""
 
     def __init__(self, text: str = ""):
         super().__init__(text if len(text) <= _MAX_TEXT else f"{text[:_MAX_TEXT]} ..")
@@ -31,7 +31,7 @@ def describe(value: object) -> str:
 
 
 class ArgumentError(HidlogError, ValueError):
-    """An invalid argument. The message says what is allowed."""
+    """An invalid argument. The message has the allowed values."""
 
 
 class ArgumentTypeError(ArgumentError, TypeError):
@@ -43,7 +43,7 @@ class UnknownNameError(ArgumentError, AttributeError):
 
 
 class LogError(HidlogError):
-    """An error in a log, as the commands on logs report it."""
+    """An error in a log, as reported by the commands on logs."""
 
 
 class SnapshotError(HidlogError):
@@ -51,7 +51,7 @@ class SnapshotError(HidlogError):
 
 
 class MissingDependencyError(HidlogError):
-    """A program, library or package is missing. The message says how to install it."""
+    """A program, library or package is missing. The message explains how to install it."""
 
 
 class KeyClosedError(HidlogError):
@@ -63,7 +63,7 @@ class KeyForkedError(KeyClosedError):
 
 
 class KeyBusyError(HidlogError):
-    """The call is not possible while a request is in progress."""
+    """The call is not possible, since a request is in progress."""
 
 
 class KeyTimeoutError(HidlogError, TimeoutError):
@@ -82,7 +82,7 @@ class CtapError(HidlogError):
     """A CTAP status other than CTAP2_OK, or the code of a CTAPHID ERROR.
 
     status   the code (CTAP 2.1, section 8.2).
-    name     its name without prefix, such as NO_CREDENTIALS.
+    name     name of the code without prefix, such as NO_CREDENTIALS.
     cause    the reason as text, such as "the user refused"; empty if unknown, as for other keys and injected faults.
     """
 
@@ -121,7 +121,7 @@ def status_code(status: int | str) -> int:
 
 
 def check_choice(name: str, value: object, allowed: Iterable[object]) -> None:
-    """Raises ArgumentError unless the value is one of the allowed ones."""
+    """Raises ArgumentError unless the value is an allowed value."""
     values = list(allowed)
     if not any(value is choice or (type(value) is type(choice) and value == choice) for choice in values):
         raise ArgumentError(
@@ -130,7 +130,7 @@ def check_choice(name: str, value: object, allowed: Iterable[object]) -> None:
 
 
 def check_bytes(name: str, value: object, length: int | None = None) -> bytes:
-    """Returns a bytes-like value as bytes, and checks its length if one is given."""
+    """Returns a bytes-like value as bytes. Checks the length if `length` is set."""
     if type(value) is not bytes and not isinstance(value, (bytes, bytearray, memoryview)):
         raise ArgumentTypeError(f"{name} must be bytes, bytearray or memoryview, not {type(value).__name__}")
     data = bytes(value)

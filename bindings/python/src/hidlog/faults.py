@@ -4,7 +4,8 @@
     ...
     key.faults.clear()
 
-Each fault that takes effect is a comment in the log. The log has what the core sent, so it replays without the faults.
+For each fault that takes effect, the log has a comment. The packets in the log are those of the core, so the log passes
+`hidlog check`.
 """
 
 from __future__ import annotations
@@ -29,11 +30,11 @@ class Faults:
     """The faults of a key, all off by default.
 
     status            a status, as number or name: the response to every request.
-    delay             milliseconds before a request is signed, with KEEPALIVEs.
+    delay             milliseconds before the signature is provided, during which the key sends KEEPALIVEs.
     truncate_by       number of bytes removed from the end of every response.
     bad_signature     sign with a different private key.
-    stale_sign_count  repeat the signature sign_count of the last response.
-    wrong_rp_id       an RP ID: authenticator data is for that relying party.
+    stale_sign_count  repeat the signature counter of the last response.
+    wrong_rp_id       an RP ID whose hash replaces the one in the authenticator data.
     """
 
     status: int | str | None
@@ -54,7 +55,7 @@ class Faults:
 
     @property
     def active(self) -> dict[str, Any]:
-        """The faults that are on, by name."""
+        """The faults that are switched on, by name."""
         return {name: getattr(self, name) for name, off in _FAULTS_OFF.items() if getattr(self, name) != off}
 
     def __setattr__(self, name: str, value: Any) -> None:
@@ -75,7 +76,7 @@ class Faults:
         object.__setattr__(self, name, value)
 
     def alter_data(self, credential: bytes, data: bytes) -> bytes:
-        """Returns authenticator data as changed by the faults."""
+        """Returns authenticator data with the faults applied."""
         altered = data
         if self.wrong_rp_id is not None:
             altered = sha256(self.wrong_rp_id.encode()).digest() + altered[32:]
@@ -87,7 +88,7 @@ class Faults:
         return altered
 
     def alter_response(self, data: bytes) -> tuple[bytes, list[str]]:
-        """Returns a response as changed by the faults, and a description of each change."""
+        """Returns a response with the faults applied, and a description of each change."""
         done = []
         if self.truncate_by:
             data = data[: max(1, len(data) - self.truncate_by)]

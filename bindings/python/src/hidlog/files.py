@@ -1,4 +1,4 @@
-"""Files that are read as a whole and written atomically: if a write fails or is killed, the older file stays."""
+"""Reads whole files, and writes files atomically: if a write fails or is killed, the older file is kept."""
 
 from __future__ import annotations
 
@@ -18,15 +18,15 @@ from .errors import ArgumentError
 _PRIVATE, _OF_UMASK = 0o600, 0o666
 # File names have at most 255 bytes, and characters at most 4.
 _MAX_NAME_BYTES = 40
-# How often, and after how many seconds each, to look for a writer of a named pipe before giving up.
+# Number of attempts to find a writer of a named pipe, and seconds between them.
 _TRIES, _PAUSE = 50, 0.1
 _READ_BYTES = 1 << 16
-# Flags for os.open that only some systems have: Windows has the last one alone.
+# Flags for os.open that only some systems have. Windows has only the last one.
 _READ_FLAGS, _WRITE_FLAGS = (
     sum(getattr(os, name, 0) for name in names)
     for names in (("O_NONBLOCK", "O_CLOEXEC", "O_BINARY"), ("O_CLOEXEC", "O_BINARY"))
 )
-# A file as named on a command line: "-" is standard input.
+# A file name from the command line; "-" is standard input.
 Named = Union[str, "os.PathLike[str]"]
 
 
@@ -36,7 +36,7 @@ def display_name(path: Named) -> str:
 
 
 class _BlockingInput(io.FileIO):
-    """A file whose reads raise if they would block, where `FileIO` returns less than requested.
+    """A file whose reads raise an error if they would block, whereas `FileIO` returns less than requested.
 
     front   bytes of the file that were already read.
     """
@@ -84,7 +84,7 @@ def open_input(path: Named) -> io.BufferedReader:
 
 
 def _read_pipe_front(number: int, path: Named) -> bytes:
-    """Returns the first bytes of a pipe, as soon as a program has opened it for writing."""
+    """Returns the first bytes of a pipe, after a program has opened the pipe for writing."""
     for _ in range(_TRIES):
         try:
             if front := os.read(number, _READ_BYTES):
@@ -96,7 +96,7 @@ def _read_pipe_front(number: int, path: Named) -> bytes:
 
 
 def read_to_end(number: int) -> bytes:
-    """Returns all bytes from a descriptor, until its end."""
+    """Returns all bytes from a descriptor up to the end."""
     return b"".join(iter(lambda: os.read(number, _READ_BYTES), b""))
 
 
@@ -131,7 +131,7 @@ def is_regular(path: Path) -> bool:
 
 
 def refuse_input(output: Path, inputs: Iterable[Named]) -> None:
-    """Raises ArgumentError if the output is one of the input files, also by another name or link."""
+    """Raises ArgumentError if the output is one of the input files, even under another name or through a link."""
     try:
         target = output.stat()
     except FileNotFoundError:
@@ -148,7 +148,7 @@ def write_private(path: Path, data: bytes) -> None:
 
 
 def write_atomically(path: Path, data: bytes | Iterable[bytes], inputs: Iterable[Named] = ()) -> None:
-    """Writes a file atomically. It keeps the mode of an older file; a new one's mode is that of the umask.
+    """Writes a file atomically. The mode of an older file is kept; the mode of a new file depends on the umask.
 
     data     the bytes, or pieces of them; if one raises, the older file stays.
     inputs   the files that the data came from, none of which is overwritten.
@@ -160,7 +160,7 @@ def write_atomically(path: Path, data: bytes | Iterable[bytes], inputs: Iterable
 def _write(path: Path, pieces: Iterable[bytes], is_private: bool) -> None:
     """Writes a temporary file in the same directory, and renames it once it is on disk."""
     if path.exists() and not path.is_file():
-        with open(path, "wb") as file:  # a pipe or a device has nothing to lose, and a directory raises
+        with open(path, "wb") as file:  # a pipe or a device has no contents to keep, and opening a directory fails
             file.writelines(pieces)
         return
     target = Path(os.path.realpath(path))

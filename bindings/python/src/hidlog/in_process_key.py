@@ -1,4 +1,5 @@
-"""A key in this process, by the C library. The cost of a log line does not depend on the lines before."""
+"""A key in this process, implemented with the C library. The cost of a log line does not depend on the preceding
+lines."""
 
 from __future__ import annotations
 
@@ -13,7 +14,7 @@ from .log_lines import Field, Need, Reply, format_line, parse_reply
 # Maximum number of bytes in a comment "# signed".
 _MAX_SIGNED_BYTES = 96
 _INPUT_LETTERS = (">", "t", "p", "k", "s")
-# The numbers at the end of struct hidlog_credential.
+# Layout of the integers at the end of struct hidlog_credential.
 _NUMBERS = Struct("=4I")
 _NOTHING = Need()
 # Maximum number of lines per call of exchange_lines.
@@ -47,7 +48,7 @@ def _to_c_credential(credential: Credential) -> CCredential:
 
 
 class InProcessKey:
-    """A key that takes log lines as `hidlog live` does.
+    """A key whose inputs are log lines, as in `hidlog live`.
 
     indexes   cache of the credentials' indexes by ID, shared by a key's sessions.
     """
@@ -58,7 +59,7 @@ class InProcessKey:
         self._last: bytes | None = None
 
     def exchange(self, line: bytes) -> Reply:
-        """Plays a log line, and returns the key's reply."""
+        """Passes a log line to the key, and returns the key's reply."""
         if line.startswith(b"#") or not line:
             return Reply(line + b"\n", [], _NOTHING)
         kind, at, *words = line.decode("ascii").split(" ")
@@ -69,14 +70,14 @@ class InProcessKey:
         return self.play(kind, int(at), fields)
 
     def exchange_lines(self, lines: str) -> Reply:
-        """Plays at most MAX_LINES inputs, as log lines, and returns the key's reply."""
+        """Passes at most MAX_LINES inputs to the key as log lines, and returns the key's reply."""
         result, text = self._handle.lines(lines.encode("ascii"))
         if result.status:
-            raise HidlogError(f"the key rejects line {result.line} of its inputs with error {result.error}")
+            raise HidlogError(f"the key rejected input line {result.line} with error {result.error}")
         return parse_reply(text)
 
     def play(self, kind: str, at: int, fields: tuple[Field, ...]) -> Reply:
-        """Plays an input at a timestamp, and returns the key's reply."""
+        """Passes an input at a timestamp to the key, and returns the key's reply."""
         handle = self._handle
         packets = [handle.next() for _ in range(self._play_input(kind, at, fields))]
         parts = [format_line(kind, at, fields), *["< " + packet.hex() for packet in packets]]
@@ -94,7 +95,7 @@ class InProcessKey:
         return Reply("\n".join(parts).encode(), packets, Need(name, credential, signed))
 
     def _play_input(self, kind: str, at: int, fields: tuple[Any, ...]) -> int:
-        """Plays an input, and returns the number of packets queued then."""
+        """Passes an input to the key, and returns the number of queued packets."""
         handle = self._handle
         if kind == ">":
             return handle.packet(at, fields[0])
@@ -109,7 +110,7 @@ class InProcessKey:
         return handle.call("provide_signature", at, fields[0], len(fields[0]))
 
     def cause(self, status: int | None) -> str:
-        """Returns the reason for the last refusal, see Handle.cause, or "" after the key has ended."""
+        """Returns the cause of the last rejection (see Handle.cause), or "" after the key has ended."""
         return "" if self._last is not None else self._handle.cause(status)
 
     def credentials(self, _: bytes) -> list[Credential]:
@@ -133,16 +134,18 @@ class InProcessKey:
         return self._handle.credential(place) if 0 <= place < self._handle.call("credential_count") else None
 
     def put(self, credential: Credential) -> bool:
-        """Power-cycles the key with this credential appended, see Handle.put. Returns False if it can't."""
+        """Appends a credential (see Handle.put), and power-cycles the key. Returns False if the credential cannot be
+        appended."""
         return self._handle.put(_to_c_credential(credential))
 
     def replace_last(self, credential: Credential) -> bool:
-        """Replaces the last credential, and power-cycles the key. Returns False if the last one has another ID."""
+        """Replaces the last credential, and power-cycles the key. Returns False if the last credential has another
+        ID."""
         last = self._handle.credential(self._handle.call("credential_count") - 1)
         return bytes(last.id) == credential.id and self.put(credential)
 
     def remove(self, credential_id: bytes) -> None:
-        """Power-cycles the key without this credential."""
+        """Removes a credential, and power-cycles the key."""
         self._handle.call("remove_credential", 0, credential_id)
 
     def count(self, _: bytes) -> int:

@@ -38,7 +38,7 @@ _SHOWN, _FRONT = 60, 1 << 20
 
 
 class CheckedSession(NamedTuple):
-    """A checked session: its name, and the `Recording` of judged_log with its findings."""
+    """A checked session: the name, and the `Recording` of judged_log with the findings."""
 
     name: str
     recording: Any
@@ -53,7 +53,7 @@ def judge(log: bytes) -> list[Any]:
 
 
 def _check_recording(pieces: Iterable[bytes]) -> Any:
-    """Checks a log, read in any pieces."""
+    """Checks a log, which is passed in pieces of any length."""
     module = conformance.load_module("judged_log")
     return module.judge_parts(iter_quiet_parts(pieces), lambda part: logs.transactions(part).raise_for_fault().text)
 
@@ -88,7 +88,7 @@ def main(args: list[str]) -> int:
 
 
 def _check_file(file: str) -> list[CheckedSession]:
-    """Checks a file: a session log, or each key of a capture."""
+    """Checks a file, which is a session log or a capture. In a capture, checks the session of each key."""
     pieces = read_pieces(file)
     front = _read_front(pieces)
     name, sessions = display_name(file), []
@@ -106,7 +106,7 @@ def _check_file(file: str) -> list[CheckedSession]:
 
 
 def _read_front(pieces: Iterator[bytes]) -> bytes:
-    """Reads the front of a file, and all of it if it is in UTF-16, which becomes UTF-8."""
+    """Reads the start of a file. A file in UTF-16 is read completely and converted to UTF-8."""
     front = next(pieces, b"")
     while len(front) < _FRONT and (piece := next(pieces, b"")):
         front += piece
@@ -132,7 +132,7 @@ def _is_log(data: bytes) -> bool:
 
 
 def _read_capture(data: bytes) -> Capture:
-    """Reads a capture; for other text the error names both formats."""
+    """Reads a capture. For a text in another format, the error names the formats of logs and captures."""
     try:
         return read_capture(data)
     except CaptureError as error:
@@ -148,7 +148,7 @@ def _describe_line(line: bytes) -> str:
 
 
 def _check_log(pieces: Iterable[bytes]) -> Any:
-    """Checks a session log; for an invalid line the error says what was expected."""
+    """Checks a session log. For an invalid line, the error names the expected forms of a line."""
     try:
         return _check_recording(pieces)
     except InvalidLineError as error:

@@ -1,4 +1,4 @@
-"""A security key for tests, in this process or in a separate one, with the same behavior."""
+"""A security key for tests, which runs in this process or in a separate process, with the same behavior."""
 
 from __future__ import annotations
 
@@ -40,7 +40,7 @@ def _decode_base64(text: str) -> bytes:
 
 
 def _write_members(name: str, members: dict[bytes, bytes]) -> dict[str, dict[str, str]]:
-    """Returns a member of a saved key with bytes by credential ID, if there are any."""
+    """Returns a member of a saved key that maps credential IDs to bytes. Empty if there are none."""
     return {name: {core.hex(): b64encode(data).decode() for core, data in members.items()}} if members else {}
 
 
@@ -84,13 +84,13 @@ class SecurityKey(Session):
 
     @property
     def recordings(self) -> list[Recording]:
-        """All sessions. A restart or a change of credentials starts a new one."""
+        """The recordings of all sessions. A restart or a change of credentials starts a new session."""
         return [*self._ended, Recording(self._start, self.log)]
 
     def save_log(self, path: str | os.PathLike[str]) -> list[Path]:
-        """Writes the recordings: the last one to this path, earlier ones beside it with a number.
+        """Writes the recordings: the last one to this path, and earlier ones to paths with a number.
 
-        Returns the paths of the logs. A log that started with credentials has a snapshot beside it, `PATH.snapshot`,
+        Returns the paths of the logs. For a log that started with credentials, also writes a snapshot, `PATH.snapshot`,
         for --load. Files are replaced atomically.
         """
         target, every = check_path("path", path), self.recordings
@@ -105,7 +105,8 @@ class SecurityKey(Session):
 
     @staticmethod
     def from_recording(log: bytes) -> RecordedKey:
-        """Returns a key that plays back a recording to a client, and raises at the first packet that differs."""
+        """Returns a key that plays back a recording to a client, and raises an error at the first packet that
+        differs."""
         from .recorded_key import RecordedKey
 
         return RecordedKey(log)
@@ -114,7 +115,7 @@ class SecurityKey(Session):
 
     @property
     def credentials(self) -> Credentials:
-        """The credentials that the key holds."""
+        """The credentials that are stored on the key."""
         return Credentials(self)
 
     def snapshot(self) -> bytes:
@@ -133,7 +134,7 @@ class SecurityKey(Session):
             return self._engine.count(self._read_recording())
 
     def _read_recording(self) -> bytearray:
-        """Returns the recording, from which a separate process computes its credentials."""
+        """Returns the recording, from which the program computes the credentials of a key in a separate process."""
         if self._process and not self._record:
             raise HidlogError("process=True needs record=True to list credentials")
         return self._log
@@ -149,7 +150,7 @@ class SecurityKey(Session):
             raise KeyBusyError("cannot change credentials while a request is in progress")
 
     def _load_snapshot(self, snapshot: bytes) -> None:
-        """Replaces the credentials by a snapshot's. The clock and the clients' channels stay."""
+        """Replaces the credentials by those of a snapshot. The clock and the clients' channels are kept."""
         with self._acquire_lock():
             self._check_idle()
             engine = self._make_engine(snapshot)
@@ -158,7 +159,8 @@ class SecurityKey(Session):
             self._resume(snapshot, engine)
 
     def _update_in_process(self, change: Callable[[InProcessKey], bool]) -> bool:
-        """Changes the credentials of a key in this process. Returns False, with nothing changed, if it can't."""
+        """Changes the credentials of a key in this process. If this is not possible, returns False and changes
+        nothing."""
         with self._acquire_lock():
             self._check_idle()
             engine = self._engine
@@ -177,7 +179,7 @@ class SecurityKey(Session):
         self._ended.append(Recording(self._start, bytes(self._log)))
 
     def _resume(self, snapshot: bytes, engine: Engine) -> None:
-        """Starts a session with other credentials. The clock and the clients' channels stay."""
+        """Starts a session with other credentials. The clock and the clients' channels are kept."""
         now, waiting = self._time, self._packets
         self._begin(snapshot, engine)
         self._time = now
@@ -188,7 +190,7 @@ class SecurityKey(Session):
         self._packets = waiting
 
     def restart(self) -> None:
-        """Power-cycles the key. Credentials stay; channels, queued packets and the clock are lost."""
+        """Power-cycles the key. Credentials are kept; channels, queued packets and the clock are lost."""
         with self._acquire_lock():
             snapshot = self.snapshot()
             engine = self._make_engine(snapshot)
@@ -198,7 +200,8 @@ class SecurityKey(Session):
 
     @property
     def revision(self) -> int:
-        """A number that rises with each input and each change of credentials, and so whenever `dumps` changes."""
+        """A number that increases with each input and each change of credentials, and so whenever the result of `dumps`
+        changes."""
         return self._revision
 
     def save(self, path: str | os.PathLike[str]) -> None:
@@ -233,7 +236,7 @@ class SecurityKey(Session):
 
     @classmethod
     def load(cls: type[_Key], path: str | os.PathLike[str], *, sign_count_margin: int = 0, **options: Any) -> _Key:
-        """Returns a key from a file written by `save`. Signature counters are raised by the margin, see `loads`."""
+        """Returns a key from a file written by `save`. Signature counters are increased by the margin; see `loads`."""
         file = check_path("path", path)
         try:
             text = file.read_text(encoding="ascii")
@@ -286,7 +289,7 @@ class SecurityKey(Session):
         return key
 
     def clear_recordings(self) -> None:
-        """Starts a new recording with the current credentials, and drops earlier ones to bound their memory."""
+        """Starts a new recording with the current credentials, and drops earlier recordings to limit memory use."""
         with self.ceremony():
             self._load_snapshot(self.snapshot())
             self._ended.clear()
@@ -294,10 +297,10 @@ class SecurityKey(Session):
     # Clients.
 
     def serve(self, channel: int, data: bytes, limit: int) -> bytes | None:
-        """Serves a CBOR request on a client's channel, and returns the response.
+        """Serves a CBOR request on a client's channel, and returns the response if possible.
 
-        None: the client must write and read packets itself. `limit` is the timestamp at which it would cancel the
-        request.
+        If None is returned, the client must write and read packets itself. `limit` is the timestamp at which the client
+        would cancel the request.
         """
         return serve(self, channel, data, limit)
 
@@ -314,13 +317,13 @@ class SecurityKey(Session):
         return Browser(self, origin)
 
     def _end_session(self) -> None:
-        """Ends the session, and keeps its recording."""
+        """Ends the session, and keeps the session's recording."""
         if self._is_open:
             self._is_open = False
             self._close_recording(self._engine.finish())
 
     def close(self) -> None:
-        """Closes the key. Its recordings stay."""
+        """Closes the key. The recordings are kept."""
         if self._owner != os.getpid():
             return  # a child of os.fork must not close its parent's key
         with self._acquire_lock():

@@ -1,7 +1,7 @@
 """Extensions that a key supports outside the core (WebAuthn Level 3, section 10; CTAP 2.1, section 12): prf, largeBlob,
 credProtect, credBlob and minPinLength, with the results of Chromium's virtual authenticator.
 
-bindings/web/key/key_extensions.js is the same for pages. Inputs were checked by the library's client.
+bindings/web/key/key_extensions.js is the same for pages. The library's client has checked the inputs before.
 """
 
 from __future__ import annotations
@@ -37,7 +37,8 @@ def read_inputs(options: Any) -> Json:
 
 
 def drop_required(inputs: Json, settings: AuthenticatorSettings) -> Json:
-    """Returns inputs for the library's client, which supports no extension: none of them is required."""
+    """Returns the inputs for the library's client, without required extensions, since the client supports none of
+    them."""
     made, blob = dict(inputs), inputs.get("largeBlob")
     if isinstance(blob, Mapping) and blob.get("support") == "required" and settings.supports("largeBlob"):
         made["largeBlob"] = {**blob, "support": "preferred"}
@@ -47,7 +48,7 @@ def drop_required(inputs: Json, settings: AuthenticatorSettings) -> Json:
 
 
 def check_inputs(inputs: Json, allowed: list[Any]) -> None:
-    """Raises the DOM's error for inputs that Chromium refuses, and the library's client doesn't.
+    """Raises the DOM's error for inputs that Chromium rejects, but the library's client does not.
 
     bindings/web/key/extensions.js has the same checks. `allowed` are the credential IDs of allowCredentials, as JSON.
     """
@@ -66,7 +67,7 @@ def requires_blob(inputs: Json) -> bool:
 
 
 def _select_protection(selection: Json) -> int:
-    """Returns the protection policy of a discoverable credential for which a page requests none.
+    """Returns the protection policy of a discoverable credential if the page requests none.
 
     As in Chromium, user verification is required if a discoverable credential is, and user verification is preferred.
     """
@@ -78,7 +79,8 @@ def _select_protection(selection: Json) -> int:
 
 
 def keep_extensions(options: Json, settings: AuthenticatorSettings, is_discoverable: bool) -> Json:
-    """Returns what a new credential keeps: prf, largeBlob (b"" until a page writes one), credBlob, credProtect."""
+    """Returns the extension data of a new credential: prf, largeBlob (b"" until a page writes one), credBlob,
+    credProtect."""
     kept: Json = {}
     inputs = read_inputs(options)
     if settings.supports("prf") and (inputs.get("prf") is not None or inputs.get("hmacCreateSecret")):
@@ -111,13 +113,13 @@ def encode_registration_outputs(kept: Json, inputs: Json, settings: Authenticato
 
 
 def encode_sign_in_outputs(kept: Json, inputs: Json, settings: AuthenticatorSettings) -> bytes:
-    """Returns the same of a sign-in."""
+    """Returns the extension outputs in the authenticator data of a sign-in."""
     is_asked = inputs.get("getCredBlob") and settings.supports("credBlob")
     return _encode_outputs({"credBlob": kept.get("credBlob", b"")} if is_asked else {})
 
 
 def _evaluate_prf(public: bytes, inputs: Json) -> Json:
-    """Returns the results of a credential's PRF.
+    """Evaluates a credential's PRF, and returns the results.
 
     Its secret is derived from the core's public key, so that the results are the same wherever the credential is added
     again.
@@ -143,7 +145,7 @@ def make_registration_results(kept: Json, inputs: Json, public: bytes) -> Json:
 
 
 def make_sign_in_results(kept: Json, inputs: Json, public: bytes, page_id: str) -> Json:
-    """Returns the same of a sign-in. A large blob is written."""
+    """Returns the client extension results of a sign-in. Writes the large blob, if requested."""
     prf, blob = inputs.get("prf") or {}, inputs.get("largeBlob") or {}
     results: Json = {}
     values = (prf.get("evalByCredential") or {}).get(page_id) or prf.get("eval")
@@ -160,5 +162,6 @@ def make_sign_in_results(kept: Json, inputs: Json, public: bytes, page_id: str) 
 
 
 def is_usable(kept: Json, is_verified: bool, is_listed: bool) -> bool:
-    """Returns whether a credential can sign in (CTAP 2.1, section 12.1). `is_listed`: the page names it."""
+    """Returns whether the protection policy of a credential allows the sign-in (CTAP 2.1, section 12.1). `is_listed` is
+    whether the page's allow list has the credential."""
     return is_verified or kept.get("credProtect", 0) < (_VERIFIED if is_listed else _WITH_LIST)

@@ -1,4 +1,5 @@
-"""`hidlog` without a program for the processor: check, replay, quiet, live and show, by the library.
+"""The command `hidlog` for processors without a program: check, replay, quiet, live and show, implemented with the
+library.
 
 The output is that of the program without `--explain`, byte for byte, including read and write errors. Other options,
 such as `--save`, need the program.
@@ -41,7 +42,8 @@ def is_supported(words: list[str]) -> bool:
 
 
 def _parse_arguments(words: list[str]) -> tuple[str, str | None, bool, list[str]] | None:
-    """Returns the command, the snapshot's path, whether to explain, and the logs' paths; or None if unsupported."""
+    """Returns the command, the path of the snapshot, whether to explain, and the paths of the logs, or None if the
+    arguments are not supported."""
     if not words or words[0] not in (*_COMMANDS, "show"):
         return None
     command, load, explain, files, rest = words[0], None, False, [], list(words[1:])
@@ -78,12 +80,12 @@ def _print_error(text: str, status: int, front: str = "") -> int:
 
 
 class _DamagedError(OSError):
-    """A snapshot that does not match its checksums."""
+    """The snapshot does not match its checksums."""
 
 
 def _read_snapshot(path: str) -> bytes:
-    """Returns the bytes of a snapshot, if they match its checksums, if any (docs/use/LOG_FORMAT.md)."""
-    for _ in range(2):  # a program may replace both between the two reads
+    """Returns the bytes of a snapshot. If there are checksums, they must match (docs/use/LOG_FORMAT.md)."""
+    for _ in range(2):  # a program may replace both files between the two reads
         data = read_input(Path(path))
         try:
             sums = read_input(Path(f"{path}.hidlog-sum"))
@@ -93,16 +95,16 @@ def _read_snapshot(path: str) -> bytes:
             raise
         lines = sums.splitlines(keepends=True)
         if len(lines) not in (1, 2) or not all(map(_CHECKSUM_FILE.fullmatch, lines)):
-            raise OSError(errno.EINVAL, "its checksum file has no checksum", path)
+            raise OSError(errno.EINVAL, "the checksum file has no valid checksum", path)
         number = b" %016x\n" % os.stat(path).st_ino
-        # The checksums do not apply to a file that replaced theirs.
+        # The checksums do not apply to a newer snapshot.
         if not sums.endswith(number) or sha256(data).hexdigest().encode() + number in lines:
             return data
     raise _DamagedError(path)
 
 
 class _LogReader:
-    """A log that is read in pieces. It ends at a read error."""
+    """A log that is read in pieces, up to the end or a read error."""
 
     def __init__(self, name: str):
         self.has_failed = False
@@ -110,7 +112,7 @@ class _LogReader:
         try:
             self._file = open_input(name)
         except OSError:
-            if name != "-":  # errors of standard input show when it is read
+            if name != "-":  # errors of standard input occur when it is read
                 raise
             self.has_failed = True
 
@@ -161,7 +163,7 @@ def _run_one(command: str, log: _LogReader, snapshot: bytes, explain: bool, fron
     text = result.text
     if log.has_failed and not result.status:
         failed = logs.LogResult(b"", 1, _READ, data.count(b"\n") + 1, 0)
-        # The last line of the output is left out: the totals, or how much matched.
+        # The last line of the output is left out, since it has the totals, or how much of the log matched.
         ends = {"check": b"", "replay": text[: text.rfind(b"\n= ") + 1] if b"\n= " in text else b""}
         result = failed._replace(text=ends.get(command, text))
     sys.stdout.buffer.write(front.encode() * bool(result.text) + result.text)
@@ -169,7 +171,7 @@ def _run_one(command: str, log: _LogReader, snapshot: bytes, explain: bool, fron
 
 
 def _run_live(log: _LogReader, snapshot: bytes) -> int:
-    """Replies to each line before more of the log is read."""
+    """Replies to each line before the next line is read."""
     refused = logs.live(b"", snapshot)
     if refused.status:
         return _print_error(_format_error(refused), refused.status)
@@ -194,7 +196,7 @@ def _run_live(log: _LogReader, snapshot: bytes) -> int:
 
 
 def _play_line(key: Handle, number: int, line: bytes) -> logs.LogResult:
-    """Plays a line and writes the reply."""
+    """Passes a line to the key, and writes the reply."""
     if len(line) > MAX_LINE:
         return logs.LogResult(b"", 1, _TOO_LONG, number, 0)
     result, text = key.lines(line + b"\n")

@@ -1,4 +1,4 @@
-"""Locust users who sign in with security keys. Each has a key, which is kept for the next run.
+"""Locust users who sign in with security keys. Each user has a key, which is kept for the next run.
 
     from hidlog.locust import SecurityKeyUser
     from locust import constant, task
@@ -12,9 +12,9 @@
         @task(1)
         def signs_up(self): self.sign_up()
 
-The process that starts a test (Locust's master, or the only one) stores the keys in a file, --security-keys. It sends
-each worker its share at the start of a test. Workers send changed keys back with their statistics, every three seconds
-and at the end, so a second run signs in with the users of the first (docs/use/LOAD.md).
+The process that starts a test (Locust's master, or the only process) stores the keys in the file --security-keys, and
+distributes them to the workers at the start of a test. Workers send changed keys back with their statistics, every
+three seconds and at the end. So a second run signs in with the users of the first (docs/use/LOAD.md).
 """
 
 from __future__ import annotations
@@ -29,7 +29,7 @@ from contextlib import contextmanager
 from pathlib import Path
 from typing import TYPE_CHECKING, Any
 
-from locust import events, runners  # before anything that blocks: it patches threading by gevent
+from locust import events, runners  # imported before modules that may block, since locust patches threading with gevent
 from locust.contrib.fasthttp import FastHttpUser
 from locust.runners import MasterRunner, WorkerRunner
 
@@ -44,18 +44,18 @@ setattr(runners, "__version__", getattr(runners, "__version__", None) or "unknow
 
 # A killed worker loses the signature counters since its last report. Counters may skip values, but must not repeat.
 COUNTER_MARGIN = 100_000
-# Number of ceremonies per recording, of 2.3 kB each. Then a new recording starts.
+# Number of ceremonies of 2.3 kB each after which a new recording starts.
 CEREMONIES_RECORDED = 20
 _MESSAGE = "hidlog_security_keys"
 _MAX_TEXT = 200
 
 
 class ServiceError(HidlogError):
-    """The service refused a request, or could not be reached."""
+    """The service rejected a request, or could not be reached."""
 
 
 class Store:
-    """The keys of all users, in an SQLite file."""
+    """The keys of all users, stored in an SQLite file."""
 
     def __init__(self, path: str):
         with open(path, "ab", opener=lambda name, flags: os.open(name, flags, 0o600)):
@@ -77,31 +77,32 @@ class Store:
         return dict(self._rows.execute("select name, text from keys order by rowid limit ?", (count,)))
 
     def close(self) -> None:
-        """Writes everything to the file, and closes it."""
+        """Writes all changes to the file, and closes the file."""
         self._rows.close()
 
 
 class _KeyInUse:
-    """The key of a user, its text when it was last dumped or loaded, and its revision then (-1 if it was not)."""
+    """The key of a user, the text that was last dumped or loaded, and the key's revision at that time (-1 if there was
+    none)."""
 
     def __init__(self, key: SecurityKey, text: str):
         self.key, self.text, self.revision = key, text, key.revision if text else -1
 
     @property
     def is_changed(self) -> bool:
-        """Whether the key changed since then."""
+        """Whether the key has changed since the last dump or load."""
         return self.key.revision != self.revision
 
     def dump(self) -> str:
-        """Dumps the key, and returns its text."""
+        """Dumps the key, and returns the text."""
         revision = self.key.revision
         self.text, self.revision = self.key.dumps(), revision
         return self.text
 
 
 class Users:
-    """The users of this process: those waiting for a Locust user, and those whose keys changed since the last
-    report."""
+    """The users of this process: the users that are not assigned to a Locust user, and the users whose keys changed
+    since the last report."""
 
     def __init__(self) -> None:
         self.waiting: dict[str, str] = {}
@@ -110,7 +111,7 @@ class Users:
         self.store: Store | None = None
 
     def take(self, name: str, key: SecurityKey, text: str = "") -> None:
-        """Gives a key to a user: one loaded from this text, or a new one."""
+        """Assigns a key to a user. The key is loaded from a text, or new."""
         self.in_use[name] = _KeyInUse(key, text)
 
     def report(self) -> dict[str, str]:
@@ -120,7 +121,7 @@ class Users:
         return changed
 
     def give_back(self, name: str) -> None:
-        """Takes back a user, and closes their key."""
+        """Takes back a user, and closes the user's key."""
         used = self.in_use.pop(name)
         if used.is_changed:
             self.ended[name] = used.dump()
@@ -157,7 +158,7 @@ def _on_test_start(environment: Any, **_: Any) -> None:
     if not isinstance(runner, MasterRunner):
         users.waiting.update(known)
         return
-    workers = sorted(worker.id for worker in runner.clients.all)  # Locust distributes users in this order
+    workers = sorted(worker.id for worker in runner.clients.all)  # the order in which Locust distributes users
     for place, worker in enumerate(workers):
         runner.send_message(_MESSAGE, dict(known[place :: len(workers)]), worker)
 
@@ -174,7 +175,7 @@ def _on_worker_report(client_id: str, data: dict[str, Any], **_: Any) -> None:
 
 def _on_quit(**_: Any) -> None:
     if users.store is not None:
-        users.store.put(users.report())  # without a master: the keys of this process
+        users.store.put(users.report())  # without a master, this process has all keys
         users.store.close()
 
 
@@ -205,7 +206,7 @@ class SecurityKeyUser(FastHttpUser):
     ceremonies = 0
 
     def on_start(self) -> None:
-        """Continues as a user of an earlier run, or registers a new one."""
+        """Continues as a user of an earlier run, or registers as a new user."""
         if users.waiting:
             name, text = users.waiting.popitem()
             self._set_user(name, SecurityKey.loads(text, sign_count_margin=COUNTER_MARGIN, **self._get_options()), text)
@@ -213,7 +214,7 @@ class SecurityKeyUser(FastHttpUser):
             self.sign_up()
 
     def on_stop(self) -> None:
-        """Gives the user back to the process."""
+        """Returns the user to the process."""
         if self.name:
             users.give_back(self.name)
             self.name = ""
@@ -258,7 +259,7 @@ class SecurityKeyUser(FastHttpUser):
             raise ServiceError(f"{path}: {response.status_code} {message}")
 
     def _call_key(self, name: str, call: Callable[[Any], Any], options: Any) -> Any:
-        """Calls the key. Its time has a separate line in Locust's statistics, KEY."""
+        """Calls the key. The time is reported in a separate line of Locust's statistics, KEY."""
         started = time.perf_counter()
         try:
             response = call(options)
@@ -270,7 +271,7 @@ class SecurityKeyUser(FastHttpUser):
 
     @contextmanager
     def _time_ceremony(self, name: str, key: SecurityKey) -> Iterator[None]:
-        """Times a whole ceremony. A failure is counted, and its recording saved."""
+        """Measures a whole ceremony. If the ceremony fails, counts a failure and saves the recording."""
         started = time.perf_counter()
         self.ceremonies += 1
         try:

@@ -1,4 +1,4 @@
-"""Log lines: inputs in, and the packets and needs that `hidlog live` writes for them."""
+"""Log lines: formats inputs as lines, and parses the packets and needs that `hidlog live` writes for them."""
 
 from __future__ import annotations
 
@@ -39,7 +39,8 @@ _NEED_PREFIX = b"# need "
 
 
 class Reply(NamedTuple):
-    """The reply to a line: the text that `hidlog live` writes, the packets in it, and what the key needs then."""
+    """The reply to a line: the text that `hidlog live` writes, the packets in the text, and what the key needs after
+    the line."""
 
     text: bytes
     packets: list[bytes]
@@ -47,16 +48,18 @@ class Reply(NamedTuple):
 
 
 class Engine(Protocol):
-    """A session that plays log lines, in this process or in a separate one."""
+    """A session whose inputs are log lines, in this process or in a separate process."""
 
     def exchange(self, line: bytes) -> Reply:
-        """Plays a log line, and returns the key's reply."""
+        """Passes a log line to the key, and returns the key's reply."""
 
     def play(self, kind: str, at: int, fields: tuple[Field, ...]) -> Reply:
-        """Plays an input at a timestamp, and returns the key's reply. Fields that are bytes are written in hex."""
+        """Passes an input at a timestamp to the key, and returns the key's reply. Fields that are bytes are written in
+        hex."""
 
     def cause(self, status: int | None) -> str:
-        """Returns the reason for the last refusal, or "" if unknown, if there was none, or if it has another status."""
+        """Returns the cause of the last rejection, or "" if it is unknown, if there was none, or if it has another
+        status."""
 
     def credentials(self, log: bytes) -> list[Credential]:
         """Returns the credentials. `log` is the log of the session so far."""
@@ -80,7 +83,8 @@ def format_line(kind: str, at: int, fields: tuple[Field, ...]) -> str:
 
 
 def parse_reply(text: bytes) -> Reply:
-    """Parses the text written for input lines: the packets in it, and what the key needs at the end."""
+    """Parses the text that was written for input lines. Returns the packets in the text, and what the key needs at the
+    end."""
     sent = [unhexlify(packet) for packet in _SENT_LINE.findall(text)]
     kind, _, credential = (
         text[text.rindex(_NEED_PREFIX) + len(_NEED_PREFIX) :].rstrip(b"\n").decode("ascii").partition(" ")

@@ -1,4 +1,4 @@
-"""The `hidlog` commands on logs as functions on bytes, by the C library. No program is started.
+"""The `hidlog` commands on logs as functions on bytes. They call the C library, and start no program.
 
     result = replay(Path("registration.log").read_bytes())
     result.raise_for_fault()
@@ -27,7 +27,7 @@ _SNAPSHOT_ERRORS = {
     3: "a credential in it is invalid",
 }
 _ERROR_BUFFER_TOO_SMALL = 5
-# Length of the parts in which long logs are checked.
+# Length in bytes of the parts in which long logs are checked.
 _PART_BYTES = 1 << 18
 
 
@@ -57,7 +57,7 @@ class LogResult(NamedTuple):
 
 
 def _run(command: str, log: bytes, snapshot: bytes | None) -> LogResult:
-    """Runs a command on a log that starts with the credentials of a snapshot."""
+    """Runs a command on a log that begins with the credentials of a snapshot."""
     data = check_bytes("the log", log)
     begin = b"" if snapshot is None else check_bytes("the snapshot", snapshot)
     return _call_with_buffer(lambda capacity: core.run(command, data, begin, capacity), 2 * len(data))
@@ -74,7 +74,7 @@ def _call_with_buffer(call: Callable[[int], tuple[core.Result, bytes]], length: 
 
 
 def replay(log: bytes, snapshot: bytes | None = None) -> LogResult:
-    """Replays a log: returns it with the key's response packets."""
+    """Replays a log. Returns the log with the key's response packets."""
     return _run("replay", log, snapshot)
 
 
@@ -89,7 +89,8 @@ def quiet(log: bytes, snapshot: bytes | None = None) -> LogResult:
 
 
 def iter_valid_parts(pieces: Iterable[bytes]) -> Iterator[bytes]:
-    """Yields a log, read in any pieces, in parts of whole lines. Raises LogError before a part with an invalid line."""
+    """Yields a log, which is passed in pieces of any length, in parts of whole lines. Raises LogError before a part
+    with an invalid line."""
     number, size, held = 0, 0, []
     for piece in pieces:
         held.append(piece)
@@ -111,7 +112,7 @@ def _check_part(part: bytes, lines_before: int) -> bytes:
 
 
 def live(log: bytes, snapshot: bytes | None = None) -> LogResult:
-    """Replays a log: returns it with the key's response packets and, after each input, what the key needs."""
+    """Replays a log. Returns the log with the key's response packets and, after each input, what the key needs."""
     return _run("live", log, snapshot)
 
 
@@ -123,6 +124,7 @@ def show(log: bytes, *, explain: bool = False) -> LogResult:
 
 
 def transactions(log: bytes) -> LogResult:
-    """Returns which transaction each line belongs to, and how each one ends (hidlog_transactions of hidlog.h)."""
+    """Returns to which transaction each line belongs, and how each transaction ends (hidlog_transactions of
+    hidlog.h)."""
     data = check_bytes("the log", log)
     return _call_with_buffer(lambda capacity: core.transactions(data, capacity), len(data) // 5)

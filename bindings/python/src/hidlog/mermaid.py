@@ -17,7 +17,7 @@ from .errors import HidlogError
 from .subprocess_key import find_program
 
 Json = dict[str, Any]
-# Characters with a meaning in Mermaid's texts.
+# Characters that have a meaning in Mermaid's texts.
 _SPECIAL_CHARACTERS = re.compile(r"[#;:<>{}\[\]\"`\n]")
 _NAMED_COMMANDS = ("INIT", "PING", "ERROR")
 

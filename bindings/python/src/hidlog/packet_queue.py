@@ -1,4 +1,4 @@
-"""Packets queued for clients: each thread gets those of the channels on which it wrote."""
+"""Packets queued for clients. Each thread gets the packets of the channels on which it wrote."""
 
 from __future__ import annotations
 
@@ -19,7 +19,7 @@ def _get_address(packet: bytes) -> Address:
 
 
 class PacketQueue:
-    """Queued packets. A thread that has written none gets all of them."""
+    """Queued packets. A thread that has written no packet gets all packets."""
 
     def __init__(self) -> None:
         self._packets: deque[bytes] = deque()

@@ -47,7 +47,7 @@ __all__ = [
     "fragment_message",
 ]
 
-# No open message: no packet has the sequence number -1.
+# The sequence number if no message is open, which no packet has.
 _NONE = (0, 0, -1, b"")
 
 

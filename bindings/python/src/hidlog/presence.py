@@ -1,4 +1,4 @@
-"""What the user does when the key asks for user presence."""
+"""Determines what the user does when the key asks for user presence."""
 
 from __future__ import annotations
 
@@ -10,7 +10,7 @@ from .errors import ArgumentError, HidlogError, PresenceExhaustedError, check_ch
 from .packets import GET_ASSERTION, MAKE_CREDENTIAL, RESET, Message
 
 Reply = Optional[str]
-# A reply, None if the user does nothing, a function of the question, or a script with one reply per question.
+# A reply, None if the user does nothing, a function of the question, or a script with a reply for each question.
 Presence = Union[Reply, Callable[[str], Reply], Iterable[Reply]]
 PRESENCE_WORDS = ("granted", "denied", "timeout")
 _EXPECTED = '"granted", "denied", "timeout" or None (the user does nothing)'

@@ -1,4 +1,5 @@
-"""Key pairs on P-256, which the core leaves to its caller. For tests only: they are held in clear text."""
+"""Key pairs on P-256, which the caller of the core has to provide. For tests only: private keys are in memory in clear
+text."""
 
 from __future__ import annotations
 
@@ -17,7 +18,7 @@ PrivateKey = ec.EllipticCurvePrivateKey
 _CURVE = ec.SECP256R1()
 # hashlib is faster than cryptography for a few bytes.
 _ECDSA_PREHASHED = ec.ECDSA(Prehashed(hashes.SHA256()))
-# Private keys are the numbers from 1 to this one (the order of the curve, minus 1).
+# Private keys are the numbers from 1 to this maximum (the order of the curve, minus 1).
 _MAX_PRIVATE_NUMBER = 0xFFFFFFFF00000000FFFFFFFFFFFFFFFFBCE6FAADA7179E84F3B9CAC2FC632550
 
 

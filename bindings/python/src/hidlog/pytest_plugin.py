@@ -28,7 +28,7 @@ _SUMMARY_SECONDS = 20
 
 
 class _Keys(list["SecurityKey"]):
-    """The keys of a node, kept until the report of its last teardown is written."""
+    """The keys of a pytest node, which are kept until the report of the node's last teardown is written."""
 
     is_over = False
 
@@ -123,7 +123,7 @@ def _summarize(log: bytes) -> str:
 
 
 def _make_section(item: pytest.Item, key: SecurityKey, number: int, when: str) -> str:
-    """Returns the report's section for a key: its summary, and where its recording is."""
+    """Returns the report's section for a key: the summary, and the path of the recording."""
     from .activity import drop_zeros
 
     folder, lines = item.config.getoption("--security-key-log"), key.log.count(b"\n")
@@ -138,7 +138,7 @@ def _make_section(item: pytest.Item, key: SecurityKey, number: int, when: str) -
 
 @pytest.hookimpl(hookwrapper=True)  # type: ignore[misc]
 def pytest_runtest_makereport(item: pytest.Item) -> Generator[None, Any, None]:
-    """Adds sections on the keys to the report of a failure, and saves their recordings."""
+    """Adds sections on the keys to the report of a failure, and saves the recordings."""
     outcome = yield
     report = outcome.get_result()
     if report.failed:

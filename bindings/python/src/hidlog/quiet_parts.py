@@ -1,4 +1,5 @@
-"""Splits a log at lines after which no transaction is open, so that `hidlog judge` holds a part of it at a time."""
+"""Splits a log at lines after which no transaction is open, so that `hidlog judge` needs memory for only one part at a
+time."""
 
 from __future__ import annotations
 
@@ -8,7 +9,7 @@ from . import logs
 from .captures import conformance
 from .errors import LogError
 
-# The length from which on a part is split off. Without a line to split at, more is held.
+# Minimum length of a part. A part is longer if no line is found at which to split.
 _PART_BYTES = 1 << 18
 
 
@@ -50,7 +51,7 @@ def iter_quiet_parts(pieces: Iterable[bytes]) -> Iterator[bytes]:
 
 
 def _list_owners(text: bytes, lines_before: int) -> bytes:
-    """Returns which transaction each line belongs to (hidlog_transactions of hidlog.h)."""
+    """Returns to which transaction each line belongs (hidlog_transactions of hidlog.h)."""
     result = logs.transactions(conformance.load_module("judged_log").walked(text))
     if result.status:
         line = text.split(b"\n", result.line)[result.line - 1] if result.line else b""
@@ -62,8 +63,8 @@ def _list_owners(text: bytes, lines_before: int) -> bytes:
 
 
 def _find_quiet_end(text: bytes, lines_before: int) -> int:
-    """Returns the length of the lines up to the last one after which no transaction is open, or of those before the
-    last power cycle."""
+    """Returns the length of the lines up to the last line after which no transaction is open, or up to the last power
+    cycle."""
     owners, lines = _list_owners(text, lines_before), text.split(b"\n")
     power_cycle = conformance.load_module("judged_log").POWER_CYCLE
     if power_cycle in lines[1:]:
@@ -81,7 +82,7 @@ def _find_last_quiet(owners: bytes) -> int:
         number, transaction, _, *words = row.split(b" ")
         if transaction == number:
             open_lines.add(int(number))
-        # A response ends its transaction with its last packet.
+        # The last packet of a response ends the transaction.
         for word in words:
             if word[:1] != b"l":
                 open_lines.discard(int(word[1:].split(b":")[0]))

@@ -1,4 +1,5 @@
-"""A recorded session, played back to a client: of this package's key, or of another key in a capture."""
+"""Plays back a recorded session to a client. The session was recorded with a key of this package, or is from a capture
+of another key."""
 
 from __future__ import annotations
 
@@ -15,7 +16,7 @@ from .errors import KeyTimeoutError, LogError, ReplayMismatchError, check_bytes
 _PACKET = re.compile(r"(?:> [0-9]+|<) [0-9a-fA-F]{128}")
 _INIT, _CANCEL = 0x80 | packets.INIT, 0x80 | packets.CANCEL
 _BROADCAST = b"\xff" * 4
-# First channel ID for clients whose INIT was not recorded.
+# The first channel ID for clients whose INIT was not recorded.
 _FIRST_CHANNEL = 0x52000001
 # Rest of an INIT response if none was recorded: protocol 2, device 0.0.0, CBOR.
 _INIT_REST = bytes([2, 0, 0, 0, 4])
@@ -31,7 +32,8 @@ class _Line(NamedTuple):
 
 
 class RecordedKey:
-    """A key that sends the recorded packets, and raises if the client's packets differ from the recorded ones.
+    """A key that sends the recorded packets, and raises an error if the client's packets differ from the recorded
+    packets.
 
     The client's packets may differ in: the nonce of INIT, the channel ID, the bytes after a message, the number of
     INITs, and the time of a CANCEL. Used in a `with` statement, it also raises if the client sent less.
@@ -43,7 +45,7 @@ class RecordedKey:
         self._index = 0
         self._sent = 0
         self._packets: deque[bytes] = deque()
-        # The recorded channel by the client's, and the client's by the recorded one.
+        # The recorded channel by the client's channel, and the client's channel by the recorded channel.
         self._recorded: dict[bytes, bytes] = {}
         self._client_channels: dict[bytes, bytes] = {}
         # Remaining bytes of each channel's message.
@@ -62,7 +64,7 @@ class RecordedKey:
         if not is_init:
             self._skip_inits(packet)
         if self._index == len(self._lines):
-            raise ReplayMismatchError(f"end of recording, but the client sent {packet.hex()} (its packet {self._sent})")
+            raise ReplayMismatchError(f"end of recording: unexpected packet {self._sent} of the client, {packet.hex()}")
         line = self._lines[self._index]
         self._compare(packet, line)
         self._index += 1
@@ -73,7 +75,7 @@ class RecordedKey:
         return self._index < len(self._lines) and self._lines[self._index].packet[4] == command
 
     def _respond_to_init(self, packet: bytes) -> None:
-        """Responds to an INIT that was not recorded like to the last one, with a new channel."""
+        """Responds to an INIT that was not recorded in the same way as to the last recorded one, with a new channel."""
         channel = (_FIRST_CHANNEL + self._sent).to_bytes(4, "big")
         last = next((line.packet for line in reversed(self._lines[: self._index]) if _is_init_response(line)), None)
         rest = last[19:24] if last else _INIT_REST
@@ -84,7 +86,7 @@ class RecordedKey:
         self._packets.append(response.ljust(packets.PACKET, b"\0"))
 
     def _skip_inits(self, packet: bytes) -> None:
-        """Skips recorded INITs that the client does not send, because it keeps its channel."""
+        """Skips recorded INITs that the client does not send because it keeps its channel."""
         channel = packet[:4]
         while self._is_at(_INIT) and self._lines[self._index].packet[:4] == _BROADCAST and packet[4] != _INIT:
             self._index += 1
@@ -110,7 +112,8 @@ class RecordedKey:
         self._index += len(self._next_responses())
 
     def _compare(self, packet: bytes, line: _Line) -> None:
-        """Raises ReplayMismatchError unless the packet equals the recorded one in what must be the same."""
+        """Raises ReplayMismatchError unless the packet equals the recorded packet in all parts that must be the
+        same."""
         recorded = line.packet
         channel = self._recorded.get(packet[:4], recorded[:4] if packet[:4] != recorded[:4] else packet[:4])
         if packet[:4] not in self._recorded and not self._may_map(packet[:4], recorded[:4]):
@@ -130,11 +133,12 @@ class RecordedKey:
         )
 
     def _may_map(self, channel: bytes, recorded: bytes) -> bool:
-        """Returns whether a client's channel may be mapped to a recorded one, to which no other is mapped."""
+        """Returns whether a client's channel may be mapped to a recorded channel, to which no other channel may be
+        mapped."""
         return _BROADCAST not in (channel, recorded) and recorded not in self._client_channels
 
     def _read_header(self, recorded: bytes) -> tuple[int, int]:
-        """Returns the offset of the data in a recorded packet, and the number of remaining bytes of its message."""
+        """Returns the offset of the data in a recorded packet, and the number of remaining bytes of the message."""
         if recorded[4] & 0x80:
             return 7, int.from_bytes(recorded[5:7], "big")
         return 5, self._left.get(recorded[:4], packets.PACKET)
@@ -162,7 +166,7 @@ class RecordedKey:
             time.sleep(min(_KEEPALIVE_SECONDS, _KEEPALIVE_SECONDS if timeout is None else max(0.0, timeout)))
             return last
         raise ReplayMismatchError(
-            f"line {self._lines[self._index].number}: the client reads, but it sent a packet in the recording"
+            f"line {self._lines[self._index].number}: the client waits for a packet, but in the recording the client sends one"
         )
 
     def device(self) -> Any:
@@ -177,7 +181,7 @@ class RecordedKey:
             raise ReplayMismatchError(f"line {self._lines[self._index].number}: the client ended before this packet")
 
     def close(self) -> None:
-        """Does nothing. Exists because closing a device closes its key."""
+        """Does nothing. Exists because closing a device calls this method of the key."""
 
     def __enter__(self) -> RecordedKey:
         return self

@@ -1,4 +1,4 @@
-"""Origins as browsers serialize them, and the RP IDs that they may use."""
+"""Serializes origins as browsers do, and checks the RP IDs that an origin may use."""
 
 from __future__ import annotations
 

@@ -1,8 +1,9 @@
-"""Serves a CBOR request in few library calls: the packets, the user's reply, a new key pair and a signature, each of
-them with all its log lines at once.
+"""Serves a CBOR request in few library calls. The packets, the user's reply, a new key pair and a signature are each
+passed with one call.
 
 The recording is the same, byte for byte, as with a client that writes and reads packets (Client.transact). Not used if
-anything may happen in between: a clock other than "virtual", a presence that isn't a string, or a delay fault.
+other events may happen in between, with a clock other than "virtual", a presence that is not a string, or a delay
+fault.
 """
 
 from __future__ import annotations
@@ -27,7 +28,7 @@ _NO_NEED = Need()
 
 
 def serve(session: Session, channel: int, data: bytes, limit: int) -> bytes | None:
-    """Serves a request on a channel, and returns the response, or None if a client must do it packet by packet.
+    """Serves a request on a channel, and returns the response, or None if a client must write and read packets.
 
     limit   timestamp at which the client would cancel the request.
     """
@@ -106,9 +107,9 @@ class _RequestInProgress:
         return [("t",)] * ticks + [("p", reply)]
 
     def _play(self, inputs: list[tuple[Field, ...]]) -> Message | None:
-        """Passes inputs, and returns the message that completes them, if any.
+        """Passes inputs, and returns the message that the key sends in response, if any.
 
-        The last input is passed by itself, because only then the library reports the cause of a refusal.
+        The last input is passed separately, since the library reports the cause of a rejection only for the last input.
         """
         session = self._session
         engine = session._engine

@@ -1,4 +1,4 @@
-"""A session of a key: packets from and to the client, and replies to what the key needs (presence, keys,
+"""A session of a key: exchanges packets with the client, and provides what the key needs (user presence, key pairs and
 signatures)."""
 
 from __future__ import annotations
@@ -32,13 +32,13 @@ from .packet_queue import PacketQueue
 # Slightly more than KEEPALIVE_MS, because timestamps are whole milliseconds.
 _KEEPALIVE_SECONDS = 0.101
 Clock = Union[str, Callable[[], int]]
-# Maximum number of private keys, as a multiple of the capacity. A registration above it drops those of removed
-# credentials.
+# Maximum number of private keys, as a multiple of the capacity. A registration that exceeds it drops the private keys
+# of removed credentials.
 _MAX_PRIVATE_KEYS = 4
 # Capacity of the keys of the program `hidlog`.
 _PROGRAM_CAPACITY = 64
 _NO_CONTEXT = nullcontext()
-# Length of the hash of client data, after the authenticator data in what is signed.
+# Length of the client data hash, which follows the authenticator data in the signed bytes.
 _HASH = 32
 _OLD_NAMES = {
     "abilities": "authenticator_options",
@@ -51,7 +51,7 @@ _OLD_NAMES = {
 
 
 class Recording(NamedTuple):
-    """A recorded session: the snapshot it started with (empty: no credentials), and its log."""
+    """A recorded session: the initial snapshot (empty without credentials) and the log."""
 
     snapshot: bytes
     log: bytes
@@ -152,7 +152,7 @@ class Session(AuthenticatorSettings):
         return self._exchange_lock
 
     def departing(self, departures: Departures | None, is_verified: bool) -> AbstractContextManager[Any]:
-        """Has the request within the context depart from the core as described, if at all."""
+        """Within the context, applies the features outside the core to the request, if any."""
         if departures is None and not is_verified:
             return _NO_CONTEXT
         return self._depart(departures or Departures(self, self._metadata), is_verified)
@@ -183,12 +183,12 @@ class Session(AuthenticatorSettings):
 
     @property
     def capacity(self) -> int:
-        """Number of credentials the key can hold: 64, or 256 if HIDLOG_LIBRARY names libhidlog-256.so.1."""
+        """Number of credentials that the key can store: 64, or 256 if HIDLOG_LIBRARY is libhidlog-256.so.1."""
         return _PROGRAM_CAPACITY if self._process else core.capacity()
 
     @property
     def presence(self) -> Presence:
-        """What the user does when asked for presence."""
+        """What the user does when the key asks for user presence."""
         return self._user.presence
 
     @presence.setter
@@ -217,15 +217,15 @@ class Session(AuthenticatorSettings):
 
     @property
     def has_page_ids(self) -> bool:
-        """Whether any credential has an ID for pages that differs from the core's."""
+        """Whether any credential has an ID for pages that differs from the ID in the core."""
         return self._metadata.has_page_ids
 
     def core_id(self, page_id: bytes) -> bytes:
-        """Returns the core's credential ID for a page's."""
+        """Returns the core's credential ID for an ID that pages see."""
         return self._metadata.core_id(page_id)
 
     def page_id(self, core_id: bytes) -> bytes:
-        """Returns a page's credential ID for the core's."""
+        """Returns the ID that pages see for the core's credential ID."""
         return self._metadata.page_id(core_id)
 
     # The clock.
@@ -267,7 +267,7 @@ class Session(AuthenticatorSettings):
             self._changed.notify_all()
 
     def read_packet(self, timeout: float | None = None) -> bytes:
-        """Returns the key's next packet. Until there is one, supplies what the key needs.
+        """Returns the key's next packet. Until there is one, provides what the key needs.
 
         If nothing arrives, blocks without using the processor, and raises KeyTimeoutError after `timeout` seconds (by
         default the key's `timeout`). If several threads write packets, each reads those of the channels on which it
@@ -287,7 +287,7 @@ class Session(AuthenticatorSettings):
         return check_bytes("the result of random", self._random(count), count)
 
     def _serve(self, limit: float) -> None:
-        """Supplies what the key needs, or waits if it needs nothing."""
+        """Provides what the key needs, or waits if the key needs nothing."""
         if not self._is_open:
             raise KeyClosedError("the key is closed")
         kind = self._work.need.kind
@@ -304,7 +304,8 @@ class Session(AuthenticatorSettings):
             self._wait_for_user(is_over=True)
 
     def _pause(self, limit: float) -> bool:
-        """Returns True once in 100 ms of real time. Otherwise waits for that time or a change, and returns False."""
+        """Returns True if 100 ms of real time have passed since the last time. Otherwise waits for that time or a
+        change, and returns False."""
         now = time.monotonic()
         if now >= self._work.waited_until:
             self._work.waited_until = now + _KEEPALIVE_SECONDS
@@ -334,7 +335,7 @@ class Session(AuthenticatorSettings):
             self._wait_for_user(is_over=True)
 
     def _wait_for_user(self, is_over: bool = False) -> None:
-        """Advances the key's time by 100 ms. With the real clock, waits that long first, unless is_over."""
+        """Advances the key's time by 100 ms. With the real clock, waits for this time first, unless is_over."""
         if self._clock == "real":
             if not is_over:
                 self._changed.wait(KEEPALIVE_MS / 1000)
@@ -344,7 +345,7 @@ class Session(AuthenticatorSettings):
 
     @contextmanager
     def _cancel_on_error(self) -> Iterator[None]:
-        """Cancels the pending request if the body raises, so that the key can serve the next one."""
+        """Cancels the pending request if the body raises an error, so that the key can serve the next request."""
         try:
             yield
         except BaseException:
@@ -355,11 +356,11 @@ class Session(AuthenticatorSettings):
             raise
 
     def _make_key(self) -> None:
-        """Supplies a new key pair with a new credential ID."""
+        """Provides a new key pair with a new credential ID."""
         self._play(*self.new_key())
 
     def new_key(self) -> tuple[str, bytes, bytes, bytes]:
-        """Creates a key pair with a new credential ID, and returns the input that supplies it."""
+        """Creates a key pair with a new credential ID, and returns the input that provides the key pair."""
         private, credential = private_keys.make_private_key(self._random_bytes), self._random_bytes(32)
         x, y = private_keys.public_point(private)
         if len(self.private_keys) >= _MAX_PRIVATE_KEYS * self.capacity and not self._process:
@@ -377,11 +378,11 @@ class Session(AuthenticatorSettings):
             self._metadata.forget(gone)
 
     def _sign(self) -> None:
-        """Supplies the signature that the key asks for."""
+        """Provides the signature that the key needs."""
         self._play(*self.signature())
 
     def signature(self) -> tuple[Field, ...]:
-        """Signs the bytes that the key asks for, and returns the input that supplies the signature."""
+        """Signs the bytes that the key wants signed, and returns the input that provides the signature."""
         need = self._work.need
         private = self.private_keys.get(need.credential)
         if private is None:
@@ -401,7 +402,7 @@ class Session(AuthenticatorSettings):
         return "s", private_keys.sign(private, signed)
 
     def _play(self, kind: Any, *fields: Field) -> None:
-        """Passes an input to the key, and stores what the key sends and needs."""
+        """Passes an input to the key, and records the packets that the key sends and what the key needs."""
         if not self._is_open:
             raise KeyClosedError("the key is closed")
         text, sent, need = self._engine.play(kind, self._next_time(), fields)
@@ -415,7 +416,7 @@ class Session(AuthenticatorSettings):
             self._send(packet)
 
     def cause(self, status: int | None = None) -> str:
-        """Returns the reason for the key's last refusal, such as "the user refused".
+        """Returns the cause of the key's last rejection, such as "the user refused".
 
         Empty if the last input was not refused, or not with this status, and always for a key in a separate process.
         """
@@ -444,7 +445,7 @@ class Session(AuthenticatorSettings):
             self._send_response(message)
 
     def _send_response(self, message: packets.Message) -> None:
-        """Queues the packets of a response, as changed by the faults."""
+        """Queues the packets of a response with the faults applied."""
         sent, self._response_packets[:] = list(self._response_packets), []
         data = self.altered(message.data)
         if data != message.data:
@@ -453,7 +454,8 @@ class Session(AuthenticatorSettings):
             self._packets.put(packet)
 
     def altered(self, data: bytes) -> bytes:
-        """Returns a response as changed outside the core, and by the active faults, each of which is a comment."""
+        """Returns a response with the features outside the core and the active faults applied. Each fault is recorded
+        as a comment."""
         change, done = self._change, []
         if change and change.original in data:
             data, self._change = change.apply(data), None

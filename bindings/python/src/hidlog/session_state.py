@@ -1,4 +1,4 @@
-"""The state of a session besides its log: the clock, the request in progress, and the lock of an exchange."""
+"""The state of a session apart from the log: the clock, the request in progress, and the lock of an exchange."""
 
 from __future__ import annotations
 
@@ -20,7 +20,7 @@ class Time:
 
 
 class Work:
-    """What the key needs, since when (timestamp and real time), and the progress of the request."""
+    """What the key needs, since when it needs this (timestamp and real time), and the progress of the request."""
 
     __slots__ = ("need", "since_ms", "began", "waited_until", "delayed", "request", "replies")
 
@@ -32,7 +32,7 @@ class Work:
 
 
 class Exchange:
-    """The lock of one message and its response, on top of a ceremony's lock."""
+    """The lock for one message and its response, in addition to a ceremony's lock."""
 
     __slots__ = ("_lock", "_is_open")
 

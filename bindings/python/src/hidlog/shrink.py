@@ -76,7 +76,7 @@ class Block:
 
 @dataclass(frozen=True)
 class Failure:
-    """How the command failed. Equal failures are the same failure."""
+    """How the command failed. Failures that compare equal count as the same failure."""
 
     status: int
     text: str
@@ -100,7 +100,7 @@ def joined(blocks: Iterable[Block]) -> bytes:
 
 
 def find_block(blocks: list[Block], line: int) -> Optional[Block]:
-    """Returns the block with a line of the log that consists of these blocks."""
+    """Returns the block that contains a line of the log that consists of these blocks."""
     for block in blocks:
         line -= block.lines()
         if line <= 0:
@@ -109,7 +109,7 @@ def find_block(blocks: list[Block], line: int) -> Optional[Block]:
 
 
 def group_transactions(blocks: list[Block]) -> dict[int, int]:
-    """Returns the transaction of each block, both by block numbers: that of the first packet.
+    """Returns, for each block, the number of the block at which its transaction begins.
 
     A packet belongs to the message of its channel, and other lines to the message that began last.
     """
@@ -169,7 +169,7 @@ class Command:
 
 
 class Shrinking:
-    """A log that is shortened as long as a command fails on it as expected."""
+    """A log that is shortened while a command fails on it as expected."""
 
     def __init__(self, command: Command, blocks: list[Block], wanted: Failure, tell: Callable[[str], None]):
         self.command = command
@@ -179,7 +179,7 @@ class Shrinking:
         self.whole = len(joined(blocks).splitlines())
 
     def try_blocks(self, blocks: list[Block]) -> bool:
-        """Keeps these blocks if the command fails on them as expected. Returns whether it does."""
+        """Keeps only these blocks if the command fails on them as expected. Returns whether it fails so."""
         if self.command.find_failure(blocks) != self.wanted:
             return False
         is_shorter = len(blocks) < len(self.blocks)
@@ -189,7 +189,7 @@ class Shrinking:
         return True
 
     def run(self) -> None:
-        """Removes what can be removed, until nothing more can."""
+        """Removes blocks and replaces inputs until no further change is possible."""
         self.truncate_after_failure()
         before: list[Block] = []
         while before != self.blocks:
@@ -205,8 +205,8 @@ class Shrinking:
             self.try_blocks([block for block in self.blocks if block.number <= line])
 
     def remove_transactions(self) -> None:
-        """Removes whole transactions, as many at a time as possible, from the last: later ones depend on earlier
-        ones."""
+        """Removes whole transactions, as many at a time as possible, beginning with the last, since later transactions
+        depend on earlier ones."""
         transaction = group_transactions(self.blocks)
         left = sorted(set(transaction.values()))
 
@@ -224,7 +224,7 @@ class Shrinking:
         each_chunk(len(self.blocks), lambda first, end: self.try_blocks(self.blocks[:first] + self.blocks[end:]))
 
     def replace_with_ticks(self) -> None:
-        """Replaces inputs by ticks, where the command still fails as expected."""
+        """Replaces inputs by ticks, if the command still fails as expected."""
         for place, block in enumerate(self.blocks):
             tick = block.to_tick()
             if tick is not None and block.number != self.wanted.line:
@@ -232,8 +232,8 @@ class Shrinking:
 
 
 def each_chunk(count: int, remove: Callable[[int, int], bool]) -> None:
-    """Calls remove on each chunk of `count` things: halves first, then ever smaller ones, each time from the last
-    chunk."""
+    """Calls remove on chunks of `count` items: first on halves, then on smaller and smaller chunks, each time beginning
+    with the last chunk."""
     size = max(1, count // 2)
     while True:
         end = count
@@ -267,7 +267,7 @@ class StoppedError(BaseException):
 
 
 def stop(number: int, _: object) -> None:
-    """Ends the search. Later signals are ignored, because `timeout` sends each one twice and the log must be
+    """Ends the search. Later signals are ignored, because `timeout` sends each signal twice, and the log must be
     written."""
     for other in (signal.SIGINT, signal.SIGTERM):
         signal.signal(other, signal.SIG_IGN)
@@ -314,7 +314,7 @@ def main(words: Optional[list[str]] = None) -> int:
 
 
 def shrink(command: Command, blocks: list[Block]) -> int:
-    """Writes the shortest log found, and returns the exit status: not 0 if something ended the search."""
+    """Writes the shortest log found, and returns the exit status, which is not 0 if the search was ended early."""
     shrinking = None
     status = 0
     try:

@@ -3,8 +3,8 @@
     for check in hidlog.verify_signatures(log, snapshot):
         print(check.line, check.rp_id, check.outcome)
 
-`hidlog check` can't detect a request that was changed after it was recorded, because a signature is an input of the
-log. This can. The command is `hidlog check --signatures [--load SNAPSHOT] LOG ..`.
+Unlike `hidlog check`, this detects a request that was changed after it was recorded: for `hidlog check`, a signature is
+only an input of the log. The command is `hidlog check --signatures [--load SNAPSHOT] LOG ..`.
 """
 
 from __future__ import annotations
@@ -51,7 +51,7 @@ def verify_signatures(log: bytes, snapshot: bytes | None = None) -> list[Signatu
     """Verifies each signature in a log: of attestations and of assertions.
 
     The public key is that of the registration in the log, or of the snapshot that the log started with. `hidlog show
-    --json` says which request a response belongs to.
+    --json` assigns responses to requests.
     """
     data = check_bytes("the log", log)
     begin = b"" if snapshot is None else check_bytes("the snapshot", snapshot)
@@ -110,7 +110,7 @@ class _Verifier:
         return found
 
     def verify_response(self, response: Json) -> list[SignatureCheck]:
-        """Verifies the signature in a response, if it has one."""
+        """Verifies the signature in a response, if there is one."""
         request = self.requests.pop(response["transaction"], None)
         if request is None or request["command"] not in (_REGISTRATION, _SIGN_IN, _NEXT) or "bytes" not in response:
             return []
@@ -149,7 +149,7 @@ class _Verifier:
         return self.check_signature(credential_id, used[3], used[2], request[2])
 
     def check_signature(self, credential_id: bytes, signature: bytes, data: bytes, client: bytes) -> tuple[str, str]:
-        """Verifies a signature over authenticator data and the hash of client data."""
+        """Verifies a signature over authenticator data and the client data hash."""
         if self.is_good(self.keys[credential_id], signature, data + client):
             return "good", "it matches the response's authenticator data and the request's clientDataHash"
         return "wrong", (
@@ -174,8 +174,8 @@ def _read_credential(data: bytes) -> tuple[bytes, Map]:
 
 
 def main(args: list[str]) -> int:
-    """Runs `hidlog check --signatures`. The exit status is 0 if all matches and no signature is wrong, 1 if not, 2 on
-    errors."""
+    """Runs `hidlog check --signatures`. The exit status is 0 if all logs match and no signature is wrong, 1 if not, and
+    2 on errors."""
     parser = argparse.ArgumentParser(
         prog="hidlog check --signatures",
         description="Check logs, and verify each signature with the public keys in the log.",
@@ -190,7 +190,7 @@ def main(args: list[str]) -> int:
 
 
 def _print_result(name: str, snapshot: bytes | None) -> bool:
-    """Prints the result for a log, and returns whether something is wrong."""
+    """Prints the result for a log, and returns whether the log does not match or a signature is wrong."""
     data = read_input(name)
     checked = logs.check(data, snapshot)
     if checked.status == 2:

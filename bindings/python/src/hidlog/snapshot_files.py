@@ -1,4 +1,4 @@
-"""Checksums of saved keys, to detect damaged files. A file without a checksum is loaded as it is."""
+"""Checksums of saved keys, to detect damaged files. A file without a checksum is loaded without this check."""
 
 from __future__ import annotations
 

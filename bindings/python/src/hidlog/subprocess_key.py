@@ -1,4 +1,4 @@
-"""A key in a separate process: `hidlog live`, one line in and lines out."""
+"""A key in a separate process (`hidlog live`), which replies to each input line with lines of output."""
 
 from __future__ import annotations
 
@@ -72,7 +72,7 @@ def compute_snapshot(path: str, log: bytes, start: bytes) -> bytes:
 
 
 def _kill_process(process: subprocess.Popen[bytes], folder: tempfile.TemporaryDirectory[str], owner: int) -> None:
-    """Kills the program of a key that is gone, and closes its pipes."""
+    """Kills the program of a key that no longer exists, and closes the pipes."""
     if os.getpid() != owner:
         return  # the program belongs to the parent of os.fork
     for pipe in (process.stdin, process.stdout, process.stderr):
@@ -86,7 +86,7 @@ def _kill_process(process: subprocess.Popen[bytes], folder: tempfile.TemporaryDi
 
 
 class SubprocessKey:
-    """A key in a separate process, which ends with the key."""
+    """A key in a separate process, which ends when the key is closed."""
 
     _all: weakref.WeakSet[SubprocessKey] = weakref.WeakSet()
 
@@ -117,7 +117,7 @@ class SubprocessKey:
             key._process.returncode = 0  # not a child of this process, which therefore can't wait for it
 
     def exchange(self, line: bytes) -> Reply:
-        """Plays a log line, and returns the key's reply."""
+        """Passes a log line to the program, and returns the key's reply."""
         assert self._process.stdin and self._process.stdout
         try:
             self._process.stdin.write(line + b"\n")
@@ -132,7 +132,7 @@ class SubprocessKey:
         return parse_reply(b"".join(lines))
 
     def play(self, kind: str, at: int, fields: tuple[Field, ...]) -> Reply:
-        """Plays an input at a timestamp, and returns the key's reply."""
+        """Passes an input at a timestamp to the program, and returns the key's reply."""
         return self.exchange(format_line(kind, at, fields).encode())
 
     def cause(self, _: int | None) -> str:
@@ -154,7 +154,7 @@ class SubprocessKey:
         return len(self.credentials(log))
 
     def snapshot(self, log: bytes) -> bytes:
-        """Returns a snapshot of the credentials after this log, which is the session's so far."""
+        """Returns a snapshot of the credentials after this log, which is the log of the session so far."""
         return compute_snapshot(self._path, log, self._start)
 
     def finish(self) -> bytes:

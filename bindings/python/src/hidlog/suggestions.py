@@ -1,4 +1,4 @@
-"""Errors for unknown names, with the closest known one."""
+"""Errors for unknown names, which suggest the closest known name."""
 
 from __future__ import annotations
 
@@ -33,7 +33,7 @@ def check_attribute(key: object, name: str, others: Iterable[str]) -> None:
 
 
 def get_renamed(instance: object, name: str, names: Mapping[str, str]) -> Any:
-    """Returns an attribute by its old name, with a DeprecationWarning. Old names work for one version."""
+    """Returns an attribute by its old name, and warns with DeprecationWarning. Old names work for one version."""
     kind = type(instance).__name__
     if name not in names:
         raise AttributeError(f"{kind!r} object has no attribute {name!r}")

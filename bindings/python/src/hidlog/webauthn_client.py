@@ -1,7 +1,8 @@
-"""The WebAuthn client of the C library (hidlog.h): a page's options in, requests and credentials out.
+"""The WebAuthn client of the C library (hidlog.h), which converts a page's options to requests, and responses to
+credentials.
 
-The library checks options, origins and RP IDs, and writes requests, client data and a credential's JSON. It keeps
-nothing between its calls.
+The library checks options, origins and RP IDs, and builds requests, client data and a credential's JSON. The library
+keeps no state between calls.
 """
 
 from __future__ import annotations
@@ -57,7 +58,7 @@ class AuthenticatorOptions(NamedTuple):
 
     verification      result of user verification: "verified", "failed" or "none" (unsupported).
     attachment        "cross-platform" or "platform".
-    has_resident_key  whether it makes discoverable credentials.
+    has_resident_key  whether the authenticator creates discoverable credentials.
     """
 
     verification: str = "none"
@@ -79,9 +80,9 @@ class AuthenticatorOptions(NamedTuple):
 class Request(NamedTuple):
     """A CTAP2 request.
 
-    message      the command's byte, then CBOR.
+    message      the command byte, then CBOR.
     timeout_ms   the timeout of the options.
-    is_verified  whether the response claims user verification.
+    is_verified  whether the response has the flag UV.
     """
 
     message: bytes
@@ -100,7 +101,8 @@ class _Report(ctypes.Structure):
 
 
 _NUMBER, _SIZE, _BYTES, _OUT = ctypes.c_uint32, ctypes.c_size_t, ctypes.c_char_p, ctypes.c_void_p
-# Ceremony; options, mediation, origin and public suffix, each with its length; authenticator.
+# Parameters: the ceremony; options, mediation, origin and public suffix, each with its length; and the authenticator's
+# abilities.
 _INPUTS = [_NUMBER, *[_BYTES, _SIZE] * 4, _NUMBER]
 _RESULTS = [_OUT, _OUT, _SIZE]
 
@@ -118,7 +120,7 @@ def _load_functions() -> tuple[Any, Any]:
 
 
 def _convert(value: object) -> Any:
-    """Returns a mapping as dict, for JSON. Other objects have no JSON."""
+    """Returns a mapping as dict, for JSON. Raises WebAuthnTypeError for other objects."""
     if isinstance(value, Mapping):
         return dict(value)
     raise WebAuthnTypeError(
@@ -164,7 +166,7 @@ class ClientCall:
         return Request(ctypes.string_at(out, length), report.timeout_ms, report.is_verified == 1)
 
     def response(self, response: bytes) -> Json:
-        """Returns the credential from the key's response, which is a status and CBOR."""
+        """Returns the credential for the key's response, which is a status byte and CBOR."""
         report, out = _Report(), _CredentialBytes()
         more = (response, len(response), ctypes.byref(report), out, _CREDENTIAL_CAPACITY)
         length = _load_functions()[1](*self._inputs, *more)
@@ -183,13 +185,13 @@ class ClientCall:
 
 
 def _make_error(number: int, report: _Report, out: Any) -> HidlogError:
-    """Returns the error of a failed call, with the invalid member of the options."""
+    """Returns the error for a failed call, with the name of the invalid member of the options."""
     kind = _ERRORS.get(number)
     if kind is None:
         return HidlogError(f"libhidlog's WebAuthn client failed with error {number}")
     text = ctypes.string_at(out, report.member_len + report.reason_len)
     member, reason = text[: report.member_len].decode(), text[report.member_len :].decode()
     if member == "origin":
-        # Browser accepts any origin. At one that the client rejects, browsers have no WebAuthn.
+        # Browser accepts any origin, but the client rejects origins at which browsers do not support WebAuthn.
         kind = SecurityError
     return kind(f"{member}: {reason}" if member else reason)

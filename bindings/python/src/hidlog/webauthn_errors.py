@@ -1,7 +1,7 @@
 """The exceptions with which navigator.credentials rejects a page's call, by their DOM names.
 
-Each is a WebAuthnError, and thus a HidlogError. Names that are also Python's start with WebAuthn; `name` is the DOM's
-name.
+Each is a subclass of WebAuthnError, and thus of HidlogError. Classes whose DOM name is also the name of a Python
+exception start with WebAuthn. The attribute `name` is the DOM's name.
 """
 
 from __future__ import annotations
@@ -25,7 +25,7 @@ class WebAuthnError(HidlogError):
 
 
 class NotAllowedError(WebAuthnError):
-    """The user or the key refused, or the request timed out."""
+    """The user or the key rejected the request, or the request timed out."""
 
     name = "NotAllowedError"
 
@@ -43,7 +43,7 @@ class SecurityError(WebAuthnError):
 
 
 class NotSupportedError(WebAuthnError):
-    """The options ask for something that browsers do not support."""
+    """Browsers do not support the options."""
 
     name = "NotSupportedError"
 
@@ -78,7 +78,7 @@ class WebAuthnSyntaxError(WebAuthnError, ArgumentError):
     name = "SyntaxError"
 
 
-# Causes of status codes (CTAP 2.1, section 8.2), if the key reports none.
+# Causes for status codes (CTAP 2.1, section 8.2), which are used if the key reports no cause.
 _STATUS_CAUSES = {
     0x19: "it has a credential of excludeCredentials",
     0x26: "pubKeyCredParams does not include ES256, the key's only algorithm",

@@ -39,7 +39,8 @@ def b64url_decode(text: str, name: str = "the text") -> bytes:
 
 
 def _check_bytes(name: str, value: Any) -> bytes:
-    """Returns a value as bytes. It may be a subclass, as in python-fido2, or have __bytes__."""
+    """Returns a value as bytes. The value may be of a subclass of bytes, as in python-fido2, or have the method
+    __bytes__."""
     convert = getattr(value, "__bytes__", None)
     return check_bytes(name, convert() if convert else value)
 
@@ -80,7 +81,7 @@ def _get_member(options: Mapping[str, Any], *path: str) -> Any:
 
 
 def _check_mapping(value: Any, name: str) -> Mapping[str, Any]:
-    """Returns the value, which must be a mapping."""
+    """Returns a value that must be a mapping."""
     if not isinstance(value, Mapping):
         raise ArgumentTypeError(f"{name} must be a dict, not {type(value).__name__}")
     return value
@@ -169,7 +170,7 @@ def _convert_request(options: Mapping[str, Any], convert: Conversion) -> Json:
 
 
 def _unwrap(options: Mapping[str, Any]) -> Mapping[str, Any]:
-    """Returns the options, or their member publicKey if they have one."""
+    """Returns the options, or their member publicKey if it exists."""
     if not isinstance(options, Mapping):
         raise ArgumentTypeError(f"options must be a dict, not {type(options).__name__}")
     inner = options.get("publicKey")
@@ -219,7 +220,7 @@ def _read_attestation(attestation: bytes) -> tuple[bytes, bytes, Optional[bytes]
 
 
 def _read_public_key(auth_data: bytes) -> tuple[Optional[bytes], int]:
-    """Returns the public key in authenticator data as SubjectPublicKeyInfo, and its algorithm."""
+    """Returns the public key in authenticator data as SubjectPublicKeyInfo, and the key's algorithm."""
     from .private_keys import to_spki
 
     length = int.from_bytes(auth_data[53:55], "big")

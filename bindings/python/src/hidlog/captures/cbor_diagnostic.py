@@ -1,4 +1,4 @@
-"""Parses CBOR diagnostic notation (RFC 8949, section 8), as far as Chromium writes it."""
+"""Parses the subset of CBOR diagnostic notation (RFC 8949, section 8) that Chromium writes."""
 
 from __future__ import annotations
 
@@ -83,7 +83,7 @@ class _Parser:
 
 
 def parse(text: str) -> Any:
-    """Parses one item, which must be all of the text."""
+    """Parses a text that must be exactly one item."""
     parser = _Parser(text)
     value = parser.read_item()
     if parser.read_rest():

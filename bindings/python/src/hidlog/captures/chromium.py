@@ -1,4 +1,4 @@
-"""Reads Chromium's device log (chrome://device-log), which has CTAP2 messages in diagnostic notation."""
+"""Reads Chromium's device log (chrome://device-log), which contains CTAP2 messages in diagnostic notation."""
 
 from __future__ import annotations
 
@@ -52,7 +52,7 @@ def read_chromium(lines: Iterable[bytes], source: Source) -> list[Stream]:
 
 
 def _parse_message(text: str) -> tuple[bool, bytes]:
-    """Returns whether a message was sent to the key, and its data."""
+    """Returns whether a message was sent to the key, and the message's data."""
     if request := _REQUEST.search(text):
         body = (request[2] or "").strip()
         data = b"" if not body or body.startswith("(") else cbor.encode(parse(body))

@@ -41,15 +41,15 @@ def import_capture(words: list[str]) -> int:
             capture = read_file(file)
     except (HidlogError, OSError) as error:
         if isinstance(error, CaptureError) and _is_session_log(options.file):
-            error = CaptureError("it is a session log already: `hidlog show` and `hidlog judge` read it")
+            error = CaptureError("the file is already a session log: use `hidlog show` or `hidlog judge`")
         return _report_failure("import", options.file, error)
     if options.list:
         print("".join(f"{line}\n" for line in _name_logs(capture)), end="")
         return 0
     number = options.key or (1 if len(capture.streams) == 1 else 0)
     if not 1 <= number <= len(capture.streams):
-        wrong = f"no key {options.key}" if options.key is not None else "the capture has several keys; select one"
-        print(f"hidlog import: {wrong}, with --key 1 to {len(capture.streams)}", file=sys.stderr)
+        wrong = f"no key {options.key}" if options.key is not None else "the capture has several keys"
+        print(f"hidlog import: {wrong}; select a key with --key 1 to --key {len(capture.streams)}", file=sys.stderr)
         print("".join(f"  {line}\n" for line in _name_logs(capture)), end="", file=sys.stderr)
         return STATUS_FAILED
     stream = capture.streams[number - 1]
@@ -112,7 +112,7 @@ def export_log(words: list[str]) -> int:
 
 
 class _InputError(Exception):
-    """The input is invalid, or cannot be read."""
+    """The input is invalid or cannot be read."""
 
     def __init__(self, reason: Exception):
         super().__init__(str(reason))
@@ -120,7 +120,7 @@ class _InputError(Exception):
 
 
 def _guard_input(pieces: Iterator[bytes]) -> Iterator[bytes]:
-    """Yields pieces of the output. An error in the input becomes an InputError."""
+    """Yields pieces of the output. Converts an error in the input to an InputError."""
     try:
         yield from pieces
     except (HidlogError, OSError) as error:

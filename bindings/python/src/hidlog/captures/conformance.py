@@ -1,4 +1,4 @@
-"""Imports modules of the conformance tests: of this package, of a clone, or installed ones."""
+"""Imports modules of the conformance tests from this package, from a clone, or from an installed package."""
 
 from __future__ import annotations
 

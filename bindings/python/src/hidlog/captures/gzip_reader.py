@@ -48,7 +48,7 @@ class Unpacked:
 
 
 def unpack(file: Readable, front: bytes) -> Unpacked:
-    """Returns a reader of a gzip file that starts with `front`. Its unpacked size is checked first."""
+    """Returns a reader for a gzip file that starts with `front`, after checking the unpacked size."""
     pieces, length = [front], len(front)
     while length <= MAX_UNPACKED and (piece := file.read(_READ_BYTES)):
         pieces.append(piece)

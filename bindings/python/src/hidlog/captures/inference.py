@@ -1,4 +1,4 @@
-"""Infers replies from packets: user presence, a new key pair, a signature."""
+"""Infers replies from packets: user presence, a new key pair and a signature."""
 
 from __future__ import annotations
 
@@ -23,7 +23,7 @@ Derived = tuple[bytes, bytes, str]
 
 
 class Placed(NamedTuple):
-    """A packet with its timestamp in the log, and its data, or no data if some of it is missing."""
+    """A packet with the timestamp in the log and the data. The data is empty if a part of it is missing."""
 
     packet: Packet
     at: int
@@ -41,8 +41,8 @@ class Inferred(NamedTuple):
 def infer_replies(placed: Iterable[Placed], window: int = _WINDOW) -> Iterator[Inferred]:
     """Yields the packets with the replies inferred from them.
 
-    Holds `window` packets, and more, up to _MAX_WINDOW, only while transactions are open. One that is open for longer
-    has no replies."""
+    Keeps `window` packets in memory, or up to _MAX_WINDOW while transactions are open. For a transaction that is open
+    for longer, no replies are inferred."""
     held: list[Placed] = []
     limit = window
     for packet in placed:
@@ -58,7 +58,7 @@ def infer_replies(placed: Iterable[Placed], window: int = _WINDOW) -> Iterator[I
 
 
 class _Replies:
-    """The replies before each of some packets.
+    """The replies before each packet of a window.
 
     last_quiet   number of packets up to the last one after which no transaction is open.
     """
@@ -123,7 +123,7 @@ def _packet_index(part: Any) -> int:
 
 
 def _presence_from_response(transaction: Any, request: int, response: bytes) -> Derived | None:
-    """Returns the user's reply, as implied by a response."""
+    """Returns the user's reply that a response implies."""
     if request not in _PRESENCE_COMMANDS:
         return None
     was_asked = any(entry.packet[7] == _UP_NEEDED for entry in transaction.keepalives)

@@ -13,8 +13,8 @@ from .inference import Inferred, Placed, infer_replies
 from .packet_store import Packet, Stream
 from .source import CaptureError
 
-# Delay in ms before a packet of the key, from which on a tick records its time. It is the KEEPALIVE interval: within
-# it, a key's behavior does not depend on time.
+# Minimum delay in ms before a packet of the key for which a tick records the packet's time. This is the KEEPALIVE
+# interval, within which a key's behavior does not depend on time.
 _TICK_MS = 100
 _UNKNOWN = "none is known"
 # Nanoseconds from 1970 to the year 10000, the latest plausible timestamp.
@@ -22,8 +22,8 @@ _MAX_TIMESTAMP_NS = 253_402_300_800 * 10**9
 
 
 def write_log(stream: Stream, form: str, notes: list[str], *, ticks: bool = False, derive: bool = True) -> bytes:
-    """Returns the session log of a stream. `ticks` adds a tick before each packet the key sent later than the line
-    before. `derive` adds the replies inferred from packets."""
+    """Returns the session log of a stream. `ticks` adds a tick before each packet that the key sent later than the
+    previous line. `derive` adds the replies inferred from packets."""
     return b"".join(iter_log(stream, form, notes, ticks=ticks, derive=derive))
 
 
@@ -57,7 +57,7 @@ def _check_embedded_log(stream: Stream) -> None:
         for _ in logs.iter_valid_parts(_iter_embedded_log(stream)):
             pass
     except LogError:
-        raise CaptureError("the capture is an exported log with an invalid line") from None
+        raise CaptureError("the log in the capture, written by hidlog export, has an invalid line") from None
 
 
 def _iter_embedded_log(stream: Stream) -> Iterator[bytes]:
@@ -94,7 +94,7 @@ class _Writer:
         self._has_timestamps = self._start is not None
 
     def _iter_placed(self) -> Iterator[Placed]:
-        """Yields the packets, each with its timestamp and its data, which is empty if some is missing."""
+        """Yields the packets, each with the timestamp and the data, which is empty if a part of it is missing."""
         filled, now = _PacketCompleter(), 0
         for packet in self._stream.packets:
             now = max(now, self._time_ms(packet, now))
@@ -159,14 +159,14 @@ class _Writer:
 
 
 class _PacketCompleter:
-    """Pads truncated packets if only bytes after their message are missing."""
+    """Pads truncated packets in which only bytes after the end of a message are missing."""
 
     def __init__(self) -> None:
         # Remaining bytes of the open message, by direction and channel.
         self._left: dict[tuple[bool, bytes], int] = {}
 
     def whole(self, packet: Packet) -> bytes:
-        """Returns the padded packet, or nothing if bytes of its message are missing."""
+        """Returns the padded packet, or nothing if bytes of the message are missing."""
         data = packet.data
         if len(data) < 7:
             return b""

@@ -1,4 +1,5 @@
-"""The packets of a capture. Many are in a temporary file, so that the memory does not grow with the capture."""
+"""Stores the packets of a capture. A large number of packets is stored in a temporary file, so that memory use does not
+grow with the capture."""
 
 from __future__ import annotations
 
@@ -11,7 +12,7 @@ from dataclasses import dataclass, field
 
 from .source import CaptureError
 
-# Bytes in memory, above which packets are written to a file, and bytes to read at a time.
+# Number of bytes in memory above which packets are written to a file, and number of bytes to read at a time.
 _MAX_IN_MEMORY = 1 << 20
 _BLOCK_BYTES = 1 << 16
 # The status of a failed transfer, which is set later, and the length of the other members.
@@ -22,7 +23,7 @@ _MAX_STATUS = (1 << 63) - 1
 
 @dataclass
 class Packet:
-    """A packet from the host (`sent`) or the key, or only the comments of a frame if it has no data."""
+    """A packet from the host (`sent`) or the key. Without data, only the comments of a frame."""
 
     at: int | None
     sent: bool
@@ -40,12 +41,12 @@ class PacketStore:
     def __init__(self) -> None:
         self._file = tempfile.SpooledTemporaryFile(_MAX_IN_MEMORY)
         self._size = 0
-        # The number of packets with data by endpoint, and of those without.
+        # The number of packets with data by endpoint, and the number of packets without data.
         self.counts: Counter[int] = Counter()
         self.empty = 0
 
     def append(self, packet: Packet, endpoint: int = 0) -> int:
-        """Adds a packet. Returns its place."""
+        """Adds a packet. Returns the packet's index."""
         members = marshal.dumps((endpoint, packet.at, packet.sent, packet.data, packet.comments, packet.late))
         place = self._size
         self._size += self._file.write(_HEAD.pack(_clamp(packet.lost), len(members)) + members)
@@ -61,13 +62,13 @@ class PacketStore:
             self.append(packet)
 
     def set_lost(self, place: int, status: int) -> None:
-        """Sets the status of the failed transfer of the packet at a place."""
+        """Sets the status of a failed transfer for the packet at an index."""
         self._file.seek(place)
         self._file.write(_LOST.pack(_clamp(status)))
         self._file.seek(self._size)
 
     def read_from(self, place: int = 0) -> Iterator[tuple[int, int, Packet]]:
-        """Yields the place and the endpoint of each packet, and the packet, from a place on."""
+        """Yields the index and the endpoint of each packet, and the packet, beginning at an index."""
         block, offset = b"", 0
         while place < self._size:
             start = end = offset + _HEAD.size
@@ -76,7 +77,7 @@ class PacketStore:
                 lost, length = _HEAD.unpack_from(block, offset)
                 end += length
             if end > len(block):
-                # At least what the next packet needs, whose length is unknown until its head is read.
+                # Read at least the maximum length of a packet, since the length is unknown until the head is read.
                 self._file.seek(place)
                 needed = end - offset
                 block, offset = self._file.read(max(_BLOCK_BYTES, needed)), 0
@@ -94,7 +95,7 @@ class PacketStore:
 
 
 def _clamp(status: int) -> int:
-    """Returns a status of a transfer that fits in 64 bits; a damaged text may have any number."""
+    """Returns the status of a transfer, limited to 64 bits, since a damaged text may have any number."""
     return max(-_MAX_STATUS, min(status, _MAX_STATUS))
 
 
@@ -105,7 +106,7 @@ class SelectedPackets:
         self._store, self._endpoints = store, endpoints
 
     def read_from(self, place: int = 0) -> Iterator[tuple[int, Packet]]:
-        """Yields the place of each packet, and the packet, from a place on."""
+        """Yields the index of each packet, and the packet, beginning at an index."""
         for at, endpoint, packet in self._store.read_from(place):
             if endpoint in self._endpoints or not packet.data:
                 yield at, packet

@@ -51,7 +51,7 @@ class _Interface(NamedTuple):
 
 
 def is_capture(front: bytes) -> bool:
-    """Returns whether the front of a file is that of a pcap or pcapng file."""
+    """Returns whether a file begins like a pcap or pcapng file."""
     return front[:4] in _PCAP or front[:4] == _SECTION
 
 
@@ -87,7 +87,7 @@ class _PcapngReader:
         self._source = source
         self._order = "<"
         self._writer = b""
-        # Interfaces of all sections; those of the current section start at `first`.
+        # Interfaces of all sections. The interfaces of the current section start at `first`.
         self._interfaces: list[_Interface] = []
         self._first = 0
 

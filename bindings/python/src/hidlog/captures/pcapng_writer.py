@@ -1,4 +1,4 @@
-"""Converts a session log to pcapng of Linux's usbmon, which Wireshark reads as USB HID."""
+"""Converts a session log to a pcapng capture of Linux's usbmon, which Wireshark shows as USB HID."""
 
 from __future__ import annotations
 
@@ -42,7 +42,7 @@ def to_pcapng(log: bytes) -> bytes:
 
 
 def iter_pcapng(pieces: Iterable[bytes]) -> Iterator[bytes]:
-    """Yields a log, read in any pieces, as a pcapng file. Raises LogError at an invalid line."""
+    """Yields the pcapng file for a log, which is passed in pieces of any length. Raises LogError at an invalid line."""
     parts = logs.iter_valid_parts(pieces)
     first = next(parts, b"")
     yield from _iter_head()

@@ -1,4 +1,4 @@
-"""A file that is read sequentially, and notes about it."""
+"""Reads a file sequentially, and collects notes about it."""
 
 from __future__ import annotations
 
@@ -22,11 +22,12 @@ class Readable(Protocol):
 
 
 class CaptureError(HidlogError):
-    """An unreadable capture. The message says why, and where."""
+    """An unreadable capture. The message has the reason and the position."""
 
 
 class Source:
-    """Reads a file sequentially, and counts the bytes read. `notes` has what could not be read or was truncated."""
+    """Reads a file sequentially, and counts the bytes read. `notes` lists the parts that could not be read or were
+    truncated."""
 
     def __init__(self, file: Readable):
         self._file = file
@@ -40,7 +41,7 @@ class Source:
             self.notes.append(text)
 
     def peek(self, count: int) -> bytes:
-        """Returns the next bytes without reading them, fewer at the end."""
+        """Returns the next bytes without advancing; fewer bytes at the end."""
         while len(self._ahead) < count:
             more = self._file.read(count - len(self._ahead))
             if not more:
@@ -49,7 +50,7 @@ class Source:
         return self._ahead[:count]
 
     def read(self, count: int) -> bytes:
-        """Reads the next bytes, fewer at the end."""
+        """Reads the next bytes; fewer bytes at the end."""
         if count > MAX_RECORD:
             raise CaptureError(f"the capture is invalid at byte {self.offset}: a record of {count} bytes")
         data = self.peek(count)
@@ -58,7 +59,7 @@ class Source:
         return data
 
     def skip(self, count: int) -> int:
-        """Skips bytes, and returns how many there were."""
+        """Skips bytes, and returns the number of bytes skipped."""
         left = count
         while left:
             piece = self.read(min(left, 1 << 16))

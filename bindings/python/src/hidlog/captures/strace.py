@@ -1,4 +1,4 @@
-"""Reads strace's output: reads and writes of /dev/hidraw."""
+"""Reads the output of strace: reads and writes of /dev/hidraw devices."""
 
 from __future__ import annotations
 
@@ -86,7 +86,7 @@ class _Reader:
                 self._read_call(process, called["call"], rest, at)
 
     def _read_timestamp(self, line: bytes) -> int | None:
-        """Returns the timestamp of a line. With strace -r it is relative to the line before."""
+        """Returns the timestamp of a line. With strace -r, the time is relative to the previous line."""
         at = self._clock.read(line)
         if at is not None:
             return at
@@ -117,7 +117,7 @@ class _Reader:
             self._add_data(handle, (number[2] or b"").decode("utf-8", "replace"), call, rest, result, at)
 
     def _find_path(self, handle: tuple[bytes, int], named: str) -> str | None:
-        """Returns the path of a descriptor, which threads share, or None if its opening was not recorded."""
+        """Returns the path of a descriptor, or None if its opening was not recorded. Threads share descriptors."""
         if named:
             return unescape(named.encode()).decode("utf-8", "replace")
         if handle in self._paths:
@@ -151,12 +151,12 @@ def read_strace(lines: Iterable[bytes], source: Source) -> list[Stream]:
     for line in lines:
         reader.read_line(line)
     found = [Stream(name, packets.select()) for name, packets in reader.streams.items()]
-    # A descriptor whose opening was not recorded may be anything that reads and writes 64 bytes.
+    # A descriptor whose opening was not recorded may belong to any file from which 64 bytes are read and written.
     return [stream for stream in found if not stream.name.startswith("descriptor") or _speaks_ctaphid(stream)]
 
 
 def _speaks_ctaphid(stream: Stream) -> bool:
-    """Returns whether a descriptor's packets are CTAPHID."""
+    """Returns whether the packets of a descriptor are CTAPHID packets."""
     channels = {head.data[:4] for head in _iter_heads(stream) if head.sent}
     return any(not head.sent and head.data[:4] in channels for head in _iter_heads(stream))
 

@@ -1,4 +1,4 @@
-"""Finds the keys in a USB capture, and the packets of each in recorded order."""
+"""Finds the keys in a USB capture, and the packets of each key in recorded order."""
 
 from __future__ import annotations
 
@@ -21,21 +21,22 @@ _INIT_REQUEST = b"\xff\xff\xff\xff\x86\x00\x08"
 _INIT_RESPONSE = b"\xff\xff\xff\xff\x86\x00\x11"
 _KNOWN_COMMANDS = (hid.PING, hid.MSG, hid.LOCK, hid.INIT, hid.WINK, hid.CBOR, hid.CANCEL, hid.KEEPALIVE, hid.ERROR)
 _REPORT_LENGTHS = (hid.PACKET, hid.PACKET + 1)
-# Maximum number of transfers without a completion; of INIT requests and channels while looking for endpoints.
+# Maximum number of transfers without a completion, and maximum number of INIT requests and channels while searching for
+# endpoints.
 _MAX_OPEN = 1024
-# Maximum number of places at which a part of a stream may begin.
+# Maximum number of indexes that are tried as the start of a part of a stream.
 _MAX_STARTS = 1000
 
 
 @dataclass
 class _Device:
-    """A recorded device: its descriptors, and its 64-byte reports by endpoint."""
+    """A recorded device: the descriptors, and the 64-byte reports by endpoint."""
 
     place: tuple[int, int, int]
     turn: int = 1
     descriptors: Descriptors = field(default_factory=Descriptors)
     reports: PacketStore = field(default_factory=PacketStore)
-    # Place of a report whose delivery is still unknown, by the recorder's transfer number.
+    # Indexes of reports whose delivery is still unknown, by the recorder's transfer number.
     waiting: dict[int, int] = field(default_factory=dict)
     gone: bool = False
     writer: bytes = b""
@@ -59,7 +60,8 @@ class StreamFinder:
                 self._add_interrupt(device, transfer)
 
     def _find_device(self, transfer: Transfer) -> _Device:
-        """Returns the device of a transfer, a new one if the device with that number was unplugged."""
+        """Returns the device of a transfer. Returns a new device if the previous device with this number was
+        unplugged."""
         device = self._devices.get(transfer.place)
         if device is None:
             device = self._devices[transfer.place] = _Device(transfer.place)
@@ -132,8 +134,8 @@ class StreamFinder:
 
 
 def _is_duplicate(one: Stream, other: Stream) -> bool:
-    """Returns whether one stream's packets are a contiguous part of another's: the same key, recorded on two capture
-    interfaces, one of which started later or ended earlier."""
+    """Returns whether the packets of one stream are a contiguous part of another stream. Then both are the same key,
+    recorded on two capture interfaces, of which one started later or ended earlier."""
     short, long = sorted((one.packets, other.packets), key=len)
     first = next(iter(short), None)
     if first is None:
@@ -148,13 +150,13 @@ def _is_duplicate(one: Stream, other: Stream) -> bool:
 
 
 def _begins_with(packets: SelectedPackets, place: int, wanted: SelectedPackets) -> bool:
-    """Returns whether the packets from a place on begin with these."""
+    """Returns whether the packets beginning at an index start with these packets."""
     pairs = zip(wanted, (packet for _, packet in packets.read_from(place)))
     return all((one.sent, one.data) == (other.sent, other.data) for one, other in pairs)
 
 
 def _list_fido_interfaces(device: _Device) -> list[tuple[int | None, set[int]]]:
-    """Returns the FIDO interfaces of a device: the number of each, if known, and its endpoints."""
+    """Returns the FIDO interfaces of a device: the number of each interface, if known, and the endpoints."""
     ends = set(device.reports.counts)
     known = list(device.descriptors.interfaces.values())
     for interface in known:
@@ -185,7 +187,7 @@ def _complete_endpoints(device: _Device, own: set[int], free: set[int]) -> set[i
 
 
 def _find_endpoint_pairs(device: _Device, ends: set[int]) -> list[set[int]]:
-    """Returns pairs of endpoints that exchange CTAPHID packets, found by their data."""
+    """Returns pairs of endpoints that exchange CTAPHID packets, recognized by the data of the packets."""
     ins = sorted(end for end in ends if 0x80 <= end < _CONTROL_ENDPOINT)
     outs = sorted(ends - set(ins))
     found, used = [], set()
@@ -201,8 +203,8 @@ def _find_endpoint_pairs(device: _Device, ends: set[int]) -> list[set[int]]:
 
 
 def _score(device: _Device, out: int, end: int) -> int:
-    """Returns a score for the packets on one endpoint that respond to packets on the other: an INIT response with the
-    nonce, otherwise a CTAPHID command on the same channel."""
+    """Returns a score for how well packets on one endpoint match as responses to packets on the other: by an INIT
+    response with the same nonce, or else by a CTAPHID command on the same channel."""
     nonces: set[bytes] = set()
     channels: set[bytes] = set()
     score = 0

@@ -8,12 +8,13 @@ from datetime import datetime, timezone
 _DAY_NS = 86400 * 10**9
 _EPOCH_TIME = re.compile(rb"(?:^|[ \[])(\d{9,10})\.(\d{1,9})\b")
 _TIME_OF_DAY = re.compile(rb"(?:(\d{4})-(\d\d)-(\d\d)[ T])?\b(\d\d):(\d\d):(\d\d)(?:[.,](\d{1,9}))?")
-# Length of the start of a line that may have a timestamp.
+# Number of characters at the start of a line in which a timestamp is searched.
 _SEARCHED_BYTES = 60
 
 
 class Clock:
-    """Parses timestamps to nanoseconds: since 1970, or since the first day for times of day."""
+    """Parses timestamps to nanoseconds since 1970. Times of day are converted to nanoseconds since the start of the
+    first day."""
 
     def __init__(self) -> None:
         self._before: int | None = None

@@ -31,7 +31,7 @@ class Transfer(NamedTuple):
     place   capture interface, bus, device.
     data    the recorded bytes, of `length` on the bus.
     setup   setup packet of a control transfer's submission.
-    number  the same for a submission and its completion, or 0 if unknown.
+    number  transfer number, the same for a submission and its completion, or 0 if unknown.
     moved   number of bytes transferred, according to the recorder.
     """
 
@@ -51,7 +51,7 @@ class Transfer(NamedTuple):
 
     @property
     def to_host(self) -> bool:
-        """Whether the data goes to the host."""
+        """Whether the data is sent to the host."""
         return self.endpoint >= 0x80
 
 
@@ -92,7 +92,7 @@ def _parse_usbmon(frame: Frame) -> Transfer | None:
         return None
     setup = raw[40:48] if setup_flag == b"\0" and kind == CONTROL else b""
     place = (frame.interface, bus, device)
-    # usbmon itself may truncate a transfer, as a snap length does.
+    # Like a snap length, usbmon itself may truncate a transfer.
     on_bus = max(on_bus, length) if kept and kept < length else on_bus
     return Transfer(
         frame.at,

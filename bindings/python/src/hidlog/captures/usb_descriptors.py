@@ -67,7 +67,7 @@ class Descriptors:
 
 
 def read_report(data: bytes) -> tuple[bool, bool]:
-    """Returns whether a report descriptor has FIDO's usage page, and whether its reports have numbers (HID 1.11,
+    """Returns whether a report descriptor has FIDO's usage page, and whether the reports have report IDs (HID 1.11,
     section 6.2.2)."""
     offset, pages, numbers = 0, set(), False
     while offset < len(data):

@@ -1,4 +1,5 @@
-"""Reads usbmon's text (the kernel's Documentation/usb/usbmon.rst), which has 32 bytes of each packet."""
+"""Reads the text output of usbmon (the kernel's Documentation/usb/usbmon.rst), which has the first 32 bytes of each
+packet."""
 
 from __future__ import annotations
 
@@ -16,7 +17,7 @@ _TRUNCATED_NOTE = "usbmon's text has only 32 bytes of each packet: longer messag
 
 
 def is_line(line: bytes) -> bool:
-    """Returns whether a line is usbmon's text."""
+    """Returns whether a line is from usbmon's text output."""
     return _LINE.match(line) is not None
 
 

@@ -11,7 +11,7 @@ _READ_BYTES = 1 << 16
 
 
 class Utf16Text:
-    """Reads a text that starts with a UTF-16 byte order mark, without that mark."""
+    """Reads a text that starts with a UTF-16 byte order mark, which is skipped."""
 
     def __init__(self, file: Readable):
         self._file = file
@@ -28,7 +28,7 @@ class Utf16Text:
                 self._ready += self._decoder.decode(piece, self._is_ended).encode()
             except UnicodeError:
                 raise CaptureError(
-                    "the file starts like UTF-16 but is not; in PowerShell, write it by | Out-File -Encoding ascii"
+                    "the file starts like UTF-16 but is not valid UTF-16; in PowerShell, write the file with | Out-File -Encoding ascii"
                 ) from None
         data, self._ready = self._ready[:count], self._ready[count:]
         return data

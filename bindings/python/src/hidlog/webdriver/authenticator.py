@@ -1,5 +1,5 @@
-"""The virtual authenticator of a session. It has the credentials of all relying parties with their private keys; a page
-gets those that its origin may use."""
+"""The virtual authenticator of a session. It stores the credentials and private keys for all relying parties. A page
+gets only the credentials that its origin may use."""
 
 from __future__ import annotations
 
@@ -34,14 +34,15 @@ _MAX_PRESENCE = 1000
 _MAX_PENDING = 64
 # Length of authenticator data and the hash of client data.
 _MIN_SIGNED, _MAX_SIGNED = 37 + 32, 65_536
-# Options of the key in a page that the authenticator's have by the same names.
+# Options of the key in a page that have the same names in the authenticator's options.
 _SHARED_OPTIONS = (
     *("protocol", "transport", "hasResidentKey", "defaultBackupEligibility", "defaultBackupState"),
     *("attestation", "aaguid", "algorithms", "autofill", "extensions"),
 )
-# What a page may change of a credential, besides the counter: by the Signal API, and by the extension largeBlob.
+# Members of a credential that a page may change in addition to the signature counter: with the Signal API, or with the
+# extension largeBlob.
 _CHANGEABLE = ("userName", "userDisplayName", "largeBlob", "extensions")
-# PKCS #8 of a P-256 key with private key 0, which pages get instead of the private key.
+# PKCS #8 of a P-256 key pair with the private key 0, which pages get instead of the real private key.
 _PKCS8_HEAD = bytes.fromhex("308187020100301306072a8648ce3d020106082a8648ce3d030107046d306b0201010420")
 _PKCS8_MIDDLE = bytes.fromhex("a14403420004")
 
@@ -52,14 +53,14 @@ def _make_placeholder_key(point: bytes) -> str:
 
 
 def _to_public_key(private: AnyKey) -> bytes:
-    """Returns a public key as pages name it: x and y on P-256, otherwise SubjectPublicKeyInfo."""
+    """Returns a public key in the form that pages use: x and y on P-256, otherwise SubjectPublicKeyInfo."""
     if isinstance(private, private_keys.PrivateKey):
         return b"".join(private_keys.public_point(private))
     return to_public_der(private)
 
 
 def _encode_private_keys(own: AnyKey, core: AnyKey | None) -> Json:
-    """Returns the members of a credential with its private key, and the core's if that is another one."""
+    """Returns the members of a credential with its private key, and with the core's private key if it differs."""
     members = {"privateKey": b64url_encode(private_keys.to_pkcs8(own))}
     return members if core is None else {**members, "coreKey": b64url_encode(private_keys.to_pkcs8(core))}
 
@@ -71,16 +72,16 @@ class Authenticator:
         self.options = options
         self.credentials: list[Json] = []
         self.faults: Json = {}
-        # What the user does. Without consent, nothing, as in Chromium.
+        # What the user does. As in Chromium, the user does nothing without isUserConsenting.
         self.presence: str | list[str] = "granted" if options["isUserConsenting"] else "none"
-        # How often the presence was set, and how many entries of its list are used.
+        # How often the presence has been set, and how many entries of the list are used.
         self.serial, self.used = 0, 0
         self.lock = threading.RLock()
         # The account that signs in if there are several: an index, a user name or a credential ID.
         self.account: int | str = 0
-        # How often a test selected it.
+        # How often a test has selected an account.
         self.selections = 0
-        # Private keys by public key: of credentials, and of new key pairs with the origin of their page.
+        # Private keys by public key: those of credentials, and those of new key pairs with the origin of the page.
         self._keys: dict[bytes, AnyKey] = {}
         self._pending: dict[bytes, tuple[str, AnyKey]] = {}
         # The public keys of each credential, by its ID.
@@ -119,7 +120,7 @@ class Authenticator:
         return {"privateKey": b64url_encode(own), "coreKey": _make_placeholder_key(core[0])}
 
     def next_presence(self) -> str:
-        """Returns what the user does now. The last entry of a list repeats."""
+        """Returns what the user does now. The last entry of a list is repeated."""
         with self.lock:
             if isinstance(self.presence, str):
                 return self.presence
@@ -151,8 +152,8 @@ class Authenticator:
     def sign(self, origin: str, public: bytes, data: bytes) -> bytes:
         """Signs authenticator data and a hash for a page of an origin. On P-256, returns r and s, 32 bytes each.
 
-        The private key must be of a credential that the origin may use, or created for it. The data must be for a
-        relying party that the origin may use.
+        The private key must belong to a credential that the origin may use, or have been created for the origin. The
+        data must be for a relying party that the origin may use.
         """
         private, hashes = self._find_usable(origin, public)
         if not _MIN_SIGNED <= len(data) <= _MAX_SIGNED or data[:32] not in hashes:
@@ -177,9 +178,10 @@ class Authenticator:
         raise make_invalid_argument("this origin has no private key for this public key")
 
     def take(self, origin: str, reported: Any, gone: Any, has_keys: bool) -> None:
-        """Stores the credentials that a page of an origin reports, and removes those reported as gone.
+        """Stores the credentials that a page of an origin reports, and removes credentials that are reported as
+        removed.
 
-        Of known credentials, the signature counter may rise, and names and a large blob may change.
+        In known credentials, the signature counter may increase, and names and the large blob may change.
         """
         if not isinstance(reported, list) or len(reported) > _MAX_CREDENTIALS or not isinstance(gone, list):
             raise make_invalid_argument(
@@ -207,7 +209,7 @@ class Authenticator:
 
     @staticmethod
     def _update(credential: Json, reported: Json, _: Json | None = None) -> Json:
-        """Returns a credential as a page reports it now."""
+        """Returns a known credential with the changes that a page reports."""
         changed = {name: reported[name] for name in _CHANGEABLE if name in reported}
         return {**credential, **changed, "signCount": max(credential["signCount"], reported.get("signCount", 0))}
 
@@ -228,7 +230,8 @@ class Authenticator:
         return pending
 
     def _store(self, credential: Json, privates: list[AnyKey]) -> None:
-        """Stores the private keys of a credential, and drops those of removed ones at times."""
+        """Stores the private keys of a credential, and from time to time drops the private keys of removed
+        credentials."""
         if len(self._keys) > 4 * _MAX_CREDENTIALS:
             held = {credential["credentialId"] for credential in self.credentials}
             self._public_keys = {name: public for name, public in self._public_keys.items() if name in held}
@@ -243,7 +246,7 @@ class Authenticator:
     # Commands of the test suite.
 
     def set_presence(self, presence: Any) -> None:
-        """Sets what the user does: a reply, or a list of replies, the last of which repeats."""
+        """Sets what the user does: a reply, or a list of replies, of which the last is repeated."""
         words = presence if isinstance(presence, list) and presence else [presence]
         if len(words) > _MAX_PRESENCE:
             raise make_invalid_argument(f"presence has {len(words)} entries; at most {_MAX_PRESENCE} are allowed")
@@ -254,7 +257,7 @@ class Authenticator:
             self.serial += 1
 
     def set_faults(self, faults: Json) -> None:
-        """Sets the faults, by the names of the key in a page. All others are off."""
+        """Sets the faults by their names in the key of a page, and switches all other faults off."""
         for name in faults:
             check_choice("a fault", name, FAULT_NAMES)
         other = faults.get("wrongRpId")
@@ -264,7 +267,8 @@ class Authenticator:
             self.faults = faults
 
     def set_account(self, account: Any) -> None:
-        """Sets the account that signs in if there are several, and selects it for a page that waits for one."""
+        """Sets the account that signs in if there are several, and selects the account in a page that waits for a
+        selection."""
         if isinstance(account, bool) or not isinstance(account, (int, str)):
             raise make_invalid_argument("account must be an index, a user name or a credential ID")
         with self.lock:

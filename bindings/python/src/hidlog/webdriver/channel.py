@@ -1,4 +1,5 @@
-"""The key in the documents of a browser with DevTools. It requests credentials and signatures from the proxy."""
+"""Installs the key in the documents of a browser with DevTools. The key requests credentials and signatures from the
+proxy."""
 
 from __future__ import annotations
 
@@ -35,13 +36,14 @@ def _encode_bytes(data: bytes) -> str:
 
 
 def _load_library() -> str:
-    """Returns the key and the page's functions as a script, which does nothing in documents without the channel."""
+    """Returns the key and the page's functions as a script that does nothing in documents without the channel."""
     condition = f"globalThis.{BINDING} && !globalThis.hidlogPage && /^https?:/.test(globalThis.origin)"
     return f"(function library() {{ if ({condition}) {{\n{read_script()}\nhidlogPage.library = library;\n}} }})();"
 
 
 class Channel:
-    """Installs an authenticator in all documents of a browser. Each gets the credentials that its origin may use."""
+    """Installs an authenticator in all documents of a browser. Each document gets the credentials that its origin may
+    use."""
 
     def __init__(self, address: str, window: str):
         self._authenticator: Authenticator | None = None
@@ -76,12 +78,12 @@ class Channel:
         self._devtools.uninstall("globalThis.hidlogPage?.remove()")
 
     def before(self) -> None:
-        """Does nothing: the authenticator is always up to date."""
+        """Does nothing, since the authenticator is always up to date."""
 
     after = before
 
     def changed(self) -> None:
-        """Sends documents the changed settings, for which a request may be waiting."""
+        """Sends changed settings to the documents, where a request may be waiting for the change."""
         for document in self._devtools.documents():
             if self._authenticator:
                 settings = json.dumps(self._make_settings(self._authenticator, document))

@@ -21,7 +21,7 @@ _DESCRIPTION = "WebDriver proxy that provides virtual authenticators, with a tes
 _EPILOG = """A test suite uses http://127.0.0.1:PORT as its driver. Whoever can reach the port controls the browser and can
 run programs with it, so the proxy listens on this machine only, and refuses requests from web pages."""
 
-# Interval at which the end is checked.
+# Interval in seconds at which the server checks whether to end.
 _POLL_SECONDS = 0.1
 
 
@@ -119,14 +119,14 @@ def _serve(server: Server) -> BaseException | None:
     def serve() -> None:
         try:
             server.serve_forever()
-        except BaseException as error:  # in any case, the driver must be ended
+        except BaseException as error:  # the driver must be ended in any case
             failed.append(error)
             is_over.set()
 
     for number in (signal.SIGTERM, signal.SIGINT, getattr(signal, "SIGHUP", signal.SIGINT)):
         signal.signal(number, lambda *_: is_over.set())
     threading.Thread(target=serve, daemon=True).start()
-    # A signal may arrive in any thread, and then does not wake this one.
+    # A signal that arrives in another thread does not wake this thread.
     while not is_over.wait(_POLL_SECONDS):
         pass
     if not failed:

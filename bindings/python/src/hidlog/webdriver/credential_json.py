@@ -1,4 +1,4 @@
-"""Parses WebDriver's JSON of credentials and authenticator options (WebAuthn section 11). Invalid ones are refused."""
+"""Parses WebDriver's JSON of credentials and authenticator options (WebAuthn section 11), and rejects invalid JSON."""
 
 from __future__ import annotations
 
@@ -24,12 +24,12 @@ _BOOLEAN_DEFAULTS = {
     "defaultBackupEligibility": False,
     "defaultBackupState": False,
 }
-# Those of CTAP 2.1, and those that need discoverable credentials.
+# Extensions of CTAP 2.1, and extensions that need discoverable credentials.
 _EXTENSIONS = ("prf", "largeBlob", "credProtect", "credBlob", "minPinLength")
 _OF_CTAP_2_1 = ("largeBlob", "credProtect", "credBlob", "minPinLength")
 _ATTESTATIONS = ("basic", "self", "none")
 _AUTOFILLS = ("automatic", "selected")
-# What WebDriver has no option for: as Chromium's virtual authenticator is.
+# Defaults of options that WebDriver does not have: those of Chromium's virtual authenticator.
 _AAGUID = "01020304-0506-0708-0102-030405060708"
 _NO_AAGUID = "00000000-0000-0000-0000-000000000000"
 _UUID = re.compile(r"[0-9a-f]{8}(-[0-9a-f]{4}){3}-[0-9a-f]{12}\Z")
@@ -42,32 +42,32 @@ _LISTED_MEMBERS = (
     *("credentialId", "isResidentCredential", "rpId", "privateKey", "signCount"),
     *("backupEligibility", "backupState"),
 )
-# Members that a credential without them lacks.
+# Members that are omitted in a credential without a value.
 _OPTIONAL_MEMBERS = ("userHandle", "userName", "userDisplayName", "largeBlob")
 
 
 def list_members(credential: Json) -> Json:
-    """Returns a credential as WebDriver lists it."""
+    """Returns a credential in the form in which WebDriver lists it."""
     optional = {name: credential[name] for name in _OPTIONAL_MEMBERS if credential.get(name)}
     return {**{name: credential[name] for name in _LISTED_MEMBERS}, **optional}
 
 
 def check_choice(name: str, value: Any, words: tuple[str, ...]) -> str:
-    """Returns the value, which must be one of some strings."""
+    """Returns a value that must be one of these strings."""
     if not isinstance(value, str) or value not in words:
         raise make_invalid_argument(f"{name} is {value!r}; it must be one of {', '.join(words)}")
     return value
 
 
 def check_boolean(name: str, value: Any) -> bool:
-    """Returns the value, which must be a boolean."""
+    """Returns a value that must be a boolean."""
     if not isinstance(value, bool):
         raise make_invalid_argument(f"{name} is {value!r}; it must be true or false")
     return value
 
 
 def read_options(requested: Json) -> Json:
-    """Returns the options of an authenticator, with defaults. Unsupported ones are refused by name."""
+    """Returns the options of an authenticator, with defaults. Raises an error that names an unsupported option."""
     options: Json = {
         name: check_boolean(name, requested.get(name, default)) for name, default in _BOOLEAN_DEFAULTS.items()
     }
@@ -100,7 +100,7 @@ def _read_extensions(requested: Json, options: Json) -> list[str]:
 
 
 def _read_departures(requested: Json, is_u2f: bool) -> Json:
-    """Returns the options that WebDriver doesn't have, by default as Chromium's virtual authenticator is."""
+    """Returns the options that WebDriver does not have. The defaults are those of Chromium's virtual authenticator."""
     algorithms = requested.get("algorithms", [ES256] if is_u2f else list(ALGORITHMS))
     if not isinstance(algorithms, list) or ES256 not in algorithms or set(algorithms) - set(ALGORITHMS):
         raise make_invalid_argument(f"algorithms must be a list of {', '.join(map(str, ALGORITHMS))}, with {ES256}")
@@ -144,7 +144,7 @@ def _read_pkcs8(credential: Json, name: str = "privateKey") -> AnyKey:
 
 
 def _to_state(credential: Json, defaults: tuple[bool, bool]) -> Json:
-    """Returns a credential as in the key's state, without a private key."""
+    """Returns a credential in the form of the key's state, without a private key."""
     rp_id = credential.get("rpId")
     if not isinstance(rp_id, str) or not rp_id or len(rp_id) > _MAX_TEXT:
         raise make_invalid_argument("rpId must be the id of a relying party")
@@ -199,7 +199,7 @@ def read_credential(credential: Json, options: Json) -> tuple[Json, AnyKey]:
 
 
 def _read_kept_extensions(reported: Any) -> Json:
-    """Returns what a reported credential keeps of its extensions."""
+    """Returns the extension data of a reported credential."""
     if not isinstance(reported, dict) or set(reported) - {"prf", "largeBlob", "credBlob", "credProtect"}:
         raise make_invalid_argument("extensions must be an object of prf, largeBlob, credBlob and credProtect")
     kept: Json = {"prf": True} if reported.get("prf") is True else {}
@@ -215,7 +215,7 @@ def _read_kept_extensions(reported: Any) -> Json:
 
 
 def read_reported(credential: Any) -> Json:
-    """Returns a credential that a page reports, without its private key. The input is untrusted."""
+    """Returns a credential that a page reports, without a private key. The input is untrusted."""
     if not isinstance(credential, dict):
         raise make_invalid_argument("a credential must be an object")
     made = _to_state(credential, (False, False))
@@ -224,15 +224,17 @@ def read_reported(credential: Any) -> Json:
 
 
 def read_private_key(credential: Json) -> tuple[AnyKey, AnyKey | None]:
-    """Returns the private key of a credential that a page created itself, and the core's if that is another one."""
+    """Returns the private key of a credential that a page created itself, and the core's private key if it differs."""
     core = _read_pkcs8(credential, "coreKey") if "coreKey" in credential else None
     return _read_pkcs8(credential), core
 
 
 def read_public_keys(credential: Json) -> list[bytes]:
-    """Returns the public keys of a credential whose private keys the proxy keeps: its own, and the core's if different.
+    """Returns the public keys of a credential whose private keys the proxy stores: the credential's, and the core's if
+    it differs.
 
-    A key on P-256 is x and y, which are the last 64 bytes of its placeholder; others are SubjectPublicKeyInfo.
+    A key on P-256 is returned as x and y, which are the last 64 bytes of its placeholder; other keys are returned as
+    SubjectPublicKeyInfo.
     """
     if "coreKey" not in credential:
         return [_read_bytes(credential, "privateKey", 64, _MAX_PRIVATE_KEY)[-64:]]

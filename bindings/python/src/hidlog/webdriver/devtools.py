@@ -1,6 +1,7 @@
-"""A browser by the DevTools protocol: a script in all documents, and messages between them and the proxy.
+"""Controls a browser with the DevTools protocol: runs a script in all documents, and exchanges messages between the
+documents and the proxy.
 
-The browser reports which document a message is from and its origin, so a page can't claim another one.
+The browser reports the document of a message and the document's origin, so a page cannot claim another origin.
 """
 
 from __future__ import annotations
@@ -22,7 +23,7 @@ from .websocket import WebSocket
 Json = dict[str, Any]
 BINDING = "hidlogChannel"
 _TIMEOUT_SECONDS = 15
-# Maximum length of a message: a page reports a whole recording in one.
+# Maximum length of a message. A page reports a whole recording in one message.
 _MAX_PAYLOAD = 16 * 1024 * 1024
 _ORIGIN = re.compile(r"https?://[^/]+\Z")
 _TARGETS = ("page", "iframe", "webview")
@@ -34,7 +35,7 @@ class Document:
 
     def __init__(self, target: str, number: int, unique_id: str, origin: str):
         self.target, self.number, self.unique_id, self.origin = target, number, unique_id, origin
-        # ID of an object with the library as a function, in a document from which the key was removed.
+        # ID of the object that has the library as a function, in a document from which the key was removed.
         self.library: str | None = None
 
 
@@ -46,14 +47,14 @@ class _Target:
 
     def __init__(self) -> None:
         self.has_dialog = False
-        # Whether new documents load the library, and the ID of the script that they run then.
+        # Whether new documents load the library, and the ID of the script that they run after it.
         self.has_library = False
         self.start: str | None = None
 
 
 class DevTools:
     """A connection to a browser. While a script is installed, each document loads the library and runs the script. The
-    library is long, is sent once, and does nothing in documents without the channel."""
+    library is long, so it is sent only once. It does nothing in documents without the channel."""
 
     def __init__(self, address: str, window: str, receive: Receive, library: str):
         self._receive, self._library = receive, library
@@ -71,7 +72,7 @@ class DevTools:
         try:
             found = self._call("Target.getTargets")["targetInfos"]
             if window not in [target.get("targetId") for target in found]:
-                raise DriverError("unknown error", f"the browser at {address} is not the driver's")
+                raise DriverError("unknown error", f"the browser at {address} does not have the driver's window")
             self._call("Target.setAutoAttach", autoAttach=True, waitForDebuggerOnStart=True, flatten=True)
             self._wait_for(self._begun)
         except BaseException:
@@ -107,7 +108,8 @@ class DevTools:
             raise DriverError("unknown error", f"the browser did not respond to {method}") from None
 
     def _wait_for(self, futures: list[Future[Json]]) -> None:
-        """Waits for results. A document that is gone has none, and a stopped one has its result later."""
+        """Waits for results. A document that no longer exists has no result, and a stopped document has its result
+        later."""
         end = time.monotonic() + _TIMEOUT_SECONDS
         for future in futures:
             with suppress(DriverError, FutureTimeoutError):
@@ -116,9 +118,11 @@ class DevTools:
             raise self.failure
 
     def _fail(self, error: BaseException) -> None:
-        """Fails pending commands, and closes the connection, so that no new page waits for it."""
+        """Lets pending commands fail, and closes the connection, so that no new page waits for the connection."""
         with self._lock:
-            self.failure = self.failure or DriverError("unknown error", f"lost the browser's debugger: {error}")
+            self.failure = self.failure or DriverError(
+                "unknown error", f"lost the connection to the browser's debugger: {error}"
+            )
             waiting, self._waiting = self._waiting, {}
         self._socket.close()
         for future in waiting.values():
@@ -135,7 +139,7 @@ class DevTools:
                     self._handle_event(
                         message.get("method", ""), message.get("params", {}), message.get("sessionId", "")
                     )
-        except Exception as error:  # whatever a browser sends, pending commands must end
+        except Exception as error:  # pending commands must end, whatever a browser sends
             self._fail(error)
 
     def _handle_result(self, message: Json) -> None:
@@ -174,7 +178,7 @@ class DevTools:
         if event["name"] == BINDING and document and len(event["payload"]) <= _MAX_PAYLOAD:
             try:
                 self._receive(document, event["payload"])
-            except Exception as error:  # whatever a page sends, other pages must be served
+            except Exception as error:  # other pages must be served, whatever a page sends
                 print_error(f"a page's message failed: {error!r}")
 
     def _add_document(self, context: Json, target: str) -> None:
@@ -197,7 +201,7 @@ class DevTools:
     # The script.
 
     def _begin(self, name: str, start: str) -> list[Future[Json]]:
-        """Makes new documents of a target load the library and run the script."""
+        """Lets new documents of a target load the library and run the script."""
         target = self._targets[name]
         futures = [self._post("Runtime.addBinding", name, name=BINDING)]
         if not target.has_library:
@@ -212,7 +216,7 @@ class DevTools:
             self._targets[name].start = added.result()["identifier"]
 
     def _run(self, document: Document, start: str) -> list[Future[Json]]:
-        """Runs the library, unless the document has it, and the script in an existing document."""
+        """Runs the script in an existing document, after the library if the document does not have it."""
         if document.library is None:
             ran = self.evaluate(document, self._library)
         else:
@@ -235,7 +239,7 @@ class DevTools:
                 self._wait_for(futures)
 
     def uninstall(self, expression: str) -> None:
-        """Stops running the script in new documents, and evaluates an expression in existing ones, which returns an
+        """Stops running the script in new documents. In existing documents, evaluates an expression, which returns an
         object with the library."""
         self._start = None
         futures = []

@@ -1,4 +1,4 @@
-"""The driver behind the proxy: a process started here, or an address."""
+"""The driver to which the proxy passes commands: a process that the proxy starts, or an address."""
 
 from __future__ import annotations
 
@@ -20,11 +20,11 @@ from urllib.parse import SplitResult, unquote, urlsplit
 
 from .errors import DriverError, Response
 
-# A command may take as long as the test suite allows a page to load.
+# Timeout of a command in seconds. A command may take as long as the test suite allows a page to load.
 _TIMEOUT_SECONDS = 600
 _START_SECONDS = 30
 _END_SECONDS = 20
-# A screenshot of a long page, as base64.
+# Maximum length of a response, enough for a screenshot of a long page in base64.
 _MAX_RESPONSE = 256 * 1024 * 1024
 _SUPERVISOR = Path(__file__).with_name("supervisor.py")
 _DEFAULT_PORTS = {"http": 80, "https": 443}
@@ -36,7 +36,7 @@ def is_address(address: str) -> bool:
 
 
 def _split_address(address: str) -> SplitResult:
-    """Splits a driver's address. Error messages do not include credentials."""
+    """Splits a driver's address. Error messages do not contain the user name and password in the address."""
     shown = address if "@" not in address else f"{address.split('://')[0]}://...@{address.rsplit('@', 1)[1]}"
     try:
         parts = urlsplit(address)
@@ -60,23 +60,23 @@ class Driver:
             pair = f"{unquote(parts.username)}:{unquote(parts.password or '')}"
             self._headers["Authorization"] = f"Basic {base64.b64encode(pair.encode()).decode()}"
         self._process = process
-        # Idle connections, as many as commands were in progress at a time.
+        # Idle connections. Their number is the maximum number of concurrent commands so far.
         self._idle: list[http.client.HTTPConnection] = []
         self._lock = threading.Lock()
 
     @property
     def is_own(self) -> bool:
-        """Whether the driver was started here."""
+        """Whether the proxy has started the driver."""
         return self._process is not None
 
     @property
     def is_local(self) -> bool:
-        """Whether the driver, and so its browser's debugger, runs on this machine."""
+        """Whether the driver, and so the debugger of its browser, runs on this machine."""
         return self._host in ("127.0.0.1", "localhost", "::1")
 
     @property
     def address(self) -> str:
-        """The address without credentials."""
+        """The address without user name and password."""
         host = f"[{self._host}]" if ":" in self._host else self._host
         return f"{self._scheme}://{host}:{self._port}{self._path}"
 
@@ -91,7 +91,7 @@ class Driver:
         with self._lock:
             while self._idle:
                 connection = self._idle.pop()
-                # If it is readable before a request, the driver has closed it.
+                # If the connection is readable before a request, the driver has closed it.
                 if connection.sock and not select.select([connection.sock], [], [], 0)[0]:
                     return connection
                 connection.close()
@@ -135,21 +135,21 @@ class Driver:
         return value
 
     def close(self) -> None:
-        """Ends the process started here, and its child processes."""
+        """Ends the process that the proxy started, and its child processes."""
         with self._lock:
             idle, self._idle = self._idle, []
         for connection in idle:
             with suppress(OSError):
                 connection.close()
         if self._process and self._process.stdin:
-            # The supervisor waits for the end of its standard input, at the latest that of this process.
+            # The supervisor ends the driver when its standard input ends, at the latest when this process ends.
             with suppress(OSError):
                 self._process.stdin.close()
                 self._wait_for(self._process)
 
     @staticmethod
     def _wait_for(process: subprocess.Popen[bytes]) -> None:
-        """Waits for the supervisor, which ends after the driver and its child processes."""
+        """Waits for the supervisor, which exits after the driver and its child processes."""
         end = time.monotonic() + _END_SECONDS
         while time.monotonic() < end:
             with suppress(OSError, subprocess.TimeoutExpired):

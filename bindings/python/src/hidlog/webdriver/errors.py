@@ -15,7 +15,7 @@ _HTTP_STATUSES = {
     "unknown method": 405,
     "unsupported operation": 500,
 }
-# Far more than WebDriver uses. Python's parser fails at about 1000.
+# Maximum depth of JSON, far more than WebDriver uses. Python's parser fails at about 1000.
 _MAX_DEPTH = 200
 
 
@@ -27,7 +27,7 @@ class Response(NamedTuple):
 
     @property
     def value(self) -> Any:
-        """The member value of the JSON."""
+        """The member `value` of the JSON."""
         parsed = parse_json(self.data)
         return parsed.get("value") if isinstance(parsed, dict) else None
 

@@ -1,9 +1,9 @@
-"""The request gate: decides from a request's head whether the proxy serves it.
+"""Decides from the head of a request whether the proxy serves the request.
 
-Whoever controls a browser can run programs on its machine, and any web page can send requests to a port of this
+A client that controls a browser can run programs on the machine, and any web page can send requests to a port of this
 machine. So a request must name this server as its host (no DNS rebinding), must not come from a page (Origin,
-Sec-Fetch-Site), and a POST must be JSON, which a page can't send to another origin without a preflight. Each request
-has only one interpretation: one spelling of a path, one length, and no transfer encoding.
+Sec-Fetch-Site), and a POST must be JSON, which a page can't send to another origin without a preflight. Each accepted
+request has only one interpretation: one spelling of a path, one length, and no transfer encoding.
 """
 
 from __future__ import annotations
@@ -16,12 +16,12 @@ from typing import NamedTuple
 from .errors import DriverError
 
 METHODS = ("GET", "POST", "DELETE")
-# A file upload is one command with base64.
+# Maximum length of a body. A file upload is a single command in base64.
 MAX_BODY = 64 * 1024 * 1024
 MAX_PATH = 4096
 _JSON = "application/json"
 _CONTENT_LENGTH = re.compile(r"[0-9]{1,18}\Z")
-# Values of Sec-Fetch-Site that a page of another origin can't cause.
+# Values of Sec-Fetch-Site that a page of another origin cannot cause.
 _OWN_SITES = ("none", "same-origin")
 # Clients may percent-encode other characters than letters, digits and -._~ (Java's do `=`), but not `/`, `\` and `%`.
 _PATH_SEGMENT = re.compile(r"(?:[A-Za-z0-9._~!$&'()*+,;=:@-]|%(?:2[0-46-9A-C]|3[A-F]|40|5[BDE]|60|7[B-D]))*\Z", re.I)
@@ -43,7 +43,8 @@ class Head(NamedTuple):
 
 
 class Policy(NamedTuple):
-    """What the server accepts: its port, the address the request was sent to, and further hosts, NAME or NAME:PORT."""
+    """The hosts that the server accepts: the server's port, the address to which the request was sent, and further
+    hosts as NAME or NAME:PORT."""
 
     port: int
     address: str = "127.0.0.1"
@@ -51,7 +52,7 @@ class Policy(NamedTuple):
 
 
 def admit(head: Head, policy: Policy) -> int:
-    """Returns the length of an accepted request's body. Raises DriverError if the request is refused."""
+    """Returns the length of an accepted request's body. Raises DriverError if the request is rejected."""
     if head.method not in METHODS:
         raise DriverError(
             "unknown method", f"{_describe_hosts(head.method)} is unsupported; use {', '.join(METHODS)}", 405
@@ -70,7 +71,7 @@ def _describe_hosts(text: str) -> str:
 
 
 def _check_path(path: str) -> None:
-    """Refuses a path with more than one interpretation, or of no WebDriver command."""
+    """Rejects a path that has more than one interpretation or is not the path of a WebDriver command."""
     if len(path) > MAX_PATH:
         raise DriverError(
             "unknown command", f"the path has {len(path)} characters; at most {MAX_PATH} are allowed", 414
@@ -90,7 +91,7 @@ def parse_host(text: str) -> tuple[str, int | None] | None:
 
 
 def is_address(name: str) -> bool:
-    """Returns whether a host is an IP address, which DNS can't redirect."""
+    """Returns whether a host is an IP address, which cannot be redirected with DNS."""
     try:
         ip_address(name.strip("[]"))
     except ValueError:
@@ -99,7 +100,7 @@ def is_address(name: str) -> bool:
 
 
 def _check_host(hosts: Sequence[str], policy: Policy) -> str:
-    """Refuses a request for another host than this server, as after DNS rebinding."""
+    """Rejects a request for a host other than this server, as after DNS rebinding."""
     found = parse_host(hosts[0]) if len(hosts) == 1 else None
     if found is None:
         raise DriverError("unknown error", f"Host is {_describe_hosts(', '.join(hosts))}; expected one host", 400)
@@ -115,13 +116,14 @@ def _check_host(hosts: Sequence[str], policy: Policy) -> str:
 
 
 def _is_allowed(host: tuple[str, int | None], allowed: str) -> bool:
-    """Returns whether a host matches an allowed one, which without a port matches any port."""
+    """Returns whether a host matches an allowed host. An allowed host without a port matches any port."""
     wanted = parse_host(allowed)
     return wanted is not None and wanted[0] == host[0] and wanted[1] in (None, host[1] or 80)
 
 
 def _check_origin(origins: Sequence[str], sites: Sequence[str], host: str) -> None:
-    """Refuses requests from pages. Only a page of this server, which has none, would have its origin."""
+    """Rejects requests from pages. Only a page of this server would have the server's origin, and the server has no
+    pages."""
     if len(origins) > 1 or (origins and origins[0].lower() != f"http://{host}"):
         raise DriverError(
             "unknown error", f"Origin is {_describe_hosts(', '.join(origins))}; web pages are refused", 403
@@ -140,7 +142,7 @@ def _check_type(types: Sequence[str]) -> None:
 
 
 def _read_length(head: Head) -> int:
-    """Returns the length of the body, which must be stated once."""
+    """Returns the length of the body. The head must have exactly one Content-Length."""
     if head.encodings:
         raise DriverError("invalid argument", "Transfer-Encoding is unsupported; send Content-Length", 400)
     if not head.lengths:

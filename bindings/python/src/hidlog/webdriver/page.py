@@ -1,7 +1,7 @@
-"""The key in the pages of a session without DevTools, installed by WebDriver commands.
+"""Installs the key in the pages of a session without DevTools, with WebDriver commands.
 
-A page runs the key with the private keys of its own origin. The driver reports the top page's origin; a frame must
-prove that it reads the same sessionStorage.
+A page runs the key with the private keys for its origin. The driver reports the origin of the top-level page; a frame
+must prove that it has access to the same sessionStorage.
 """
 
 from __future__ import annotations
@@ -20,20 +20,20 @@ from .recorder import Recorder
 from .script import read_script
 
 Json = dict[str, Any]
-# Errors if no script can run in a page: the driver itself will report them to the test suite's next command.
+# Errors that occur if no script can run in a page. The driver will report them for the test suite's next command.
 _PASSING_ERRORS = ("no such window", "unexpected alert open", "no such execution context", "detached shadow root")
 _IS_PAGE_SCRIPT = "/^https?:$/.test(location.protocol) && globalThis.isSecureContext"
 _PROOF_SCRIPT = "try { return [location.origin, sessionStorage.getItem('hidlogProof')]; } catch { return null; }"
 
 
 class Pages:
-    """Installs an authenticator in the current page, and keeps both in sync."""
+    """Installs an authenticator in the current page, and synchronizes both."""
 
     def __init__(self, driver: Driver, session: str, is_top: Callable[[], bool]):
         self._driver, self._path, self._is_top = driver, f"/session/{session}", is_top
         self._authenticator: Authenticator | None = None
         self._recorder: Recorder | None = None
-        # Shared by the documents of an origin: a secret, and the proof that a frame is one of them.
+        # A secret that the documents of an origin share, and the proof that a frame is one of these documents.
         self._secrets: dict[str, tuple[str, str]] = {}
 
     def attach(self, authenticator: Authenticator, recorder: Recorder) -> None:
@@ -57,7 +57,7 @@ class Pages:
     changed = before
 
     def close(self) -> None:
-        """Does nothing: there is no connection."""
+        """Does nothing, since there is no connection."""
 
     @staticmethod
     def _try(run: Any) -> None:
@@ -71,7 +71,7 @@ class Pages:
         return self._driver.call("POST", f"{self._path}/execute/sync", {"script": text, "args": list(words)})
 
     def _read_origin(self) -> str | None:
-        """Returns the origin of the current page, or None if it can't have the key."""
+        """Returns the origin of the current page, or None if the key cannot be installed in the page."""
         try:
             top = parse_origin(_get_site(str(self._driver.call("GET", f"{self._path}/url"))))
         except HidlogError:

@@ -1,5 +1,5 @@
-"""The proxy: all commands go to the driver, except those on virtual authenticators, which the key in the page
-serves."""
+"""The proxy, which passes all commands to the driver, except the commands on virtual authenticators, which the key in
+the page serves."""
 
 from __future__ import annotations
 
@@ -27,21 +27,21 @@ _SESSION = re.compile(r"/session/([^/]+)(/.*)?\Z")
 _AUTHENTICATOR = re.compile(
     r"/webauthn/authenticator(?:/([^/]+)(?:/(credentials?|uv|account|presence|faults|log)(?:/([^/]+)(/props)?)?)?)?\Z"
 )
-# Other commands for the driver. The rest, such as chromedriver's /shutdown, is not accepted.
+# Further commands that are passed to the driver. All others, such as chromedriver's /shutdown, are rejected.
 _SESSIONLESS_COMMANDS = (("GET", "/status"), ("GET", "/sessions"), ("POST", "/session"))
-# Commands before which to synchronize with the page, and after which there may be another document.
+# Commands that require synchronization with the page before, since they may load another document.
 _MAY_LEAVE_PAGE = re.compile(
     r"/(url|back|forward|refresh|execute/a?sync|actions|window|frame|frame/parent|element/[^/]+/(click|value))\Z"
 )
 _MAY_LOAD_PAGE = re.compile(r"/(url|back|forward|refresh|window|frame|frame/parent)\Z")
-# Commands on an authenticator that WebDriver doesn't have.
+# Commands on an authenticator that are extensions of WebDriver.
 _OWN_PARTS = ("account", "presence", "faults")
 _END_SECONDS = 10.0
 _MAX_SESSIONS = 256
 
 
 def _is_top(rest: str, body: bytes) -> bool:
-    """Returns whether the current page is the top one after a command."""
+    """Returns whether the current page is a top-level page after a command."""
     if rest != "/frame":
         return rest in ("/url", "/window")
     try:
@@ -52,7 +52,8 @@ def _is_top(rest: str, body: bytes) -> bool:
 
 
 class Link(Protocol):
-    """How an authenticator is installed in pages: by a channel of the browser, or by WebDriver commands."""
+    """The interface for installing an authenticator in pages, with a channel of the browser or with WebDriver
+    commands."""
 
     def attach(self, authenticator: Authenticator, recorder: Recorder) -> None:
         """Installs the key in pages."""
@@ -74,7 +75,7 @@ class Link(Protocol):
 
 
 class Session:
-    """A session of the driver, and its authenticator, if the test suite added one."""
+    """A session of the driver, and the authenticator, if the test suite has added one."""
 
     def __init__(self, driver: Driver, name: str, debugger: str | None = None, is_top: bool = False):
         self.name, self.is_top = name, is_top
@@ -146,7 +147,7 @@ class Session:
             return response
 
     def _send(self, rest: str, body: bytes, send: Callable[[], Response]) -> Response:
-        """Sends a command, and records whether the current page is certainly the top one."""
+        """Sends a command, and records whether the current page is certainly a top-level page."""
         if rest.startswith("/frame"):
             self.is_top = False
         response = send()
@@ -200,7 +201,8 @@ def _serve_key(session: Session, key: Authenticator, method: str, words: tuple[s
         return session.recordings
     _change_authenticator(key, method, words, body)
     link.changed()
-    # As chromedriver, and with WebDriver's null from the commands that it doesn't have.
+    # Returns the same values as chromedriver, and null, as WebDriver specifies, for commands that chromedriver does not
+    # have.
     return None if words[0] in _OWN_PARTS else {}
 
 
@@ -223,7 +225,7 @@ class Proxy:
         session = self._sessions.get(name)
         asked = _AUTHENTICATOR.match(rest)
         if asked:
-            # An unknown session is stored once it has an authenticator.
+            # An unknown session is stored when it gets an authenticator.
             return self._webauthn(session or Session(self.driver, name), method, asked.groups(""), body)
         if "/webauthn/" in f"{rest}/":
             raise DriverError("unknown command", f"{method} {rest} is not a WebDriver command")
@@ -247,7 +249,7 @@ class Proxy:
         return response
 
     def _append_log(self, response: Response) -> None:
-        """Stores a session started by the driver, and the address of its browser's debugger."""
+        """Stores a session that the driver has started, and the address of the browser's debugger."""
         try:
             value = response.value
         except ValueError:
@@ -265,7 +267,7 @@ class Proxy:
                     self._sessions.pop(next(iter(self._sessions))).close()
 
     def _webauthn(self, session: Session, method: str, words: tuple[str, ...], body: bytes) -> Response:
-        """Serves a command on virtual authenticators, with a driver's response."""
+        """Serves a command on virtual authenticators, and returns the response in the form of a driver."""
         try:
             parameters = parse_json(body or b"{}")
         except ValueError as error:
@@ -293,7 +295,7 @@ class Proxy:
         return _serve_key(session, session.key(name), method, (part, unquote(encoded), bool(props)), parameters)
 
     def _end_session(self, session: Session, send: Callable[[], Response]) -> Response:
-        """Ends a session of the driver, even if its recordings can't be written."""
+        """Ends a session of the driver, even if the recordings cannot be written."""
         session.end()
         response = send()
         with self._lock:
@@ -302,7 +304,7 @@ class Proxy:
         return response
 
     def close(self) -> bool:
-        """Writes all recordings, and ends the driver with its sessions. Returns whether all was written."""
+        """Writes all recordings, and ends the driver with its sessions. Returns whether all recordings were written."""
         is_written = True
         for session in list(self._sessions.values()):
             try:

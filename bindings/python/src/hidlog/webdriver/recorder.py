@@ -1,7 +1,7 @@
-"""The recordings of an authenticator, reported by pages of each origin: in memory, and in a directory.
+"""Stores the recordings of an authenticator, which pages report, in memory and in a directory.
 
-Pages are untrusted: they choose neither file names nor numbers, the size of reports is bounded, and only text of a log
-is accepted. A separate thread writes files as recordings arrive, so no page waits for a disk.
+Pages are not trusted: they cannot choose file names or numbers, the size of reports is limited, and only the text of a
+log is accepted. A separate thread writes the files, so no page waits for the disk.
 """
 
 from __future__ import annotations
@@ -16,7 +16,7 @@ from ..recording_files import write_recording
 from .errors import DriverError, make_invalid_argument, print_error
 
 Json = dict[str, Any]
-# Maximum total size and number of an authenticator's recordings. Later ones are dropped.
+# Maximum total size and number of an authenticator's recordings. Later recordings are dropped.
 _MAX_BYTES = 64 * 1024 * 1024
 _MAX_PARTS = 10_000
 _MAX_SNAPSHOT = 65_536
@@ -60,7 +60,7 @@ class Recorder:
 
     def __init__(self, folder: Path | None, name: str):
         self._folder, self._name = folder, name
-        # By origin; and by origin, document and the document's number of the recording.
+        # The recordings by origin, and by origin, document and the document's number for the recording.
         self._by_origin: dict[str, list[_StoredRecording]] = {}
         self._parts: dict[tuple[str, str, int], _StoredRecording] = {}
         self._size, self._is_full = 0, False
@@ -159,7 +159,7 @@ class Recorder:
                 self._error = error
 
     def flush(self) -> None:
-        """Waits until all is written. Raises if something could not be."""
+        """Waits until all recordings are written. Raises an error if a recording could not be written."""
         with self._changes:
             while self._unwritten or self._is_writing:
                 self._changes.wait()

@@ -1,4 +1,4 @@
-"""The HTTP server of the proxy. It accepts what the gate admits, and all waits are bounded."""
+"""The HTTP server of the proxy. It serves the requests that gate.py accepts. The time of each wait is limited."""
 
 from __future__ import annotations
 
@@ -16,7 +16,8 @@ from typing import Any
 from .errors import DriverError, Response, print_error
 from .gate import Head, Policy, admit
 
-# Seconds that a connection may be idle, and that a request's head, its body, and its response may take.
+# Maximum number of seconds that a connection may be idle, and that the head, the body and the response of a request may
+# take.
 IDLE_SECONDS = 600.0
 HEAD_SECONDS = 10.0
 BODY_SECONDS = 120.0
@@ -33,8 +34,8 @@ Serve = Callable[[str, str, bytes], Response]
 
 
 class _HeadReader:
-    """A connection's data, with checks that http.server lacks: whether the last line of a head arrived, and whether
-    there are control characters, some of which end a line only for its parser."""
+    """The data of a connection, with checks that http.server lacks: whether the last line of a head has arrived, and
+    whether the head has control characters, of which some end a line only for the parser of http.server."""
 
     def __init__(self, file: Any):
         self._file = file
@@ -88,7 +89,7 @@ class _Handler(BaseHTTPRequestHandler):
         super().handle_one_request()
 
     def handle_expect_100(self) -> bool:
-        return True  # the gate decides first
+        return True  # rejected requests are not handled further
 
     def _parse_head(self) -> Head:
         def values(name: str) -> list[str]:
@@ -115,7 +116,7 @@ class _Handler(BaseHTTPRequestHandler):
         return Policy(self.server.port, address, self.server.hosts)
 
     def _read_body(self, length: int) -> bytes | None:
-        """Reads the body. Returns None if the client disconnects before its end."""
+        """Reads the body. Returns None if the client disconnects before the end of the body."""
         blocks = []
         while length:
             block = self._lines.read1(min(length, _READ_BYTES))
@@ -149,7 +150,7 @@ class _Handler(BaseHTTPRequestHandler):
         self._respond(self.server.response(self.command, self.path, body))
 
     def _respond_refused(self, error: DriverError) -> None:
-        """Responds with an error, and closes the connection, because what follows is unknown."""
+        """Responds with an error, and closes the connection, because the meaning of the following data is unknown."""
         self.close_connection = True
         self._respond(error.response)
 
@@ -167,10 +168,10 @@ class _Handler(BaseHTTPRequestHandler):
     do_GET = do_POST = do_DELETE = _serve
 
     def send_error(self, code: int, message: str | None = None, explain: str | None = None) -> None:
-        """Responds to a request that http.server itself refuses."""
+        """Responds to a request that http.server itself rejects."""
         name = "unknown method" if code == HTTPStatus.NOT_IMPLEMENTED else "invalid argument"
         status = 405 if code == HTTPStatus.NOT_IMPLEMENTED else code
-        # If the head was not read, its version is unknown.
+        # If the head was not read, the version of HTTP is unknown.
         self.request_version = "HTTP/1.1"
         self._respond_refused(DriverError(name, f"invalid request: {message or HTTPStatus(code).phrase}", status))
 
@@ -179,7 +180,7 @@ class _Handler(BaseHTTPRequestHandler):
 
 
 class Server(ThreadingHTTPServer):
-    """Serves commands at an address, by default on this machine only. The number of connections is bounded."""
+    """Serves commands at an address [default: only on this machine]. The number of connections is limited."""
 
     daemon_threads = True
     request_queue_size = MAX_CONNECTIONS
@@ -187,7 +188,7 @@ class Server(ThreadingHTTPServer):
     def __init__(self, serve: Serve, port: int, address: str = "127.0.0.1", hosts: tuple[str, ...] = ()):
         self.hosts = hosts
         self._serve = serve
-        # Handlers by socket, None until one has started.
+        # Handlers by socket. The value is None until the handler has started.
         self._open: dict[socket.socket, _Handler | None] = {}
         self._lock = threading.Lock()
         self.address_family = socket.AF_INET6 if ":" in address else socket.AF_INET
@@ -195,13 +196,13 @@ class Server(ThreadingHTTPServer):
         self.port: int = self.server_address[1]
 
     def server_bind(self) -> None:
-        """Binds without looking up this machine's name."""
+        """Binds the socket without looking up the name of this machine."""
         self.socket.setsockopt(socket.SOL_SOCKET, socket.SO_REUSEADDR, 1)
         self.socket.bind(self.server_address)
         self.server_address = self.socket.getsockname()
 
     def response(self, method: str, path: str, body: bytes) -> Response:
-        """Serves a command. Any failure is a WebDriver error."""
+        """Serves a command. Any failure is reported as a WebDriver error."""
         try:
             return self._serve(method, path, body)
         except DriverError as error:
@@ -224,7 +225,7 @@ class Server(ThreadingHTTPServer):
             raise
 
     def process_request(self, request: Any, client_address: Any) -> None:
-        """Serves a connection. If there are too many, it replaces the one that has been idle longest."""
+        """Serves a connection. If there are too many, closes the connection that has been idle longest."""
         with self._lock:
             idle = [handler for handler in self._open.values() if handler and handler.is_idle]
             is_full = len(self._open) >= MAX_CONNECTIONS
@@ -254,7 +255,7 @@ class Server(ThreadingHTTPServer):
                 _shut_down(handler.connection)
 
     def handle_error(self, request: Any, client_address: Any) -> None:
-        """Reports in one line what ended a connection."""
+        """Reports in one line the error that ended a connection."""
         print_error(f"a connection failed: {sys.exc_info()[1]!r}")
 
 

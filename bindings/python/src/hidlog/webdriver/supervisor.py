@@ -1,9 +1,9 @@
-"""Runs a driver, and ends it with its child processes when standard input ends, however the proxy ended.
+"""Runs a driver, and ends the driver and its child processes when standard input ends, no matter how the proxy ended.
 
     supervisor.py COMMAND..
 
-It is a script that does not import the package, so it starts fast. A killed driver leaves its browser running; on Linux
-the browser then becomes this process's child, and is ended, too.
+This script does not import the package, so it starts fast. A killed driver leaves its browser running. On Linux, the
+browser then becomes a child of this process, and is also ended.
 """
 
 from __future__ import annotations
@@ -26,13 +26,13 @@ _prctl: Callable[..., int] | None = ctypes.CDLL(None).prctl if _LINUX else None
 
 
 def die_with_parent() -> None:
-    """Makes the kernel end this process when its parent ends."""
+    """Lets the kernel end this process when its parent ends."""
     if _prctl:
         _prctl(_PR_SET_PDEATHSIG, signal.SIGKILL, 0, 0, 0)
 
 
 def _iter_descendants(pid: int) -> Iterator[int]:
-    """Yields the descendants of a process, as far as the kernel lists them."""
+    """Yields the descendants of a process, if the kernel lists them."""
     with suppress(OSError):
         for task in os.listdir(f"/proc/{pid}/task"):
             with open(f"/proc/{pid}/task/{task}/children", encoding="ascii") as file:
@@ -42,7 +42,7 @@ def _iter_descendants(pid: int) -> Iterator[int]:
 
 
 def _reap(driver: subprocess.Popen[bytes]) -> None:
-    """Reaps ended processes: the driver, and orphans it left behind."""
+    """Reaps ended processes: the driver, and orphaned child processes of the driver."""
     with suppress(ChildProcessError):
         while True:
             pid, status = os.waitpid(-1, os.WNOHANG)
@@ -105,7 +105,7 @@ def main(words: list[str]) -> int:
 
 
 def _prepare_driver() -> None:
-    """Prepares the driver's process: it ends with its parent, and has default signal handlers."""
+    """Prepares the driver's process, so that it ends with its parent and has default signal handlers."""
     for number in (signal.SIGINT, signal.SIGTERM, signal.SIGHUP):
         signal.signal(number, signal.SIG_DFL)
     die_with_parent()

@@ -28,7 +28,7 @@ def _mask(data: bytes, mask: bytes) -> bytes:
 
 
 def make_frame(opcode: int, data: bytes, mask: bytes) -> bytes:
-    """Returns a message as one frame, as a client sends it."""
+    """Returns a message as a single masked frame of a client."""
     size = len(data)
     if size < 126:
         length = bytes([_MASKED | size])
@@ -40,7 +40,7 @@ def make_frame(opcode: int, data: bytes, mask: bytes) -> bytes:
 
 
 class WebSocket:
-    """An open connection. Only one thread may receive; any may send."""
+    """An open connection. Only one thread may receive messages; any thread may send."""
 
     def __init__(self, url: str, seconds: float):
         parts = urlsplit(url)
@@ -116,7 +116,7 @@ class WebSocket:
                 raise WebSocketError(f"the server sent a frame of opcode {opcode}")
 
     def close(self) -> None:
-        """Closes the connection, also for the receiving thread."""
+        """Closes the connection, which also ends the receiving thread's wait."""
         with suppress(OSError):
             self._socket.shutdown(socket.SHUT_RDWR)
         self._socket.close()
