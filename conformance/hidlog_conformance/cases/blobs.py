@@ -106,13 +106,13 @@ def read_cases() -> List[Case]:
     cases.append(case.read(2**31 - 1).expect("status 03").holds(EMPTY_ARRAY))
     case = BlobCase("read_too_much", "A read of more bytes than a fragment may have is refused.")
     cases.append(case.read(7609).expect("status 03").alive())
-    wrong: Dict[str, Dict[int, Any]] = {
-        "without_offset": {READ: 10},
-        "with_length": {READ: 10, OFFSET: 0, LENGTH: 17},
-        "and_written": {READ: 10, SET: EMPTY_ARRAY, OFFSET: 0, LENGTH: 17},
+    wrong: Dict[str, Tuple[str, Dict[int, Any]]] = {
+        "without_offset": ("A read without `offset`", {READ: 10}),
+        "with_length": ("A read with `length`", {READ: 10, OFFSET: 0, LENGTH: 17}),
+        "and_written": ("A request with `get` and `set`", {READ: 10, SET: EMPTY_ARRAY, OFFSET: 0, LENGTH: 17}),
     }
-    for name, asked in wrong.items():
-        case = BlobCase(f"read_{name}", f"A read {name.replace('_', ' ')} is refused.")
+    for name, (request, asked) in wrong.items():
+        case = BlobCase(f"read_{name}", f"{request} is refused.")
         cases.append(case.blobs(asked).expect("status 02").alive())
     case = BlobCase("neither", "A request with neither `get` nor `set` is refused.")
     cases.append(case.blobs({OFFSET: 0}).expect("status 02").alive())

@@ -48,6 +48,18 @@ def set_parameter(key: Any, value: Any) -> Callable[[Asked], None]:
     return spoil
 
 
+# The errors that the checks find, by the name of the check.
+ERRORS = {
+    "type": "a wrong type",
+    "missing": "a missing parameter",
+    "hash_length": "a clientDataHash of 31 bytes",
+    "pin": "pinUvAuthParam without PIN support",
+    "algorithm": "an unsupported algorithm",
+    "uv": "the unsupported option uv",
+    "enterprise": "unsupported enterprise attestation",
+    "rk": "the option rk",
+    "credential": "an unknown credential",
+}
 # The checks in the order of the algorithm. A pair of checks has two different positions.
 MAKE_ORDER = [
     Check("type", "11", set_parameter(6, 1)),
@@ -163,8 +175,8 @@ def member_type_cases() -> List[Case]:
     """Members with a wrong type, or missing."""
     cases = []
     for name, key, value, status in MAKE_INSIDE:
-        says = "of a wrong type" if status == "11" else "missing"
-        requirement = f"A member that is {says} is refused ({name.replace('_', ' ')})."
+        error = "A member of a wrong type" if status == "11" else "A missing member"
+        requirement = f"{error} is refused ({name.replace('_', ' ')})."
         case = Case(
             f"make/inside_{name}", "make", requirement, profile="the standard requires an error, but not this status"
         )
@@ -250,7 +262,7 @@ def pair_case(chapter: str, command: bytes, good: Asked, first: Check, second: C
     more: Dict[str, Any] = {"uses": [*first.uses, *second.uses]}
     if not fixed:
         more["profile"] = first.profile or WRONG_TYPE_VALUES
-    requirement = f"Of two errors, {first.name.replace('_', ' ')} is reported before {second.name.replace('_', ' ')}."
+    requirement = f"Of two errors, {ERRORS[first.name]} is reported before {ERRORS[second.name]}."
     case = Case(f"{chapter}/first_{first.name}_then_{second.name}", chapter, requirement, **more)
     second.spoil(good)
     first.spoil(good)
@@ -261,7 +273,7 @@ def order_cases(chapter: str, command: bytes, good: Callable[[], Asked], checks:
     """Each check alone, and each pair."""
     cases = []
     for place, check in enumerate(checks):
-        requirement = f"The check {check.name.replace('_', ' ')} refuses an otherwise valid request."
+        requirement = f"An otherwise valid request with {ERRORS[check.name]} is refused."
         case = Case(f"{chapter}/alone_{check.name}", chapter, requirement, uses=check.uses, profile=check.profile)
         asked = good()
         check.spoil(asked)

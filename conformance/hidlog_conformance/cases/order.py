@@ -17,7 +17,41 @@ STATES: Dict[str, Callable[[Case], Case]] = {
     "other_work": lambda case: case.make(2).expect("keepalive 02 on 2"),
 }
 
-# State, packet, response (empty for none), the message that continues, whether the standard defines it, section.
+# The words of a requirement about states, packets, and the transactions that continue.
+STATE_TEXTS = {
+    "idle": "",
+    "own_message": " during a message of its channel",
+    "own_work": " during a request of its channel",
+    "other_message": " during a message of another channel",
+    "other_work": " during a request of another channel",
+}
+PACKET_TEXTS = {
+    "cancel": "CANCEL",
+    "cancel_strange": "CANCEL on an unallocated channel",
+    "cancel_long": "CANCEL with a length",
+    "ping": "PING",
+    "ping_strange": "PING on an unallocated channel",
+    "ping_broadcast": "PING on the broadcast channel",
+    "info": "authenticatorGetInfo",
+    "unknown": "An unknown command",
+    "unknown_strange": "An unknown command on an unallocated channel",
+    "unknown_long": "An unknown command with a length of 7610",
+    "long": "A length of 7610",
+    "long_strange": "A length of 7610 on an unallocated channel",
+    "long_broadcast": "A length of 7610 on the broadcast channel",
+    "empty_cbor": "An empty CBOR message",
+    "empty_cbor_strange": "An empty CBOR message on an unallocated channel",
+    "init": "INIT",
+    "init_broadcast": "INIT on the broadcast channel",
+    "short_init": "INIT of 7 bytes",
+    "short_init_strange": "INIT of 7 bytes on an unallocated channel",
+    "short_init_broadcast": "INIT of 7 bytes on the broadcast channel",
+    "long_init": "INIT with a length of 7610",
+    "go_on": "A continuation packet",
+}
+ENDS = {"message": ", and the message continues", "work": ", and the request continues", "": ""}
+
+# State, packet, response (empty for none), the transaction that continues, whether the standard defines it, section.
 Row = Tuple[str, str, str, str, bool, str]
 ROWS: List[Row] = [
     ("own_work", "cancel", "status 2d", "", True, "cancel"),
@@ -121,13 +155,14 @@ def cases() -> List[Case]:
     """Returns the cases of this file."""
     found = []
     for state, what, answer, goes_on, fixed, section in ROWS:
-        says = f"answered with {answer}" if answer else "ignored"
-        requirement = f"In the state {state}, {what} is {says}; then {goes_on or 'nothing'} continues."
+        response = "an INIT response" if answer.startswith("init") else answer.partition(" on ")[0]
+        effect = f"gets {response}" if answer else "is ignored"
+        requirement = f"{PACKET_TEXTS[what]}{STATE_TEXTS[state]} {effect}{ENDS[goes_on]}."
         more: Dict[str, Any] = {
             "needs": ["touch"] if state.endswith("work") else [],
             "profile": "" if fixed else PROFILE_CHOICE,
         }
-        case = Case(f"order/{state}_and_{what}", section, requirement.replace("_", " "), **more)
+        case = Case(f"order/{state}_and_{what}", section, requirement, **more)
         STATES[state](case.greet(2))
         add_packet(case, what)
         case.expect(answer or "nothing")

@@ -2,7 +2,7 @@
 
 from __future__ import annotations
 
-from typing import TYPE_CHECKING, Any, Dict, List
+from typing import TYPE_CHECKING, Any, Dict, List, Tuple
 
 from hidlog_conformance.cases.corpus import INFO, RESET, Case, descriptor
 from hidlog_conformance.ctap_cbor import encode
@@ -140,12 +140,12 @@ def token_cases(protocol: int) -> List[Case]:
     case = PinCase("pin/sign_in_without", "get", "Without a token flag UV is not set in a sign-in.", protocol)
     case.with_pin().token().register_with_token().made(1, "up uv").get(p3=[descriptor(1)])
     cases.append(case.asserted("up no-uv counter-rises"))
-    refused: Dict[str, Dict[str, Any]] = {
-        "of_another_rp": {"rp": "example.org"},
-        "that_signs_in": {"permissions": GET},
+    refused: Dict[str, Tuple[str, Dict[str, Any]]] = {
+        "of_another_rp": ("for another RP", {"rp": "example.org"}),
+        "that_signs_in": ("with only the permission ga", {"permissions": GET}),
     }
-    for name, more in refused.items():
-        case = PinCase(f"pin/token_{name}", "make", f"A token {name.replace('_', ' ')} cannot register.", protocol)
+    for name, (token, more) in refused.items():
+        case = PinCase(f"pin/token_{name}", "make", f"A token {token} cannot register.", protocol)
         cases.append(case.with_pin().token(**more).register_with_token().expect("status 33"))
     case = PinCase("pin/token_that_registers", "get", "A token with only the permission mc cannot sign in.", protocol)
     case.with_pin().token().register_with_token().made(1, "up uv").token(permissions=MAKE)
@@ -153,7 +153,7 @@ def token_cases(protocol: int) -> List[Case]:
     wrong = bytes(16 if protocol == 1 else 32)
     case = PinCase("pin/wrong_param", "make", "A wrong pinUvAuthParam is refused in a registration.", protocol)
     cases.append(case.with_pin().token().make(p8=wrong, p9=protocol).expect("status 33"))
-    case = PinCase("pin/wrong_param_of_sign_in", "get", "A sign-in without the extension returns no key.", protocol)
+    case = PinCase("pin/wrong_param_of_sign_in", "get", "A wrong pinUvAuthParam is refused in a sign-in.", protocol)
     case.with_pin().token().register_with_token().made(1, "up uv").get(p3=[descriptor(1)], p6=wrong, p7=protocol)
     cases.append(case.expect("status 33"))
     return cases

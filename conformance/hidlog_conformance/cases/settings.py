@@ -113,7 +113,9 @@ def enterprise_cases(protocol: int) -> List[Case]:
     )
     case.with_pin().configuring().configure(ENTERPRISE).expect("status 00")
     cases.append(case.token().register_with_token(p10=3).expect("status 2c"))
-    case = ConfigCase("enterprise_disabled", "Disabled, it is refused (6.1.2, step 9).", protocol, "make", "ep")
+    case = ConfigCase(
+        "enterprise_disabled", "Disabled enterprise attestation is refused (6.1.2, step 9).", protocol, "make", "ep"
+    )
     cases.append(case.shows("option ep false").make(p10=2).expect("status 02"))
     case = ConfigCase("enterprise_reset", "A reset disables enterprise attestation (6.6).", protocol, "reset", "ep")
     case.with_pin().configuring().configure(ENTERPRISE).expect("status 00").cbor(RESET).presence().expect("status 00")
@@ -142,7 +144,13 @@ def refusal_cases(protocol: int) -> List[Case]:
         cases.append(
             case.with_pin().configuring().configure(command, parameters, wrong).expect("status 33").shows(shown)
         )
-        case = ConfigCase(f"{name}_not_permitted", "Without acfg it is refused (6.11).", protocol, "config", option)
+        case = ConfigCase(
+            f"{name}_not_permitted",
+            "A token without the permission acfg is refused (6.11).",
+            protocol,
+            "config",
+            option,
+        )
         case.with_pin().token(permissions=MAKE | GET).configure(command, parameters).expect("status 33")
         cases.append(case.shows(shown))
     case = ConfigCase("unknown", "An unknown subcommand is refused (6.11).", protocol)
@@ -169,7 +177,9 @@ def blocked_cases(protocol: int) -> List[Case]:
     cases: List[Case] = []
     for name in ("token", "change", "reset"):
         section = "reset" if name == "reset" else "pin"
-        case = PinCase(f"blocked/{name}", section, "Without retries only a reset helps (6.5.5.7).", protocol)
+        case = PinCase(
+            f"blocked/{name}", section, "A PIN without retries is blocked until a reset (6.5.5.7).", protocol
+        )
         case.comment("needs: power cycle")
         block_pin(case.with_pin().pin(1).expect("retries 8"))
         if name == "token":

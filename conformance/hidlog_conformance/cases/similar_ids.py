@@ -195,7 +195,9 @@ def algorithm_cases() -> List[Case]:
         case = Case(f"make/first_is_{name}", "make", "The first supported algorithm of the request is chosen.", **BOTH)
         cases.append(case.greet().register(1, p4=listed).get(p3=[descriptor(1)]).asserted(COUNTER_INCREASES))
         unknown = {"alg": -65535, "type": KIND}
-        case = Case(f"make/first_known_is_{name}", "make", "Unknown algorithms before it are ignored.", **BOTH)
+        case = Case(
+            f"make/first_known_is_{name}", "make", "Unknown algorithms before a supported one are ignored.", **BOTH
+        )
         cases.append(case.greet().register(1, p4=[unknown, *listed]))
     case = Case("make/es256_twice_listed", "make", "A duplicate algorithm is accepted.", **TOUCH)
     cases.append(case.greet().register(1, p4=[es256, es256]))

@@ -67,7 +67,9 @@ def option_cases() -> List[Case]:
     case.comment("uses: verified registrations")
     cases.append(case.greet().make(p7={"rk": True}).expect("status 36").alive())
     for kind in ("make", "get"):
-        case = Case(f"user/denied_{kind}", kind, "Without the user the request fails.", uses=["uv"], needs=["denial"])
+        case = Case(
+            f"user/denied_{kind}", kind, "Without user verification the request fails.", uses=["uv"], needs=["denial"]
+        )
         case.greet().make(p7=UV)
         if kind == "get":
             case.made(1, "up uv").get(p3=[descriptor(1)], p5=UV)
@@ -99,16 +101,21 @@ def account_cases() -> List[Case]:
 def token_cases(protocol: int) -> List[Case]:
     """Tokens by built-in user verification."""
     cases: List[Case] = []
-    case = UserCase("token_registers", "pin", "For a token the device verifies the user.", protocol)
+    case = UserCase("token_registers", "pin", "The device verifies the user before it issues a token.", protocol)
     cases.append(case.get_user_token().register_with_token().made(1, "up uv"))
-    case = UserCase("token_signs_in", "pin", "For a token for a sign-in the device verifies the user.", protocol)
+    case = UserCase(
+        "token_signs_in", "pin", "The device verifies the user before it issues a token for a sign-in.", protocol
+    )
     case.get_user_token().register_with_token().made(1, "up uv").get_user_token()
     cases.append(case.sign_in_with_token(p3=[descriptor(1)]).asserted("up uv counter-rises"))
     case = UserCase("token_waits", "pin", "No token is issued before user verification.", protocol)
     case.by_user().expect("keepalive 02").tick(100).expect("nothing").presence()
     cases.append(case.expect("token"))
-    for name, permissions, rp in (("another_rp", MAKE | GET, "example.org"), ("sign_ins", GET, "example.com")):
-        case = UserCase(f"token_of_{name}", "make", f"A token of {name.replace('_', ' ')} cannot register.", protocol)
+    for name, token, permissions, rp in (
+        ("another_rp", "for another RP", MAKE | GET, "example.org"),
+        ("sign_ins", "with only the permission ga", GET, "example.com"),
+    ):
+        case = UserCase(f"token_of_{name}", "make", f"A token {token} cannot register.", protocol)
         cases.append(case.get_user_token(permissions, rp).register_with_token().expect("status 33"))
     case = UserCase("token_of_nothing", "pin", "A token without permissions is refused.", protocol)
     cases.append(case.by_user(0).expect("status 02"))

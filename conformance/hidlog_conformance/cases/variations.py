@@ -28,7 +28,7 @@ def list_cases() -> List[Case]:
     case = Case(
         "lists/exclude_discoverable_of_another_rp",
         "make",
-        "A discoverable one of another RP does not exclude.",
+        "A discoverable credential of another RP does not exclude.",
         **EMPTY,
     )
     cases.append(case.greet().register(1, rk=True).register(2, rk=True, p5=[descriptor(1)], **ORG))
@@ -187,7 +187,9 @@ def registration_cases() -> List[Case]:
 def transport_cases() -> List[Case]:
     """Capabilities, U2F, timeouts and empty messages."""
     cases = []
-    case = Case("commands/msg_with_version", "error", "A complete APDU is refused, too.", uses=["no msg"])
+    case = Case(
+        "commands/msg_with_version", "error", "A complete APDU is refused without the capability.", uses=["no msg"]
+    )
     cases.append(case.greet().send(1, hid.MSG, VERSION + bytes(3)).expect("error 01").alive())
     case = Case("commands/wink_twice", "error", "WINK without its capability is refused each time.", uses=["no wink"])
     cases.append(case.greet().send(1, hid.WINK).expect("error 01").send(1, hid.WINK).expect("error 01").alive())
