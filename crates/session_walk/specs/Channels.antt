@@ -34,7 +34,7 @@ response_in_progress c =
     let progress = c.last_response.progress in
     if is_whole progress.length progress.continuations then [] else cut_response progress c.last_response.exchange
 
--- The open transactions of a channel, each with its end if no packet follows.
+-- The open transactions of a channel. Each one has the end that applies if no packet follows.
 abbrev pub open_transactions : Channel → List Ended
 open_transactions c =
     response_in_progress c ++ (map (λ g. open_end (open_init c.number g)) c.pending_inits.items
@@ -101,11 +101,11 @@ yields (Some c) (Some other) = makes_way_before c other
 abbrev pub MakesWay : ℕ → List Channel → Type 0
 MakesWay place channels = (i : ℕ) → i < 6 → yields (slice_get channels i) (slice_get channels place) ≡ false
 
--- The device may be processing an unidentified message on one of the channels.
+-- Whether the device may be processing an unidentified message on any channel.
 abbrev pub may_any_be_processing : ℕ → List Channel → Bool
 may_any_be_processing now channels = list_any (may_be_processing now) channels
 
--- The channels after a device allocated this one. If it was in use, the device has restarted.
+-- The channels after a device allocated this channel. If the channel was in use, the device has restarted.
 abbrev pub with_allocated : (number line : ℕ) → Option ℕ → List Channel → List Channel
 with_allocated number line None channels = channels
 with_allocated number line (Some place) channels = slice_set channels place (fresh_channel number line)
@@ -115,18 +115,18 @@ abbrev pub open_on : Option Channel → List Ended
 open_on None = []
 open_on (Some c) = open_transactions c
 
--- The channels after the response to the INIT on a line, which allocates this one.
+-- The channels after the response to the INIT on a line, which allocates this channel.
 abbrev pub after_allocation : (number line : ℕ) → List Channel → List Channel
 after_allocation number line channels =
     if number == BROADCAST then channels else with_allocated number line (index_on number channels) channels
 
--- The transactions that the response to the INIT on a line ends: those open on the channel that it allocates.
+-- The transactions that end with the response to an INIT: those that are open on the channel that it allocates.
 abbrev pub ends_by_allocation : (number line : ℕ) → List Channel → List Ended → List Ended
 ends_by_allocation number line channels ended =
     if number == BROADCAST then ended else with_dropped line ended (open_on (channel_on number channels))
 
--- A channel after a successful assertion on another, or of an unknown request: a device continues only its latest
--- assertion (CTAP 2.1, section 6.3).
+-- The channel after a successful assertion on another channel, or after the response to an unknown request. A device
+-- continues only its latest assertion (CTAP 2.1, section 6.3).
 abbrev pub without_assertion : Channel → Channel
 without_assertion c = record c { last_asserted_rp = no_rp_id }
 
@@ -136,33 +136,33 @@ abbrev pub AreWithoutAssertion : (place : ℕ) → (is_unknown : Bool) → (old 
 AreWithoutAssertion place is_unknown old new = (i : ℕ) → slice_get new i
     ≡ option_map (λ c. if is_unknown || not (i == place) then without_assertion c else c) (slice_get old i)
 
--- The line of the INIT on the broadcast channel that a packet is the response to, if it is one.
+-- The line of the INIT on the broadcast channel to which a packet is the response, if any.
 abbrev pub allocating_line : ResponseStart → Option Transaction → Option ℕ
 allocating_line answer None = None
 allocating_line answer (Some transaction) =
     if (answer.command == INIT) && (transaction.channel == BROADCAST) then Some transaction.line else None
 
--- After the packet, a device continues no earlier assertion: it is a successful response to an
--- authenticatorGetAssertion, or to an unknown request.
+-- Whether a device continues no earlier assertion after the packet: the packet is a successful response to
+-- authenticatorGetAssertion or to an unknown request.
 abbrev pub replaces_assertion : ResponseStart → Option Transaction → Bool
 replaces_assertion answer transaction = is_success answer && (is_none transaction || is_assertion transaction)
 
--- The last request on a channel is this one, and may name a credential from before the log.
+-- The last request on a channel is this one, and it may refer to a credential created before the log.
 abbrev pub may_name_prior : Transaction → Option OpenTransaction → Bool
 may_name_prior transaction None = false
 may_name_prior transaction (Some last) = (last.transaction.line == transaction.line) && last.named.may_name_prior
 
--- The first transaction of two that began after a line.
+-- The transaction that began first, of two that began after a line.
 abbrev pub earlier_of : ℕ → Option Ended → Ended → Option Ended
 earlier_of line None m = if nat_lt line m.exchange.transaction.line then Some m else None
 earlier_of line (Some first) m =
     if nat_lt line m.exchange.transaction.line && nat_lt m.exchange.transaction.line first.exchange.transaction.line
     then Some m else Some first
 
--- The transaction that began first after a line.
+-- The transaction of a channel that began first after a line.
 abbrev pub first_after : ℕ → Option Ended → List Ended → Option Ended
 first_after line other ended = fold (earlier_of line) other ended
 
--- The open transaction that began first after a line, of all channels.
+-- The open transaction, of all channels, that began first after a line.
 abbrev pub first_open_after : ℕ → List Channel → Option Ended
 first_open_after line channels = fold (λ first c. first_after line first (open_transactions c)) None channels

@@ -1,11 +1,11 @@
--- The messages that a line of a log is shown with.
+-- The CBOR messages that are shown with a line of a log.
 use Rattle.std.specs.Prelude.{◌≡◌, ℕ, List, Option, None, option_map, []}
 use Rattle.session_walk.specs.declared.ambiguous.{Resolved.Resolved, CompletedMessage.CompletedMessage}
 use Rattle.session_walk.specs.declared.entry.{CborMessage.CborMessage, LineEntry.LineEntry}
 use Rattle.session_walk.specs.declared.tracker.TransactionTracker.{TransactionTracker}
 use Rattle.session_walk.specs.Messages.{KeptMessages, complete_bytes_at}
 
--- The bytes of a message that is shown, if they were kept.
+-- The bytes of a message that is shown, or None if they weren't kept.
 abbrev pub message_bytes : Option CborMessage → Option (Option (List ℕ))
 message_bytes = option_map (λ message. option_map (λ bytes. bytes.now) message.bytes)
 
@@ -13,7 +13,7 @@ message_bytes = option_map (λ message. option_map (λ bytes. bytes.now) message
 abbrev pub completed_bytes : KeptMessages → Option CompletedMessage → Option (Option (List ℕ))
 completed_bytes kept = option_map (λ completed. complete_bytes_at kept completed.line)
 
--- An ambiguous packet is shown once its transaction is known.
+-- The line with an ambiguous packet, which is shown when its transaction is known.
 pub record ShowsResolved (kept : KeptMessages) (resolved : Option Resolved) (deferred : Option LineEntry) : Type 0 where
   pub line : option_map (λ own. own.number) deferred ≡ option_map (λ resolved. resolved.line) resolved
   pub parsed : option_map (λ own. own.parsed.now) deferred ≡ option_map (λ resolved. resolved.parsed) resolved

@@ -28,21 +28,21 @@ abbrev pub current_unidentified : Option OpenTransaction → Channel → Channel
 current_unidentified None c = c
 current_unidentified (Some current) c = with_unidentified current.transaction.line c
 
--- The channel without its two messages, each of which may still be pending.
+-- The channel without its current message and its contender, each of which may still be pending.
 abbrev pub both_unidentified : Channel → Channel
 both_unidentified c = let s = contender_accepted false c in record (current_unidentified s.current (current_ended s)) { is_ambiguous = false }
 
--- The ended transactions, with those of the channel's messages, whose end is unknown.
+-- The ended transactions, followed by those of the channel's current message and its contender, whose ends are unknown.
 abbrev pub with_unknown_ends : Channel → List Ended → List Ended
 with_unknown_ends c ended = with_end_of (ends_by_contender false c ended) (contender_accepted false c).current Unknown
 
--- ERROR 05: the incomplete message timed out (CTAP 2.1, section 11.2.5.2). The continuation packet that arrived too
--- late doesn't belong to it.
+-- The effect of ERROR 05: the incomplete message timed out (CTAP 2.1, section 11.2.5.2). A continuation packet that
+-- arrived too late doesn't belong to this message.
 abbrev pub is_late_for : Option Ambiguous → OpenTransaction → Bool
 is_late_for None current = false
 is_late_for (Some d) current = current.transaction.line == d.transaction.line
 
--- Whether a continuation packet that may have arrived too late has the sequence number that its message expects.
+-- Whether the ambiguous continuation packet has the sequence number that its message expects.
 abbrev pub has_expected_sequence : Option Ambiguous → Bool
 has_expected_sequence None = false
 has_expected_sequence (Some d) = d.is_next
@@ -81,15 +81,15 @@ abbrev pub is_late_by : Option Ambiguous → Option OpenTransaction → Bool
 is_late_by ambiguous None = false
 is_late_by ambiguous (Some current) = is_late_for ambiguous current
 
--- ERROR 04 for a message that begins inside another one ends that one too; so does ERROR 03 for an INIT (CTAP 2.1,
--- sections 11.2.5.3 and 11.2.5.4).
+-- The transaction that ends together with a refused one: ERROR 04 for a message that begins inside another message ends
+-- both, and so does ERROR 03 for an INIT (CTAP 2.1, sections 11.2.5.3 and 11.2.5.4).
 abbrev pub also_ends : Transaction → ℕ → Option OpenTransaction → Bool
 also_ends refused code None = false
 also_ends refused code (Some current) =
     (code == (if refused.message == INIT then 3 else 4)) && (not (is_complete_message current)
     && nat_lt current.transaction.line refused.line)
 
--- How a message ends that was interrupted by a refused one.
+-- How a message ends that a refused message interrupted.
 abbrev pub interrupted_end : Transaction → End
 interrupted_end refused = if refused.message == INIT then Dropped refused.line else Replaced refused.line
 
@@ -98,35 +98,35 @@ abbrev pub can_answer : ResponseStart → Option OpenTransaction → Bool
 can_answer answer None = false
 can_answer answer (Some m) = is_complete_message m && (m.transaction.message == answer.command)
 
--- The request wasn't cancelled.
+-- Whether the request wasn't cancelled.
 abbrev pub is_uncancelled : Option OpenTransaction → Bool
 is_uncancelled None = false
 is_uncancelled (Some m) = is_none m.cancelled
 
--- There is a status, and it is this one.
+-- Whether there is a status and it equals this one.
 abbrev pub has_status : ℕ → Option ℕ → Bool
 has_status code None = false
 has_status code (Some status) = status == code
 
--- The response is for the contender.
+-- Whether the response belongs to the contender.
 abbrev pub is_for_contender : ResponseStart → Channel → Bool
 is_for_contender answer c =
     if can_answer answer c.current && can_answer answer c.contender && has_status 0x2d answer.status
     then is_uncancelled c.current
     else can_answer answer c.contender
 
--- The response fits only one of the channel's messages.
+-- Whether the response fits only one of the channel's two messages.
 abbrev pub fits_one_message : ResponseStart → Channel → Bool
 fits_one_message answer c = not (is_owner_unknown c) && (can_answer answer c.current || is_for_contender answer c)
     && not (can_answer answer c.current && is_for_contender answer c)
 
--- The message that a response is for.
+-- The message to which a response belongs.
 abbrev pub answered_message : ResponseStart → Channel → Option OpenTransaction
 answered_message answer c =
     if fits_one_message answer c then (if can_answer answer c.current then c.current else c.contender) else None
 
--- A continuation packet of the device continues its last message if the sequence number fits (CTAP 2.1, section
--- 11.2.4).
+-- The device's last message after a continuation packet, if the packet has the expected sequence number (CTAP 2.1,
+-- section 11.2.4).
 abbrev pub response_continued : ℕ → ResponseMessage → ResponseMessage
 response_continued number last_response =
     if not (is_whole last_response.progress.length last_response.progress.continuations) && (last_response.progress.continuations == number)
@@ -140,7 +140,8 @@ key_or_signature (Some Signature) is_made = Signature
 key_or_signature before true = Key
 key_or_signature before false = Signature
 
--- The reply that a KEEPALIVE status shows: 01 processing, 02 user presence needed (CTAP 2.1, section 11.2.9.1.7).
+-- The reply that the request waits for, from the status of a KEEPALIVE: 01 processing, 02 user presence needed (CTAP
+-- 2.1, section 11.2.9.1.7).
 abbrev pub awaited_by : ℕ → OpenTransaction → Option AwaitedReply
 awaited_by status m =
     if status == 2 then Some Presence
@@ -163,7 +164,7 @@ abbrev pub keepalive_count : Option OpenTransaction → ℕ
 keepalive_count None = 0
 keepalive_count (Some m) = m.keepalives
 
--- The KEEPALIVE became due before the second message arrived.
+-- Whether the KEEPALIVE became due before the second message arrived.
 abbrev pub was_due_before_contender : ℕ → ℕ → Channel → Bool
 was_due_before_contender input now c =
     nat_lt 0 (keepalive_count c.current) && (nat_le 100 (now - c.last_keepalive_at) && not (is_owner_undecided input c))
@@ -177,7 +178,7 @@ after_keepalive status input now c =
     else if was_due_before_contender input now c then channel_processing status now c.current c
     else c
 
--- The transaction, if the device is processing it.
+-- The transaction of a message, if the device is processing the message.
 abbrev pub transaction_if_processing : Option OpenTransaction → Option Transaction
 transaction_if_processing m = if is_in_process m then transaction_of m else None
 
@@ -190,9 +191,9 @@ keepalive_transaction input now c =
     else if was_due_before_contender input now c then transaction_of c.current
     else None
 
--- An ERROR other than a time-out, without a pending INIT, after a packet outside any transaction: it is for that packet
--- if the current request has had a KEEPALIVE, because such a request isn't refused with these codes (CTAP 2.1, section
--- 11.2.9.1.6).
+-- An ERROR other than a time-out, without a pending INIT, after a packet outside any transaction. If the current
+-- request has had a KEEPALIVE, the ERROR belongs to that packet, because such a request isn't refused with these codes
+-- (CTAP 2.1, section 11.2.9.1.6).
 abbrev pub refuses_stray : ℕ → Channel → Bool
 refuses_stray code c = c.last_was_stray && (nat_lt 0 (keepalive_count c.current)
     && ((code == 1) || (code == 4) || (code == 6) || (code == 0x0b)))

@@ -6,6 +6,6 @@ use Rattle.hid_packet.specs.Limits.{MAX_MESSAGE_LEN, data_capacity}
 abbrev pub bytes_received : (len count : ℕ) → ℕ
 bytes_received len count = min len (data_capacity count)
 
--- The message is complete. One over the maximum length never is.
+-- Whether the message is complete. A message over the maximum length is never complete.
 abbrev pub is_whole : (len count : ℕ) → Bool
 is_whole len count = nat_le len MAX_MESSAGE_LEN && nat_le len (data_capacity count)

@@ -1,4 +1,4 @@
--- The messages whose bytes are kept, two at once (CTAP 2.1, section 11.2.4, "Message and packet structure").
+-- The two messages whose bytes are stored at a time (CTAP 2.1, section 11.2.4, "Message and packet structure").
 use Rattle.std.specs.Prelude.{◌≡◌, ◌≢◌, ℕ, ◌≤◌, ◌<◌, ◌-◌, ◌==◌, ◌++◌, ◌⊎◌, ◌||◌, Bool, List, length, take, Option, None}
 use Rattle.std.specs.Prelude.{Some, IfSome, option_map, if◌then◌else◌}
 use Rattle.std.specs.Option.{option_and_then}
@@ -41,11 +41,12 @@ all_bytes m = if length m.bytes == m.size then Some m.bytes else None
 abbrev pub complete_bytes_at : KeptMessages → ℕ → Option (List ℕ)
 complete_bytes_at kept line = option_and_then all_bytes (kept_at kept line)
 
--- The stored message, dropped if it began at this line.
+-- The stored message. If it began at this line, it is dropped.
 abbrev pub released : (line : ℕ) → KeptMessage → KeptMessage
 released line m = record m { line = if m.line == line then 0 else m.line }
 
--- The line of the message that a new one evicts: that of the least recently used buffer, or 0 if one is free.
+-- The line of the message that a new message evicts: the one in the buffer that was used less recently, or 0 if a
+-- buffer is free.
 abbrev pub evicted_line : (line : ℕ) → KeptMessages → ℕ
 evicted_line line kept =
     let first = (released line kept.first).line in
@@ -54,12 +55,12 @@ evicted_line line kept =
     else if kept.is_first_last then second
     else first
 
--- A message of this length is neither empty nor over the maximum.
+-- Whether a message of this length is neither empty nor longer than the maximum.
 pub record CanBeKept (size : ℕ) : Type 0 where
   pub some : 0 < size
   pub short : size ≤ MAX_MESSAGE_LEN
 
--- No message is stored that wasn't before.
+-- Every stored message was stored before.
 abbrev pub KeepsOnly : (before after : KeptMessages) → Type 0
 KeepsOnly before after = (line : ℕ) → IfSome (kept_at after line) (λ m. kept_at before line ≡ Some m)
 
@@ -71,8 +72,8 @@ Continues part before m = option_map (continued part) before ≡ Some m
 abbrev pub Begins : (number size : ℕ) (part : List ℕ) → KeptMessage → Type 0
 Begins number size part m = CanBeKept size × (m ≡ new_message number size part)
 
--- The packet begins or continues the message that began at line `transaction`, if stored. Each other stored message is
--- unchanged.
+-- The packet begins or continues the message that began at line `transaction`, if it is stored. The other stored
+-- message is unchanged.
 pub record AddsData (number size : ℕ) (part : List ℕ) (transaction : ℕ) (before after : KeptMessages) : Type 0 where
   pub own : IfSome (kept_at after transaction) (λ m. Continues part (kept_at before transaction) m ⊎ Begins number size part m)
   pub others : (line : ℕ) → line ≢ transaction → IfSome (kept_at after line) (λ m. kept_at before line ≡ Some m)

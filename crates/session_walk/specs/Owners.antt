@@ -11,11 +11,11 @@ use Rattle.session_walk.specs.declared.transaction.{Ended.Ended, OpenTransaction
 use Rattle.session_walk.specs.declared.transaction.End.{End}
 use Rattle.session_walk.specs.declared.transaction.End.TheVariants.{Dropped, Unknown, Replaced}
 
--- One more ended transaction, of at most eight.
+-- The ended transactions, followed by another one. At most eight are kept.
 abbrev pub with_end : List Ended → OpenTransaction → End → List Ended
 with_end ended exchange end = if nat_lt (length ended) 8 then ended ++ record { exchange = exchange; end = end } ∷ [] else ended
 
--- One more ended transaction, if there is a current message.
+-- The ended transactions, followed by that of the current message, if any.
 abbrev pub with_end_of : List Ended → Option OpenTransaction → End → List Ended
 with_end_of ended None end = ended
 with_end_of ended (Some current) end = with_end ended current end
@@ -30,7 +30,7 @@ is_in_process None = false
 is_in_process (Some m) =
     is_complete_message m && not ((m.transaction.message == PING) || (m.transaction.message == INIT))
 
--- It is unknown which of the channel's messages a device packet is for.
+-- Whether it is unknown to which of the channel's messages a device packet belongs.
 abbrev pub is_owner_unknown : Channel → Bool
 is_owner_unknown c = c.is_ambiguous || nat_lt 0 c.ambiguous_count
 
@@ -38,12 +38,13 @@ is_owner_unknown c = c.is_ambiguous || nat_lt 0 c.ambiguous_count
 abbrev pub with_unidentified : ℕ → Channel → Channel
 with_unidentified line c = record c { ambiguous_count = min 255 (c.ambiguous_count + 1); last_lost_line = max c.last_lost_line line }
 
--- How `current` ends when `contender`, which a host began meanwhile, takes the channel.
+-- How `current` ends when `contender`, which a host began while `current` was open, takes its place.
 abbrev pub replaced_end : (contender current : OpenTransaction) → (cancelled : Option ℕ) → End
 replaced_end contender current (Some line) = Dropped line
 replaced_end contender current None = if is_complete_message current then Unknown else Replaced contender.transaction.line
 
--- How `current` ends when `contender` takes the channel: unknown if no packet shows that the contender was accepted.
+-- How `current` ends when `contender` takes its place: unknown if no packet shows that the device accepted the
+-- contender.
 abbrev pub end_of_current : Bool → (contender current : OpenTransaction) → End
 end_of_current true contender current = replaced_end contender current current.cancelled
 end_of_current false contender current = Unknown
@@ -64,11 +65,12 @@ abbrev pub contender_accepted_by : Bool → Option OpenTransaction → Channel �
 contender_accepted_by is_shown None c = c
 contender_accepted_by is_shown (Some contender) c = with_contender_accepted is_shown contender c.current c
 
--- The channel after its contender was accepted, as a packet shows or since it wasn't refused.
+-- The channel after its contender was accepted, either because a packet shows it or because the contender wasn't
+-- refused.
 abbrev pub contender_accepted : Bool → Channel → Channel
 contender_accepted is_shown c = contender_accepted_by is_shown c.contender c
 
--- The ended transactions, with that of the current message if the contender takes its place.
+-- The ended transactions, followed by that of the current message if the contender takes its place.
 abbrev pub ends_by_contender_of : Bool → (contender current : Option OpenTransaction) → List Ended → List Ended
 ends_by_contender_of is_shown None current ended = ended
 ends_by_contender_of is_shown (Some contender) None ended = ended
@@ -78,7 +80,7 @@ ends_by_contender_of is_shown (Some contender) (Some current) ended = with_end e
 abbrev pub ends_by_contender : Bool → Channel → List Ended → List Ended
 ends_by_contender is_shown c ended = ends_by_contender_of is_shown c.contender c.current ended
 
--- The channel without its current message; the contender takes its place.
+-- The channel without its current message. The contender becomes the current message.
 abbrev pub current_ended_of : Option OpenTransaction → Channel → Channel
 current_ended_of None c = c
 current_ended_of (Some current) c = record c { current = c.contender; contender = None }
@@ -100,12 +102,12 @@ pending_init m part = record {
   nonce = nonce_of part;
 }
 
--- A new message takes the channel, or becomes the contender of the current one.
+-- The channel after a new message, which becomes the current message, or the contender if there is a current message.
 abbrev pub place_message : OpenTransaction → Option OpenTransaction → Channel → Channel
 place_message m None c = record c { current = Some m }
 place_message m (Some current) c = record c { contender = Some (record m { delay = m.at - current.at }) }
 
--- A device that sent no packet for this many milliseconds isn't processing a request.
+-- The time in milliseconds after which a device that sent no packet is assumed to process no request.
 abbrev pub IDLE_TIMEOUT_MS : ℕ
 IDLE_TIMEOUT_MS = 500
 
@@ -131,7 +133,7 @@ with_continuation number now m =
     then record m { progress = record m.progress { continuations = min 255 (number + 1) }; at = now }
     else m
 
--- How a continuation packet relates to an incomplete message.
+-- The relation of a continuation packet to an incomplete message.
 abbrev pub continuation_match : ℕ → ℕ → OpenTransaction → ContinuationMatch
 continuation_match number now m =
     let after = with_continuation number now m in
@@ -155,11 +157,11 @@ abbrev pub message_after_continuation : ℕ → ℕ → Option OpenTransaction �
 message_after_continuation number now None = None
 message_after_continuation number now (Some m) = Some (if is_complete_message m then m else with_continuation number now m)
 
--- The message that a continuation packet is for.
+-- The message to which a continuation packet belongs.
 abbrev pub continued_message : ℕ → Channel → Option OpenTransaction
 continued_message number c = if expects_sequence number c.contender then c.contender else c.current
 
--- The continuation packet is outside any transaction.
+-- The result of a continuation packet outside any transaction.
 abbrev pub is_stray : Option ContinuationMatch → Bool
 is_stray None = true
 is_stray (Some c) = false
@@ -182,8 +184,8 @@ abbrev pub transaction_of : Option OpenTransaction → Option Transaction
 transaction_of None = None
 transaction_of (Some m) = Some m.transaction
 
--- The channel after a CANCEL, which cancels the request in process. If there are two, it is unknown which (CTAP 2.1,
--- section 11.2.9.1.5).
+-- The channel after a CANCEL, which cancels the request that is processed. If there are two such requests, it is
+-- unknown which one is cancelled (CTAP 2.1, section 11.2.9.1.5).
 abbrev pub channel_cancelled : ℕ → Channel → Channel
 channel_cancelled line before =
     let c = record before { last_was_stray = true } in

@@ -1,4 +1,5 @@
--- What a packet of the device shows besides the channel's state, and what the caller's replies are for.
+-- What a packet of the device tells in addition to the channel's state, and the requests to which the caller's replies
+-- belong.
 use Rattle.std.specs.Prelude.{ℕ, Bool, false, ◌&&◌, ◌==◌, nat_le, List, [], ◌++◌, replicate, take, drop, length, Option, Some, None, if◌then◌else◌}
 use Rattle.byteorder.specs.Endian.{big_number}
 use Rattle.sha2.specs.Sha256.{sha256}

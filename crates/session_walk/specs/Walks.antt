@@ -1,4 +1,4 @@
--- The state of a tracker after the lines of a log, as a function of the lines, newest first.
+-- The state of a tracker after the lines of a log, which are given newest first.
 use Rattle.std.specs.Prelude.{◌≡◌, ℕ, Bool, true, false, ◌&&◌, ◌==◌, nat_le, max, List, [], ◌∷◌, length, Option, Some, None}
 use Rattle.std.specs.Prelude.{if◌then◌else◌, is_some, is_none, ◌+◌, ◌||◌, nat_lt, count_by, option_map, slice_get}
 use Rattle.hid_packet.specs.Commands.{CBOR, ERROR, KEEPALIVE}
@@ -52,7 +52,8 @@ pub record IsTrackerAfter (lines : List Line) (walk : TransactionTracker) : Type
 abbrev pub MIN_TIMEOUT_MS : ℕ
 MIN_TIMEOUT_MS = 100
 
--- The ambiguous packet after a continuation packet: this one if it may have arrived too late, or else the one before.
+-- The ambiguous packet after a continuation packet: this packet if it may have arrived too late, or else the previous
+-- ambiguous packet.
 abbrev pub ambiguous_after : ℕ → Line → Option ContinuationMatch → Option Ambiguous → Option Ambiguous
 ambiguous_after number parsed None before = before
 ambiguous_after number parsed (Some c) before =
@@ -77,12 +78,12 @@ abbrev pub continued_message_line : Option ContinuationMatch → ℕ
 continued_message_line None = 0
 continued_message_line (Some c) = if c.is_next then c.transaction.line else 0
 
--- The transaction of an ambiguous packet, or None if it came too late.
+-- The transaction of an ambiguous packet, or None if the packet arrived too late.
 abbrev pub resolved_transaction : Bool → Ambiguous → Option Transaction
 resolved_transaction true d = None
 resolved_transaction false d = Some d.transaction
 
--- The end of a transaction with a complete response, with its status if any.
+-- The end of a transaction by a complete response: its status, if any.
 abbrev pub complete_response_end : Option ℕ → End
 complete_response_end (Some status) = Status status
 complete_response_end None = Answered
@@ -102,18 +103,19 @@ answered last_response message_start ended =
 abbrev pub IsAt : ℕ → TransactionTracker → Channel → Type 0
 IsAt place walk channel = slice_get walk.channels.list place ≡ Some channel
 
--- A KEEPALIVE says that the request waits for a reply of the caller.
+-- Whether a KEEPALIVE states that the request waits for a reply of the caller.
 abbrev pub reports_waiting : Option OpenTransaction → Bool
 reports_waiting None = false
 reports_waiting (Some m) = is_some m.awaited && is_none m.cancelled
 
--- A request on the channel may wait for the caller's reply: it has a KEEPALIVE that says so, or else no response yet.
+-- Whether a request on the channel may wait for the caller's reply: a KEEPALIVE states this, or the request has no
+-- response yet.
 abbrev pub may_wait : Bool → Channel → Bool
 may_wait true c = reports_waiting c.current
 may_wait false c = is_owner_unknown c || (c.has_ambiguous_keepalive || (is_in_process c.current || is_in_process c.contender))
 
--- The number of channels with a request that waits according to a KEEPALIVE; if there are none, of channels with a
--- request that may wait.
+-- The number of channels with a request that waits according to a KEEPALIVE. If there are none, the number of channels
+-- with a request that may wait.
 abbrev pub waiting_on : List Channel → ℕ
 waiting_on channels =
     let parsed = count_by (may_wait true) channels in if parsed == 0 then count_by (may_wait false) channels else parsed
@@ -137,7 +139,7 @@ current_time_at place walk = option_map (λ c. packet_time_of c.current) (slice_
 abbrev pub is_on : ℕ → Channel → Bool
 is_on number c = nat_lt 0 c.used && (c.number == number)
 
--- The index of a tracked channel, of six.
+-- The index of the first of the six tracked channels that passes a test.
 abbrev pub tracked_index : Option ℕ → Option ℕ
 tracked_index None = None
 tracked_index (Some place) = if nat_lt place 6 then Some place else None
@@ -150,7 +152,7 @@ index_on number channels = tracked_index (position (is_on number) channels)
 abbrev pub channel_on : ℕ → List Channel → Option Channel
 channel_on number channels = option_and_then (slice_get channels) (index_on number channels)
 
--- The line of the initialization packet of the message that a host's packet belongs to, or 0.
+-- The line of the initialization packet of the message to which a host's packet belongs, or 0.
 abbrev pub host_message : (line : ℕ) → Fields → (now : ℕ) → Channel → ℕ
 host_message line (initialization channel command size part) now c = if command == CANCEL then 0 else line
 host_message line (continuation channel number part) now c =

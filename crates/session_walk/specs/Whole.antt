@@ -1,5 +1,5 @@
--- The state of a channel after a packet of a host or the key, INITs included, and of all channels (CTAP 2.1, sections
--- 11.2.4, 11.2.5 and 11.2.9.1).
+-- The state of a channel, and of all channels, after a packet of a host or of the key, including INIT (CTAP 2.1,
+-- sections 11.2.4, 11.2.5 and 11.2.9.1).
 use Rattle.std.specs.Prelude.{ℕ, Bool, true, false, not, ◌&&◌, ◌||◌, ◌==◌, nat_lt, ◌+◌, ◌-◌, List, []}
 use Rattle.std.specs.Prelude.{◌∷◌, ◌++◌, length, drop, remove, position, slice_get, Option, Some}
 use Rattle.std.specs.Prelude.{None, is_none, is_some, option_map, unwrap_or, if◌then◌else◌}
@@ -24,7 +24,7 @@ use Rattle.session_walk.specs.declared.transaction.Transaction.{Transaction}
 use Rattle.session_walk.specs.declared.transaction.End.TheVariants.{Cut, Dropped, Forgotten, Refused}
 
 -- The result of a device packet: the channel, the ended transactions, the packet's transaction, and whether the
--- previous packet came too late.
+-- previous packet arrived too late.
 pub record PacketResult : Type 0 where
   pub channel : Channel
   pub ended : List Ended
@@ -45,7 +45,7 @@ no_names = record {
   may_name_prior = false;
 }
 
--- An INIT as an open transaction of its channel.
+-- An unanswered INIT as an open transaction of its channel.
 abbrev pub open_init : ℕ → PendingInit → OpenTransaction
 open_init channel g = record {
   transaction = record { channel = channel; line = g.line; message = INIT; command = None };
@@ -70,13 +70,13 @@ with_pending_init m part c =
     let kept = if nat_lt (length items) MAX_PENDING_INITS then items else drop 1 items in
     record c { last_was_init = true; pending_inits = record { items = kept ++ pending_init m part ∷ [] } }
 
--- The end of the oldest unanswered INIT, if there are too many.
+-- The ended transactions, followed by the oldest unanswered INIT if there are too many.
 abbrev pub with_oldest_ended : ℕ → List PendingInit → List Ended → List Ended
 with_oldest_ended channel [] ended = ended
 with_oldest_ended channel (oldest ∷ others) ended =
     if nat_lt (length others + 1) MAX_PENDING_INITS then ended else with_end ended (open_init channel oldest) Forgotten
 
--- The channel after an INIT began. It changes nothing else before its response (CTAP 2.1, section 11.2.9.1.3).
+-- The channel after an INIT began. Until its response, the INIT changes nothing else (CTAP 2.1, section 11.2.9.1.3).
 abbrev pub init_begun : OpenTransaction → List ℕ → Channel → Channel
 init_begun m part c = with_pending_init m part (contender_accepted false (after_idle m.at c))
 
@@ -85,7 +85,7 @@ abbrev pub ends_by_init : OpenTransaction → Channel → List Ended → List En
 ends_by_init m c ended =
     with_oldest_ended c.number c.pending_inits.items (ends_by_contender false (after_idle m.at c) ended)
 
--- The INIT has this nonce, or without a nonce, a wrong length.
+-- Whether the INIT has this nonce. Without a nonce: whether its length is wrong.
 abbrev pub matches_nonce : Option ℕ → PendingInit → Bool
 matches_nonce (Some nonce) g = (g.length == 8) && (g.nonce == nonce)
 matches_nonce None g = not (g.length == 8)
@@ -114,8 +114,8 @@ open_init_at channel (Some g) = Some (open_init channel g)
 abbrev pub init_at : ℕ → Channel → Option OpenTransaction
 init_at place c = open_init_at c.number (slice_get c.pending_inits.items place)
 
--- An ERROR can be for an INIT of 8 bytes: 04 and 05 never, 06 and 7F on the broadcast channel, others if nothing else
--- is pending (CTAP 2.1, section 11.2.9.1.6).
+-- Whether an ERROR with this code can belong to an INIT of 8 bytes: codes 04 and 05 never, codes 06 and 7F on the
+-- broadcast channel, and other codes if nothing else is pending (CTAP 2.1, section 11.2.9.1.6).
 abbrev pub can_refuse_init : ℕ → Channel → Bool
 can_refuse_init code c =
     if (code == 4) || (code == 5) then false
@@ -127,7 +127,7 @@ can_refuse_init code c =
 abbrev pub last_init_index : Channel → ℕ
 last_init_index c = length c.pending_inits.items - 1
 
--- The index of the INIT that an ERROR is for, or the number of INITs if it is for none.
+-- The index of the INIT to which an ERROR belongs, or the number of INITs if there is none.
 abbrev pub refused_init : ℕ → Channel → ℕ
 refused_init code c =
     let items = c.pending_inits.items in
@@ -136,7 +136,8 @@ refused_init code c =
     else if c.last_was_init && can_refuse_init code c then last_init_index c
     else length items
 
--- The message that began last, if an ERROR refuses it: an INIT, or the contender unless it is unknown what the ERROR is for.
+-- The message that began last, if an ERROR refuses it: an INIT; or the contender, unless it is unknown to which message
+-- the ERROR belongs.
 abbrev pub refused_start : ℕ → (is_undecided : Bool) → Channel → Option OpenTransaction
 refused_start code is_undecided c =
     let place = refused_init code c in
@@ -152,11 +153,11 @@ without_refused_start code is_undecided c =
     else if is_undecided || c.last_was_init then c
     else record c { contender = None }
 
--- An ERROR for no transaction.
+-- The result of an ERROR that belongs to no transaction.
 abbrev pub refuses_nothing : Channel → List Ended → PacketResult
 refuses_nothing c ended = record { channel = c; ended = ended; transaction = None; deferred = false }
 
--- The result of an ERROR for this INIT, the last one.
+-- The result of an ERROR that refuses the last INIT.
 abbrev pub last_init_refused_by : ℕ → Option OpenTransaction → Channel → List Ended → PacketResult
 last_init_refused_by code None c ended = refuses_nothing c ended
 last_init_refused_by code (Some init) c ended = record {
@@ -179,7 +180,7 @@ current_refused code (Some current) c ended =
     if refuses_stray code c then refuses_nothing c ended
     else record { channel = current_ended c; ended = with_end ended current (Refused code); transaction = Some current; deferred = false }
 
--- The result of an ERROR by the message that began last and is refused, if any.
+-- The result of an ERROR that refuses the message that began last, if any.
 abbrev pub start_refused : ℕ → (is_undecided : Bool) → Option OpenTransaction → Channel → List Ended → PacketResult
 start_refused code is_undecided (Some start) c ended =
     let refused = with_end ended start (Refused code) in
@@ -204,7 +205,7 @@ error_result code input c ended =
     let is_undecided = is_owner_undecided input c in
     start_refused code is_undecided (refused_start code is_undecided c) (without_refused_start code is_undecided c) ended
 
--- The result of the initialization packet of a device message.
+-- The result of the initialization packet of a device message: its transaction, and the result for the channel.
 pub record StartResult : Type 0 where
   pub channel : Channel
   pub ended : List Ended
@@ -216,7 +217,8 @@ abbrev pub to_start_result : PacketResult → StartResult
 to_start_result r =
     record { channel = r.channel; ended = r.ended; transaction = transaction_of r.transaction; deferred = r.deferred }
 
--- The result of ERROR 05 for the current message: it timed out, or another message is refused (CTAP 2.1, section 11.2.5.2).
+-- The result of ERROR 05 for the current message: either the message timed out, or another message is refused (CTAP
+-- 2.1, section 11.2.5.2).
 abbrev pub timeout_or_refusal : Option Transaction → Option Ambiguous → ℕ → Channel → List Ended → StartResult
 timeout_or_refusal (Some transaction) ambiguous input c ended = record {
   channel = timed_out ambiguous c;
@@ -257,8 +259,8 @@ abbrev pub contender_lost : Option Ambiguous → Channel → List Ended → Star
 contender_lost ambiguous c ended =
     if is_owner_unknown c then both_lost_by_timeout c ended else contender_timed_out ambiguous c ended
 
--- The result of ERROR 05 with an incomplete contender: it is for the contender if the current message is complete, and for
--- the current one if the contender began within the shortest time-out after it.
+-- The result of ERROR 05 while the contender is incomplete. If the current message is complete, the contender timed
+-- out. If the contender began within the shortest time-out after the current message, the current message timed out.
 abbrev pub one_of_two_timed_out : Option Ambiguous → ℕ → (contender current : OpenTransaction) → Channel → List Ended → StartResult
 one_of_two_timed_out ambiguous input contender current c ended =
     if is_complete_message current then contender_lost ambiguous c ended
@@ -285,7 +287,7 @@ cleared_by_init init c =
     if c.number == BROADCAST then c
     else record c { is_ambiguous = false; ambiguous_count = if nat_lt c.last_lost_line init.transaction.line then 0 else c.ambiguous_count }
 
--- The message began before the other one.
+-- Whether the message began before the other one.
 abbrev pub is_before : OpenTransaction → Option OpenTransaction → Bool
 is_before init None = false
 is_before init (Some current) = nat_lt current.transaction.line init.transaction.line
@@ -308,12 +310,13 @@ abbrev pub answered_init : List ℕ → Channel → List Ended → PacketResult
 answered_init part c ended =
     let place = init_index (matches_nonce (Some (nonce_of part))) c.pending_inits.items in init_answered place (init_at place c) c ended
 
--- The device is processing the message, which wasn't cancelled.
+-- Whether the device is processing the message, and the message wasn't cancelled.
 abbrev pub is_served_uncancelled : Option OpenTransaction → Bool
 is_served_uncancelled None = false
 is_served_uncancelled (Some current) = is_complete_message current && is_none current.cancelled
 
--- The result of another response: it is for the complete message with the same command (CTAP 2.1, section 11.2.4).
+-- The result of a response other than to INIT: the response belongs to the complete message with the same command (CTAP
+-- 2.1, section 11.2.4).
 abbrev pub message_answered : ResponseStart → Channel → List Ended → PacketResult
 message_answered answer c ended =
     let is_held = can_answer answer c.current in
@@ -337,7 +340,8 @@ response_result answer c ended =
     if answer.command == INIT then answered_init answer.part.now c ended
     else message_answered answer c ended
 
--- A successful authenticatorGetNextAssertion has the RP ID of the last authenticatorGetAssertion (CTAP 2.1, section 6.3).
+-- The transaction with the RP ID of the last authenticatorGetAssertion, if it is a successful
+-- authenticatorGetNextAssertion (CTAP 2.1, section 6.3).
 abbrev pub with_asserted_rp : ResponseStart → RpId → OpenTransaction → OpenTransaction
 with_asserted_rp answer rp m =
     if has_status 8 m.transaction.command && has_status 0 answer.status then record m { named = record m.named { rp_id = rp } } else m
@@ -354,18 +358,18 @@ with_response_of answer exchange c = record c {
   last_asserted_rp = asserted_rp_after answer exchange c.last_asserted_rp;
 }
 
--- The result of a response, which is then the device's last message.
+-- The result of a response, in which the response is the device's last message.
 abbrev pub with_response : ResponseStart → PacketResult → PacketResult
 with_response answer r =
     let exchange = option_map (with_asserted_rp answer r.channel.last_asserted_rp) r.transaction in
     record r { channel = with_response_of answer exchange r.channel; deferred = false }
 
--- The transactions whose unfinished response a new device message truncates.
+-- The transactions whose incomplete response ends because the device begins another message.
 abbrev pub truncated_by : ResponseMessage → List Ended → List Ended
 truncated_by last_response ended =
     if is_whole last_response.progress.length last_response.progress.continuations then ended else with_end_of ended last_response.exchange (Cut last_response.progress)
 
--- The channel whose last device message gets no further packets.
+-- The channel when no further packet of its device's last message can follow.
 abbrev pub response_closed : Channel → Channel
 response_closed c = record c {
   last_response = record c.last_response { line = 0; progress = record { length = 0; continuations = 0 }; exchange = None };
@@ -398,8 +402,8 @@ abbrev pub is_idle : Channel → Bool
 is_idle c = is_none c.current && (is_none c.contender && ((length c.pending_inits.items == 0)
     && ((c.ambiguous_count == 0) && is_whole c.last_response.progress.length c.last_response.progress.continuations)))
 
--- The channel after a packet of the device at this time. A KEEPALIVE for no known transaction shows on an idle channel
--- that one is pending; a response to no known transaction, that one fewer is.
+-- The channel after a packet of the device at this time. On an idle channel, a KEEPALIVE of no known transaction shows
+-- that a message is pending, and a response of no known transaction shows that one message less is pending.
 unfoldable pub after_device_packet : ResponseStart → ℕ → (is_known : Bool) → Channel → Channel
 after_device_packet answer now is_known before =
     let c = record before { last_active_at = now; has_ambiguous_keepalive = (answer.command == KEEPALIVE) && not is_known } in
@@ -408,7 +412,7 @@ after_device_packet answer now is_known before =
     else if (answer.command == ERROR) || (answer.command == INIT) then c
     else record c { ambiguous_count = c.ambiguous_count - 1 }
 
--- The role of a device packet by its transaction: an ERROR for no known one is outside any.
+-- The role of a device packet, from its transaction. An ERROR of no known transaction is outside any transaction.
 abbrev pub device_role : ResponseStart → Option Transaction → Role
 device_role answer transaction = if (answer.command == ERROR) && is_none transaction then Error else Owned
 
@@ -418,7 +422,7 @@ after_device_start answer input now ambiguous c ended =
     let r = result_of_command answer input now ambiguous (response_closed c) (truncated_by c.last_response ended) in
     record r { channel = after_device_packet answer now (is_some r.transaction) r.channel }
 
--- The role of a packet outside any open message: this one, unless the packet may belong to an unidentified message.
+-- The role of a packet outside any open message: `role`, unless the packet may belong to an unidentified message.
 abbrev pub role_outside : Role → Channel → Role
 role_outside role c = if nat_lt 0 c.ambiguous_count || c.has_ambiguous_keepalive then Owned else role
 
@@ -439,12 +443,12 @@ request_after_reply (Some Signature) Signature now m = Some m
 request_after_reply (Some awaited) Presence now m = if is_none m.presence_ms && needs_presence m then Some m else None
 request_after_reply (Some awaited) reply now m = None
 
--- The request on a channel that a reply is for.
+-- The request on a channel to which a reply of the caller belongs.
 abbrev pub request_replied : AwaitedReply → ℕ → Option OpenTransaction → Option OpenTransaction
 request_replied reply now None = None
 request_replied reply now (Some m) = request_after_reply m.awaited reply now m
 
--- It is unknown which request of the channel a reply is for.
+-- Whether it is unknown to which request of the channel a reply belongs.
 abbrev pub is_reply_unclear : Channel → Bool
 is_reply_unclear c = is_some c.contender || (is_owner_unknown c || c.has_ambiguous_keepalive)
 
@@ -466,7 +470,7 @@ abbrev pub replied_role : AwaitedReply → ℕ → Channel → Role
 replied_role reply now c =
     if is_reply_unclear c then Owned else if is_some (request_replied reply now c.current) then Owned else Reply
 
--- The transaction that holds a channel, or else the last one that got a response there.
+-- The open transaction of a channel, or else the last transaction that got a response on it.
 abbrev pub last_transaction : Option Channel → Option OpenTransaction
 last_transaction None = None
 last_transaction (Some c) = if is_some c.current then c.current else c.last_response.exchange

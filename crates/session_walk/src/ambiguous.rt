@@ -4,7 +4,7 @@ use crate::transaction::Transaction;
 use session_log::Line;
 
 /// A host's continuation packet that may have arrived after its message timed out. The next line other than a comment
-/// resolves it: a device that dropped the message sends an ERROR first.
+/// shows whether it did: a device that dropped the message sends an ERROR first.
 #[derive(Clone, Copy)]
 pub struct Ambiguous {
     pub line: u64,
@@ -22,9 +22,9 @@ pub struct Ambiguous {
 /// A message that a line completes.
 #[derive(Clone, Copy)]
 pub struct CompletedMessage {
-    /// Line of its initialization packet.
+    /// Line of the message's initialization packet.
     pub line: u64,
-    /// Index of its channel if the device sent it; `None` for a request.
+    /// Index of the message's channel if the device sent the message; `None` for a request.
     pub place: Option<usize>,
 }
 

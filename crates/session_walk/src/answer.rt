@@ -59,16 +59,16 @@ impl ResponseStart<'_> {
     }
 }
 
-/// Result of a response's initialization packet.
+/// The result of the initialization packet of a response.
 #[derive(Clone, Copy)]
 pub struct StartedResponse {
-    /// Its transaction, if any.
+    /// The transaction of the response, if any.
     pub transaction: Option<Transaction>,
-    /// Its role if it belongs to no transaction.
+    /// The role of the packet if it belongs to no transaction.
     pub role: Role,
-    /// First line of the device's previous message on the channel, which gets no further packets; 0 if none.
+    /// First line of the device's previous message on the channel, which can't get further packets, or 0.
     pub before: u64,
-    /// Whether the ambiguous host packet before it arrived too late.
+    /// Whether the ambiguous host packet before the response arrived too late.
     pub is_late: bool,
 }
 
@@ -77,7 +77,7 @@ pub struct StartedResponse {
 pub struct ContinuedResponse {
     /// First line of the response.
     pub line: u64,
-    /// Its transaction, if any.
+    /// The transaction of the response, if any.
     pub transaction: Option<Transaction>,
     /// Number of the response's bytes in the packet.
     pub data_len: usize,

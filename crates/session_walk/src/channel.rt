@@ -29,7 +29,7 @@ const MAX_PENDING_INITS: usize = 4;
 /// sends a KEEPALIVE every 100 ms (section 11.2.9.1.7).
 const IDLE_TIMEOUT_MS: u64 = 500;
 
-/// An unanswered INIT. Smaller than `OpenTransaction`, since there are many of them.
+/// An unanswered INIT. This type is smaller than `OpenTransaction`, because there are many unanswered INITs.
 #[derive(Clone, Copy, Default)]
 pub struct PendingInit {
     pub line: u64,
@@ -76,7 +76,8 @@ impl PendingInit {
     }
 }
 
-/// Returns the nonce of an INIT or its response, from the data of the initialization packet; 0 if it has under 8 bytes.
+/// Returns the nonce in the data of an initialization packet of INIT or its response, or 0 if there are fewer than 8
+/// bytes.
 pub fn parse_nonce(part: &[u8]) -> u64
     ensures { result ≡ nonce_of part.now }
 {
@@ -128,11 +129,11 @@ pub struct ContinuationMatch {
 #[derive(Drop, Default)]
 pub struct Channel {
     pub number: u32,
-    /// Line of its last packet, or 0 if the channel isn't in use.
+    /// Line of the channel's last packet, or 0 if the channel isn't in use.
     pub used: u64,
     /// The message that is being received or processed.
     pub current: Option<OpenTransaction>,
-    /// A message that began while `current` was open, until it is refused or takes the channel.
+    /// A message that began while `current` was open. It is here until it is refused or becomes `current`.
     pub contender: Option<OpenTransaction>,
     /// Unanswered INITs.
     pub pending_inits: ArrayVec<PendingInit, MAX_PENDING_INITS>,
@@ -142,9 +143,9 @@ pub struct Channel {
     pub is_ambiguous: bool,
     /// Whether the host's last packet was CANCEL, or a continuation packet outside any message.
     pub last_was_stray: bool,
-    /// Whether the device's last packet is a KEEPALIVE that may be for several messages.
+    /// Whether the device's last packet is a KEEPALIVE that may belong to several messages.
     pub has_ambiguous_keepalive: bool,
-    /// Number of further messages, of unknown transactions, that may still be pending here.
+    /// Number of further messages of unknown transactions that may still be pending on the channel.
     pub ambiguous_count: u8,
     /// Line of the last such message, or of the packet that shows that there is one.
     pub last_lost_line: u64,
@@ -196,7 +197,7 @@ impl Channel {
             && !self.is_answering()
     }
 
-    /// Returns whether the message being processed is unknown.
+    /// Returns whether it is unknown which message the device is processing.
     pub fn is_unclear(&self) -> bool
         ensures { result ≡ is_owner_unknown self.now }
     {
@@ -228,7 +229,7 @@ impl Channel {
         !self.last_response.progress.is_whole()
     }
 
-    /// Returns the open transactions, each with its end if no packet follows.
+    /// Returns the open transactions. Each one has the end that applies if no packet follows.
     pub fn open(&self) -> EndedList
         ensures { result.0.items ≡ open_transactions self.now }
     {
@@ -283,7 +284,7 @@ impl Channel {
         }
     }
 
-    /// Begins a message other than CANCEL. An INIT changes nothing else before its response (section 11.2.9.1.3). If
+    /// Begins a message other than CANCEL. Until its response, an INIT changes nothing else (section 11.2.9.1.3). If
     /// another message holds the channel, it isn't known yet which of the two the device continues.
     pub fn begin(&mut self, mut begun: OpenTransaction, part: &[u8], ended: &mut EndedList)
         ensures message { (begun.transaction.message ≡ INIT_COMMAND → ⊥) → self.new ≡ channel_with_message begun self.old }
@@ -321,9 +322,9 @@ impl Channel {
         }
     }
 
-    /// Records a CANCEL. Returns the transaction that it cancels, if known, or else its role. It ends nothing: the
-    /// response to the cancelled request does (section 11.2.9.1.5). If two messages are in process, it is unknown which
-    /// of them is cancelled.
+    /// Records a CANCEL. Returns the transaction that the CANCEL cancels, if known, or else the role of the CANCEL. The
+    /// transaction doesn't end before the response to the cancelled request (section 11.2.9.1.5). If two messages are
+    /// processed, it is unknown which of them is cancelled.
     pub fn cancel(&mut self, line: u64) -> (Option<Transaction>, Role)
         ensures state { self.new ≡ channel_cancelled line self.old }
         ensures transaction { result.0 ≡ cancelled_transaction self.old }
@@ -395,8 +396,8 @@ impl Channel {
         }
     }
 
-    /// Returns whether a message waits for a reply of the caller: if `by_keepalive`, according to a KEEPALIVE and
-    /// without a CANCEL for it; otherwise, possibly.
+    /// Returns whether a message waits for a reply of the caller. With `by_keepalive`, a KEEPALIVE must state this, and
+    /// there must be no CANCEL for the message. Otherwise, it suffices that the message may wait.
     pub fn is_waiting(&self, by_keepalive: bool) -> bool
         ensures { result ≡ may_wait by_keepalive self.now }
     {

@@ -20,10 +20,10 @@ use hid_packet::command::INIT;
 /// Maximum number of channels tracked at a time.
 const MAX_TRACKED_CHANNELS: usize = 6;
 
-/// Maximum number of transactions open at once: on each channel four INITs, two other messages and a response.
+/// Maximum number of open transactions: on each channel four INITs, two other messages and a response.
 pub const MAX_OPEN_TRANSACTIONS: usize = 7 * MAX_TRACKED_CHANNELS;
 
-/// The tracked channels, in no order.
+/// The tracked channels, in any order.
 #[derive(Drop, Default)]
 pub struct Channels {
     pub list: [Channel; MAX_TRACKED_CHANNELS],
@@ -144,7 +144,8 @@ impl Channels {
             .any(|channel| channel.may_be_processing(now))
     }
 
-    /// Returns the role of a line outside any tracked transaction: `role`, unless it may belong to an evicted one.
+    /// Returns the role of a line outside any tracked transaction: `role`, unless the line may belong to an evicted
+    /// transaction.
     pub fn role_outside_messages(&self, role: Role) -> Role
         ensures { result ≡ (if self.now.has_forgotten then Owned else role) }
     {
@@ -227,7 +228,7 @@ impl Channels {
         first
     }
 
-    /// Returns the transaction that holds a channel, or the last one that got a response there.
+    /// Returns the open transaction of a channel, or else the last transaction that got a response on it.
     pub fn last_transaction_on(&self, number: u32) -> Option<&OpenTransaction>
         ensures { option_copied result ≡ last_transaction (channel_on number self.now.list) }
     {

@@ -13,7 +13,7 @@ use crate::transaction::{End, EndedList, OpenTransaction, Transaction};
 
 impl Channel {
     /// Returns whether the transaction of the device's next packet is unknown after the input on line `input`. If a
-    /// second message began on the channel, it is refused before the next input, or else it was accepted.
+    /// second message began on the channel, the device either refuses it before the next input, or has accepted it.
     pub fn is_unresolved(&self, input: u64) -> bool
         ensures { result ≡ is_owner_undecided input self.now }
     {
@@ -37,8 +37,8 @@ impl Channel {
         self.last_asserted_rp = RpId::default();
     }
 
-    /// Makes `contender` the current message. If `is_shown`, a device packet shows that it was accepted; otherwise it
-    /// wasn't refused before the next message began.
+    /// Makes `contender` the current message. With `is_shown`, a device packet shows that the contender was accepted.
+    /// Otherwise, the contender wasn't refused before the next message began.
     pub fn accept_contender(&mut self, is_shown: bool, ended: &mut EndedList)
         ensures state { self.new ≡ contender_accepted is_shown self.old }
         ensures ended { ended.new.0.items ≡ ends_by_contender is_shown self.old ended.old.0.items }
@@ -90,7 +90,7 @@ impl Channel {
         let Some(init) = self.pending_inits.pop_at(place) else {
             return None;
         };
-        // The following INITs moved forward.
+        // The INITs after the removed one move forward.
         if place == self.pending_inits.len() {
             self.last_was_init = false;
         }

@@ -1,4 +1,4 @@
-//! Tracks the credentials that a log creates, and which of them an excludeList names.
+//! Tracks the credentials that are created in a log, and those that an excludeList contains.
 ghost use Rattle.std.specs.Prelude.{◌≡◌, ◌<◌, false};
 ghost use Rattle.session_walk.specs.Replies.{identifier};
 
@@ -18,7 +18,7 @@ const CREDENTIAL_MANAGEMENT_PREVIEW: u8 = 0x41;
 /// Flag AT of authenticator data: attested credential data included.
 pub const FLAG_AT: u8 = 0x40;
 
-/// Number of credentials that are tracked, the latest ones: this key's capacity.
+/// Maximum number of tracked credentials, which are the latest ones. It is the capacity of this key.
 const MAX_CREDENTIALS: usize = 64;
 
 /// Identifies a credential or an account: the first bytes of a hash over the RP ID hash and the credential ID or user
@@ -31,7 +31,7 @@ struct CreatedCredential {
     /// Last line of the response, or 0 if there is none.
     line: u64,
     name: HashedId,
-    /// The account of a discoverable credential.
+    /// The account of the credential, if it is discoverable.
     account: Option<HashedId>,
 }
 
@@ -46,11 +46,11 @@ const ALLOW_LIST: i128 = 3;
 pub struct Excluded {
     /// Index in the list.
     pub place: u64,
-    /// Last line of the response that created it.
+    /// Last line of the response that created the credential.
     pub line: u64,
 }
 
-/// The latest credentials that a log created and did not replace.
+/// The latest credentials that were created in a log and not replaced.
 #[derive(Clone, Copy)]
 pub struct Credentials {
     made: [CreatedCredential; MAX_CREDENTIALS],
@@ -97,8 +97,8 @@ impl Credentials {
         }
     }
 
-    /// Adds the credential that a response created; its CBOR follows the status. A discoverable one replaces that of
-    /// the same account (CTAP 2.1, section 6.1.2).
+    /// Adds the credential that a response created. `item` is the CBOR after the status. A discoverable credential
+    /// replaces that of the same account (CTAP 2.1, section 6.1.2).
     fn add(&mut self, line: u64, item: &[u8], account: Option<HashedId>) {
         let Some(Item::Bytes(data)) = item_at(item, Item::Int(2)) else {
             return;
@@ -189,8 +189,8 @@ impl Credentials {
         if last.line > 0 { Some(last) } else { None }
     }
 
-    /// Returns the last line of the response that created the credential of a list entry, or 0 if none did. An entry of
-    /// unknown type names none (WebAuthn, section 5.8.3).
+    /// Returns the last line of the response that created the credential in a list entry, or 0 if the log contains
+    /// none. An entry of unknown type identifies no credential (WebAuthn, section 5.8.3).
     fn line_of(&self, relying_party: &[u8], entry: &[u8]) -> u64 {
         if let Some(kind) = item_at(entry, Item::Text("type"))
             && !matches!(kind, Item::Text("public-key"))
@@ -212,8 +212,8 @@ impl Credentials {
     }
 }
 
-/// Returns whether a request's list at this map key names a credential; entries of another type don't (WebAuthn,
-/// section 5.8.3). `is_any` is the result for a list without entries.
+/// Returns whether a request's list with this map key contains a credential. Entries of another type don't count
+/// (WebAuthn, section 5.8.3). `is_any` is the result for a list without entries.
 fn may_name_prior(item: &[u8], key: i128, is_any: bool) -> bool {
     let Some(list) = value_at(item, Item::Int(key)) else {
         return is_any;

@@ -1,4 +1,4 @@
-//! Handles device packets on a channel: the transaction that each belongs to, and the transactions that it ends.
+//! Handles device packets on a channel: finds the transaction of each packet, and the transactions that end with it.
 ghost use Rattle.std.specs.Prelude.{◌≡◌, true, false, if◌then◌else◌, Some, None};
 ghost use Rattle.session_walk.specs.Owners.{current_ended};
 ghost use Rattle.session_walk.specs.Ends.{answered_message, fits_one_message};
@@ -27,8 +27,8 @@ use hid_packet::command::{ERROR, INIT, KEEPALIVE};
 pub const MIN_TIMEOUT_MS: u64 = 100;
 
 impl Channel {
-    /// Handles the initialization packet of a device message. `behind` has the line of the last input and the current
-    /// time.
+    /// Handles the initialization packet of a device message. `behind` contains the line of the last input and the
+    /// current time.
     pub fn on_device_init_packet(
         &mut self,
         answer: &ResponseStart<'_>,
@@ -145,8 +145,8 @@ impl Channel {
         }
     }
 
-    /// Handles a KEEPALIVE. Returns the transaction being processed, if known. If both messages could be, this is
-    /// `current`, provided that the KEEPALIVE became due before the second one was accepted.
+    /// Handles a KEEPALIVE. Returns the transaction that is processed, if known. If both messages may be processed,
+    /// this is `current`, provided that the KEEPALIVE became due before the second message was accepted.
     fn on_keepalive(
         &mut self,
         status: u8,

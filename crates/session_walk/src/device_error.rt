@@ -1,4 +1,4 @@
-//! Handles ERROR packets on a channel: the message that each refuses or times out (CTAP 2.1, section 11.2.9.1.6).
+//! Handles ERROR packets on a channel: finds the message that was refused or timed out (CTAP 2.1, section 11.2.9.1.6).
 
 ghost use Rattle.std.specs.Prelude.{◌≡◌, true, false, if◌then◌else◌, Some, None};
 ghost use Rattle.session_walk.specs.Owners.{with_end_of, current_ended};
@@ -74,7 +74,7 @@ impl Channel {
         self.time_out_current(input, ambiguous, ended)
     }
 
-    /// Handles the ERROR of a time-out for `current`, or for another message if that is complete.
+    /// Handles the ERROR of a time-out for `current`. If `current` is complete, the ERROR belongs to another message.
     fn time_out_current(
         &mut self,
         input: u64,
@@ -147,7 +147,7 @@ impl Channel {
         refused
     }
 
-    /// Ends the incomplete message that began before one that is refused with this code, if the error ends it, too.
+    /// Ends the incomplete message before a message that is refused with this code, if the error ends both.
     fn end_interrupted(&mut self, refused: &Transaction, code: u8, ended: &mut EndedList)
         ensures state { self.new ≡ (if also_ends refused.now code self.old.current then current_ended self.old else self.old) }
         ensures ended { ended.new.0.items ≡ (if also_ends refused.now code self.old.current

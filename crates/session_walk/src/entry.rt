@@ -24,9 +24,9 @@ pub enum Role {
 /// A CBOR message of at least one byte.
 #[derive(Clone, Copy)]
 pub struct CborMessage<'a> {
-    /// Whether a host sent it.
+    /// Whether the message was sent by a host.
     pub is_request: bool,
-    /// `None` if its bytes were not kept, since too many messages were open.
+    /// The bytes of the message. `None` if they were not kept because too many messages were open.
     pub bytes: Option<&'a [u8]>,
     /// The transaction of the response, if known.
     pub exchange: Option<&'a OpenTransaction>,
@@ -40,17 +40,17 @@ pub struct LineEntry<'a> {
     pub line: &'a [u8],
     /// The parsed line.
     pub parsed: &'a Line,
-    /// Its transaction, if any.
+    /// The transaction of the line, if any.
     pub transaction: Option<Transaction>,
     /// The message that the line completes.
     pub message: Option<CborMessage<'a>>,
-    /// Bytes of its message that its packet carries; all of its data if it is a continuation packet outside any
-    /// message.
+    /// Number of the message's bytes in the line's packet. For a continuation packet outside any message, the number of
+    /// all its data bytes.
     pub data_len: usize,
 }
 
 impl LineEntry<'_> {
-    /// Returns the first line of its transaction.
+    /// Returns the first line of the line's transaction.
     pub fn first_line(&self) -> Option<u64>
         ensures { result ≡ option_map (λ transaction. transaction.line) self.now.transaction }
     {
@@ -73,7 +73,8 @@ pub struct Entry<'a> {
     pub role: Role,
     /// The transactions that the line ends.
     pub ended: &'a [Ended],
-    /// First line of its packet's message, or 0 if none; `None` unless the output is for the web page.
+    /// First line of the message of the line's packet, or 0 if there is none; `None` unless the output is for the web
+    /// page.
     pub page: Option<u64>,
 }
 

@@ -34,7 +34,8 @@ impl TransactionTracker {
     {
         let mut completed = self.completed;
         let mut is_ambiguous = false;
-        // A packet that may have arrived too late is shown with its message. If it did, the next line corrects it.
+        // A packet that may have arrived too late is shown with its message. If it did arrive too late, the next line
+        // corrects this.
         if let Some(ambiguous) = &self.ambiguous
             && ambiguous.line == number
         {
@@ -80,8 +81,8 @@ impl TransactionTracker {
         }
     }
 
-    /// Returns whether the request that holds its channel, or the last one there that got a response, may name a
-    /// credential from before the log. After a reset there are none.
+    /// Returns whether the open request on the transaction's channel, or else the last request that got a response
+    /// there, may refer to a credential created before the log. After a reset, no such credential exists.
     pub fn may_name_prior_credential(&self, transaction: &Transaction) -> bool
         ensures { result ≡ (may_name_prior transaction.now (last_transaction (channel_on transaction.now.channel
             self.entry.now.channels.list)) && not self.entry.now.credentials.is_reset) }

@@ -1,5 +1,5 @@
-//! The transactions of a recorded session of a security key: which one each line of a log belongs to, which messages
-//! and transactions end at it (docs/use/EXPLAINED.md), and the RP IDs and credentials that they name. Allocates
+//! The transactions of a recorded session of a security key: the transaction of each line of a log, the messages and
+//! transactions that end at the line (docs/use/EXPLAINED.md), and the RP IDs and credentials in them. Allocates
 //! nothing, and produces no text.
 #![tactic(auto)]
 

@@ -86,7 +86,8 @@ impl Kept {
     }
 }
 
-/// Buffers of the two latest messages, by first line. A key processes one and refuses others at once.
+/// The buffers of the two latest messages, by first line. Two are enough, because a key processes one message and
+/// refuses others at once.
 #[derive(Drop)]
 pub struct MessageBuffers {
     first: Kept,

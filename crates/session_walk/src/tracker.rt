@@ -1,5 +1,5 @@
-//! Tracks the transactions of a log: which one each line belongs to, which messages a line completes, and which
-//! transactions it ends.
+//! Tracks the transactions of a log: finds the transaction of each line, the messages that a line completes, and the
+//! transactions that end at the line.
 ghost use Rattle.std.specs.Prelude.{◌≡◌, ◌<◌, ◌==◌, ℕ, None, Some, IfSome, option_map, if◌then◌else◌};
 ghost use Rattle.hid_packet.specs.Packet.{channel_of, fields};
 ghost use Rattle.hid_packet.specs.Commands.{CBOR as CBOR_COMMAND};
@@ -44,7 +44,7 @@ pub struct TransactionTracker {
     pub transaction: Option<Transaction>,
     /// Line of the initialization packet of the last packet's message, or 0 if none.
     pub message_start: u64,
-    /// Bytes of that message that the last packet carries.
+    /// Number of bytes of this message in the last packet.
     pub(crate) data_len: usize,
     /// The last line's role, if it belongs to no transaction.
     pub role: Role,
@@ -155,8 +155,8 @@ impl TransactionTracker {
 
     // ---- inputs
 
-    /// Handles a reply of the caller. It belongs to the message that waits for it according to a KEEPALIVE, or else to
-    /// the one without a response. If there are two such messages, it is unknown which one.
+    /// Handles a reply of the caller. The reply belongs to the message that waits for it according to a KEEPALIVE, or
+    /// else to the message without a response. If there are two such messages, it is unknown to which one.
     fn on_reply(&mut self, input: &Input)
         ensures pool { self.new.pool ≡ self.old.pool }
         ensures completed { self.new.completed ≡ self.old.completed }

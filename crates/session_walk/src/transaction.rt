@@ -25,7 +25,7 @@ const MAX_ENDED: usize = 8;
 pub struct Transaction {
     /// Channel ID.
     pub channel: u32,
-    /// Line of its initialization packet.
+    /// Line of the initialization packet of the message.
     pub line: u64,
     /// CTAPHID command.
     pub message: u8,
@@ -73,7 +73,7 @@ impl MessageProgress {
         self.received_len().saturating_sub(before)
     }
 
-    /// Returns whether the message is complete. One of over 7609 bytes never is.
+    /// Returns whether the message is complete. A message of over 7609 bytes is never complete.
     pub fn is_whole(&self) -> bool
         ensures { result ≡ is_whole self.now.length self.now.continuations }
     {
@@ -96,7 +96,7 @@ impl MessageProgress {
     }
 }
 
-/// The RP ID and credentials that a complete request names.
+/// The RP ID and credentials in a complete request.
 #[derive(Clone, Copy)]
 pub struct RequestNames {
     pub rp_id: RpId,
@@ -132,11 +132,12 @@ pub struct OpenTransaction {
     pub transaction: Transaction,
     /// Progress of the request message.
     pub progress: MessageProgress,
-    /// Timestamp of its last packet.
+    /// Timestamp of the last packet of the message.
     pub at: u64,
-    /// Milliseconds from the last packet of the message that held the channel to the first packet of this one, or 0.
+    /// Milliseconds from the last packet of the previous message on the channel to the first packet of this message, or
+    /// 0.
     pub delay: u64,
-    /// Line of the CANCEL for it, if any.
+    /// Line of the CANCEL for the request, if any.
     pub cancelled: Option<u64>,
     /// Milliseconds until the user's reply, if a KEEPALIVE reported UPNEEDED.
     pub presence_ms: Option<u64>,
@@ -193,9 +194,9 @@ pub enum End {
     Dropped(u64),
     /// Replaced by the message on its channel that begins on this line.
     Replaced(u64),
-    /// No longer tracked, since too many transactions were open.
+    /// No longer tracked, because too many transactions were open.
     Forgotten,
-    /// Unknown: the response may be to either of two messages.
+    /// Unknown, because the response may belong to either of two messages.
     Unknown,
     /// Still open at the end of the log.
     #[default]
