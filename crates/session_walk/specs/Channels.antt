@@ -73,8 +73,8 @@ fresh_channel number line = record {
   last_asserted_rp = no_rp_id;
 }
 
--- A channel whose first tracked packet is on this line, at time `now`. If a channel with an open transaction was evicted,
--- this may be it: then the device may be processing an unidentified message.
+-- A channel whose first tracked packet is on this line, at time `now`. If a channel with an open transaction was
+-- evicted, this may be it: then the device may be processing an unidentified message.
 abbrev pub tracked_channel : (has_forgotten : Bool) → (now number line : ℕ) → Channel
 tracked_channel true now number line = record (fresh_channel number line) { ambiguous_count = 1; last_active_at = now }
 tracked_channel false now number line = fresh_channel number line
@@ -130,8 +130,8 @@ ends_by_allocation number line channels ended =
 abbrev pub without_assertion : Channel → Channel
 without_assertion c = record c { last_asserted_rp = no_rp_id }
 
--- No channel has an assertion to continue, except the one at an index if the packet's transaction is known. Nothing else
--- changes.
+-- No channel has an assertion to continue, except the one at an index if the packet's transaction is known. Nothing
+-- else changes.
 abbrev pub AreWithoutAssertion : (place : ℕ) → (is_unknown : Bool) → (old new : List Channel) → Type 0
 AreWithoutAssertion place is_unknown old new = (i : ℕ) → slice_get new i
     ≡ option_map (λ c. if is_unknown || not (i == place) then without_assertion c else c) (slice_get old i)

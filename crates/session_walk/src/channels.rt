@@ -32,8 +32,8 @@ pub struct Channels {
 }
 
 impl Channels {
-    /// Returns the index of a channel and records its use on a line at time `now`. A new channel evicts the least recently
-    /// used one, preferring idle ones.
+    /// Returns the index of a channel and records its use on a line at time `now`. A new channel evicts the least
+    /// recently used one, preferring idle ones.
     pub fn place(&mut self, number: u32, line: u64, now: u64, ended: &mut EndedList) -> usize
         ensures within { result < 6 }
         ensures found { (c : AnyChannel) → channel_on number self.old.list ≡ Some c

@@ -97,8 +97,8 @@ impl Channel {
         self.last_response.exchange = None;
     }
 
-    /// Handles an ERROR, a KEEPALIVE or a response. Returns its transaction, and whether it shows that the preceding host
-    /// packet arrived too late.
+    /// Handles an ERROR, a KEEPALIVE or a response. Returns its transaction, and whether it shows that the preceding
+    /// host packet arrived too late.
     #[tactic(auto, unfolding(crate::specs::Whole::result_of_command))]
     fn on_device_command(
         &mut self,

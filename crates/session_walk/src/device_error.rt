@@ -238,7 +238,8 @@ impl Channel {
         }
     }
 
-    /// Handles an ERROR for the current message. After a KEEPALIVE, a request isn't refused with the codes listed below.
+    /// Handles an ERROR for the current message. After a KEEPALIVE, a request isn't refused with the codes listed
+    /// below.
     fn end_refused_current(&mut self, code: u8, ended: &mut EndedList) -> Option<Transaction>
         ensures state { self.new ≡ (current_refused code self.old.current self.old ended.old.0.items).channel }
         ensures ended { ended.new.0.items ≡ (current_refused code self.old.current self.old ended.old.0.items).ended }
