@@ -88,8 +88,8 @@ DEFINE_LOAD(i64_load8_u, u8, u64, u64)
 DEFINE_LOAD(i64_load16_u, u16, u64, u64)
 DEFINE_LOAD(i64_load32_u, u32, u64, u64)
 
-#define DEFINE_STORE(name, stored, given)                                               \
-    static inline void name(wasm_rt_memory_t *memory, u64 address, given value) { \
+#define DEFINE_STORE(name, stored, value_type)                                               \
+    static inline void name(wasm_rt_memory_t *memory, u64 address, value_type value) { \
         stored wrapped = (stored)value;                                                 \
         memcpy(bytes_at(memory, address, sizeof wrapped), &wrapped, sizeof wrapped);    \
     }

@@ -75,7 +75,7 @@ sign_with_ssh() {
 
 # Checks the user, capabilities and system call filter of the service, and that only the service's user may open
 # /dev/uhid.
-is_confined() {
+check_confinement() {
     start_service alice && pid=$(systemctl show -P MainPID hidlog-uhid@alice) && cat "/proc/$pid/status" || return
     [ "$(stat -c %U "/proc/$pid")" = hidlog-uhid ] && [ "$(stat -c '%a %G' /dev/uhid)" = "660 hidlog-uhid" ] &&
         grep -qE '^CapEff:[[:space:]]+0+$' "/proc/$pid/status" && grep -qE '^Seccomp:[[:space:]]+2' "/proc/$pid/status" &&
@@ -134,7 +134,7 @@ run_package_cases() {
     expect_success "systemctl start again" start_service alice
     expect_success "fido2-assert signs in with the credential of before" sign_in
     expect_success "systemctl stop again" stop_service alice
-    expect_success "the service runs as its own user, without a capability" is_confined
+    expect_success "the service runs as its own user, without a capability" check_confinement
     expect_success "it goes on with the state of a version that ran as root" start_with_root_files
     expect_success "the second recording begins with a snapshot" check_recording alice
     expect_success "--presence script denies once, as a user sees" run_presence_script

@@ -43,7 +43,7 @@ export const getAlgorithm = (der) => {
  * Generates a key pair of another algorithm, and returns the private key.
  * @param {SubtleCrypto} subtle @param {number} algorithm @param {boolean} isExtractable
  */
-export const generateOther = async (subtle, algorithm, isExtractable = true) => {
+export const generateOtherKey = async (subtle, algorithm, isExtractable = true) => {
     const pair = await subtle.generateKey(PARAMETERS[algorithm], isExtractable, ["sign", "verify"]);
     return /** @type {CryptoKeyPair} */ (pair).privateKey;
 };
@@ -52,14 +52,14 @@ export const generateOther = async (subtle, algorithm, isExtractable = true) => 
  * Imports a private key of another algorithm.
  * @param {SubtleCrypto} subtle @param {number} algorithm @param {Uint8Array} pkcs8
  */
-export const importOther = (subtle, algorithm, pkcs8) =>
+export const importOtherKey = (subtle, algorithm, pkcs8) =>
     subtle.importKey("pkcs8", pkcs8, PARAMETERS[algorithm], true, ["sign"]);
 
 /**
  * Signs with a private key of another algorithm.
  * @param {SubtleCrypto} subtle @param {number} algorithm @param {CryptoKey} key @param {Uint8Array} bytes
  */
-export const signOther = async (subtle, algorithm, key, bytes) =>
+export const signWithAlgorithm = async (subtle, algorithm, key, bytes) =>
     new Uint8Array(await subtle.sign(PARAMETERS[algorithm].name, key, bytes));
 
 /** @param {JsonWebKey} jwk */

@@ -211,7 +211,7 @@ export class Authenticator {
         }
         const own = await departures.complete(id, signed, badSignature);
         this.#change = { original, data, isFault: !equalBytes(changed, data), ...own };
-        return badSignature ? this.privateKeys.signWithOtherKey(signed) : this.privateKeys.sign(privateKey, signed);
+        return badSignature ? this.privateKeys.signWithNewKey(signed) : this.privateKeys.sign(privateKey, signed);
     }
 
     /**

@@ -122,7 +122,7 @@ export class Departures {
      */
     async complete(id, toSign, isBad) {
         const privateKey = this.#privateKey(id);
-        const sign = () => this.#privateKeys.signOther(privateKey, toSign, isBad);
+        const sign = () => this.#privateKeys.signWithAlgorithm(privateKey, toSign, isBad);
         if (this.#ceremony.name === "get") {
             return privateKey.algorithm ? { signature: await sign() } : {};
         }
@@ -142,7 +142,7 @@ export class Departures {
     async #encodeBasic(toSign, isBad) {
         const [certificate, privateKey] = [CERTIFICATE, PRIVATE_KEY].map(
             (text) => /** @type {Uint8Array} */ (fromBase64(text)));
-        const signature = await (isBad ? this.#privateKeys.signWithOtherKey(toSign) : this.#privateKeys.signAs(privateKey, toSign));
+        const signature = await (isBad ? this.#privateKeys.signWithNewKey(toSign) : this.#privateKeys.signAs(privateKey, toSign));
         return encodeStatement([["alg", encodeNumber(ES256)], ["sig", encodeBytes(signature)],
             ["x5c", encodeArray([encodeBytes(certificate)])]]);
     }

@@ -1,7 +1,7 @@
 // Key pairs, generated and used with WebCrypto. A key pair of another algorithm is stored together with a P-256 key
 // pair, which the core uses. The private keys are in the page's memory, so this is for tests only.
 import {
-    getAlgorithm, ES256, exportPublicKey, generateOther, importOther, signOther,
+    getAlgorithm, ES256, exportPublicKey, generateOtherKey, importOtherKey, signWithAlgorithm,
 } from "./algorithms.js";
 import { decodeBase64url, fromHex, equalBytes, concatBytes, toHex } from "./bytes.js";
 
@@ -130,14 +130,14 @@ export class PrivateKeys {
     async make(algorithm = ES256) {
         const core = await this.generate();
         const id = this.random(32);
-        this.set(id, algorithm === ES256 ? core : await this.#generateOther(algorithm, core));
+        this.set(id, algorithm === ES256 ? core : await this.#generateOtherKey(algorithm, core));
         return { id, x: core.x, y: core.y };
     }
 
     /** @param {number} algorithm @param {PrivateKey} core @returns {Promise<PrivateKey>} */
-    async #generateOther(algorithm, core) {
+    async #generateOtherKey(algorithm, core) {
         const { subtle } = this.crypto();
-        const key = await generateOther(subtle, algorithm);
+        const key = await generateOtherKey(subtle, algorithm);
         const pkcs8 = new Uint8Array(await subtle.exportKey("pkcs8", key));
         return { key, pkcs8, x: core.x, y: core.y, algorithm, core };
     }
@@ -152,7 +152,7 @@ export class PrivateKeys {
             if (algorithm === ES256) {
                 return await this.#export(await this.#importKey(pkcs8));
             }
-            const key = await importOther(this.crypto().subtle, algorithm, pkcs8);
+            const key = await importOtherKey(this.crypto().subtle, algorithm, pkcs8);
             const core = await this.generate();
             return { key, pkcs8, x: core.x, y: core.y, algorithm, core };
         } catch (error) {
@@ -166,7 +166,7 @@ export class PrivateKeys {
      */
     async exportPublicKey(privateKey) {
         const { algorithm = ES256, pkcs8 } = privateKey;
-        privateKey.key ??= await importOther(this.crypto().subtle, algorithm, pkcs8);
+        privateKey.key ??= await importOtherKey(this.crypto().subtle, algorithm, pkcs8);
         return exportPublicKey(this.crypto().subtle, algorithm, privateKey.key);
     }
 
@@ -193,15 +193,15 @@ export class PrivateKeys {
     }
 
     /**
-     * Signs bytes with a private key of another algorithm, or with a new private key if `isOther`.
-     * @param {PrivateKey} privateKey @param {Uint8Array} toSign @param {boolean} isOther
+     * Signs bytes with a private key of another algorithm, or with a new private key if `isNewKey`.
+     * @param {PrivateKey} privateKey @param {Uint8Array} toSign @param {boolean} isNewKey
      */
-    async signOther(privateKey, toSign, isOther) {
+    async signWithAlgorithm(privateKey, toSign, isNewKey) {
         const { algorithm = ES256, pkcs8 } = privateKey;
         const { subtle } = this.crypto();
-        privateKey.key ??= await importOther(subtle, algorithm, pkcs8);
-        const key = isOther ? await generateOther(subtle, algorithm, false) : privateKey.key;
-        return signOther(subtle, algorithm, key, toSign);
+        privateKey.key ??= await importOtherKey(subtle, algorithm, pkcs8);
+        const key = isNewKey ? await generateOtherKey(subtle, algorithm, false) : privateKey.key;
+        return signWithAlgorithm(subtle, algorithm, key, toSign);
     }
 
     /**
@@ -216,7 +216,7 @@ export class PrivateKeys {
      * Signs bytes with a new private key.
      * @param {Uint8Array} toSign
      */
-    async signWithOtherKey(toSign) {
+    async signWithNewKey(toSign) {
         const { privateKey } = await this.crypto().subtle.generateKey(P256, false, ["sign"]);
         return this.#signWith(privateKey, toSign);
     }

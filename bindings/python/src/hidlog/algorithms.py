@@ -27,7 +27,7 @@ def format_algorithm(algorithm: int) -> str:
     return f"{_NAMES[algorithm]} ({algorithm})"
 
 
-def algorithm_of(private: AnyKey) -> int:
+def get_algorithm(private: AnyKey) -> int:
     """Returns the algorithm of a private key."""
     if isinstance(private, ed25519.Ed25519PrivateKey):
         return EDDSA
@@ -60,7 +60,7 @@ def load_any_key(value: object) -> AnyKey:
         raise ArgumentError("the private key must be on P-256 (ES256), or of Ed25519 or RSA") from None
 
 
-def sign_other(private: OtherKey, data: bytes) -> bytes:
+def sign_with_other_key(private: OtherKey, data: bytes) -> bytes:
     """Returns the signature of the data."""
     if isinstance(private, ed25519.Ed25519PrivateKey):
         return private.sign(data)

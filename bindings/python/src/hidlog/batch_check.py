@@ -131,7 +131,7 @@ class _Batch(NamedTuple):
     is_sent: bool = False
 
 
-class _Run:
+class _CheckRun:
     """A check with an executor: the waiting batches, and those in progress."""
 
     def __init__(self, paths: Iterator[str], executors: Executors, options: _Options):
@@ -246,10 +246,10 @@ def _is_worker_failure(error: Exception) -> bool:
     as a missing module in a worker, end the check."""
     names = ("KilledWorker", "CommClosedError")
     is_lost = isinstance(error, (BrokenExecutor, CancelledError)) or type(error).__name__ in names
-    return is_lost or _is_of_lost_result(error)
+    return is_lost or _is_lost_result_error(error)
 
 
-def _is_of_lost_result(error: Exception) -> bool:
+def _is_lost_result_error(error: Exception) -> bool:
     """Returns whether a worker died after its result was read, but before Dask passed the result on. In this case Dask
     unpacks the result as if it were an error, in the module cfexecutor. In contrast, the traceback of a task's error
     ends in the task's code."""
@@ -294,10 +294,10 @@ def check_many(
     for name, value in (("block", block), ("at_once", 1 if at_once is None else at_once), ("tries", tries)):
         check_int(name, value, 1, 1_000_000)
     options = _Options(send, block, at_once, tries, matches)
-    return _iter_results(_Run((os.fspath(path) for path in paths), executor, options))
+    return _iter_results(_CheckRun((os.fspath(path) for path in paths), executor, options))
 
 
-def _iter_results(run: _Run) -> Iterator[CheckResult]:
+def _iter_results(run: _CheckRun) -> Iterator[CheckResult]:
     try:
         yield from run.iter_results()
     finally:

@@ -155,7 +155,7 @@ def _read_credential(name: str, row: Any) -> Credential:
 _Call = TypeVar("_Call", bound=Callable[..., Any])
 
 
-def _alone(call: _Call) -> _Call:
+def _exclusively(call: _Call) -> _Call:
     """Runs a change while no other thread registers, signs in or changes credentials."""
 
     @wraps(call)
@@ -243,7 +243,7 @@ class Credentials(Sequence[Credential]):
             id=name,
             backup_eligibility=backup.eligibility,
             backup_state=backup.state,
-            algorithm=algorithms.ES256 if other is None else algorithms.algorithm_of(other),
+            algorithm=algorithms.ES256 if other is None else algorithms.get_algorithm(other),
             large_blob=kept.get("largeBlob") or None,
         )
 
@@ -312,7 +312,7 @@ class Credentials(Sequence[Credential]):
         """Returns the credentials of a relying party."""
         return [credential for credential in self._snapshot_list() if credential.belongs_to(rp_id)]
 
-    @_alone
+    @_exclusively
     def add(
         self,
         rp_id: str,
@@ -348,7 +348,7 @@ class Credentials(Sequence[Credential]):
             sign_count,
             backup_eligibility,
             backup_state,
-            algorithms.ES256 if other is None else algorithms.algorithm_of(other),
+            algorithms.ES256 if other is None else algorithms.get_algorithm(other),
             large_blob or None,
         )
         if len(name) == CORE_ID:
@@ -373,7 +373,7 @@ class Credentials(Sequence[Credential]):
         private = algorithms.load_any_key(value)
         if isinstance(private, private_keys.PrivateKey):
             return private, None
-        algorithm = algorithms.algorithm_of(private)
+        algorithm = algorithms.get_algorithm(private)
         if algorithm not in self._key.algorithms:
             text = f"the private key is of {algorithms.format_algorithm(algorithm)}; it must be on P-256"
             raise ArgumentError(f"{text}, or of the key's algorithms")
@@ -408,7 +408,7 @@ class Credentials(Sequence[Credential]):
             raise ArgumentError(f"the key is full: it has {self._key.capacity} credentials")
         return kept
 
-    @_alone
+    @_exclusively
     def remove(self, credential_id: bytes) -> None:
         """Removes a credential."""
         gone = self._with_core_id(self.get(credential_id)).id
@@ -423,12 +423,12 @@ class Credentials(Sequence[Credential]):
             )
         self._forget(gone)
 
-    @_alone
+    @_exclusively
     def clear(self) -> None:
         """Removes all credentials."""
         self._take([])
 
-    @_alone
+    @_exclusively
     def update(self, credential_id: bytes, **members: Any) -> Credential:
         """Changes members of a credential: sign_count, user_name, user_id, discoverable or its backup flags."""
         for name in members:

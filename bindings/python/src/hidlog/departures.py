@@ -13,10 +13,10 @@ from . import key_extensions, private_keys, attestation_certificates
 from .algorithms import (
     ES256,
     OtherKey,
-    algorithm_of,
+    get_algorithm,
     format_algorithm,
     make_other_key,
-    sign_other,
+    sign_with_other_key,
     to_cose,
     to_public_der,
 )
@@ -119,7 +119,7 @@ class Departures:
             outputs = key_extensions.encode_sign_in_outputs(kept, self.inputs, self._settings)
         other = self._metadata.others.get(core_id)
         if other is not None:
-            algorithm = format_algorithm(algorithm_of(other))
+            algorithm = format_algorithm(get_algorithm(other))
             comments.append(f"a key of {algorithm}, whose signature the page gets in place of this one")
         if outputs:
             comments.append("extension outputs in the authenticator data, and the signature over them")
@@ -145,7 +145,11 @@ class Departures:
         """
         other = self._metadata.others.get(core_id)
         if self._ceremony != "create":
-            return _NOTHING if other is None else Completed(signature=self._sign_other(other, signed, is_bad, random))
+            return (
+                _NOTHING
+                if other is None
+                else Completed(signature=self._sign_with_other_key(other, signed, is_bad, random))
+            )
         if self._format == "none":
             return Completed(("none", {}))
         if self._format == "basic":
@@ -156,12 +160,12 @@ class Departures:
             )
         if other is None:
             return _NOTHING
-        signature = self._sign_other(other, signed, is_bad, random)
-        return Completed(("packed", {"alg": algorithm_of(other), "sig": signature}))
+        signature = self._sign_with_other_key(other, signed, is_bad, random)
+        return Completed(("packed", {"alg": get_algorithm(other), "sig": signature}))
 
     @staticmethod
-    def _sign_other(other: OtherKey, signed: bytes, is_bad: bool, random: Callable[[int], bytes]) -> bytes:
-        return sign_other(make_other_key(algorithm_of(other), random) if is_bad else other, signed)
+    def _sign_with_other_key(other: OtherKey, signed: bytes, is_bad: bool, random: Callable[[int], bytes]) -> bytes:
+        return sign_with_other_key(make_other_key(get_algorithm(other), random) if is_bad else other, signed)
 
     def adapt(self, made: Json, core_id: bytes, public: bytes) -> None:
         """Completes a credential's JSON from the library's client: the public key and the extension results."""
@@ -170,7 +174,7 @@ class Departures:
         if self._ceremony == "create":
             if other is not None:
                 encoded = b64url_encode(to_public_der(other))
-                made["response"].update(publicKey=encoded, publicKeyAlgorithm=algorithm_of(other))
+                made["response"].update(publicKey=encoded, publicKeyAlgorithm=get_algorithm(other))
             results = key_extensions.make_registration_results(kept, self.inputs, public)
         else:
             results = key_extensions.make_sign_in_results(kept, self.inputs, public, made["id"])

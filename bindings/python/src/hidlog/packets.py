@@ -48,7 +48,7 @@ __all__ = [
 ]
 
 # The sequence number if no message is open, which no packet has.
-_NONE = (0, 0, -1, b"")
+_NO_MESSAGE = (0, 0, -1, b"")
 
 
 class Message(NamedTuple):
@@ -100,7 +100,7 @@ class Collector:
             if length <= LONGEST_MESSAGE:
                 self._open[channel] = (kind - 0x80, length, 0, packet[7:])
             return None
-        command, length, number, data = self._open.get(channel, _NONE)
+        command, length, number, data = self._open.get(channel, _NO_MESSAGE)
         if number != kind:
             return None
         data += packet[5:]

@@ -152,10 +152,10 @@ def read_strace(lines: Iterable[bytes], source: Source) -> list[Stream]:
         reader.read_line(line)
     found = [Stream(name, packets.select()) for name, packets in reader.streams.items()]
     # A descriptor whose opening was not recorded may belong to any file from which 64 bytes are read and written.
-    return [stream for stream in found if not stream.name.startswith("descriptor") or _speaks_ctaphid(stream)]
+    return [stream for stream in found if not stream.name.startswith("descriptor") or _uses_ctaphid(stream)]
 
 
-def _speaks_ctaphid(stream: Stream) -> bool:
+def _uses_ctaphid(stream: Stream) -> bool:
     """Returns whether the packets of a descriptor are CTAPHID packets."""
     channels = {head.data[:4] for head in _iter_heads(stream) if head.sent}
     return any(not head.sent and head.data[:4] in channels for head in _iter_heads(stream))

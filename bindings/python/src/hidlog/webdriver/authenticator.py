@@ -11,7 +11,7 @@ from typing import Any
 from cryptography.hazmat.primitives.asymmetric.utils import decode_dss_signature
 
 from .. import private_keys
-from ..algorithms import ALGORITHMS, ES256, AnyKey, make_other_key, sign_other, to_public_der
+from ..algorithms import ALGORITHMS, ES256, AnyKey, make_other_key, sign_with_other_key, to_public_der
 from ..relying_party import get_host, is_valid_rp_id
 from ..webauthn_json import b64url_decode, b64url_encode
 from .credential_json import (
@@ -159,7 +159,7 @@ class Authenticator:
         if not _MIN_SIGNED <= len(data) <= _MAX_SIGNED or data[:32] not in hashes:
             raise make_invalid_argument("only authenticator data for a relying party of this origin can be signed")
         if not isinstance(private, private_keys.PrivateKey):
-            return sign_other(private, data)
+            return sign_with_other_key(private, data)
         r, s = decode_dss_signature(private_keys.sign(private, data))
         return r.to_bytes(32, "big") + s.to_bytes(32, "big")
 

@@ -6,7 +6,7 @@ import re
 from hashlib import sha256
 from typing import Any
 
-from ..algorithms import ALGORITHMS, ES256, AnyKey, algorithm_of, load_any_key
+from ..algorithms import ALGORITHMS, ES256, AnyKey, get_algorithm, load_any_key
 from ..errors import ArgumentError
 from ..credential_metadata import CORE_ID, MAX_ID
 from ..private_keys import to_pkcs8
@@ -189,8 +189,8 @@ def read_credential(credential: Json, options: Json) -> tuple[Json, AnyKey]:
     if is_resident and credential.get("userHandle") is None:
         raise make_invalid_argument("a resident credential needs a userHandle")
     private = _read_pkcs8(credential)
-    if algorithm_of(private) not in options["algorithms"]:
-        raise make_invalid_argument(f"privateKey is of {algorithm_of(private)}, which is not in algorithms")
+    if get_algorithm(private) not in options["algorithms"]:
+        raise make_invalid_argument(f"privateKey is of {get_algorithm(private)}, which is not in algorithms")
     kept = {"prf": True} if "prf" in options["extensions"] else {}
     if "largeBlob" in made:
         kept["largeBlob"] = made["largeBlob"]
