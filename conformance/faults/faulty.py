@@ -34,7 +34,7 @@ class Fault(NamedTuple):
     reply: Optional[Callable[["FaultyDevice", str], str]] = None
     # Changes the time of an input.
     clock: Optional[Callable[["FaultyDevice", int], int]] = None
-    # The line to the program instead of a power cycle.
+    # The line that the program gets instead of a power cycle.
     power: str = POWER_CYCLE
     # The case that must detect it; empty for any case of the section.
     by: str = ""
@@ -48,7 +48,7 @@ class FaultyDevice(CachedDevice):
     def __init__(self, fault: Fault) -> None:
         super().__init__()
         self.fault = fault
-        # The number of power cycles, and what a fault keeps across them.
+        # The number of power cycles, and the values that a fault keeps across them.
         self.cycles = 0
         self.kept = b""
         self.restart()
@@ -73,7 +73,7 @@ class FaultyDevice(CachedDevice):
         self.kept = b""
 
     def power_cycle(self, at: int) -> None:
-        """Power cycles, or does what the fault does instead."""
+        """Power cycles the program, or sends it the line of the fault."""
         self.cycles += 1
         if not self.fault.power:
             super().tick(at)
@@ -96,7 +96,7 @@ class FaultyDevice(CachedDevice):
         self.last["kept"] = len(self.packets)
 
     def put(self, message: Message) -> None:
-        """Sends a message, as the fault changes it."""
+        """Sends a message, changed by the fault."""
         changed = self.fault.answer(self, message) if self.fault.answer else None
         for each in [message] if changed is None else changed:
             self.emit(each.channel, each.command, each.data)
@@ -114,7 +114,7 @@ class FaultyDevice(CachedDevice):
         return packet
 
     def send(self, at: int, packet: bytes) -> None:
-        """Passes a packet on, as the fault changes it; a request is changed once it is complete."""
+        """Passes a packet on, changed by the fault; a request is changed once it is complete."""
         at = self.fault.clock(self, at) if self.fault.clock else at
         message = self.host.feed(packet)
         self.stray = message is not None and bool(message.problem)
@@ -131,7 +131,7 @@ class FaultyDevice(CachedDevice):
             super().send(at, packet)
 
     def collect(self, at: int, packet: bytes, message: Optional[Message]) -> None:
-        """Collects the packets of a CBOR message, and passes on the request as the fault changes it."""
+        """Collects the packets of a CBOR message, and passes on the request, changed by the fault."""
         assert self.fault.request is not None
         begins = packet[4] == 0x80 | hid.CBOR
         if message is None and (begins or self.held):
@@ -149,7 +149,7 @@ class FaultyDevice(CachedDevice):
             super().send(time, piece)
 
     def presence(self, at: int, word: str) -> None:
-        """Lets the user reply, as the fault changes it."""
+        """Passes on the user's reply, changed by the fault."""
         super().presence(at, self.fault.reply(self, word) if self.fault.reply else word)
 
     def resigned(self, auth: bytes, client_hash: bytes, credential: bytes) -> bytes:

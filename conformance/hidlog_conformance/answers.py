@@ -24,7 +24,7 @@ MAKE, GET, INFO, RESET, NEXT, SELECTION, BLOBS = 0x01, 0x02, 0x04, 0x07, 0x08, 0
 
 
 class Mismatch(Exception):
-    """A response differs from what was expected."""
+    """A response differs from the expected one."""
 
     def __init__(self, expected: str, actual: str) -> None:
         super().__init__(expected)

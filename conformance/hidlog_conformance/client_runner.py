@@ -1,4 +1,4 @@
-"""Tests a client: plays a device to its command, and checks what the client reports."""
+"""Tests a client: plays a device to its command, and checks the client's report."""
 
 from __future__ import annotations
 

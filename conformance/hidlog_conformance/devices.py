@@ -385,7 +385,7 @@ class HidrawDevice(RealTimeDevice):
     def write(self, packet: bytes) -> None:
         """Writes a packet as report number 0."""
         if not packet[4] & 0x80:
-            # The kernel queues 32 packets for a uhid device and drops what comes faster.
+            # The kernel queues 32 packets for a uhid device, and drops further ones.
             time.sleep(0.005)
         os.write(self.file, b"\0" + packet)
 

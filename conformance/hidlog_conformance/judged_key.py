@@ -465,7 +465,7 @@ class KeyJudge:
         self.add_gap(owner.lines[-1], section, expected, "nothing", level)
 
     def missing_response(self, owner: Transaction) -> Tuple[str, str, str]:
-        """Returns the rule about a missing response, what was expected, and the level."""
+        """Returns the section about a missing response, the expected response, and the level."""
         others = [one for one in self.open if one is not owner and one.line < owner.line]
         others = [one for one in others if one.channel != owner.channel and one.command != hid.INIT]
         if owner.channel in (0, hid.BROADCAST) and owner.command != hid.INIT:

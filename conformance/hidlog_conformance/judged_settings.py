@@ -1,5 +1,5 @@
-"""Checks recorded responses about a key's settings: authenticatorConfig, what it changes in getInfo and in other
-responses, enterprise attestation, and fingerprint enrolment (CTAP 2.1, 6.7 and 6.11)."""
+"""Checks recorded responses about a key's settings: authenticatorConfig and its effects on getInfo and other responses,
+enterprise attestation, and fingerprint enrolment (CTAP 2.1, 6.7 and 6.11)."""
 
 from __future__ import annotations
 

@@ -1,4 +1,4 @@
-"""Faults of the reference authenticator: keys, IDs, attestation, flags, and what is stored."""
+"""Faults of the reference authenticator: keys, IDs, attestation, flags, and stored credentials."""
 
 from __future__ import annotations
 

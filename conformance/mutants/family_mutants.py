@@ -1,4 +1,5 @@
-"""Faults of configuration, enterprise attestation, fingerprints, certificates, U2F and of what getInfo says."""
+"""Faults of the reference authenticator: configuration, enterprise attestation, fingerprints, certificates, U2F, and
+wrong members of getInfo."""
 
 from __future__ import annotations
 
@@ -31,7 +32,7 @@ def certify(subject: Dict[Any, str], aaguid: bytes = b"", **more: bool) -> Chang
 
 
 def lower_min_pin_length(key: Any, asked: Dict[int, Any]) -> None:
-    """Sets minPINLength, also a lower one."""
+    """Sets minPINLength, even to a lower value."""
     key.pin.shortest = min(key.pin.shortest, asked.get(1, key.pin.shortest))
     Config.set_min_pin_length(key.config, asked)
 
@@ -43,7 +44,7 @@ def set_without_demand(key: Any, asked: Dict[int, Any]) -> None:
 
 
 def set_without_pin(key: Any, asked: Dict[int, Any]) -> None:
-    """Demands another PIN where none is set."""
+    """Accepts forceChangePin although no PIN is set."""
     try:
         Config.set_min_pin_length(key.config, asked)
     except RequestError as refused:
@@ -76,14 +77,14 @@ def authorize_without(check: str, code: str = "config") -> Change:
 
 
 def refuse_kind(key: Any, item: Dict[int, Any]) -> None:
-    """Refuses enterprise attestation of kind 2."""
+    """Refuses the value 2 of enterpriseAttestation."""
     Authenticator.enterprise(key, item)
     if item.get(10) == 2:
         raise RequestError(INVALID_PARAMETER)
 
 
 def take_any_kind(key: Any, item: Dict[int, Any]) -> None:
-    """Accepts all kinds of enterprise attestation."""
+    """Accepts all values of enterpriseAttestation."""
     if 10 in item and not key.config.is_enterprise:
         raise RequestError(INVALID_PARAMETER)
 
@@ -106,7 +107,7 @@ def store_half(key: Any) -> Any:
 
 
 def count_no_samples(key: Any) -> Any:
-    """Returns always the same number of further samples."""
+    """Always returns the same remainingSamples."""
     answer = yield from BioEnrollment.sample(key.bio)
     return {**answer, 6: SAMPLES - 1}
 
@@ -137,7 +138,7 @@ def sign_for_any(key: Any, data: bytes) -> Any:
 
 
 def register_short(key: Any, at: int, data: bytes) -> bytes:
-    """Refuses a wrong length like a missing touch."""
+    """Returns for a wrong length the status word of a missing touch."""
     return bytes(NOT_SATISFIED if len(data) != 64 else U2f.register(key.u2f, at, data))
 
 

@@ -1,4 +1,4 @@
-"""Faults of CTAPHID_LOCK, and of the extension minPinLength."""
+"""Faults of the reference authenticator: CTAPHID_LOCK, and the extension minPinLength."""
 
 from __future__ import annotations
 
@@ -18,7 +18,7 @@ WITH_MIN_PIN_LENGTH = DeviceTraits(config=True, extensions=("hmac-secret", "minP
 
 
 def lock_longer(key: Any, channel: int, data: bytes) -> None:
-    """Locks for a second more than asked, or what it is released for."""
+    """Locks for a second longer than requested; a LOCK of zero seconds locks for a second, too."""
     Transport.lock(key.transport, channel, data)
     owner, until = key.transport.locked
     if len(data) == 1 and data[0] <= 10:
@@ -26,7 +26,7 @@ def lock_longer(key: Any, channel: int, data: bytes) -> None:
 
 
 def lock_once(key: Any, channel: int, data: bytes) -> None:
-    """A further LOCK does not change the end of a lock."""
+    """Ignores a LOCK of the channel that has the lock."""
     _, until = key.transport.locked
     is_locked = key.transport.at < until
     Transport.lock(key.transport, channel, data)

@@ -1,4 +1,4 @@
-"""Faults of the reference authenticator: credential management, users whom it verifies itself, and large blobs."""
+"""Faults of the reference authenticator: credential management, built-in user verification, and large blobs."""
 
 from __future__ import annotations
 

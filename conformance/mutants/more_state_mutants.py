@@ -1,4 +1,4 @@
-"""Faults of what is stored, of keys and of signatures that need state; walks find them."""
+"""Faults of stored credentials, keys and signatures that depend on earlier requests; walks find them."""
 
 from __future__ import annotations
 
@@ -17,7 +17,7 @@ from state_mutants import EITHER, GET, MAKE, NEXT, PIN, SIGN_INS, change_power_c
 RESET = "6.6"
 
 
-# What is stored.
+# Stored credentials.
 
 
 def store_in_ring(key: Any, new: Any) -> None:
@@ -38,14 +38,14 @@ def reverse_credentials(key: Any, before: Any, pin: Any) -> None:
 
 
 def store_beside(key: Any, new: Any) -> None:
-    """Stores a credential; the replaced one comes back at the next power cycle."""
+    """Stores a credential; the next power cycle restores the one that it replaces."""
     replaced = [one for one in key.credentials if key.replaces(new, one)]
     key.__dict__.setdefault("replaced", []).extend(replaced)
     Authenticator.store(key, new)
 
 
 def bring_back(key: Any, before: Any, pin: Any) -> None:
-    """Brings replaced credentials back."""
+    """Restores replaced credentials."""
     key.credentials = key.__dict__.pop("replaced", []) + key.credentials
 
 
@@ -57,7 +57,7 @@ def keep_first_user(key: Any, new: Any) -> None:
 
 
 def find_used_ones(key: Any, rp: str) -> List[Any]:
-    """Returns the credentials of an RP, and all that signed before."""
+    """Returns the credentials of an RP, and all credentials that have signed before."""
     used = key.__dict__.setdefault("used_ones", set())
     return [one for one in key.credentials if one.rp == rp or one.id in used][::-1]
 
@@ -69,7 +69,7 @@ def note_used(key: Any, one: Any, data: bytes) -> bytes:
 
 
 def keep_number(key: Any, asked: Any, found: Any) -> Any:
-    """Signs in; numberOfCredentials is the highest one so far."""
+    """Signs in; numberOfCredentials is the maximum so far."""
     answer = Authenticator.first(key, asked, found)
     if 5 in answer:
         key.most = answer[5] = max(answer[5], getattr(key, "most", 0))
@@ -77,7 +77,7 @@ def keep_number(key: Any, asked: Any, found: Any) -> Any:
 
 
 def start_over(key: Any, at: int, channel: int) -> Any:
-    """Returns further assertions; after the last one the first again."""
+    """Returns further assertions; after the last one it returns the first one again."""
     pending = key.pending
     if pending is not None and pending.left:
         key.again = [*getattr(key, "again", []), pending.left[0]]
@@ -99,7 +99,7 @@ def exclude_any_rp(key: Any, asked: Any) -> bool:
 
 
 def lower_others(key: Any, one: Any) -> int:
-    """Increments a counter, and sets those of the other RPs back."""
+    """Increments a counter, and decrements those of other RPs."""
     for other in key.credentials:
         if other.rp != one.rp:
             other.counter = 0
@@ -107,14 +107,14 @@ def lower_others(key: Any, one: Any) -> int:
 
 
 def skip_each_fifth(key: Any, one: Any) -> int:
-    """Increments a counter, but not at each fifth sign-in."""
+    """Increments a counter, except at every fifth sign-in."""
     if count(key, "sign-ins") % 5 == 0 and one.counter:
         return int(one.counter)
     return int(Authenticator.increment_counter(key, one))
 
 
 def restart_at_registration(key: Any, new: Any) -> int:
-    """Starts all counters of an RP anew at a registration."""
+    """Resets all counters of an RP at a registration."""
     for one in key.credentials:
         if one.rp == new.rp:
             one.counter = 0
@@ -122,31 +122,31 @@ def restart_at_registration(key: Any, new: Any) -> int:
 
 
 def make_from_pool(key: Any, algorithm: int) -> Any:
-    """Makes one of six key pairs in turn."""
+    """Returns one of six private keys in turn."""
     pool = key.__dict__.setdefault("pairs", {}).setdefault(algorithm, [new_key(algorithm) for _ in range(6)])
     return pool[count(key, "pair") % len(pool)]
 
 
 def make_same_for_user(key: Any, rp: str, user: Dict[str, Any]) -> bytes:
-    """Makes the ID from the RP and the user, so that it repeats."""
+    """Derives the credential ID from the RP and the user, so that it repeats."""
     return hashlib.sha256(rp.encode() + user["id"]).digest()
 
 
 def sign_previous(key: Any, one: Any, data: bytes) -> bytes:
-    """Signs; each fifth time what was signed before."""
+    """Signs; every fifth time it signs the data of the last signature again."""
     before = getattr(key, "signed", data)
     key.signed = data
     return bytes(one.sign(before if count(key, "signatures") % 5 == 0 else data))
 
 
 def sign_with_first(key: Any, one: Any, data: bytes) -> bytes:
-    """Signs with the first credential of the RP since power-up."""
+    """Signs with the credential that signed first for the RP since power-up."""
     first = key.__dict__.setdefault("signer", {}).setdefault(one.rp, one)
     return bytes(first.sign(data) if first.algorithm == one.algorithm else one.sign(data))
 
 
 def forget_signers(key: Any, before: Any, pin: Any) -> None:
-    """Forgets who signed first."""
+    """Forgets which credentials signed first."""
     key.__dict__.pop("signer", None)
 
 
@@ -171,12 +171,12 @@ def report_before(key: Any) -> Dict[int, Any]:
 
 
 def renew_report(key: Any, before: Any, pin: Any) -> None:
-    """Reads getInfo anew."""
+    """Reads getInfo again."""
     key.__dict__.pop("reported", None)
 
 
 def echo_longer(key: Any, channel: int, command: int, data: bytes) -> None:
-    """Sends a message; a PING's response has the end of a longer one before it."""
+    """Sends a message; the response to a PING ends with bytes of a longer PING before it."""
     transport = key.transport
     if command == 0x01:
         before = getattr(key, "echoed", b"")

@@ -1,4 +1,4 @@
-"""Faults of PINs and tokens that need state across requests, power cycles or resets; walks find them."""
+"""Faults of PINs and tokens that depend on earlier requests, power cycles or resets; walks find them."""
 
 from __future__ import annotations
 
@@ -14,7 +14,7 @@ from state_mutants import EITHER, GET, PIN, change_pin_method, change_power_cycl
 
 
 def change_reset(change: Any) -> Change:
-    """Returns a change of what a reset leaves: `change` gets the authenticator and its state before."""
+    """Returns a change of the state after a reset: `change` gets the authenticator and its state before."""
 
     def forget(key: Any) -> None:
         before = dict(vars(key))
@@ -25,7 +25,7 @@ def change_reset(change: Any) -> Change:
 
 
 def count(key: Any, name: str) -> int:
-    """Returns how often this was called with the name."""
+    """Returns the number of calls with this name."""
     counts: Dict[str, int] = key.__dict__.setdefault("counts", {})
     counts[name] = counts.get(name, 0) + 1
     return counts[name]
@@ -48,7 +48,7 @@ def restore_by_agreement(key: Any, asked: Any) -> Any:
 
 
 def compare_free_each_second(key: Any, protocol: Any, secret: bytes, encrypted: bytes) -> None:
-    """Compares a PIN; each second wrong one costs no retry."""
+    """Compares a PIN; every second wrong one does not decrement the retries."""
     before = key.pin.retries
     try:
         Pin.compare(key.pin, protocol, secret, encrypted)
@@ -59,7 +59,7 @@ def compare_free_each_second(key: Any, protocol: Any, secret: bytes, encrypted: 
 
 
 def compare_unless_known(key: Any, protocol: Any, secret: bytes, encrypted: bytes) -> None:
-    """Compares a PIN until the right one came; then each is right until the next power cycle."""
+    """Compares a PIN; after the right one any PIN is accepted until the next power cycle."""
     if getattr(key.pin, "is_known", False):
         return
     Pin.compare(key.pin, protocol, secret, encrypted)
@@ -72,7 +72,7 @@ def same_as_old(key: Any, param: bytes) -> bool:
 
 
 def change_and_keep_old(key: Any, asked: Any) -> Any:
-    """Changes the PIN, and keeps the old one in mind."""
+    """Changes the PIN, and stores the old one."""
     before = key.pin.hash
     answer = Pin.change(key.pin, asked)
     key.old_hash = before
@@ -80,13 +80,13 @@ def change_and_keep_old(key: Any, asked: Any) -> Any:
 
 
 def set_former(key: Any, protocol: Any, secret: bytes, encrypted: bytes) -> None:
-    """Sets a PIN, but after a reset the one before it."""
+    """Sets a PIN; after a reset it sets the former PIN instead."""
     Pin.new_pin(key.pin, protocol, secret, encrypted)
     key.pin.hash = key.__dict__.setdefault("first_hash", key.pin.hash)
 
 
 def allow_four(key: Any) -> None:
-    """Refuses a blocked PIN, but allows a fourth wrong one in a row."""
+    """Refuses a blocked PIN, but allows four consecutive wrong PINs."""
     key.pin.in_a_row = min(key.pin.in_a_row, IN_A_ROW - 1)
     Pin.check_not_blocked(key.pin)
 
@@ -99,14 +99,14 @@ def set_and_keep_retries(key: Any, protocol: Any, secret: bytes, encrypted: byte
 
 
 def use_silently(key: Any, asked: Any, found: Any) -> Any:
-    """Signs in; one without a touch takes the token's permissions, too."""
+    """Signs in; a sign-in without a touch clears the token's permissions, too."""
     if asked.verified:
         key.pin.used()
     return Authenticator.first(key, asked, found)
 
 
 def check_rp_once(key: Any, protocol: Any, data: bytes, param: bytes, permission: int, rp: str) -> None:
-    """Checks a token; its RP only at its first use."""
+    """Checks a token; its RP is only checked at its first use."""
     bound = key.pin.rp
     if getattr(key, "used_token", None) == key.pin.token:
         key.pin.rp = ""
@@ -115,7 +115,7 @@ def check_rp_once(key: Any, protocol: Any, data: bytes, param: bytes, permission
 
 
 def grant_for_previous_rp(key: Any, protocol: Any, secret: bytes, permissions: int, rp: str) -> Any:
-    """Issues a token for the RP of the token before."""
+    """Issues a token for the RP of the previous token."""
     before = getattr(key, "token_rp", rp)
     key.token_rp = rp
     return Pin.grant(key.pin, protocol, secret, permissions, before)
@@ -137,7 +137,7 @@ def change_and_forget(key: Any, asked: Any) -> Any:
 
 
 def keep_vector(key: Any) -> None:
-    """Encrypts with an initialization vector that is made once at power-up."""
+    """Makes an initialization vector at power-up, and encrypts with it each time."""
     protocol = key.pin.protocols.get(2)
     if protocol is None:
         return

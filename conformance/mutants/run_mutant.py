@@ -33,12 +33,12 @@ TABLE = CREDENTIAL_MUTANTS + ANSWER_MUTANTS + WIRE_MUTANTS + PIN_MUTANTS + MORE_
 TABLE += LOCK_MUTANTS
 MUTANTS: Dict[str, Mutant] = {fault.name: fault for fault in TABLE}
 assert len(MUTANTS) == len(TABLE), "a mutant's name is not unique"
-# Those that only a walk detects: it must do so with each of these seeds, within this number of steps.
+# Mutants that only walks detect. A walk with each of these seeds must detect them, within this number of steps.
 STATE_TABLE = STATE_MUTANTS + PIN_STATE_MUTANTS + MORE_STATE_MUTANTS + SETTING_STATE_MUTANTS
 STATEFUL: Dict[str, Mutant] = {fault.name: fault for fault in STATE_TABLE}
 assert len(STATEFUL) == len(STATE_TABLE), "a mutant's name is not unique"
 SEEDS, STEPS = (1, 2), 5000
-# Those that no run detects in which a person touches a key, with the reason.
+# Mutants that are not detected by a run in which a person touches a key, with the reason.
 NEVER_FULL, NEVER_DENIES = "60 touches do not fill a key", "a person who tests a key does not deny"
 NOT_KEPT = {
     "full_overwrites": NEVER_FULL,
@@ -91,8 +91,8 @@ def run_mutant(name: str, whole: bool = False) -> Tuple[bool, str]:
 
 
 def run_kept_mutant(name: str) -> Tuple[bool, str]:
-    """Runs one mutant as a key that keeps its state, where cases share what saves touches; returns whether a case
-    detects it, and a report."""
+    """Runs one mutant as a key that keeps its state, with combined cases and tours; returns whether a case detects it,
+    and a report."""
     fault = MUTANTS[name]
     text = f"{name} ({fault.section}): {fault.description}"
     options = parse_options(["--device", "reference", "--touch", "--reset"])

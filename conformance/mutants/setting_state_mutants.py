@@ -1,4 +1,4 @@
-"""Faults of settings and fingerprints that need state across requests, power cycles or resets; walks find them."""
+"""Faults of settings and fingerprints that depend on earlier requests, power cycles or resets; walks find them."""
 
 from __future__ import annotations
 
@@ -17,7 +17,7 @@ WITH_MIN_PIN_LENGTH = DeviceTraits(config=True, extensions=("minPinLength",))
 
 
 def power_cycle_and(change: Any) -> Any:
-    """Returns a change of what a power cycle leaves."""
+    """Returns a change of the state after a power cycle."""
 
     def cycle(key: Any, old: Any) -> None:
         old()
@@ -63,13 +63,13 @@ def restore_removed(key: Any) -> None:
 
 
 def remove_and_remember(key: Any, old: Any) -> None:
-    """Starts again with removed templates."""
+    """Power cycles, and restores removed templates."""
     old()
     restore_removed(key)
 
 
 def store_unfinished(key: Any) -> None:
-    """Stores an enrolment that the power cycle cut."""
+    """Stores an enrolment that a power cycle interrupted."""
     if key.bio.coming:
         key.bio.templates[key.bio.coming] = ""
         key.bio.coming = b""
@@ -88,7 +88,7 @@ def cancel_nothing(key: Any, asked: Dict[int, Any]) -> Any:
 
 
 def force_once(key: Any, asked: Dict[int, Any]) -> None:
-    """Demands a change of the PIN only the first time."""
+    """Applies forceChangePin only the first time."""
     was_forced = getattr(key, "was_forced", False)
     Config.set_min_pin_length(key.config, asked)
     if asked.get(3) and was_forced:

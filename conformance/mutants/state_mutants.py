@@ -1,4 +1,4 @@
-"""Faults of the reference authenticator that need state across requests, power cycles or resets; walks find them."""
+"""Faults of the reference authenticator that depend on earlier requests, power cycles or resets; walks find them."""
 
 from __future__ import annotations
 
@@ -19,7 +19,7 @@ EITHER, SIGN_INS = f"{MAKE}|{GET}", f"{GET}|{NEXT}"
 
 
 def make_lasting(change: Change) -> Change:
-    """Returns a change that is made again after a reset, which replaces the PIN's object."""
+    """Returns a change that is applied again after a reset, which makes a new `Pin`."""
 
     def plant(authenticator: Authenticator) -> None:
         change(authenticator)
@@ -34,7 +34,7 @@ def make_lasting(change: Change) -> Change:
 
 
 def change_power_cycle(change: Any) -> Change:
-    """Returns a change of what a power cycle does: `change` gets the authenticator and its state before."""
+    """Returns a change of the state after a power cycle: `change` gets the authenticator and its state before."""
 
     def cycle(key: Any) -> None:
         before = dict(vars(key)), dict(vars(key.pin))
@@ -76,7 +76,7 @@ def use_zero_vector(key: Any) -> None:
 
 
 def encrypt_with_zero_vector(protocol: Any, secret: bytes, data: bytes, plain: Any) -> bytes:
-    """Encrypts as protocol 1 does, whose vector is zero."""
+    """Encrypts with a vector of zeros, as protocol 1 does."""
     protocol.number = 1
     try:
         return bytes(plain(secret, data))
@@ -85,14 +85,14 @@ def encrypt_with_zero_vector(protocol: Any, secret: bytes, data: bytes, plain: A
 
 
 def issue_same_token(key: Any, protocol: Any, secret: bytes, permissions: int, rp: str) -> Any:
-    """Issues the same token always."""
+    """Always issues the same token."""
     key.pin.token = b"t" * 32
     key.pin.permissions, key.pin.rp, key.pin.present = permissions, rp, False
     return {2: protocol.encrypt(secret, key.pin.token)}
 
 
 def add_permissions(key: Any, protocol: Any, secret: bytes, permissions: int, rp: str) -> Any:
-    """Adds the permissions of a new token to those of the one before."""
+    """Adds the permissions of a new token to those of the previous one."""
     return Pin.grant(key.pin, protocol, secret, permissions | key.pin.permissions, rp)
 
 
@@ -120,20 +120,20 @@ def spend_retries(key: Any, protocol: Any, secret: bytes, encrypted_hash: bytes)
 
 
 def restart_generator(key: Any) -> None:
-    """Makes IDs by a generator that starts anew at power-up."""
+    """Makes credential IDs by a random generator with the same seed at each power-up."""
     source = random.Random(7)
     setattr(key, "new_id", lambda rp, user: source.randbytes(32))
 
 
 def hash_previous_rp(key: Any, asked: Any, one: Any, *words: Any) -> bytes:
-    """Hashes the RP's ID of the request before."""
+    """Hashes the RP ID of the previous request."""
     before = getattr(key, "previous_rp", one.rp)
     key.previous_rp = one.rp
     return hashlib.sha256(before.encode()).digest() + bytes(Authenticator.data(key, asked, one, *words)[32:])
 
 
 def use_previous_list(key: Any, asked: Any, place: int) -> None:
-    """Uses the list of the request before without one."""
+    """Uses the list of the previous request if a request has none."""
     listed = asked.item.get(place) or getattr(key, f"previous_{place}", None)
     if listed:
         asked.item[place] = listed
@@ -141,19 +141,19 @@ def use_previous_list(key: Any, asked: Any, place: int) -> None:
 
 
 def find_by_previous_list(key: Any, asked: Any) -> Any:
-    """Finds credentials by the allow list of the sign-in before."""
+    """Finds credentials by the allow list of the previous sign-in."""
     use_previous_list(key, asked, 3)
     return Authenticator.applicable(key, asked)
 
 
 def exclude_by_previous_list(key: Any, asked: Any) -> bool:
-    """Excludes by the list of the registration before."""
+    """Excludes by the list of the previous registration."""
     use_previous_list(key, asked, 5)
     return bool(Authenticator.excluded(key, asked))
 
 
 def set_uv_forever(key: Any, asked: Any) -> int:
-    """Sets flag UV once a token was used."""
+    """Sets flag UV after a token was used."""
     key.was_verified = getattr(key, "was_verified", False) or asked.verified
     asked.verified = key.was_verified
     return int(Authenticator.flags(key, asked))
@@ -165,13 +165,13 @@ def lose_newest(key: Any, before: Any, pin: Any) -> None:
 
 
 def restart_counters(key: Any, before: Any, pin: Any) -> None:
-    """Starts all counters anew."""
+    """Resets all counters."""
     for one in key.credentials:
         one.counter = 0
 
 
 def keep_replaced(key: Any, new: Credential) -> None:
-    """Stores a credential beside the one it replaces."""
+    """Stores a credential, and keeps the one that it replaces."""
     key.credentials = [*key.credentials, new]
 
 

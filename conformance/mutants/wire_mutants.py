@@ -74,7 +74,7 @@ def leave_stale_padding(key: Any, old: Any, channel: int, command: int, data: by
 
 
 def keep_early_touch(key: Any, old: Any, at: int, reply: str = "granted") -> None:
-    """Keeps a touch that was not requested."""
+    """Keeps a touch without a request."""
     now = key.transport.now
     if now is None or now.work is None:
         key.kept_touch = True
@@ -132,7 +132,7 @@ def drop_message_at_cancel(key: Any, old: Any, channel: int) -> None:
 
 
 def keep_cancelled_request(key: Any, old: Any, channel: int) -> None:
-    """Cancels a request, and keeps it to run it later."""
+    """Cancels a request, but keeps it and runs it later."""
     now = key.transport.now
     old(channel)
     if now is not None and now.work is not None and now.channel == channel:

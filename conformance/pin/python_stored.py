@@ -59,7 +59,7 @@ class Stored:
 
 
 def expect_equal(what: str, found: Any, expected: Any) -> None:
-    """Compares."""
+    """Raises an error unless a value is the expected one."""
     if found != expected:
         raise ValueError(f"{what}: {found!r} instead of {expected!r}")
 

@@ -1,5 +1,5 @@
 #!/usr/bin/env python3
-"""Records what Chromium and Firefox send to a security key.
+"""Records the packets that Chromium and Firefox send to a security key.
 
     conformance/recorded/browsers.py FOLDER [chromium|firefox]    write FOLDER/NAME_RUN.log, trimmed
 

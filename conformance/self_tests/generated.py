@@ -40,7 +40,7 @@ class Clone:
         return subprocess.Popen(command, stdout=subprocess.PIPE, text=True, cwd=self.folder, env=self.environment())
 
     def output(self, *words: str) -> str:
-        """Returns what Python writes in the copy."""
+        """Returns the output of Python in the copy."""
         process = self.start(*words)
         text = process.communicate()[0]
         assert process.returncode == 0, text
@@ -58,7 +58,7 @@ def count_recorded_sums() -> int:
 
 
 def test_new_clone() -> None:
-    """The sessions of a new clone are those of sessions.sha256, also by their paths in reports, from any folder."""
+    """A new clone generates the sessions of sessions.sha256. The paths in reports work in any folder."""
     with tempfile.TemporaryDirectory() as room:
         clone = Clone(room)
         named = clone.output("run.py", "--list", "sessions/ping/bytes_0001.log")

@@ -107,7 +107,7 @@ class Channel:
 
     # An incomplete message, or a complete one without a response.
     held: Optional[Transaction] = None
-    # The last new message beside `held`, neither refused nor accepted yet.
+    # The last new message during `held`, which is neither refused nor accepted yet.
     asked: Optional[Transaction] = None
     # INITs without an end.
     inits: List[Transaction] = field(default_factory=list)

@@ -1,7 +1,7 @@
 """Compares `hidlog_transactions`, which `hidlog judge` uses, with a second implementation (second_walk.py).
 
-If packets do not show how a transaction ends, `hidlog_transactions` says so, and the second implementation guesses:
-such channels are not compared.
+If packets do not show the end of a transaction, `hidlog_transactions` reports it as unknown, and the second
+implementation guesses. Such channels are not compared.
 """
 
 from __future__ import annotations

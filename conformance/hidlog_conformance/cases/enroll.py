@@ -52,7 +52,7 @@ class EnrollCase(PinCase):
 
 
 def template_cases(protocol: int) -> List[Case]:
-    """Enrolment, and what happens to templates."""
+    """Enrolment, and changes of templates."""
     cases: List[Case] = []
     case = EnrollCase("whole", "A finger is enrolled by its samples, and listed (6.7.4, 6.7.6).", protocol)
     case.enrolling().cbor(INFO).expect("option bioEnroll false").enrolled().cbor(INFO).expect("option bioEnroll true")

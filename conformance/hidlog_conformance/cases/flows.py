@@ -123,7 +123,7 @@ def exclude_list_cases() -> List[Case]:
 
 
 def exclude_without_match_cases() -> List[Case]:
-    """Exclude lists without a credential of the RP, and what comes before the error."""
+    """Exclude lists without a credential of the RP, and the touch before the error."""
     cases = []
     passes: Dict[str, List[Any]] = {"empty": [], "unknown": [descriptor(9)], "other_type": [descriptor(1, "other")]}
     for name, exclude in passes.items():
