@@ -26,7 +26,7 @@ sys.path.insert(0, str(TOP / "tests" / "webdriver"))
 
 import run  # noqa: E402
 
-# Upper bounds for the proxy in milliseconds: for commands in addition to chromedriver's time, otherwise in total.
+# Limits for the proxy in milliseconds: for commands in addition to chromedriver's time, otherwise in total.
 MAX_RATIOS = {"a command": 3.0, "sign-in": 25.0, "add authenticator": 20.0, "remove authenticator": 20.0}
 OPTIONS = {"protocol": "ctap2", "transport": "usb"}
 OPTIONS |= {name: True for name in ("hasResidentKey", "hasUserVerification", "isUserVerified")}
@@ -95,7 +95,7 @@ def measure_median(clients: dict[str, Client], rounds: int) -> dict[str, dict[st
 
 
 def show(found: dict[str, dict[str, float]]) -> bool:
-    """Prints the figures. Returns whether the proxy is within its bounds."""
+    """Prints the figures. Returns whether all figures of the proxy are within the limits."""
     is_within = True
     print(f"{'milliseconds':34}{'chromedriver':>14}{'proxy':>10}{'more':>10}")
     for name, own in found["chromedriver"].items():

@@ -128,7 +128,7 @@ build_program_package() {
 link_aarch64() {
     local linker
     linker=$(command -v aarch64-linux-gnu-ld || command -v ld.lld) || {
-        echo "packages: a linker for aarch64 is missing, skipping its Debian packages (apt-get install lld)" >&2
+        echo "packages: a linker for aarch64 is missing, skipping the Debian packages for arm64 (apt-get install lld)" >&2
         return 1
     }
     mkdir -p "$work/aarch64"

@@ -270,7 +270,7 @@ func (k *SecurityKey) Exchange(request []byte) ([]byte, error) {
 		return nil, err
 	}
 	if command == commandError {
-		return nil, fmt.Errorf("hidlog: the key returned a CTAPHID_ERROR: %x", data)
+		return nil, fmt.Errorf("hidlog: the key returned CTAPHID_ERROR with the data %x", data)
 	}
 	if len(data) == 0 {
 		return nil, errors.New("hidlog: the key returned an empty response")

@@ -96,7 +96,7 @@ export class PrivateKeys {
     }
 
     /**
-     * SHA-256.
+     * Returns the SHA-256 hash of bytes.
      * @param {Uint8Array} bytes
      */
     async hash(bytes) {
@@ -104,7 +104,7 @@ export class PrivateKeys {
     }
 
     /**
-     * HMAC-SHA-256.
+     * Returns the HMAC-SHA-256 of bytes.
      * @param {Uint8Array} secret @param {Uint8Array} bytes
      */
     async hmac(secret, bytes) {
