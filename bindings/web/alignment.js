@@ -6,7 +6,7 @@
     const { COMMANDS: { CBOR, ERROR, KEEPALIVE }, KIND } = globalThis.hidlogLog;
     // Maximum number of lines of each log that are aligned at once. The time grows with the product of both numbers.
     const MAX_ALIGNED = 400;
-    const CODED = [CBOR, ERROR, KEEPALIVE];
+    const COMMANDS_WITH_CODE = [CBOR, ERROR, KEEPALIVE];
     const TIME = /^([>pks]) \d+ /;
     const INITIALIZATION = 0x80;
 
@@ -26,7 +26,7 @@
         }
         const command = line.byte(4);
         const group = `${line.kind} ${command < INITIALIZATION ? "continuation" : command}`;
-        return { group, shape: CODED.includes(command & 0x7f) ? `${group} ${line.byte(7)}` : group };
+        return { group, shape: COMMANDS_WITH_CODE.includes(command & 0x7f) ? `${group} ${line.byte(7)}` : group };
     };
 
     const COMPARED_KINDS = [KIND.HOST, KIND.KEY, KIND.PRESENCE, KIND.NEW_KEY, KIND.SIGNATURE];
@@ -64,7 +64,7 @@
      * @param {Compared} one
      * @param {Compared} other
      */
-    const rate = (one, other) => {
+    const scorePair = (one, other) => {
         if (one.group !== other.group) {
             return 0;
         }
@@ -76,12 +76,12 @@
      * @param {Compared[]} ones
      * @param {Compared[]} others
      */
-    const rateEnds = (ones, others) => {
+    const scoreSuffixes = (ones, others) => {
         const width = others.length + 1;
         const best = new Uint32Array((ones.length + 1) * width);
         for (let at = ones.length - 1; at >= 0; at -= 1) {
             for (let by = others.length - 1; by >= 0; by -= 1) {
-                const rated = rate(ones[at], others[by]);
+                const rated = scorePair(ones[at], others[by]);
                 const paired = rated ? rated + best[(at + 1) * width + by + 1] : 0;
                 best[at * width + by] = Math.max(paired, best[(at + 1) * width + by], best[at * width + by + 1]);
             }
@@ -96,12 +96,12 @@
      * @returns {Viewer.Pair[]}
      */
     const alignPart = (ones, others) => {
-        const best = rateEnds(ones, others);
+        const best = scoreSuffixes(ones, others);
         const pairs = [];
         let [at, by] = [0, 0];
         while (at < ones.length || by < others.length) {
             const [one, other] = [ones[at], others[by]];
-            const rated = one && other ? rate(one, other) : 0;
+            const rated = one && other ? scorePair(one, other) : 0;
             if (rated && best(at, by) === rated + best(at + 1, by + 1)) {
                 pairs.push({ one: one.place, other: other.place, word: comparePair(one, other) });
                 [at, by] = [at + 1, by + 1];

@@ -316,7 +316,7 @@
      * @param {Viewer.Session} session
      * @returns {Viewer.Verdict}
      */
-    const judgeNothing = (session) => ({
+    const judgeFaultless = (session) => ({
         level: "none", side: "none", line: 0, title: "is at fault",
         why: session.transactions
             ? ["No rule of CTAP 2.1 is violated, and no request was rejected without a later success.",
@@ -342,7 +342,7 @@
      * @param {Viewer.Checked} examined
      * @param {Viewer.Verdict} verdict
      */
-    const nameOthers = ({ findings }, { side }) => {
+    const describeOtherViolations = ({ findings }, { side }) => {
         const other = findings.find((finding) => finding.level === "must" && finding.side !== side);
         return other && side !== "capture" ? [`${WHO[other.side]} also violates a rule, in line ${other.line}.`] : [];
     };
@@ -352,7 +352,7 @@
      * @param {string} total
      * @param {Viewer.Finding[]} findings
      */
-    const recount = (total, findings) => {
+    const updateTotals = (total, findings) => {
         const counts = ["must", "should"].map((word) => {
             const count = findings.filter(({ level }) => level === word).length;
             return `${count} ${word.toUpperCase()} violation${count === 1 ? "" : "s"}`;
@@ -377,7 +377,7 @@
         /** @param {Viewer.Finding} finding */
         const isKept = ({ side }) => side !== "caller" || !examined.hasPlaceholders;
         const kept = findings.filter(isKept);
-        return { ...examined, findings: kept, total: recount(examined.total, kept) };
+        return { ...examined, findings: kept, total: updateTotals(examined.total, kept) };
     };
 
     /**
@@ -393,10 +393,10 @@
         const finding = examined.findings.find(({ level }) => level === "must") ?? examined.findings[0];
         if (finding) {
             const verdict = judgeFinding(examined, finding, session);
-            return { ...verdict, why: [...verdict.why, ...nameOthers(examined, verdict)] };
+            return { ...verdict, why: [...verdict.why, ...describeOtherViolations(examined, verdict)] };
         }
         const rejected = findRejected(session);
-        return rejected ? judgeRejected(examined, rejected, session, shown) : judgeNothing(session);
+        return rejected ? judgeRejected(examined, rejected, session, shown) : judgeFaultless(session);
     };
 
     globalThis.hidlogDiagnosis = {

@@ -121,11 +121,11 @@
         return log.byte(next, 4) !== (0x80 | ERROR) || log.byte(next, 7) !== ERR_INVALID_CHANNEL;
     };
 
-    const LATE = {
+    const LATE_START = {
         title: "begins within a session", why: "The channel was allocated before the log begins.",
         advice: "Record from the first INIT on, or copy the whole file.",
     };
-    const FEW = {
+    const MISSING_PACKETS = {
         title: "lacks packets of the host",
         why: "The key responded, but the recorded packets are too few for the request.",
         advice: "Record the session again, or copy the whole file.",
@@ -150,9 +150,9 @@
         }
         const lines = [line, has?.number ?? 0];
         if (lines.some((at) => startsLate(session, at))) {
-            return LATE;
+            return LATE_START;
         }
-        return lines.some((at) => lacksPackets(session, at, true)) ? FEW : null;
+        return lines.some((at) => lacksPackets(session, at, true)) ? MISSING_PACKETS : null;
     };
 
     /**
@@ -162,9 +162,9 @@
      */
     const explainFinding = (session, { line, expected }) => {
         if (lacksPackets(session, line, false)) {
-            return FEW;
+            return MISSING_PACKETS;
         }
-        return expected === INVALID_CHANNEL && startsLate(session, line) ? LATE : null;
+        return expected === INVALID_CHANNEL && startsLate(session, line) ? LATE_START : null;
     };
 
     globalThis.hidlogIncomplete = { explainFinding, findMissing };

@@ -16,7 +16,7 @@
     // Minimum length of a part in bytes. The next part begins at the first line at which no transaction is open.
     const PART_BYTES = 1024 * 1024;
     // Recorders' notes about lost packets or gaps. A log with such notes is checked as a whole.
-    const WHOLE = /^# (?:power cycle|cut to )/m;
+    const GAP_NOTES = /^# (?:power cycle|cut to )/m;
 
     /**
      * Runs the core's `transactions` on lines, to find to which transaction each line belongs. `before` is the number
@@ -37,7 +37,7 @@
      * The number of the last line after which no transaction is open, from the core's `transactions`.
      * @param {Uint8Array} owners
      */
-    const findLastQuiet = (owners) => {
+    const findLastIdleLine = (owners) => {
         /** @type {Set<string>} */
         const open = new Set();
         let last = 0;
@@ -71,10 +71,10 @@
      * @param {Viewer.Report} report
      */
     const iterateParts = function* iterating(core, log, report) {
-        let [from, before, length] = [0, 0, hasMatch(log, WHOLE) ? Infinity : PART_BYTES];
+        let [from, before, length] = [0, 0, hasMatch(log, GAP_NOTES) ? Infinity : PART_BYTES];
         while (from + length < log.length) {
             const part = log.subarray(from, findLineEnd(log, from + length - 1));
-            const count = findLastQuiet(findTransactions(core, part, before));
+            const count = findLastIdleLine(findTransactions(core, part, before));
             const quiet = globalThis.hidlogLog.firstLines(part, count);
             length = quiet.length ? PART_BYTES : 2 * length;
             if (quiet.length) {

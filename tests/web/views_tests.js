@@ -121,19 +121,19 @@ const testCopying = async () => {
 const testMenu = async () => {
     await openRegistration();
     const { document } = getPage();
-    const focused = () => document.activeElement.id;
+    const getFocusedId = () => document.activeElement.id;
     const isOpen = () => !getElement("menu").hidden && getElement("menu-button").getAttribute("aria-expanded") === "true";
     getElement("menu-button").focus();
     expect(!isOpen() && getElement("menu-button").getAttribute("aria-haspopup") === "menu", "closed at first");
     press(getElement("menu-button"), "ArrowDown");
-    expect(isOpen() && focused() === "compare", `open at ${focused()}`);
+    expect(isOpen() && getFocusedId() === "compare", `open at ${getFocusedId()}`);
     for (const [key, expected] of [["ArrowDown", "download"], ["End", "keys"], ["ArrowDown", "compare"], ["ArrowUp", "keys"],
         ["Home", "compare"], ["s", "save"], ["t", "theme"]]) {
         press(document.activeElement, key);
-        expect(focused() === expected, `after ${key} at ${focused()}`);
+        expect(getFocusedId() === expected, `after ${key} at ${getFocusedId()}`);
     }
     press(document.activeElement, "Escape");
-    expect(!isOpen() && focused() === "menu-button", "Escape closes it");
+    expect(!isOpen() && getFocusedId() === "menu-button", "Escape closes it");
     getElement("menu-button").click();
     getElement("keys").click();
     expect(!isOpen() && getElement("keys-dialog").open, "the keys are shown");
@@ -172,15 +172,15 @@ const testTimeScale = async () => {
     getElement("drawing-tab").click();
     await waitUntil(() => readTops()[4] > 3 * 26, "the times");
     const tops = readTops();
-    const room = (line) => tops[line] - tops[line - 1] - 26;
-    expect(room(2) > 8 && room(2) === room(3), `12 ms: ${room(2)} and ${room(3)}`);
-    expect(room(4) === 2 * room(2), `24 ms: ${room(4)}`);
-    expect(room(5) === room(2) / 2, `6 ms: ${room(5)}`);
-    expect(room(6) === 0, `no time: ${room(6)}`);
-    expect(room(7) > 20 && room(7) < 100, `a minute is cut: ${room(7)}`);
+    const getSpacing = (line) => tops[line] - tops[line - 1] - 26;
+    expect(getSpacing(2) > 8 && getSpacing(2) === getSpacing(3), `12 ms: ${getSpacing(2)} and ${getSpacing(3)}`);
+    expect(getSpacing(4) === 2 * getSpacing(2), `24 ms: ${getSpacing(4)}`);
+    expect(getSpacing(5) === getSpacing(2) / 2, `6 ms: ${getSpacing(5)}`);
+    expect(getSpacing(6) === 0, `no time: ${getSpacing(6)}`);
+    expect(getSpacing(7) > 20 && getSpacing(7) < 100, `a minute is cut: ${getSpacing(7)}`);
     expect(drawn.includes("1 min 0 s later, not to scale"), drawn.join());
     // The scale is two pixels per millisecond, and the bar has 20 pixels.
-    expect(room(2) === 24 && drawn.includes("10 ms"), `the scale: ${room(2)}, ${drawn.join()}`);
+    expect(getSpacing(2) === 24 && drawn.includes("10 ms"), `the scale: ${getSpacing(2)}, ${drawn.join()}`);
 };
 
 /** The row that differs is also marked with a text in the drawing. */
@@ -237,12 +237,12 @@ const testAlignedLogs = async () => {
     const text = new TextDecoder().decode(await fetchExample("registration.log"));
     const shorter = text.split("\n").filter((_, at) => at !== 7).join("\n").replace("granted", "denied");
     await openTwo("one.log", encodeText(text), "other.log", encodeText(shorter));
-    const told = () => listPairs().filter(({ texts }) => texts[1] !== "=").map(({ texts }) => texts.join("|"));
-    expect(told().length === 2, told().join("\n"));
-    expect(told()[0] === "8 KEEPALIVE 1 02  STATUS_UPNEEDED|≠ first only|", told()[0]);
+    const listDifferences = () => listPairs().filter(({ texts }) => texts[1] !== "=").map(({ texts }) => texts.join("|"));
+    expect(listDifferences().length === 2, listDifferences().join("\n"));
+    expect(listDifferences()[0] === "8 KEEPALIVE 1 02  STATUS_UPNEEDED|≠ first only|", listDifferences()[0]);
     const chosen = () => listPairs().find(({ isChosen }) => isChosen).texts[0];
     const kept = readCard().level;
-    expect(told()[1] === "10 presence: granted|≠ differs|9 presence: denied", told()[1]);
+    expect(listDifferences()[1] === "10 presence: granted|≠ differs|9 presence: denied", listDifferences()[1]);
     press(getElement("two-scroller"), "n");
     expect(chosen() === "10 presence: granted" && readCard().level === kept, chosen());
     press(getElement("two-scroller"), "n");

@@ -9,7 +9,7 @@ import { formatStatus } from "./statuses.js";
 
 // The first channel that the key allocates. There is no other host.
 const CHANNEL = 1;
-const NOTHING = new Uint8Array(0);
+const NO_BYTES = new Uint8Array(0);
 // Length of the client data hash, which follows the authenticator data in the signed bytes.
 const HASH_BYTES = 32;
 // The nonce of INIT, which need not be random without other hosts.
@@ -98,7 +98,7 @@ export class Authenticator {
     /** Cancels the pending request, so that the key accepts the next one. */
     #cancel() {
         if (this.session.need.kind !== "nothing") {
-            this.#collector.add(this.session.send(CHANNEL, CANCEL, NOTHING));
+            this.#collector.add(this.session.send(CHANNEL, CANCEL, NO_BYTES));
         }
     }
 

@@ -6,7 +6,7 @@ import { ClientCall, MAX_BUFFER_BYTES } from "./client.js";
 import { makeNotAllowed } from "./errors.js";
 import { checkExtensions } from "./extensions.js";
 import { encodeClientData, makeCrossOriginMembers } from "./frames.js";
-import { checkRequired, withoutRequired } from "./key_extensions.js";
+import { checkRequired, dropRequiredExtensions } from "./key_extensions.js";
 
 const PUBLIC_KEY = "public-key";
 const LISTS = { create: "excludeCredentials", get: "allowCredentials" };
@@ -100,7 +100,7 @@ export class Ceremony {
             ...rest, [LISTS[this.name]]: descriptors, timeout: undefined,
             // The client rejects credProps in a sign-in, even if its value is false.
             extensions: extensions && {
-                ...withoutRequired(extensions, this.#abilities), credProps: extensions.credProps || undefined,
+                ...dropRequiredExtensions(extensions, this.#abilities), credProps: extensions.credProps || undefined,
             },
         };
         if (this.algorithm !== ES256) {

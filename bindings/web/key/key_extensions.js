@@ -23,7 +23,7 @@ const TRUE = Uint8Array.of(0xf5);
  * Returns the extensions for the core's client without required ones, since the client supports none of them.
  * @param {any} extensions @param {AuthenticatorOptions} abilities
  */
-export const withoutRequired = (extensions, abilities) => {
+export const dropRequiredExtensions = (extensions, abilities) => {
     const made = { ...extensions };
     if (made.largeBlob?.support === "required" && abilities.supports("largeBlob")) {
         made.largeBlob = { ...made.largeBlob, support: "preferred" };
