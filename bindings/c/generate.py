@@ -88,7 +88,7 @@ def translate(module: Path) -> str:
     numbers = re.fullmatch(known, allocated)
     if numbers is None:
         raise GenerateError(f"unexpected allocation of the module's memory: {allocated}")
-    # The functions without parameters.
+    # The results of the functions without parameters, which are constants.
     constants = dict(
         re.findall(r"^(\w+)\(\) => i64:(\d+)$", _run("wasm-interp", module, "--run-all-exports"), re.MULTILINE)
     )

@@ -166,7 +166,7 @@ def __getattr__(name: str) -> "Any":
         return globals().get(new) or __getattr__(new)
     if name in ("__version__", "version"):
         function = import_module(".version", __name__).version
-        globals()["version"] = function  # instead of the submodule
+        globals()["version"] = function  # the name must refer to the function, not to the submodule
         value: "Any" = function() if name == "__version__" else function
     elif name in _MODULE_OF:
         value = getattr(import_module(f".{_MODULE_OF[name]}", __name__), name)

@@ -76,13 +76,13 @@ def _become_program(args: list[str]) -> int:
         if "HIDLOG_PROGRAM" not in os.environ and args in HELP_WORDS:
             sys.stdout.write(Path(__file__).with_name("help.txt").read_text(encoding="utf-8"))
             return 0
-        library_cli = importlib.import_module(".library_cli", __package__)  # not loaded if there is a program
+        library_cli = importlib.import_module(".library_cli", __package__)  # imported only if there is no program
         if "HIDLOG_PROGRAM" in os.environ or not library_cli.is_supported(args):
             raise
         return entry_point.run_as_program(lambda: int(library_cli.run(args)))
     entry_point.restore_signals()
     try:
-        if os.name == "nt":  # os.execv ends this process before the program ends
+        if os.name == "nt":  # on Windows, os.execv would end this process before the program ends
             return subprocess.run([path, *args], check=False).returncode
         os.execv(path, ["hidlog", *args])
     except OSError as error:

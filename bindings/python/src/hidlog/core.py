@@ -47,7 +47,7 @@ _STATS_FIELDS = {
 }
 # Capacity of a library without the function hidlog_key_capacity.
 _DEFAULT_CAPACITY = 64
-# enum hidlog_need_kind.
+# Values of enum hidlog_need_kind.
 _NEED_NAMES = ("nothing", "presence", "key", "signature")
 _NEED_SIGNATURE = 3
 # Argument `which` of hidlog_key_cause for the last input, and maximum length of a sentence.

@@ -79,7 +79,7 @@ def _open_closed_descriptors() -> None:
             os.fstat(number)
         except OSError:
             held = os.open(os.devnull, flags | getattr(os, "O_CLOEXEC", 0))
-            if held != number:  # a lower descriptor could not be opened
+            if held != number:  # a descriptor with a lower number is still closed
                 os.close(held)
 
 

@@ -26,7 +26,7 @@ def describe(value: object) -> str:
     """Returns a value's repr for an error message, shortened."""
     try:
         return _SHORT_REPR.repr(value)
-    except Exception:  # a class may have any __repr__
+    except Exception:  # the __repr__ of a class may raise any exception
         return f"a {type(value).__name__}"
 
 

@@ -54,7 +54,7 @@ class _BlockingInput(io.FileIO):
         return found
 
     def close(self) -> None:
-        with suppress(OSError):  # the data was read already
+        with suppress(OSError):  # the data has been read, so errors do not matter
             super().close()
 
     def readall(self) -> bytes:
@@ -89,7 +89,7 @@ def _read_pipe_front(number: int, path: Named) -> bytes:
         try:
             if front := os.read(number, _READ_BYTES):
                 return front
-        except BlockingIOError:  # it has a writer, which may write later
+        except BlockingIOError:  # the pipe has a writer, which may write later
             return b""
         time.sleep(_PAUSE)
     raise TimeoutError(errno.ETIMEDOUT, "no program writes to this named pipe", os.fspath(path))
@@ -186,7 +186,7 @@ def _write(path: Path, pieces: Iterable[bytes], is_private: bool) -> None:
 
 def _copy_owner(number: int, old: os.stat_result) -> None:
     """Sets the mode of an older file, and its owner if permitted."""
-    if not hasattr(os, "fchown"):  # Windows, where files inherit the directory's permissions
+    if not hasattr(os, "fchown"):  # on Windows, files inherit the directory's permissions
         return
     with suppress(PermissionError):
         os.fchown(number, old.st_uid, old.st_gid)

@@ -74,7 +74,7 @@ def compute_snapshot(path: str, log: bytes, start: bytes) -> bytes:
 def _kill_process(process: subprocess.Popen[bytes], folder: tempfile.TemporaryDirectory[str], owner: int) -> None:
     """Kills the program of a key that no longer exists, and closes the pipes."""
     if os.getpid() != owner:
-        return  # the program belongs to the parent of os.fork
+        return  # after os.fork, the program belongs to the parent process
     for pipe in (process.stdin, process.stdout, process.stderr):
         if pipe is not None:
             with suppress(OSError):
@@ -141,7 +141,7 @@ class SubprocessKey:
 
     def credentials(self, log: bytes) -> list[Credential]:
         """Returns the credentials after this log."""
-        from .credentials import read_snapshot  # needs the package cryptography
+        from .credentials import read_snapshot  # this import needs the package cryptography
 
         return read_snapshot(self.snapshot(log))
 

@@ -30,12 +30,12 @@ from .webauthn_errors import (
 )
 
 Json = dict[str, Any]
-# enum hidlog_client_ceremony.
+# Values of enum hidlog_client_ceremony.
 _CEREMONIES = {"create": 0, "get": 1}
-# enum hidlog_client_ability.
+# Flags of enum hidlog_client_ability for user verification, attachment and discoverable credentials.
 _VERIFICATION = {"none": 0, "verified": 1, "failed": 2}
 _PLATFORM, _RESIDENT_KEY = 4, 8
-# enum hidlog_client_error.
+# The exceptions for enum hidlog_client_error.
 _ERRORS: dict[int, type[WebAuthnError]] = {
     -1: WebAuthnTypeError,
     -2: EncodingError,

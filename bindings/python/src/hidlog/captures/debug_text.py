@@ -23,7 +23,7 @@ _PATH = re.compile(rb"/dev/(hidraw\d+)")
 _NO_TIMESTAMPS_NOTE = (
     "libfido2's debug output has no timestamps, no KEEPALIVEs, and no channel and padding of sent packets"
 )
-ONE_CLIENT_NOTE = "these are the packets of one client alone"  # recognized by hidlog judge
+ONE_CLIENT_NOTE = "these are the packets of one client alone"  # hidlog judge recognizes this note
 _PADDING_NOTE = "python-fido2 does not record the padding of sent packets"
 
 
@@ -47,7 +47,7 @@ class _Libfido2:
         self._command, self._length, self._data = 0, 0, b""
         self._kind = ""
         self._device = b""
-        # Channel by the library's handle.
+        # Channel IDs by libfido2's device handle.
         self._channels: dict[bytes, int] = {}
         self._greeted = 0
 
