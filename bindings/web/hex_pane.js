@@ -85,7 +85,7 @@
         }
 
         /**
-         * Shows packets, without a mark.
+         * Shows packets in which no bytes are marked.
          * @param {Viewer.Packet[]} packets
          */
         show(packets) {

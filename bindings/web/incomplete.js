@@ -4,7 +4,7 @@
 
 (() => {
     const { KIND, COMMANDS: { ERROR, INIT } } = globalThis.hidlogLog;
-    // An ERROR's code, and a channel.
+    // The ERROR code for an invalid channel, and the broadcast channel.
     const [ERR_INVALID_CHANNEL, BROADCAST] = [0x0b, 0xffffffff];
     // The text of the rule on requests on a channel that was not allocated (judged_host.py).
     const INVALID_CHANNEL = "error 0b";

@@ -42,7 +42,7 @@
         }
     }
 
-    /** Rows of numbers, in named columns. */
+    /** A table of numbers with named columns. */
     class Table {
         /** @param {Record<string, Viewer.NumbersConstructor>} types */
         constructor(types) {
@@ -145,7 +145,7 @@
             return this.log.message(this.log.messages.values[this.place]);
         }
 
-        /** The transaction this line belongs to, or null. */
+        /** The transaction to which this line belongs, or null. */
         get transaction() {
             const owner = this.log.owners.values[this.place];
             return owner ? new Transaction(this.log, owner - 1) : null;

@@ -19,7 +19,7 @@
         constructor(count, rowHeight) {
             this.rowHeight = rowHeight;
             this.height = count * rowHeight;
-            // No pixels per millisecond.
+            // Pixels per millisecond: 0, since this layout shows no time.
             this.scale = 0;
         }
 
@@ -91,7 +91,7 @@
         }
 
         /**
-         * Pixels for a pause.
+         * The height of a pause in pixels.
          * @param {number} milliseconds
          */
         gap(milliseconds) {

@@ -151,9 +151,9 @@
 
     /**
      * A row's text, shortened.
-     * @param {string} says
+     * @param {string} text
      */
-    const shortenText = (says) => says.replace(/^CBOR \d+ {2}|^KEEPALIVE 1 \d\d {2}/, "");
+    const shortenText = (text) => text.replace(/^CBOR \d+ {2}|^KEEPALIVE 1 \d\d {2}/, "");
 
     /**
      * Draws a text between two lifelines, or beside them if there is not enough space. On narrow pages, the text starts

@@ -131,7 +131,7 @@
         }
 
         /**
-         * Ends all jobs.
+         * Cancels all jobs.
          * @this {Viewer.LineTexts}
          */
         endAll() {

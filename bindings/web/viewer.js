@@ -149,7 +149,7 @@
         return span;
     };
 
-    /** Whether a line is below its transaction's row. */
+    /** Whether a line is shown below the row of its transaction. */
     const isUnfolded = (/** @type {Viewer.Line} */ line) => Boolean(line.transaction)
         && state.unfolded.has(/** @type {Viewer.Transaction} */ (line.transaction).place) && getElement("fold").checked;
 

@@ -80,7 +80,7 @@ export const toBase64url = (bytes) =>
     toBase64(bytes).replaceAll("+", "-").replaceAll("/", "_").replaceAll("=", "");
 
 /**
- * Decodes base64url; null if invalid.
+ * Decodes base64url. Returns null if the text is invalid.
  * @param {string} text
  */
 export const fromBase64url = (text) => {

@@ -5,7 +5,7 @@ import { instantiateCore } from "./core_module.js";
 import { makeClientError } from "./errors.js";
 import { growMemory } from "./wasm_memory.js";
 
-// enum hidlog_client_ceremony.
+// Values of enum hidlog_client_ceremony.
 const CEREMONIES = { create: 0, get: 1 };
 const REPORT_BYTES = 16;
 const MAX_OUTPUT_BYTES = 16384;

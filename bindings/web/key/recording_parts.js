@@ -51,7 +51,7 @@ export class RecordingParts {
         this.#stored.delete(index);
     }
 
-    /** Removes parts that belong to no state, once. */
+    /** Removes parts that belong to no state. Only the first call does so. */
     #clean() {
         const { storage } = this;
         if (!this.#isClean && !this.#stored.size && typeof storage.key === "function") {

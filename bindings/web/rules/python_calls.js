@@ -174,7 +174,7 @@
 
     // ---- calls
 
-    /** Appends keyword arguments to the positional ones. */
+    /** Appends keyword arguments to the positional arguments. */
     const bindArguments = (names, words, named) => {
         const found = [...words];
         for (const [name, value] of Object.entries(named)) {
