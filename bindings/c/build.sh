@@ -13,7 +13,7 @@ top=$(cd "$(dirname "${BASH_SOURCE[0]}")/../.." && pwd)
 mkdir -p "$1"
 to=$(cd "$1" && pwd)
 version=$(sed -n 's/^version: //p' "$top/release/BUILD")
-# One timestamp for all files, for reproducible builds.
+# All files get the same timestamp, for reproducible builds.
 export SOURCE_DATE_EPOCH="${SOURCE_DATE_EPOCH:-315532800}"
 work=$(mktemp -d)
 trap 'rm -rf "$work"' EXIT

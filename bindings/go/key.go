@@ -44,10 +44,10 @@ func (p Presence) String() string {
 	return [...]string{"granted", "denied", "timeout"}[p]
 }
 
-// NeedKind is the kind of a Need.
+// NeedKind is the kind of input that an authenticator needs from its caller.
 type NeedKind int
 
-// The kinds: nothing, user presence, a new key pair, or a signature.
+// The authenticator needs nothing, user presence, a new key pair, or a signature.
 const (
 	NeedNone NeedKind = iota
 	NeedPresence
@@ -190,7 +190,7 @@ func (a *Authenticator) Tick(timeMs uint64) ([]Packet, error) {
 	})
 }
 
-// ProvidePresence reports what the user did.
+// ProvidePresence reports what the user did when asked for a touch.
 func (a *Authenticator) ProvidePresence(timeMs uint64, presence Presence) ([]Packet, error) {
 	if presence < PresenceGranted || presence > PresenceTimedOut {
 		return nil, fmt.Errorf("hidlog: presence must be PresenceGranted, PresenceDenied or PresenceTimedOut, not %d",

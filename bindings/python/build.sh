@@ -15,7 +15,7 @@ for python in python3 /usr/bin/python3; do
 done
 [ -n "$python" ] ||
     { echo "bindings/python/build.sh: hatchling is missing (apt-get install python3-hatchling)" >&2; exit 3; }
-# One timestamp for all files, for reproducible builds.
+# All files get the same timestamp, for reproducible builds.
 export SOURCE_DATE_EPOCH="${SOURCE_DATE_EPOCH:-315532800}" PYTHONDONTWRITEBYTECODE=1
 umask 022
 

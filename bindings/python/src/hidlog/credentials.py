@@ -204,7 +204,7 @@ class _CredentialHolder(Protocol):
         """Returns a lock that is held for a whole registration or sign-in."""
 
     def _load_snapshot(self, snapshot: bytes) -> None:
-        """Replaces the credentials by a snapshot's."""
+        """Replaces the credentials by those of a snapshot."""
 
     def _random_bytes(self, count: int) -> bytes:
         """Returns `count` random bytes."""

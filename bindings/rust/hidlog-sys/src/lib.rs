@@ -9,7 +9,7 @@ use core::ffi::c_void;
 pub const HIDLOG_OK: u32 = 0;
 /// Maximum length of a snapshot in bytes.
 pub const HIDLOG_SNAPSHOT_MAX_LEN: usize = 18125;
-/// `enum hidlog_need_kind`.
+/// Values of `enum hidlog_need_kind`.
 pub const HIDLOG_NEED_NONE: u32 = 0;
 pub const HIDLOG_NEED_PRESENCE: u32 = 1;
 pub const HIDLOG_NEED_KEY_PAIR: u32 = 2;
@@ -82,10 +82,10 @@ pub struct hidlog_stats {
     pub reserved: u32,
 }
 
-/// `enum hidlog_client_ceremony`.
+/// Values of `enum hidlog_client_ceremony`.
 pub const HIDLOG_CLIENT_CREATE: u32 = 0;
 pub const HIDLOG_CLIENT_GET: u32 = 1;
-/// `enum hidlog_client_ability`.
+/// Flags of `enum hidlog_client_ability`.
 pub const HIDLOG_CLIENT_RESIDENT_KEY: u32 = 8;
 
 /// `struct hidlog_client_report`.

@@ -135,7 +135,7 @@ impl Authenticator {
         self.handle_input(format_args!("t {time_ms}"), |key| unsafe { sys::hidlog_key_tick(key, time_ms) })
     }
 
-    /// Reports what the user did.
+    /// Reports what the user did when asked for a touch.
     pub fn provide_presence(&mut self, time_ms: u64, presence: Presence) -> Result<Vec<Packet>, Error> {
         let (word, number) = match presence {
             Presence::Granted => ("granted", 0),
