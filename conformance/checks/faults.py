@@ -94,7 +94,7 @@ class Judge:
         self.names = names
 
     def __call__(self, name: str) -> Tuple[bool, str]:
-        """Runs one."""
+        """Runs the fault or mutant with this name."""
         return self.names[name]()
 
 

@@ -62,7 +62,7 @@ class Recorder:
             setattr(device, name, functools.partial(getattr(self, name), getattr(device, name)))
 
     def advance_time(self, at: int) -> None:
-        """Lets time pass."""
+        """Advances the clock."""
         if at > self.now:
             self.lines.append(f"t {at}")
         self.now = max(self.now, at)
@@ -79,12 +79,12 @@ class Recorder:
         call(at, packet)
 
     def tick(self, call: Callable[[int], None], at: int) -> None:
-        """Lets time pass."""
+        """Advances the clock."""
         self.advance_time(at)
         call(at)
 
     def presence(self, call: Callable[[int, str], None], at: int, word: str) -> None:
-        """Lets the user reply, which is not recorded."""
+        """Passes on the user's reply, which is not recorded."""
         self.advance_time(at)
         call(at, word)
 

@@ -65,11 +65,11 @@ class OtherDevice(Device):
         self.do(self.key_in_hand.hid.packet, at - self.base, packet)
 
     def tick(self, at: int) -> None:
-        """Lets time pass."""
+        """Advances the clock."""
         self.do(self.key_in_hand.hid.tick, at - self.base)
 
     def presence(self, at: int, word: str) -> None:
-        """Lets the user touch."""
+        """Passes on a touch of the user."""
         if word == "granted":
             self.do(self.key_in_hand.hid.touch, at - self.base)
 

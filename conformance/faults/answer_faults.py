@@ -237,12 +237,12 @@ def keep_pending_assertion(device: FaultyDevice, message: Message) -> Optional[S
 
 
 def stop_clock_before_sign_in(device: FaultyDevice, at: int) -> int:
-    """Lets no time pass before the first sign-in."""
+    """Stops the clock until the first sign-in."""
     return at if GET in device.asked else 0
 
 
 def stop_clock_after_sign_in(device: FaultyDevice, at: int) -> int:
-    """Lets no time pass after the first sign-in."""
+    """Stops the clock after the first sign-in."""
     if GET not in device.asked:
         device.last["at"] = at
     stands: int = device.last["at"]

@@ -87,7 +87,7 @@ class Conversation:
         return line.decode("utf-8", "backslashreplace")
 
     def crash(self) -> str:
-        """Returns how a client ended without a result."""
+        """Describes the end of a client that exited without a result."""
         try:
             status = self.process.wait(PATIENCE)
         except subprocess.TimeoutExpired:
@@ -97,7 +97,8 @@ class Conversation:
         return f"ended: with status {status}, without printing ok or refused"
 
     def waiting(self) -> str:
-        """Returns whether a silent client waits for the device or hangs: one that waits sees the end of its input."""
+        """Returns the verdict on a silent client: it waits for the device if it exits at the end of its input, or
+        hangs."""
         if not self.log:
             return "hangs: it sent no packet"
         assert self.process.stdin is not None

@@ -126,14 +126,14 @@ class Device:
         raise NotImplementedError
 
     def tick(self, at: int) -> None:
-        """Lets time pass."""
+        """Advances the clock."""
 
     def power_cycle(self, at: int) -> None:
         """Power cycles the device."""
         raise NotImplementedError
 
     def presence(self, at: int, word: str) -> None:
-        """Lets the user reply."""
+        """Passes on the user's reply."""
 
     def key(self, at: int, words: List[str]) -> None:
         """Provides a key pair, or refuses one."""
@@ -253,11 +253,11 @@ class LiveDevice(Device):
         self.play(f"> {self.program_time(at)} {packet.hex()}")
 
     def tick(self, at: int) -> None:
-        """Lets time pass."""
+        """Advances the clock."""
         self.play(f"t {self.program_time(at)}")
 
     def presence(self, at: int, word: str) -> None:
-        """Lets the user reply."""
+        """Passes on the user's reply."""
         self.play(f"p {self.program_time(at)} {word}")
 
     def key(self, at: int, words: List[str]) -> None:
@@ -312,7 +312,7 @@ class RealTimeDevice(Device):
         self.latest, self.before = at, now
 
     def tick(self, at: int) -> None:
-        """Lets time pass."""
+        """Advances the clock."""
         self.wait_until(at)
 
     def presence(self, at: int, word: str) -> None:

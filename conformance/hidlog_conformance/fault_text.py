@@ -4,7 +4,7 @@ from __future__ import annotations
 
 
 def describe_fault(fault: Exception) -> str:
-    """Describes an error: an OSError by the file's name and the reason, and for a device file also by what to do."""
+    """Describes an error. The description of an OSError is the file's name and the reason, with advice for a device."""
     if not isinstance(fault, OSError) or not fault.strerror:
         return str(fault)
     if fault.filename is None:

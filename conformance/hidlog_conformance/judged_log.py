@@ -238,7 +238,7 @@ def judge(log: bytes, walk: Callable[[bytes], bytes]) -> Recording:
 
 def judge_parts(parts: Iterable[bytes], walk: Callable[[bytes], bytes]) -> Recording:
     """Checks a log in parts, between which no transaction is open."""
-    # These import names of this module.
+    # Imported here, since these modules import this one.
     from hidlog_conformance.judged_host import HostJudge
     from hidlog_conformance.judged_key import KeyJudge
 

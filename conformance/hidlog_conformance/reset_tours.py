@@ -112,7 +112,7 @@ def set_and_block(tour: TourCase, pin: bytes) -> TourCase:
 
 
 def forgetful_reset(case: Case, made: List[bytes]) -> Case:
-    """A reset of a device without a PIN."""
+    """Adds a reset of a device without a PIN."""
     tour = reset_in_time(store_everything(TourCase()))
     return serve_again(tour.register(6), "example.com", descriptor(6)["id"])
 
@@ -135,14 +135,14 @@ def all_stored(case: Case, made: List[bytes]) -> Case:
 
 
 def all_resets(case: Case, made: List[bytes]) -> Case:
-    """A reset of everything that is stored, and of a PIN."""
+    """Adds a reset of everything that is stored, and of a PIN."""
     tour = TourCase(False)
     tour.with_pin().cbor(INFO).expect("option clientPin true")
     return reset_in_time(tour, "localhost", made[-1]).shows_no_pin()
 
 
 def all_pins(case: Case, made: List[bytes]) -> Case:
-    """Sign-ins with the credential of python-fido2; then PINs of both protocols are reset, set and blocked."""
+    """Adds sign-ins with the credential of python-fido2; then PINs of both protocols are reset, set and blocked."""
     tour = TourCase(False)
     serve_again(tour, "relying.example", made[-1]).by(2).with_pin().cbor(INFO).expect("option clientPin true")
     for protocol in (1, 2):
@@ -154,7 +154,7 @@ def all_pins(case: Case, made: List[bytes]) -> Case:
 
 
 def touches_of_libfido2(case: Case, made: List[bytes]) -> Case:
-    """Sign-ins with and without touches, after a sign-in of libfido2."""
+    """Adds sign-ins with and without touches, after a sign-in of libfido2."""
     rp, allow = "relying.example", [{"id": made[-1], "type": KIND}]
     for options, words in ((SILENT, "no-up"), ({"up": True, "uv": False}, "up no-uv"), (SILENT, "no-up")):
         case.get(p1=rp, p3=allow, p5=options)
@@ -166,7 +166,7 @@ def touches_of_libfido2(case: Case, made: List[bytes]) -> Case:
 
 
 def registered_between(case: Case, made: List[bytes]) -> Case:
-    """A registration while assertions are pending, with the counter 0."""
+    """Adds a registration while assertions are pending, with the counter 0."""
     case.greet()
     for number in (1, 2, 3):
         case.register(number, rk=True, p3=user(number))
@@ -182,8 +182,8 @@ def find_credentials(case: Case, rp: str, words: str) -> Case:
 def same_users(
     case: Case, made: List[bytes], is_long: bool = True, has_eddsa: bool = True, has_protection: bool = True
 ) -> Case:
-    """Credentials of two RPs for Firefox's user and for others, discoverable and not. Some are replaced or excluded,
-    and each registration has different unusual members."""
+    """Adds credentials of two RPs for Firefox's user and for others, discoverable and not. Some are replaced or
+    excluded, and each registration has different unusual members."""
     first, com, org = (
         {"id": made[0], "type": KIND},
         {"id": "localhost", "name": "x"},
@@ -246,7 +246,7 @@ def find_two(case: Case, rp: str, newest: bytes) -> Case:
 
 
 def protected(case: Case, made: List[bytes]) -> Case:
-    """Credentials that are hidden without user verification, of RP IDs of one character and of 253."""
+    """Adds credentials that are hidden without user verification, of RP IDs of one character and of 253."""
     case.greet().make(p2={"id": "a", "name": "x"}, p6={"credProtect": 3}, p7=RK)
     case.made(1, "up extension credProtect 03").get(p1="a", p3=[descriptor(1)]).expect("status 2e")
     case.get(p1="a").expect("status 2e")
@@ -269,7 +269,7 @@ def register_with_extensions(case: Case, count: int = 2) -> Case:
 
 
 def extensions_of_one(case: Case, made: List[bytes]) -> Case:
-    """A credential with all extensions."""
+    """Adds a credential with all extensions."""
     sign_in_with_extensions(register_with_extensions(case.greet(), 1), 1)
     case.get(p4={"credBlob": True}, p5=SILENT)
     return case.asserted(f"no-up no-number extension credBlob {encode(BLOBS_OF[0]).hex()}", presence=False)
@@ -284,7 +284,7 @@ def sign_in_with_extensions(case: Case, number: int) -> Case:
 
 
 def extensions_of_two(case: Case, made: List[bytes]) -> Case:
-    """Two credentials with all extensions."""
+    """Adds two credentials with all extensions."""
     register_with_extensions(case.greet())
     for number in (2, 1):
         sign_in_with_extensions(case, number)
@@ -294,7 +294,7 @@ def extensions_of_two(case: Case, made: List[bytes]) -> Case:
 
 
 def secrets(case: Case, made: List[bytes], has_all: bool = True) -> Case:
-    """Secrets of two credentials by both PIN protocols."""
+    """Adds sign-ins with hmac-secret for two credentials, by both PIN protocols."""
     tour = TourCase()
     if has_all:
         register_with_extensions(tour)
@@ -311,14 +311,14 @@ def secrets(case: Case, made: List[bytes], has_all: bool = True) -> Case:
 
 
 def lost_touch(case: Case, made: List[bytes]) -> Case:
-    """A touch after a power cycle, and before registrations."""
+    """Adds a touch after a power cycle, and before registrations."""
     case.greet().make().expect("keepalive 02").power_cycle().greet().tick(250).expect("silence")
     case.presence().expect("silence").alive().tick(100)
     return refuse_earlier_touch(refuse_earlier_touch(case.make(p7=RK)).make())
 
 
 def changed_pin(case: Case, made: List[bytes]) -> Case:
-    """A PIN is changed by one protocol, and back by the other."""
+    """Adds a change of the PIN by one PIN protocol, and the change back by the other."""
     tour = TourCase().with_pin()
     for protocol, old, new in ((1, RIGHT, OTHER), (2, OTHER, RIGHT)):
         tour.by(protocol).change(old, new).expect("status 00").ask_token(old).expect("status 31").token(pin=new)
@@ -326,7 +326,7 @@ def changed_pin(case: Case, made: List[bytes]) -> Case:
 
 
 def managed(case: Case, made: List[bytes]) -> Case:
-    """Credentials are deleted and replaced until none is left, twice."""
+    """Adds deletions and replacements of credentials until none is left, twice."""
     tour = TourCase().stored_at_several().with_pin()
     for protocol in (1, 2):
         tour.by(protocol).managing().manage(DELETE, {2: descriptor(protocol)}).expect("status 00").managing()

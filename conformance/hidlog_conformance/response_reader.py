@@ -363,7 +363,7 @@ class ResponseReader:
         return self.facts.old and not self.strict and expected.startswith("status 2e") and self.request[:1] == b"\2"
 
     def touch(self) -> None:
-        """Lets the user touch."""
+        """Passes on a touch of the user."""
         self.touched = True
         self.patience = PERSON
         self.device.presence(self.at, "granted")

@@ -1,4 +1,4 @@
-"""Finds the rule that a difference violates, which may be another than the session's rule."""
+"""Finds the rule that a difference violates, which may differ from the session's rule."""
 
 from __future__ import annotations
 

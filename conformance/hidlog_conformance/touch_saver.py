@@ -61,7 +61,7 @@ class Sharing:
 
 
 class TouchSaver:
-    """Follows the state of a device through the cases of a run."""
+    """Tracks the state of a device during a run."""
 
     def __init__(self, device: Device, device_info: DeviceInfo) -> None:
         self.device, self.device_info = device, device_info
@@ -110,7 +110,7 @@ class TouchSaver:
         return True
 
     def reset(self, session: Session) -> str:
-        """Resets the device; returns why that failed, or empty."""
+        """Resets the device; returns the reason of a failure, or empty."""
         print(f"resetting the device for {session.name}", file=sys.stderr)
         self.pool.made = {}
         reason = prepare(self.device, any(map(sends_reset, session.steps)))

@@ -85,7 +85,7 @@ def refuse_earlier_touch(case: Case) -> Case:
 
 
 def touched_sign_ins(case: Case, made: List[bytes]) -> Case:
-    """Sign-ins with and without touches in turn, with all options; a touch counts once."""
+    """Adds sign-ins with and without touches in turn, with all options; a touch counts once."""
     case.greet().register(1).get(p3=[descriptor(1)], p5={"up": True, "uv": False}).expect("keepalive 02")
     sign_in_silently(case.asserted(COUNTER_INCREASES + " no-uv"), 1)
     case.get(p3=[descriptor(1)]).asserted(COUNTER_INCREASES)
@@ -93,21 +93,21 @@ def touched_sign_ins(case: Case, made: List[bytes]) -> Case:
 
 
 def useless_touch(case: Case, made: List[bytes]) -> Case:
-    """A touch after a CANCEL, and before a sign-in."""
+    """Adds a touch after a CANCEL, and before a sign-in."""
     case.greet().register(1).make().expect("keepalive 02").send(1, hid.CANCEL).expect("status 2d")
     case.presence().expect("silence").tick(150).expect("silence").alive()
     return refuse_earlier_touch(case.get(p3=[descriptor(1)]))
 
 
 def selection(case: Case, made: List[bytes]) -> Case:
-    """A selection, with everything that cases expect of it."""
+    """Adds a selection, with everything that cases expect of it."""
     case.greet().register(1).cbor(SELECTION).expect("keepalive 02").tick(100).expect("nothing")
     case.presence().expect("status 00").tick(200).expect("silence").alive()
     return sign_in_silently(case, 1)
 
 
 def u2f(case: Case, made: List[bytes]) -> Case:
-    """A U2F registration and two sign-ins, each with its own touch."""
+    """Adds a U2F registration and two sign-ins, each with its own touch."""
     found = U2fCase("tour", "")
     found.register_u2f().apdu(REGISTER, 0, CHALLENGE + APPLICATION).expect(f"message 03 {NO_TOUCH}")
     for control in (CHECK_ONLY, ENFORCE):
@@ -120,7 +120,8 @@ def u2f(case: Case, made: List[bytes]) -> Case:
 
 
 def exclude_lists(case: Case, rp: str = "ü.example", has_power_cycle: bool = True, has_first: bool = True) -> Case:
-    """Exclude lists of ten: the credential is the last one, after a power cycle, and the first two."""
+    """Adds exclude lists of ten entries, with the credential as the last entry, also after a power cycle, and with
+    credentials as the first two."""
     unknown, named = [descriptor(number) for number in range(20, 28)], {"id": rp, "name": "Example"}
     if rp == "example.com":
         case.greet().register(1)
@@ -152,7 +153,7 @@ def make_exclude_tours() -> Iterator[Tour]:
 
 
 def es256_registration(case: Case, number: int, rp: Dict[str, Any], user: Dict[str, Any]) -> Case:
-    """A registration whose algorithms, options and exclude list are unusual, with ES256."""
+    """Adds a registration whose algorithms, options and exclude list are unusual, with ES256."""
     others = [{"alg": -8, "type": "other"}, {"alg": -7, "type": "other"}]
     case.make(
         p2=rp,
@@ -166,13 +167,13 @@ def es256_registration(case: Case, number: int, rp: Dict[str, Any], user: Dict[s
 
 
 def unusual_es256(case: Case, is_long: bool = True) -> Case:
-    """Such a registration with an unusual RP and user."""
+    """Adds a registration like that of `es256_registration`, with an unusual RP and user."""
     rp, user = {"id": "a", "name": "x" * (1800 if is_long else 1)}, {"id": b"somebody@example.com", "name": "x"}
     return es256_registration(case.greet(), 2, rp, {**user, "displayName": "x"})
 
 
 def eddsa_registrations(case: Case, is_long: bool = True) -> Case:
-    """The same with EdDSA, first among others and alone."""
+    """Adds registrations like those of `unusual_es256` with EdDSA, alone and first among other algorithms."""
     rp, user = "example.com:443", {"id": b"somebody-else@example.com", "name": "x"}
     user = {**user, "displayName": "x" * (1700 if is_long else 1)}
     case.greet().register(1).make(p2={"id": rp, "name": "x"}, p3=user, p4=[UNKNOWN, EDDSA, ES256], p5=[descriptor(1)])

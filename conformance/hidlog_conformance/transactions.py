@@ -242,7 +242,7 @@ class Transactions:
         return entries
 
     def advance_time(self, at: int) -> None:
-        """Lets time pass."""
+        """Advances the clock."""
         self.now = max(self.now, at)
 
     def host(self, line: int, at: int, packet: bytes, owned: Owned) -> None:

@@ -38,7 +38,7 @@ def repeat_counter(key: Any, old: Any, at: int, channel: int) -> Any:
 
 
 def never_time_out(key: Any, old: Any, at: int, channel: int) -> Any:
-    """Lets pending assertions never time out."""
+    """Never discards pending assertions by the timeout."""
     if key.pending is not None:
         key.pending.at = key.transport.at
     return old(at, channel)

@@ -450,7 +450,7 @@ CREDENTIAL_MUTANTS: List[Mutant] = [
 
 
 def keep_pending(key: Any, old: Any, at: int, channel: int, data: bytes, command: int) -> Any:
-    """Lets pending assertions survive a command."""
+    """Keeps pending assertions after a command."""
     before = key.pending
     answer = yield from old(at, channel, data)
     if data[0] == command and key.pending is None:

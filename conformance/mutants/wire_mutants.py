@@ -82,7 +82,7 @@ def keep_early_touch(key: Any, old: Any, at: int, reply: str = "granted") -> Non
 
 
 def use_kept_touch(key: Any, old: Any, reply: str = "") -> None:
-    """Uses a touch that was kept from before the request."""
+    """Uses a touch from before the request."""
     old(reply)
     now = key.transport.now
     if now is not None and now.work is not None and getattr(key, "kept_touch", False):

@@ -1,7 +1,8 @@
 #!/usr/bin/env python3
-"""Credential management with python-fido2: python_stored.py PROTOCOL [uv]. Registers with large blob keys, lists,
-renames and deletes credentials, and writes a large blob; `uv` uses built-in user verification instead of a PIN. Writes
-and reads packets as lines, and ends with a line `ok` or `refused`."""
+"""Uses credential management with python-fido2: python_stored.py PROTOCOL [uv]
+
+Registers with large blob keys, lists, renames and deletes credentials, and writes a large blob. `uv` uses built-in user
+verification instead of a PIN. Writes and reads packets as lines, and ends with a line `ok` or `refused`."""
 
 from __future__ import annotations
 

@@ -57,7 +57,7 @@ def list_running_commands() -> str:
 
 
 def check_none_left() -> None:
-    """Checks that no command is left; one that was just starting ends at the end of its input."""
+    """Checks that no command is running. A command that was just starting exits at the end of its input."""
     end = time.monotonic() + 60
     while list_running_commands() and time.monotonic() < end:
         time.sleep(0.2)

@@ -104,14 +104,14 @@ def test_unexplained_failure() -> None:
 
 
 def fail_whole(device: Any, session: Session, *words: Any) -> Outcome:
-    """Lets each combined case fail."""
+    """Fails each combined case, and plays other cases."""
     if " and " in session.name:
         return Outcome(session, "not ok", "", "something else", "what came", 1, session.section)
     return play_one(device, session, *words)
 
 
 def pass_whole(device: Any, session: Session, *words: Any) -> Outcome:
-    """Lets each combined case pass."""
+    """Passes each combined case, and plays other cases."""
     return Outcome(session, "ok") if " and " in session.name else play_one(device, session, *words)
 
 

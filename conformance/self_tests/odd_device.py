@@ -1,7 +1,7 @@
 #!/usr/bin/env python3
 """An authenticator that is conforming but unusual, or broken: odd_device.py KIND
 
-It is others/python_key.py, with other packets before, after or instead of the responses.
+It runs others/python_key.py, and sends other packets before, after or instead of its responses.
 """
 
 from __future__ import annotations
@@ -71,7 +71,7 @@ class OddKey:
         self.key.hid.packet(now_ms(), packet)
 
     def tick(self) -> None:
-        """Lets time pass."""
+        """Advances the clock."""
         for ready, packet in self.kept[:]:
             if now_ms() >= ready:
                 self.kept.remove((ready, packet))

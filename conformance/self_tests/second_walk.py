@@ -153,7 +153,7 @@ class Walk:
                 transaction.end = "unanswered" if transaction.whole else "not whole"
 
     def advance_time(self, at: int) -> None:
-        """Lets time pass."""
+        """Advances the clock."""
         self.now = max(self.now, at)
 
     def host(self, line: int, at: int, packet: bytes) -> Entry:

@@ -32,7 +32,7 @@ class Blobs:
     """Methods of cases that read and write arrays."""
 
     def blobs(self: Any, asked: Dict[int, Any]) -> Any:
-        """Sends the command."""
+        """Sends authenticatorLargeBlobs."""
         self.cbor(COMMAND + encode(asked))
         return self
 
@@ -41,7 +41,7 @@ class Blobs:
         return self.blobs({READ: count, OFFSET: offset})
 
     def holds(self: Any, array: bytes) -> Any:
-        """Reads the whole array and compares it."""
+        """Reads the array, and expects these bytes."""
         return self.read().expect(f"piece {array.hex()}")
 
     def write(self: Any, piece: bytes, offset: int = 0, length: Optional[int] = None, **more: Any) -> Any:
@@ -84,7 +84,7 @@ class TokenCase(Blobs, PinCase):
 
 
 def read_cases() -> List[Case]:
-    """Reads."""
+    """Returns cases about reads."""
     cases: List[Case] = []
     cases.append(BlobCase("begins_empty", "The initial array is empty.").holds(EMPTY_ARRAY))
     case = BlobCase("read_in_pieces", "A read returns the requested number of bytes from the offset.")
@@ -120,7 +120,7 @@ def read_cases() -> List[Case]:
 
 
 def write_cases() -> List[Case]:
-    """Successful writes."""
+    """Returns cases about successful writes."""
     cases: List[Case] = []
     case = BlobCase("written", "A written array can be read.")
     cases.append(case.whole(ARRAY_WITH_ENTRY).expect("status 00").holds(ARRAY_WITH_ENTRY))
@@ -164,7 +164,7 @@ def write_cases() -> List[Case]:
 
 
 def invalid_write_cases() -> List[Case]:
-    """Refused writes."""
+    """Returns cases about refused writes."""
     cases: List[Case] = []
     case = BlobCase("wrong_hash", "An array with a wrong hash is refused, and the old one stays.")
     case.whole(OTHER_ARRAY).expect("status 00").whole(ARRAY_WITH_ENTRY[:-1] + b"\0").expect("status 3d")
@@ -196,7 +196,7 @@ def invalid_write_cases() -> List[Case]:
 
 
 def token_cases(protocol: int) -> List[Case]:
-    """Writes with a PIN set."""
+    """Returns cases about writes with a PIN set."""
     cases: List[Case] = []
     case = TokenCase("by_token", "With a PIN set, a token can write.", protocol)
     cases.append(case.writing().authentic().expect("status 00").holds(ARRAY_WITH_ENTRY))
@@ -222,7 +222,7 @@ def token_cases(protocol: int) -> List[Case]:
 
 
 def blob_key_cases() -> List[Case]:
-    """The extension largeBlobKey."""
+    """Returns cases about the extension largeBlobKey."""
     cases: List[Case] = []
     found: Dict[str, Any] = {"needs": ["touch", "reset"], "uses": ["rk", "extension largeBlobKey"]}
     asked = {"largeBlobKey": True}
@@ -267,7 +267,7 @@ def blob_key_cases() -> List[Case]:
 
 
 def credential_management_cases(protocol: int) -> List[Case]:
-    """Large blob keys in credential management."""
+    """Returns cases about large blob keys in credential management."""
     case = ManageCase("blob_key", "Credential management returns the large blob key.", protocol)
     case.comment("uses: extension largeBlobKey")
     case.make(p6={"largeBlobKey": True}, p7={"rk": True}).made(1, "up blob-key one").with_pin()

@@ -108,7 +108,7 @@ def list_kinds() -> List[Tuple[str, bytes, str, Dict[str, str]]]:
 
 
 def refusal_cases() -> List[Case]:
-    """Each kind of error, at levels 2, 3 and 4, and instead of the parameters."""
+    """Returns cases about each kind of error: at levels 2, 3 and 4, and in place of the parameters."""
     cases = []
     for name, item, answer, more in list_kinds():
         says = f"An item that is not canonical CBOR ({name.replace('_', ' ')}, {item.hex()}) is refused"
@@ -125,7 +125,7 @@ def refusal_cases() -> List[Case]:
 
 
 def message_cases() -> List[Case]:
-    """Errors of a message as a whole, and nesting."""
+    """Returns cases about errors of a message as a whole, and about nesting."""
     cases = []
     good = encode(registration_parameters())
     for name, more in (("integer", b"\0"), ("null", b"\xf6"), ("map", b"\xa0"), ("break", b"\xff")):
@@ -154,7 +154,7 @@ def message_cases() -> List[Case]:
 
 
 def ignored_item_cases() -> List[Case]:
-    """Canonical but unknown items, which are ignored."""
+    """Returns cases about unknown members in canonical CBOR, which are ignored."""
     cases = []
     ignored = [(64 + place, name, value) for place, (name, value) in enumerate(IGNORED_ITEMS.items())]
     for number, name, value in [*ignored, (255, "last_null", None)]:

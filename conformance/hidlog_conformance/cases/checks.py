@@ -150,7 +150,7 @@ def replace_value(asked: Asked, key: int, value: Any) -> bytes:
 
 
 def type_cases(chapter: str, command: bytes, good: Asked, known: Dict[int, Tuple[str, str]]) -> List[Case]:
-    """Parameters with wrong types, and parameters that are not a map."""
+    """Returns cases about parameters with wrong types, and parameters that are not a map."""
     cases = []
     section = chapter
     for key, name, other, value in list_wrong_types(known):
@@ -172,7 +172,7 @@ def type_cases(chapter: str, command: bytes, good: Asked, known: Dict[int, Tuple
 
 
 def member_type_cases() -> List[Case]:
-    """Members with a wrong type, or missing."""
+    """Returns cases about members with a wrong type, or missing."""
     cases = []
     for name, key, value, status in MAKE_INSIDE:
         error = "A member of a wrong type" if status == "11" else "A missing member"
@@ -202,7 +202,7 @@ def member_type_cases() -> List[Case]:
 
 
 def invalid_value_cases() -> List[Case]:
-    """Invalid values with right types."""
+    """Returns cases about invalid values of the right type."""
     cases = []
     for length in (0, 31, 33, 64):
         for chapter, key in (("make", "p1"), ("get", "p2")):
@@ -226,7 +226,7 @@ def invalid_value_cases() -> List[Case]:
 
 
 def valid_value_cases() -> List[Case]:
-    """Valid values, and invalid options and PINs."""
+    """Returns cases about valid values, and invalid options and PINs."""
     cases = []
     both = [{"alg": -65535, "type": KIND}, {"alg": -7, "type": "other"}, {"alg": -7, "type": KIND}]
     case = Case("make/algorithms_last", "make", "The first supported algorithm is chosen.", needs=["touch"])
@@ -270,7 +270,7 @@ def pair_case(chapter: str, command: bytes, good: Asked, first: Check, second: C
 
 
 def order_cases(chapter: str, command: bytes, good: Callable[[], Asked], checks: List[Check]) -> List[Case]:
-    """Each check alone, and each pair."""
+    """Returns cases in which one check fails, and in which two checks fail."""
     cases = []
     for place, check in enumerate(checks):
         requirement = f"An otherwise valid request with {ERRORS[check.name]} is refused."

@@ -140,7 +140,7 @@ class Case:
         return self.cbor(GET + encode(sign_in_parameters(**changes)), channel)
 
     def tick(self, milliseconds: int = 0) -> Self:
-        """Lets time pass."""
+        """Adds a tick."""
         self.at += milliseconds
         self.lines.append(f"t {self.at}")
         return self
@@ -151,7 +151,7 @@ class Case:
         return self
 
     def presence(self, word: str = "granted") -> Self:
-        """Lets the user reply."""
+        """Adds a reply of the user."""
         self.at += 10
         self.lines.append(f"p {self.at} {word}")
         return self
@@ -167,7 +167,7 @@ class Case:
         return self
 
     def made(self, number: int, words: str = "up", channel: int = 1) -> Self:
-        """Lets the user touch for a registration, and expects a credential."""
+        """Adds a touch for a registration, and expects a credential."""
         self.presence().key(number).sign()
         return self.expect(f"made {words}" + (f" on {channel:08x}" if channel != 1 else ""))
 
@@ -184,7 +184,7 @@ class Case:
         return self.make(channel, **changes).made(number, channel=channel)
 
     def asserted(self, words: str, channel: int = 1, presence: bool = True) -> Self:
-        """Lets the user touch for a sign-in, and expects an assertion."""
+        """Adds a touch for a sign-in, and expects an assertion."""
         if presence:
             self.presence()
         self.sign()

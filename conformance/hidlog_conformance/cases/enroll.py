@@ -52,7 +52,7 @@ class EnrollCase(PinCase):
 
 
 def template_cases(protocol: int) -> List[Case]:
-    """Enrolment, and changes of templates."""
+    """Returns cases about enrolment, and changes of templates."""
     cases: List[Case] = []
     case = EnrollCase("whole", "A finger is enrolled by its samples, and listed (6.7.4, 6.7.6).", protocol)
     case.enrolling().cbor(INFO).expect("option bioEnroll false").enrolled().cbor(INFO).expect("option bioEnroll true")
@@ -78,7 +78,7 @@ def template_cases(protocol: int) -> List[Case]:
 
 
 def refusal_cases(protocol: int) -> List[Case]:
-    """Requests without a token, or with a wrong one (6.7.4 to 6.7.8)."""
+    """Returns cases about requests without a token, or with a wrong one (6.7.4 to 6.7.8)."""
     cases: List[Case] = []
     asked: Dict[str, Any] = {
         "begin": (BEGIN, {3: 10000}),

@@ -14,7 +14,7 @@ COUNTER_INCREASES = "rp example.com up counter-rises"
 
 
 def info_cases() -> List[Case]:
-    """authenticatorGetInfo."""
+    """Returns cases about authenticatorGetInfo."""
     cases = []
     case = Case(
         "info/shape", "info", "The response is a map with versions and an AAGUID of 16 bytes, in canonical CBOR."
@@ -43,7 +43,7 @@ def info_cases() -> List[Case]:
 
 
 def registration_cases() -> List[Case]:
-    """Registrations, and the user's replies."""
+    """Returns cases about registrations, and the user's replies."""
     cases = []
     case = Case(
         "make/answer",
@@ -69,7 +69,7 @@ def registration_cases() -> List[Case]:
 
 
 def missing_key_cases() -> List[Case]:
-    """Registrations without a key pair, signature or capacity."""
+    """Returns cases about registrations without a key pair, signature or capacity."""
     cases = []
     case = Case("make/no_key", "make", "If no key pair can be made, the response is an error.", needs=["refusal"])
     case.comment("profile: the standard does not say which error")
@@ -96,7 +96,7 @@ def missing_key_cases() -> List[Case]:
 
 
 def exclude_list_cases() -> List[Case]:
-    """Exclude lists."""
+    """Returns cases about exclude lists."""
     cases = []
     lists: Dict[str, List[Any]] = {
         "one": [descriptor(1)],
@@ -123,7 +123,7 @@ def exclude_list_cases() -> List[Case]:
 
 
 def exclude_without_match_cases() -> List[Case]:
-    """Exclude lists without a credential of the RP, and the touch before the error."""
+    """Returns cases about exclude lists without a credential of the RP, and the touch before the error."""
     cases = []
     passes: Dict[str, List[Any]] = {"empty": [], "unknown": [descriptor(9)], "other_type": [descriptor(1, "other")]}
     for name, exclude in passes.items():
@@ -154,7 +154,7 @@ def exclude_without_match_cases() -> List[Case]:
 
 
 def allow_list_cases() -> List[Case]:
-    """Allow lists."""
+    """Returns cases about allow lists."""
     cases = []
     found: Dict[str, List[Any]] = {
         "one": [descriptor(1)],
@@ -170,7 +170,7 @@ def allow_list_cases() -> List[Case]:
 
 
 def allow_without_match_cases() -> List[Case]:
-    """Allow lists without a credential of the RP."""
+    """Returns cases about allow lists without a credential of the RP."""
     cases = []
     missing: Dict[str, List[Any]] = {
         "unknown": [descriptor(9)],
@@ -191,7 +191,7 @@ def allow_without_match_cases() -> List[Case]:
 
 
 def allow_several_cases() -> List[Case]:
-    """Allow lists of several credentials, and empty ones."""
+    """Returns cases about allow lists of several credentials, and empty ones."""
     cases = []
     case = Case(
         "lists/allow_two",
@@ -234,7 +234,7 @@ def allow_several_cases() -> List[Case]:
 
 
 def sign_in_cases() -> List[Case]:
-    """Counters, and user presence."""
+    """Returns cases about counters, and user presence."""
     cases = []
     case = Case("get/counter_rises", "get", "The counter rises at each sign-in.", **TOUCH)
     case.greet().register(1)
@@ -272,7 +272,7 @@ def sign_in_cases() -> List[Case]:
 
 
 def refused_sign_in_cases() -> List[Case]:
-    """Refused sign-ins, and sign-ins without a list."""
+    """Returns cases about refused sign-ins, and sign-ins without a list."""
     cases = []
     for word in ("denied", "timeout"):
         case = Case(f"get/user_{word}", "get", "Without user presence nothing is signed.", needs=["denial"])
@@ -303,7 +303,7 @@ def refused_sign_in_cases() -> List[Case]:
 
 
 def same_user_cases() -> List[Case]:
-    """The same user again, and other RPs."""
+    """Returns cases about repeated registrations of a user, and about other RPs."""
     cases = []
     case = Case(
         "get/same_user_again", "get", "A discoverable credential replaces that of the same RP and user.", **EMPTY
@@ -334,7 +334,7 @@ def register_three_users(case: Case) -> Case:
 
 
 def next_assertion_cases() -> List[Case]:
-    """authenticatorGetNextAssertion."""
+    """Returns cases about authenticatorGetNextAssertion."""
     cases = []
     case = register_three_users(
         Case("next/newest_first", "next", "The other assertions follow, each once, newest first.", **EMPTY)
@@ -350,7 +350,7 @@ def next_assertion_cases() -> List[Case]:
 
 
 def pending_time_cases() -> List[Case]:
-    """How long assertions are pending."""
+    """Returns cases about the timeout of pending assertions."""
     cases = []
     case = register_three_users(
         Case(
@@ -384,7 +384,7 @@ def pending_time_cases() -> List[Case]:
 
 
 def interleaved_cases() -> List[Case]:
-    """Other messages between assertions."""
+    """Returns cases about other messages between assertions."""
     cases = []
     case = register_three_users(Case("next/ping_between", "next", "A PING in between has no effect.", **EMPTY))
     cases.append(case.alive().cbor(NEXT).asserted(f"{COUNTER_INCREASES} user 02", presence=False))
@@ -426,7 +426,7 @@ def interleaved_cases() -> List[Case]:
 
 
 def new_sign_in_cases() -> List[Case]:
-    """New sign-ins, and the flags of the first assertion."""
+    """Returns cases about new sign-ins, and the flags of the first assertion."""
     cases = []
     case = register_three_users(
         Case("next/new_sign_in", "next", "A new sign-in starts over with the newest credential.", **EMPTY)
@@ -448,7 +448,7 @@ def new_sign_in_cases() -> List[Case]:
 
 
 def reset_cases() -> List[Case]:
-    """authenticatorReset and authenticatorSelection."""
+    """Returns cases about authenticatorReset and authenticatorSelection."""
     cases = []
     case = Case("reset/granted", "reset", "A reset with a touch returns 00.", **NEW_TOUCH)
     cases.append(case.greet().cbor(RESET).presence().expect("status 00").alive())
@@ -482,7 +482,7 @@ def reset_cases() -> List[Case]:
 
 
 def late_reset_cases() -> List[Case]:
-    """Resets too long after power-up."""
+    """Returns cases about resets more than ten seconds after power-up."""
     cases = []
     case = Case("reset/too_late", "reset", "A reset more than 10 seconds after power-up is refused.", **NEW_TOUCH)
     case.comment("uses: no display")
@@ -497,7 +497,7 @@ def late_reset_cases() -> List[Case]:
 
 
 def selection_cases() -> List[Case]:
-    """authenticatorSelection."""
+    """Returns cases about authenticatorSelection."""
     cases = []
     for word, status in (("granted", "00"), ("denied", "27"), ("timeout", "2f")):
         need = "touch" if word == "granted" else "denial"

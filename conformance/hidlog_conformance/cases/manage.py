@@ -63,7 +63,7 @@ class ManageCase(PinCase):
 
 
 def count_cases(protocol: int) -> List[Case]:
-    """The number of credentials."""
+    """Returns cases about the number of credentials."""
     cases: List[Case] = []
     case = ManageCase("count", "The metadata has the number of discoverable credentials.", protocol)
     cases.append(case.stored_at_several().with_pin().managing().manage(COUNT).expect("managed count 4"))
@@ -79,7 +79,7 @@ def count_cases(protocol: int) -> List[Case]:
 
 
 def listing_cases(protocol: int) -> List[Case]:
-    """Enumerations of RPs and credentials."""
+    """Returns cases about enumerations of RPs and credentials."""
     cases: List[Case] = []
     case = ManageCase("rps", "Each RP with a discoverable credential is listed once.", protocol)
     case.stored_at_several().with_pin()
@@ -116,7 +116,7 @@ def listing_cases(protocol: int) -> List[Case]:
 
 
 def change_cases(protocol: int) -> List[Case]:
-    """Deletions, and updates of user information."""
+    """Returns cases about deletions, and updates of user information."""
     cases: List[Case] = []
     case = ManageCase("delete", "A deleted credential is gone, and others stay.", protocol)
     case.stored(1, 2).with_pin().managing().manage(DELETE, {2: descriptor(1)}).expect("status 00")
@@ -146,7 +146,7 @@ def change_cases(protocol: int) -> List[Case]:
 
 
 def refusal_cases(protocol: int) -> List[Case]:
-    """Requests without a token, with a wrong one, or with missing parameters."""
+    """Returns cases about requests without a token, with a wrong one, or with missing parameters."""
     cases: List[Case] = []
     asked: Dict[str, Any] = {
         "count": (COUNT, None),

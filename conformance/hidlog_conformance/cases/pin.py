@@ -75,7 +75,7 @@ class PinCase(Case):
 
 
 def set_pin_cases(protocol: int) -> List[Case]:
-    """Sets and changes PINs."""
+    """Returns cases about setPIN and changePIN."""
     cases: List[Case] = []
     case = PinCase("pin/set", "pin", "A PIN can be set, and getInfo shows it.", protocol)
     cases.append(case.with_pin().cbor(INFO).expect("option clientPin true"))
@@ -103,7 +103,7 @@ def set_pin_cases(protocol: int) -> List[Case]:
 
 
 def wrong_pin_cases(protocol: int) -> List[Case]:
-    """Wrong PINs and retries."""
+    """Returns cases about wrong PINs and retries."""
     cases: List[Case] = []
     case = PinCase(
         "pin/retries", "pin", "A wrong PIN decrements the retries, and the right one restores them.", protocol
@@ -122,7 +122,7 @@ def wrong_pin_cases(protocol: int) -> List[Case]:
 
 
 def token_cases(protocol: int) -> List[Case]:
-    """Permissions of tokens."""
+    """Returns cases about permissions of tokens."""
     cases: List[Case] = []
     case = PinCase("pin/registers", "make", "With a token flag UV is set.", protocol)
     cases.append(case.with_pin().token().register_with_token().made(1, "up uv"))
@@ -160,7 +160,7 @@ def token_cases(protocol: int) -> List[Case]:
 
 
 def hmac_secret_cases(protocol: int) -> List[Case]:
-    """hmac-secret."""
+    """Returns cases about hmac-secret."""
     cases: List[Case] = []
     asked: Dict[int, Any] = {1: b"=agreement", 2: b"=encrypt:" + b"1" * 32, 3: b"=auth:2", 4: protocol}
     other, two = {**asked, 2: b"=encrypt:" + b"2" * 32}, {**asked, 2: b"=encrypt:" + b"1" * 32 + b"2" * 32}
@@ -191,7 +191,7 @@ def hmac_secret_cases(protocol: int) -> List[Case]:
 
 
 def extension_cases() -> List[Case]:
-    """credProtect, credBlob, and hmac-secret at a registration."""
+    """Returns cases about credProtect, credBlob, and hmac-secret at a registration."""
     cases: List[Case] = []
     found: Dict[str, Any] = {"needs": ["touch", "reset"], "uses": ["rk", "extension credProtect"]}
     for level in (1, 2, 3):

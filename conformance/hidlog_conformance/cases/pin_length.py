@@ -66,7 +66,7 @@ def cases_of(protocol: int) -> List[Case]:
 
 
 def cases_without(protocol: int) -> List[Case]:
-    """minPinLengthRPIDs is refused without the extension (6.11.4, step 2)."""
+    """Returns a case about minPinLengthRPIDs without the extension, which is refused (6.11.4, step 2)."""
     requirement = "minPinLengthRPIDs is refused without the extension minPinLength (6.11.4)."
     case = ConfigCase("rp_ids_without_extension", requirement, protocol, "config", "setMinPINLength")
     case.comment(f"uses: no extension {EXTENSION}")

@@ -13,7 +13,7 @@ FOUND: Dict[str, Any] = {"needs": ["touch", "reset", "power cycle"], "uses": ["r
 
 
 def kept_cases() -> List[Case]:
-    """Credentials and their counters."""
+    """Returns cases about credentials and their counters."""
     cases = []
     case = Case("power/credential_stays", "get", "A credential survives a power cycle.", **POWER_CYCLE_RULE)
     cases.append(case.greet().register(1).power_cycle().greet().get(p3=[descriptor(1)]).asserted(COUNTER_INCREASES))
@@ -58,7 +58,7 @@ def kept_cases() -> List[Case]:
 
 
 def not_kept_cases() -> List[Case]:
-    """Removed credentials, and those that were never made."""
+    """Returns cases about removed credentials, and those that were never made."""
     cases = []
     case = Case(
         "power/replaced_stays_replaced", "get", "A replaced credential stays gone after a power cycle.", **FOUND
@@ -81,7 +81,7 @@ def not_kept_cases() -> List[Case]:
 
 
 def forgotten_cases() -> List[Case]:
-    """Pending assertions, channels, messages and requests."""
+    """Returns cases about pending assertions, channels, messages and requests."""
     cases = []
     case = register_three_users(
         Case("power/pending_is_gone", "next", "Pending assertions are lost at a power cycle.", **FOUND)

@@ -27,7 +27,7 @@ def check_sentences(rules: Dict[str, str]) -> None:
 
 
 def format_cases(patterns: str) -> str:
-    """Formats the cases of a requirement, those for clients last."""
+    """Formats the names of a requirement's cases; sessions for clients come last."""
     words = patterns.split()
     device = [f"`{word}`" for word in words if not word.startswith("client:")]
     client = [f"`{word[len('client:'):]}`" for word in words if word.startswith("client:")]

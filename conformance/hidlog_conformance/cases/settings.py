@@ -48,7 +48,7 @@ class ConfigCase(PinCase):
 
 
 def min_pin_cases(protocol: int) -> List[Case]:
-    """setMinPINLength (6.11.4)."""
+    """Returns cases about setMinPINLength (6.11.4)."""
     cases: List[ConfigCase] = []
 
     def add(name: str, requirement: str, section: str = "config") -> ConfigCase:
@@ -94,7 +94,7 @@ def min_pin_cases(protocol: int) -> List[Case]:
 
 
 def always_uv_cases(protocol: int) -> List[Case]:
-    """toggleAlwaysUv (6.11.2)."""
+    """Returns cases about toggleAlwaysUv (6.11.2)."""
     case = ConfigCase("always_uv", "alwaysUv can be turned on, and then requests need a token (6.11.2).", protocol)
     case.comment("uses: option alwaysUv")
     case.with_pin().configuring().configure(ALWAYS_UV).expect("status 00").shows("option alwaysUv true")
@@ -102,7 +102,7 @@ def always_uv_cases(protocol: int) -> List[Case]:
 
 
 def enterprise_cases(protocol: int) -> List[Case]:
-    """Enterprise attestation (6.1.2, step 9; 6.11.1)."""
+    """Returns cases about enterprise attestation (6.1.2, step 9; 6.11.1)."""
     cases: List[Case] = []
     for name, kind, words in (("enterprise", 2, "up uv ep"), ("enterprise_of_vendor", 1, "up uv")):
         case = ConfigCase(name, "Enabled enterprise attestation is accepted (6.1.2, step 9).", protocol, "make", "ep")
@@ -124,7 +124,7 @@ def enterprise_cases(protocol: int) -> List[Case]:
 
 
 def refusal_cases(protocol: int) -> List[Case]:
-    """Requests without a token, with a wrong one, or with an unknown subcommand (6.11)."""
+    """Returns cases about requests without a token, with a wrong one, or with an unknown subcommand (6.11)."""
     cases: List[Case] = []
     asked: Dict[str, Any] = {
         "enterprise": (ENTERPRISE, None, "ep"),
@@ -173,7 +173,7 @@ def block_pin(case: PinCase) -> PinCase:
 
 
 def blocked_cases(protocol: int) -> List[Case]:
-    """A PIN without retries (6.5.5.7, steps of both token subcommands)."""
+    """Returns cases about a PIN without retries (6.5.5.7, steps of both token subcommands)."""
     cases: List[Case] = []
     for name in ("token", "change", "reset"):
         section = "reset" if name == "reset" else "pin"

@@ -17,7 +17,7 @@ VERSION = bytes([0, 3, 0, 0])
 
 
 def similar_id_cases() -> List[Case]:
-    """IDs similar to those of credentials."""
+    """Returns cases about IDs similar to those of credentials."""
     cases = []
     for kind in ("changed", "longer", "shorter"):
         case = Case(f"lists/allow_{kind}", "get", f"A {kind} credential ID matches no credential.", **TOUCH)
@@ -43,7 +43,7 @@ def similar_id_cases() -> List[Case]:
 
 
 def state_cases() -> List[Case]:
-    """State that a request must not leave."""
+    """Returns cases about state that a request must not leave."""
     cases = []
     case = Case("next/after_reset", "next", "After a reset nothing is pending.", **EMPTY)
     case.greet().register(1, rk=True, p3=user(1)).register(2, rk=True, p3=user(2))
@@ -84,7 +84,7 @@ def state_cases() -> List[Case]:
 
 
 def counter_cases() -> List[Case]:
-    """Counters of further assertions, and of several credentials."""
+    """Returns cases about counters of further assertions, and of several credentials."""
     cases = []
     case = Case("next/counter_rises", "next", "The counters of further assertions rise, too.", **EMPTY)
     case.greet().register(1, rk=True, p3=user(1)).register(2, rk=True, p3=user(2))
@@ -118,7 +118,7 @@ def counter_cases() -> List[Case]:
 
 
 def long_request_cases() -> List[Case]:
-    """Unchanged user IDs, long requests, and many credentials."""
+    """Returns cases about unchanged user IDs, long requests, and many credentials."""
     cases = []
     for length in (16, 33, 64):
         case = Case(
@@ -182,7 +182,7 @@ def fill_and_sign_in(name: str, rps: int) -> Case:
 
 
 def algorithm_cases() -> List[Case]:
-    """Algorithms in getInfo."""
+    """Returns cases about algorithms in getInfo."""
     cases = []
     eddsa, es256 = {"alg": -8, "type": KIND}, {"alg": -7, "type": KIND}
     case = Case("make/eddsa", "make", "EdDSA works if getInfo has it.", **EDDSA)
@@ -207,7 +207,7 @@ def algorithm_cases() -> List[Case]:
 
 
 def capability_cases() -> List[Case]:
-    """Capabilities of INIT's response, and errors."""
+    """Returns cases about capabilities of INIT's response, and errors."""
     cases = []
     case = Case("commands/msg_version", "msg", "Without the capability NMSG, CTAPHID_MSG is supported.", uses=["msg"])
     cases.append(case.greet().send(1, hid.MSG, VERSION + bytes(3)).expect("message 03 5532465f56329000").alive())

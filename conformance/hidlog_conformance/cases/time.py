@@ -13,7 +13,7 @@ EXACT_TIME: Dict[str, Any] = {"needs": ["exact time"], "profile": PROFILE_CHOICE
 
 
 def timeout_cases() -> List[Case]:
-    """Incomplete messages."""
+    """Returns cases about incomplete messages."""
     cases = []
     case = Case("time/message_is_given_up", "timeout", "An incomplete message times out with an ERROR.")
     cases.append(case.greet().begin(1).tick(4000).expect("maybe error 05").alive())
@@ -55,7 +55,7 @@ def timeout_cases() -> List[Case]:
 
 
 def keepalive_cases() -> List[Case]:
-    """KEEPALIVEs during a request."""
+    """Returns cases about KEEPALIVEs during a request."""
     cases = []
     case = Case(
         "keepalive/asks_for_the_user",
@@ -86,7 +86,7 @@ def keepalive_cases() -> List[Case]:
 
 
 def keepalive_end_cases() -> List[Case]:
-    """The channel and status of KEEPALIVEs, and their end."""
+    """Returns cases about the channel and status of KEEPALIVEs, and their end."""
     cases = []
     case = Case("keepalive/status_changes", "keepalive", "A KEEPALIVE is sent when the status changes.")
     case.comment("needs: exact time")
@@ -106,7 +106,7 @@ def keepalive_end_cases() -> List[Case]:
 
 
 def cancel_cases() -> List[Case]:
-    """CANCEL of each command that waits for a touch."""
+    """Returns cases about CANCEL of each command that waits for a touch."""
     cases = []
     waiting = (("make", None), ("selection", SELECTION), ("reset", RESET))
     for name, data in waiting:
@@ -139,7 +139,7 @@ def cancel_cases() -> List[Case]:
 
 
 def ignored_cancel_cases() -> List[Case]:
-    """CANCEL without a pending request."""
+    """Returns cases about CANCEL without a pending request."""
     cases = []
     for place, channel in (("own", 1), ("strange", 9), ("broadcast", hid.BROADCAST)):
         case = Case(f"cancel/nothing_waits_{place}", "cancel", "A CANCEL without a pending request is ignored.")
@@ -159,7 +159,7 @@ def ignored_cancel_cases() -> List[Case]:
 
 
 def host_cases() -> List[Case]:
-    """Sessions of two or more hosts."""
+    """Returns cases about sessions of two or more hosts."""
     cases = []
     case = Case("hosts/each_its_channel", "busy", "Two hosts can take turns.")
     case.greet(2)
@@ -185,7 +185,7 @@ def host_cases() -> List[Case]:
 
 
 def later_host_cases() -> List[Case]:
-    """Hosts that send after another host."""
+    """Returns cases about hosts that send after another host."""
     cases = []
     case = Case("hosts/served_after_the_wait", "busy", "After the transaction another host can send.")
     case.greet(2).begin(1).send(2, hid.PING, b"a").expect("error 06 on 2").go_on(1).expect("echo")

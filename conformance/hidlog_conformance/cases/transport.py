@@ -14,7 +14,7 @@ SIZES = (0, 1, 2, 56, 57, 58, 59, 115, 116, 117, 118, 174, 175, 176, 256, 512, 1
 
 
 def ping_cases() -> List[Case]:
-    """PINGs with lengths around packet boundaries."""
+    """Returns cases about PINGs with lengths around packet boundaries."""
     cases = []
     for size in SIZES + (7608, 7609):
         more: Dict[str, Any] = {"uses": ["messages of 7609"]} if size > 1024 else {}
@@ -40,7 +40,7 @@ def ping_cases() -> List[Case]:
 
 
 def init_cases() -> List[Case]:
-    """INIT on the broadcast channel and on an allocated one."""
+    """Returns cases about INIT on the broadcast channel and on an allocated one."""
     cases = []
     for name, nonce in (
         ("count", NONCE),
@@ -76,7 +76,7 @@ def init_cases() -> List[Case]:
 
 
 def invalid_init_cases() -> List[Case]:
-    """INIT with a wrong length."""
+    """Returns cases about INIT with a wrong length."""
     cases = []
     for length in (0, 1, 7, 9, 16, 57):
         for place, channel in (("broadcast", hid.BROADCAST), ("own_channel", 1)):
@@ -88,7 +88,7 @@ def invalid_init_cases() -> List[Case]:
 
 
 def channel_cases() -> List[Case]:
-    """Channels that were not allocated, channel 0 and the broadcast channel."""
+    """Returns cases about channels that were not allocated, channel 0 and the broadcast channel."""
     cases = []
     commands = (
         ("ping", hid.PING, b"a"),
@@ -120,7 +120,7 @@ def channel_cases() -> List[Case]:
 
 
 def command_cases() -> List[Case]:
-    """Unsupported commands, and invalid lengths."""
+    """Returns cases about unsupported commands, and invalid lengths."""
     cases = []
     served = {"msg": (hid.MSG, ["no msg"]), "wink": (hid.WINK, ["no wink"])}
     for name, (command, uses) in served.items():
@@ -151,7 +151,7 @@ def command_cases() -> List[Case]:
 
 
 def sequence_cases() -> List[Case]:
-    """Continuation packets out of order."""
+    """Returns cases about continuation packets out of order."""
     cases = []
     for name, number in (("skips_one", 1), ("far", 5), ("last", 0x7F)):
         case = Case(

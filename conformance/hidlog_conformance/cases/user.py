@@ -34,7 +34,7 @@ class UserCase(PinCase):
 
 
 def option_cases() -> List[Case]:
-    """Requests with the option uv."""
+    """Returns cases about requests with the option uv."""
     cases: List[Case] = []
     case = Case("user/registers", "make", "With the option uv flag UV is set.", **VERIFIED)
     cases.append(case.greet().make(p7=UV).made(1, "up uv"))
@@ -78,7 +78,7 @@ def option_cases() -> List[Case]:
 
 
 def account_cases() -> List[Case]:
-    """Several accounts, and credential protection."""
+    """Returns cases about several accounts, and credential protection."""
     cases: List[Case] = []
     requirement = "With user verification the names of several accounts are returned."
     case = Case("user/names_of_several", "get", requirement, **NEW_TOUCH, level="should")
@@ -99,7 +99,7 @@ def account_cases() -> List[Case]:
 
 
 def token_cases(protocol: int) -> List[Case]:
-    """Tokens by built-in user verification."""
+    """Returns cases about tokens by built-in user verification."""
     cases: List[Case] = []
     case = UserCase("token_registers", "pin", "The device verifies the user before it issues a token.", protocol)
     cases.append(case.get_user_token().register_with_token().made(1, "up uv"))

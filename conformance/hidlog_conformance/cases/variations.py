@@ -13,7 +13,7 @@ ORG: Dict[str, Any] = {"p2": {"id": "example.org", "name": "x"}}
 
 
 def list_cases() -> List[Case]:
-    """IDs, types and RPs in lists."""
+    """Returns cases about IDs, types and RPs in lists."""
     cases = []
     for kind in ("changed", "longer", "shorter"):
         case = Case(
@@ -57,7 +57,7 @@ def list_cases() -> List[Case]:
 
 
 def replaced_value_cases() -> List[Case]:
-    """Replaced credentials."""
+    """Returns cases about replaced credentials."""
     cases = []
     case = Case("get/two_hidden_stay", "get", "Non-discoverable credentials are not replaced.", **EMPTY)
     case.greet().register(1).register(2).register(3, rk=True)
@@ -77,7 +77,7 @@ def replaced_value_cases() -> List[Case]:
 
 
 def pending_cases() -> List[Case]:
-    """Pending assertions."""
+    """Returns cases about pending assertions."""
     cases = []
     case = Case("next/none_after_two", "next", "After the second of two assertions none is pending.", **EMPTY)
     case.greet().register(1, rk=True, p3=user(1)).register(2, rk=True, p3=user(2))
@@ -145,7 +145,7 @@ def pending_cases() -> List[Case]:
 
 
 def registration_cases() -> List[Case]:
-    """Flags, options, extensions and long requests."""
+    """Returns cases about flags, options, extensions and long requests."""
     cases = []
     case = Case("make/discoverable_without_uv", "make", "Without uv a discoverable credential has no flag UV.", **EMPTY)
     cases.append(case.greet().make(p7={"rk": True}).made(1, "up no-uv"))
@@ -185,7 +185,7 @@ def registration_cases() -> List[Case]:
 
 
 def transport_cases() -> List[Case]:
-    """Capabilities, U2F, timeouts and empty messages."""
+    """Returns cases about capabilities, U2F, timeouts and empty messages."""
     cases = []
     case = Case(
         "commands/msg_with_version", "error", "A complete APDU is refused without the capability.", uses=["no msg"]
@@ -215,7 +215,7 @@ def transport_cases() -> List[Case]:
 
 
 def other_cases() -> List[Case]:
-    """Timeouts of messages and of the user, and the order of checks."""
+    """Returns cases about timeouts of messages and of the user, and the order of checks."""
     cases = []
     case = Case(
         "time/host_hears_of_each", "timeout", "The ERROR should have the code 05 each time.", level="should"

@@ -71,12 +71,12 @@ class ReferenceDevice(Device):
         self.do(self.authenticator.transport.packet, at - self.base, packet)
 
     def tick(self, at: int) -> None:
-        """Lets time pass."""
+        """Advances the clock."""
         self.at = at
         self.do(self.authenticator.transport.tick, at - self.base)
 
     def presence(self, at: int, word: str) -> None:
-        """Lets the user touch, deny or time out."""
+        """Passes on the user's reply: a touch, a denial or a timeout."""
         self.at = at
         if word == "granted":
             self.work()
@@ -88,13 +88,13 @@ class ReferenceDevice(Device):
         self.do(self.authenticator.transport.touch, at, word)
 
     def work(self) -> None:
-        """Lets a slow authenticator serve its request."""
+        """Advances the clock until a slow authenticator has served its request."""
         now = self.authenticator.transport.now
         if now is not None and now.ready_at is not None:
             self.advance(now.ready_at - self.authenticator.transport.at)
 
     def read(self, seconds: float) -> Optional[bytes]:
-        """Returns the next packet, if any; lets a slow authenticator work until it has one."""
+        """Returns the next packet, or None. A slow authenticator first serves its request."""
         if not self.packets:
             self.work()
         return self.packets.popleft() if self.packets else None

@@ -118,7 +118,7 @@ class Requests:
         return value
 
     def inside(self, item: Dict[Any, Any], types: Types) -> None:
-        """Checks the members within parameters: types first, then required ones."""
+        """Checks the members of parameters that are maps: first their types, then that required members are present."""
         entities: List[Tuple[int, Dict[str, type], Tuple[str, ...]]] = []
         lists: List[Tuple[int, Dict[str, type], Tuple[str, ...]]] = []
         descriptor: Dict[str, type] = {"id": bytes, "type": str, "transports": list}
