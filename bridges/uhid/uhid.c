@@ -8,10 +8,10 @@
 // For tests only: the private keys are stored in the file in clear text.
 #define _POSIX_C_SOURCE 200809L
 #include "options.h"
+#include "packet_queue.h"
 #include "private_file.h"
 #include "snapshot.h"
 #include "state.h"
-#include "packet_queue.h"
 
 #include <errno.h>
 #include <fcntl.h>
@@ -348,9 +348,7 @@ static bool is_recording_path_allowed(const char *path) {
     }
     bool is_one = is_there && has_state && one.st_dev == other.st_dev && one.st_ino == other.st_ino;
     if (is_one || strcmp(path, state.path) == 0) {
-        fprintf(stderr,
-                "hidlog-uhid: %s: the recording would overwrite the state file; choose another path\n",
-                path);
+        fprintf(stderr, "hidlog-uhid: %s: the recording would overwrite the state file; choose another path\n", path);
         return false;
     }
     return true;

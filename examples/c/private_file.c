@@ -92,8 +92,7 @@ static bool is_overwritable(const char *path, int file) {
     if (facts.st_uid != geteuid()) {
         return print_error(path, "the file belongs to another user; remove it or choose another path");
     }
-    return facts.st_nlink == 1 ||
-           print_error(path, "the file has another hard link; remove it or choose another path");
+    return facts.st_nlink == 1 || print_error(path, "the file has another hard link; remove it or choose another path");
 }
 
 static const char *describe_open_failure(void) {

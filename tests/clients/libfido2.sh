@@ -27,7 +27,7 @@ echo "$name: the static library, the shared one, and the static one with address
 if command -v clang-format >/dev/null; then
     find "$top/examples" -name '*.[ch]' -print0 | xargs -0 clang-format --dry-run -Werror \
         "--style=file:$top/examples/c/.clang-format"
-    echo "$name: the C of examples/ has its style"
+    echo "$name: the C files of examples/ are formatted"
 else
-    echo "$name: the style wasn't looked at (apt-get install clang-format)"
+    echo "$name: the format was not checked (apt-get install clang-format)"
 fi
