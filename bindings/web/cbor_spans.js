@@ -23,14 +23,14 @@
         skip(count) {
             this.at += count;
             if (this.at > this.bytes.length) {
-                throw new RangeError(`unexpected end at byte ${this.bytes.length}`);
+                throw new RangeError(`unexpected end of the CBOR item at byte ${this.bytes.length}`);
             }
         }
 
         /** @param {number} info */
         argument(info) {
             if (info > 27) {
-                throw new RangeError(`unsupported additional information ${info} at byte ${this.at - 1}`);
+                throw new RangeError(`unsupported CBOR additional information ${info} at byte ${this.at - 1}`);
             }
             const from = this.at;
             this.skip(info < 24 ? 0 : 1 << (info - 24));
@@ -49,7 +49,7 @@
             const content = this.at;
             const hasItems = major === ARRAY || major === MAP;
             if (major === TAG || depth > MAX_DEPTH || (hasItems && argument > this.bytes.length)) {
-                throw new RangeError(`unsupported item at byte ${from}`);
+                throw new RangeError(`unsupported CBOR item at byte ${from}`);
             }
             this.skip(major === BYTES || major === TEXT ? argument : 0);
             const read = () => (major === MAP ? this.entry(depth) : this.item(depth + 1));

@@ -12,7 +12,7 @@ const MAX_SIGNATURE = 72;
 const readField = (text = "", least, most = least) => {
     const bytes = fromHex(text);
     if (toHex(bytes) !== text || bytes.length < least || bytes.length > most) {
-        throw new TypeError("invalid field in a recording");
+        throw new TypeError(`invalid hexadecimal field in a recorded line: ${text.slice(0, 80)}`);
     }
     return bytes;
 };
@@ -34,7 +34,7 @@ export const playLine = (core, line) => {
             ? core.refuseSignature(timeMs) : core.provideSignature(timeMs, readField(first, 1, MAX_SIGNATURE))),
     }[kind];
     if (!play || !Number.isSafeInteger(timeMs) || String(timeMs) !== time) {
-        throw new TypeError("invalid line in a recording");
+        throw new TypeError(`invalid line in a recording: ${line.slice(0, 80)}`);
     }
     return play();
 };

@@ -39,7 +39,7 @@ const align = (/** @type {number} */ address) => Math.ceil(address / 16) * 16;
 const toEnumValue = (/** @type {string[]} */ words, /** @type {string} */ word) => {
     const number = words.indexOf(word);
     if (number < 0) {
-        throw new Error(`invalid presence ${JSON.stringify(word)}`);
+        throw new Error(`invalid presence ${JSON.stringify(word)}; expected granted, denied or timeout`);
     }
     return number;
 };
