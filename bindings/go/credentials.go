@@ -31,14 +31,14 @@ func (a *Authenticator) Credentials() []Credential {
 }
 
 // updateCredentials changes the credentials with call, which power-cycles the authenticator, and begins a new
-// recording. It fails if a request is in progress. The prefix of an error message is what.
-func (a *Authenticator) updateCredentials(what string, call func() C.int32_t) error {
+// recording. It fails if a request is in progress. prefix is the start of an error message.
+func (a *Authenticator) updateCredentials(prefix string, call func() C.int32_t) error {
 	a.mutex.Lock()
 	defer a.mutex.Unlock()
 	if a.key == nil {
 		return ErrClosed
 	}
-	if err := toError(what, call()); err != nil {
+	if err := toError(prefix, call()); err != nil {
 		return err
 	}
 	a.recordings = append(a.recordings, Recording{Snapshot: a.takeSnapshot()})

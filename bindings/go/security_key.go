@@ -209,7 +209,8 @@ func fragment(channel [4]byte, command byte, data []byte) []Packet {
 	return found
 }
 
-// reassemble returns the command and the data of the message that the packets have for a channel, without KEEPALIVEs.
+// reassemble reassembles the message that was sent on a channel, skipping KEEPALIVEs, and returns the message's command
+// and data.
 func reassemble(channel [4]byte, sent []Packet) (command byte, data []byte, err error) {
 	length := -1
 	for _, packet := range sent {

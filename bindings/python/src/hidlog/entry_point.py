@@ -169,7 +169,7 @@ def run(name: str, command: Callable[[], int]) -> int:
         _flush()
         _handle_signals(
             _ignore_second_signal, signal.SIG_IGN
-        )  # so that the second signal of a pair doesn't change the status
+        )  # so that the second signal of a pair does not change the exit status
         return stop.status
     finally:
         sys.stdout, sys.stderr = streams

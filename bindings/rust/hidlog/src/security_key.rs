@@ -213,7 +213,7 @@ fn fragment(channel: [u8; 4], command: u8, data: &[u8]) -> Vec<Packet> {
         .collect()
 }
 
-/// Returns the command and the data of the message that the packets have for a channel, without KEEPALIVEs.
+/// Reassembles the message that was sent on a channel, skipping KEEPALIVEs, and returns the message's command and data.
 fn reassemble(channel: [u8; 4], sent: &[Packet]) -> Option<(u8, Vec<u8>)> {
     let (mut command, mut length, mut data) = (None, 0, Vec::new());
     for packet in sent.iter().filter(|packet| packet[..4] == channel && packet[4] != COMMAND_KEEPALIVE) {
