@@ -235,9 +235,8 @@ class ResponseReader:
         if messages[0].command == hid.MSG:
             return hid.fragment_message(messages[0].channel, hid.MSG, rename_handles(messages[0].data, self.other_ids))
         data = messages[0].data
-        for name, identity in self.names():
-            if name in data:
-                data = data.replace(ctap_cbor.encode(name), ctap_cbor.encode(identity))
+        for name, identity in self.find_names(data):
+            data = data.replace(ctap_cbor.encode(name), ctap_cbor.encode(identity))
         data = self.platform.fill(data)
         self.live.sent(data, self.platform.last_filled)
         data = prefix_rp_id(data, self.front) if self.front else data
@@ -278,12 +277,12 @@ class ResponseReader:
             if message is not None and message.channel == channel and message.command == hid.CBOR:
                 return message.data
 
-    def names(self) -> List[Tuple[bytes, bytes]]:
-        """Returns pairs of the session's credential IDs and the device's, including derived IDs."""
-        found = [(name, credential.id) for name, credential in self.known.items()]
-        found += list(self.other_ids.items())
+    def find_names(self, data: bytes) -> List[Tuple[bytes, bytes]]:
+        """Returns the session's IDs in a request, including derived ones, each with the device's."""
+        found = [(name, credential.id) for name, credential in self.known.items() if name in data]
+        found += [(name, identity) for name, identity in self.other_ids.items() if name in data]
         for name, (kind, origin) in self.session.derived.items():
-            if origin in self.known:
+            if origin in self.known and name in data:
                 found.append((name, derive_id(kind, self.known[origin].id)))
         return found
 

@@ -4,7 +4,7 @@ from __future__ import annotations
 
 import time
 from dataclasses import dataclass
-from typing import Iterable, List, Optional
+from typing import Iterable, List, Optional, Tuple
 
 from hidlog_conformance.answers import Mismatch
 from hidlog_conformance.device_info import DeviceInfo
@@ -15,7 +15,7 @@ from hidlog_conformance.response_reader import GOES_ON
 from hidlog_conformance.sections import SECTIONS
 from hidlog_conformance.session_file import SessionReader, Step
 from hidlog_conformance.walk_settings import SettingSteps
-from hidlog_conformance.walk_steps import Block
+from hidlog_conformance.walk_steps import ID_FRONT, ID_LENGTH, Block
 
 # Seconds for one step of a device in real time.
 STEP_SECONDS = 60.0
@@ -49,6 +49,13 @@ class WalkPlayer(Player):
         super().__init__(device, self.reader.session, False, device_info.facts())
         self.lines = 0
         self.played = 0
+
+    def find_names(self, data: bytes) -> List[Tuple[bytes, bytes]]:
+        """Returns the walk's IDs in a request, each with the device's. A walk makes too many credentials to look for
+        each."""
+        names = {ID_FRONT + part[: ID_LENGTH - len(ID_FRONT)] for part in data.split(ID_FRONT)[1:]}
+        found = [(name, self.known[name].id) for name in sorted(names) if name in self.known]
+        return found + [(name, identity) for name, identity in self.other_ids.items() if name in data]
 
     def begin(self) -> None:
         """Starts the device."""

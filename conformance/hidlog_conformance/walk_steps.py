@@ -54,9 +54,14 @@ class Block(Case):
         return self
 
 
+# The first bytes of the IDs that walks use for credentials, before the credential's number.
+ID_FRONT = b"\xa7" * 28
+ID_LENGTH = 32
+
+
 def walk_id(number: int) -> bytes:
     """Returns the ID that a walk uses for its credential `number`."""
-    return b"\xa7" * 28 + number.to_bytes(4, "big")
+    return ID_FRONT + number.to_bytes(ID_LENGTH - len(ID_FRONT), "big")
 
 
 def make_colliding_pin(pin: bytes, source: random.Random) -> bytes:
