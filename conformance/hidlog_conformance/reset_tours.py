@@ -47,22 +47,22 @@ class TourCase(Blobs, ManageCase):
             # The part continues on the channel of the part before it.
             self.lines = self.lines[:1]
 
-    def by(self, protocol: int) -> "TourCase":
+    def use_protocol(self, protocol: int) -> "TourCase":
         """Sets the PIN protocol of the following requests."""
         self.protocol = protocol
         return self
 
-    def starts_again(self) -> "TourCase":
-        """Power cycles the device."""
-        self.power_cycle().greet()
+    def power_cycle_device(self) -> "TourCase":
+        """Power cycles the device, and allocates a channel."""
+        self.power_cycle().allocate()
         return self
 
-    def resets(self) -> "TourCase":
+    def reset_device(self) -> "TourCase":
         """Resets the device, with a touch."""
         self.cbor(RESET).presence().expect("status 00")
         return self
 
-    def shows_no_pin(self) -> "TourCase":
+    def expect_no_pin(self) -> "TourCase":
         """Expects that no PIN is set."""
         self.cbor(INFO).expect("option clientPin false")
         return self
@@ -71,19 +71,19 @@ class TourCase(Blobs, ManageCase):
 def reset_in_time(tour: TourCase, rp: str = "example.com", hidden: bytes = descriptor(5)["id"]) -> TourCase:
     """Resets a device that has credentials, pending assertions and large blobs: first too late, then in time."""
     tour.wait(10500).cbor(RESET).expect("status 30")
-    tour.starts_again().get(p5=SILENT).asserted("no-up user 04 number 4", presence=False)
-    tour.cbor(NEXT).asserted("no-up user 03", presence=False)
-    tour.cbor(RESET).expect("keepalive 02").tick(100).expect("nothing").presence().expect("status 00").alive()
-    tour.cbor(NEXT).expect("status 30").holds(EMPTY_ARRAY)
+    tour.power_cycle_device().get(p5=SILENT).expect_assertion("no-up user 04 number 4", presence=False)
+    tour.cbor(NEXT).expect_assertion("no-up user 03", presence=False)
+    tour.cbor(RESET).expect("keepalive 02").tick(100).expect("nothing").presence().expect("status 00").expect_alive()
+    tour.cbor(NEXT).expect("status 30").expect_array(EMPTY_ARRAY)
     for _ in range(2):
         tour.get().expect("status 2e").get(p3=[descriptor(1)]).expect("status 2e")
-        tour.get(p1=rp, p3=[{"id": hidden, "type": KIND}]).expect("status 2e").starts_again()
+        tour.get(p1=rp, p3=[{"id": hidden, "type": KIND}]).expect("status 2e").power_cycle_device()
     return tour
 
 
 def store_everything(tour: TourCase, has_hidden: bool = True) -> TourCase:
     """Registers credentials, and writes a large-blob array in pieces."""
-    tour.stored(1, 2, 3, 4)
+    tour.register_discoverable(1, 2, 3, 4)
     if has_hidden:
         tour.register(5)
     tour.write(OTHER_ARRAY[:30], 0, len(OTHER_ARRAY)).expect("status 00").write(OTHER_ARRAY[30:], 30)
@@ -94,21 +94,21 @@ def store_everything(tour: TourCase, has_hidden: bool = True) -> TourCase:
 def serve_again(tour: TourCase, rp: str, hidden: bytes) -> TourCase:
     """Signs in with a credential that is not discoverable, cancels a reset, and writes a large-blob array."""
     allow = [{"id": hidden, "type": KIND}]
-    tour.get(p1=rp, p3=allow, p5=SILENT).asserted("no-up counter-rises no-name", presence=False)
+    tour.get(p1=rp, p3=allow, p5=SILENT).expect_assertion("no-up counter-rises no-name", presence=False)
     for _ in range(2):
-        tour.get(p1=rp).expect("status 2e").starts_again()
+        tour.get(p1=rp).expect("status 2e").power_cycle_device()
     tour.cbor(RESET).expect("keepalive 02").send(1, hid.CANCEL).expect("status 2d")
-    tour.get(p1=rp, p3=allow, p5=SILENT).asserted("no-up counter-rises", presence=False)
-    tour.whole(ARRAY_WITH_ENTRY).expect("status 00").holds(ARRAY_WITH_ENTRY)
+    tour.get(p1=rp, p3=allow, p5=SILENT).expect_assertion("no-up counter-rises", presence=False)
+    tour.write_whole(ARRAY_WITH_ENTRY).expect("status 00").expect_array(ARRAY_WITH_ENTRY)
     return tour
 
 
 def set_and_block(tour: TourCase, pin: bytes) -> TourCase:
     """Sets a PIN, and sends wrong ones until it is blocked."""
-    tour.with_pin(pin).cbor(INFO).expect("option clientPin true").token(pin=pin).pin(1).expect("retries 8")
+    tour.set_new_pin(pin).cbor(INFO).expect("option clientPin true").token(pin=pin).pin(1).expect("retries 8")
     block_pin(tour).pin(1).expect("retries 0").ask_token(pin=pin).expect("status 32").change(pin, OTHER)
     tour.expect("status 32")
-    return tour.starts_again()
+    return tour.power_cycle_device()
 
 
 def forgetful_reset(case: Case, made: List[bytes]) -> Case:
@@ -120,13 +120,17 @@ def forgetful_reset(case: Case, made: List[bytes]) -> Case:
 def resets_with_pin(case: Case, made: List[bytes]) -> Case:
     """Resets that remove a PIN, blocked and not, for each protocol."""
     tour = TourCase()
-    tour.stored(1).whole(ARRAY_WITH_ENTRY).expect("status 00")
+    tour.register_discoverable(1).write_whole(ARRAY_WITH_ENTRY).expect("status 00")
     for protocol in (1, 2):
-        set_and_block(tour.by(protocol), RIGHT).resets().shows_no_pin().with_pin(LONGEST_PIN).token(pin=LONGEST_PIN)
+        set_and_block(tour.use_protocol(protocol), RIGHT).reset_device().expect_no_pin().set_new_pin(LONGEST_PIN).token(
+            pin=LONGEST_PIN
+        )
         for other in (1, 2):
-            tour.by(other).token(pin=LONGEST_PIN, permissions=MANAGE, rp="").manage(COUNT).expect("managed count 0")
-        tour.holds(EMPTY_ARRAY).starts_again().resets().shows_no_pin()
-    return tour.with_pin().token()
+            tour.use_protocol(other).token(pin=LONGEST_PIN, permissions=MANAGE, rp="").manage(COUNT).expect(
+                "managed count 0"
+            )
+        tour.expect_array(EMPTY_ARRAY).power_cycle_device().reset_device().expect_no_pin()
+    return tour.set_new_pin().token()
 
 
 def all_stored(case: Case, made: List[bytes]) -> Case:
@@ -137,20 +141,22 @@ def all_stored(case: Case, made: List[bytes]) -> Case:
 def all_resets(case: Case, made: List[bytes]) -> Case:
     """Adds a reset of everything that is stored, and of a PIN."""
     tour = TourCase(False)
-    tour.with_pin().cbor(INFO).expect("option clientPin true")
-    return reset_in_time(tour, "localhost", made[-1]).shows_no_pin()
+    tour.set_new_pin().cbor(INFO).expect("option clientPin true")
+    return reset_in_time(tour, "localhost", made[-1]).expect_no_pin()
 
 
 def all_pins(case: Case, made: List[bytes]) -> Case:
     """Adds sign-ins with the credential of python-fido2; then PINs of both protocols are reset, set and blocked."""
     tour = TourCase(False)
-    serve_again(tour, "relying.example", made[-1]).by(2).with_pin().cbor(INFO).expect("option clientPin true")
+    serve_again(tour, "relying.example", made[-1]).use_protocol(2).set_new_pin().cbor(INFO).expect(
+        "option clientPin true"
+    )
     for protocol in (1, 2):
-        tour.by(protocol).token(permissions=MANAGE, rp="").manage(COUNT).expect("managed count 0")
-    tour.starts_again().resets().shows_no_pin().holds(EMPTY_ARRAY)
+        tour.use_protocol(protocol).token(permissions=MANAGE, rp="").manage(COUNT).expect("managed count 0")
+    tour.power_cycle_device().reset_device().expect_no_pin().expect_array(EMPTY_ARRAY)
     for protocol in (1, 2):
-        set_and_block(tour.by(protocol), LONGEST_PIN).resets().shows_no_pin()
-    return tour.with_pin().token()
+        set_and_block(tour.use_protocol(protocol), LONGEST_PIN).reset_device().expect_no_pin()
+    return tour.set_new_pin().token()
 
 
 def touches_of_libfido2(case: Case, made: List[bytes]) -> Case:
@@ -160,23 +166,28 @@ def touches_of_libfido2(case: Case, made: List[bytes]) -> Case:
         case.get(p1=rp, p3=allow, p5=options)
         if words != "no-up":
             case.expect("keepalive 02")
-        case.asserted(f"{words} counter-rises", presence=words != "no-up")
+        case.expect_assertion(f"{words} counter-rises", presence=words != "no-up")
     refuse_earlier_touch(case.get(p1=rp, p3=allow)).get(p1=rp, p3=allow, p5=SILENT)
-    return case.asserted("no-up counter-rises", presence=False)
+    return case.expect_assertion("no-up counter-rises", presence=False)
 
 
 def registered_between(case: Case, made: List[bytes]) -> Case:
     """Adds a registration while assertions are pending, with the counter 0."""
-    case.greet()
+    case.allocate()
     for number in (1, 2, 3):
         case.register(number, rk=True, p3=user(number))
-    case.get(p5=SILENT).asserted("no-up user 03 number 3", presence=False)
-    return case.make(p2={"id": "nobody.example", "name": "x"}).made(4, "up counter 0").cbor(NEXT).expect("status 30")
+    case.get(p5=SILENT).expect_assertion("no-up user 03 number 3", presence=False)
+    return (
+        case.make(p2={"id": "nobody.example", "name": "x"})
+        .expect_credential(4, "up counter 0")
+        .cbor(NEXT)
+        .expect("status 30")
+    )
 
 
 def find_credentials(case: Case, rp: str, words: str) -> Case:
     """Signs in without an allow list and a touch."""
-    return case.get(p1=rp, p5=SILENT).asserted(f"no-up counter-rises {words}", presence=False)
+    return case.get(p1=rp, p5=SILENT).expect_assertion(f"no-up counter-rises {words}", presence=False)
 
 
 def same_users(
@@ -198,25 +209,27 @@ def same_users(
     find_credentials(case, "localhost", is_first)
     asked = merge_ignored()
     asked.update({2: {**asked[2], **com}, 3: {**asked[3], **bob}, 4: [eddsa]})
-    find_credentials(case.cbor(MAKE + encode(asked)).made(4), "localhost", is_first)
-    find_credentials(case.make(p2=com, p3=bob, p7=RK).made(5, "up no-uv no-blob-key"), "localhost", is_only(5))
+    find_credentials(case.cbor(MAKE + encode(asked)).expect_credential(4), "localhost", is_first)
+    find_credentials(
+        case.make(p2=com, p3=bob, p7=RK).expect_credential(5, "up no-uv no-blob-key"), "localhost", is_only(5)
+    )
     case.get(p1="localhost", p3=[first]).expect("status 2e")
     for number in (3, 4):
         sign_in_silently(case, number, "localhost")
-    find_credentials(case.power_cycle().greet(), "localhost", is_only(5))
+    find_credentials(case.power_cycle().allocate(), "localhost", is_only(5))
     case.get(p1="localhost", p3=[descriptor(5)], p4={"largeBlobKey": True}, p5=SILENT)
-    case.asserted("no-up counter-rises no-blob-key", presence=False)
+    case.expect_assertion("no-up counter-rises no-blob-key", presence=False)
     newer: Dict[str, Any] = {"p3": {**user_of(33), "displayName": "x" * (1700 if is_long else 1)}}
     newer.update(p2=org, p4=[UNKNOWN, eddsa, ES256], p5=[descriptor(3)], p6={"credProtect": 1}, p7=RK)
     words = "up extension credProtect 01" if has_protection else "up"
-    find_two(case_of_two(case, first, com).make(**newer).made(7, words), "localhost", user_of(64)["id"])
+    find_two(case_of_two(case, first, com).make(**newer).expect_credential(7, words), "localhost", user_of(64)["id"])
     sign_in_silently(find_two(case, org["id"], user_of(33)["id"]), 7, org["id"])
     return exclude_similar(case, com)
 
 
 def case_of_two(case: Case, first: Dict[str, Any], com: Dict[str, str]) -> Case:
     """Registers a second user, with an exclude list that has no credential of this RP."""
-    similar = [case.alike(5, kind) for kind in ("changed", "longer", "shorter")]
+    similar = [case.similar_descriptor(5, kind) for kind in ("changed", "longer", "shorter")]
     others = [descriptor(9), descriptor(5, "other"), descriptor(5, "")]
     user_id: bytes = user_of(64)["id"]
     case.register(6, rk=True, p2=com, p3={"id": user_id, **LONG_NAMES}, p5=[first, *similar, *others])
@@ -224,14 +237,14 @@ def case_of_two(case: Case, first: Dict[str, Any], com: Dict[str, str]) -> Case:
     for number in (5, 6):
         sign_in_silently(case, number, "localhost")
     case.get(p1="localhost", p3=[descriptor(number) for number in (3, 4, 6)], p5=SILENT)
-    case.asserted("no-up counter-rises no-number", presence=False)
+    case.expect_assertion("no-up counter-rises no-number", presence=False)
     return case
 
 
 def exclude_similar(case: Case, com: Dict[str, str]) -> Case:
     """Excludes a discoverable credential twice, before eight unknown ones."""
     excluded = [descriptor(6), descriptor(6), *(descriptor(number) for number in range(20, 28))]
-    return case.make(p2=com, p5=excluded, p7=RK).presence().expect("status 19").alive()
+    return case.make(p2=com, p5=excluded, p7=RK).presence().expect("status 19").expect_alive()
 
 
 def is_only(number: int) -> str:
@@ -242,55 +255,57 @@ def is_only(number: int) -> str:
 def find_two(case: Case, rp: str, newest: bytes) -> Case:
     """Signs in without an allow list: the user with this ID, and Firefox's."""
     find_credentials(case, rp, f"number 2 user {newest.hex()}").cbor(NEXT)
-    return case.asserted("no-up user 626f62", presence=False).cbor(NEXT).expect("status 30")
+    return case.expect_assertion("no-up user 626f62", presence=False).cbor(NEXT).expect("status 30")
 
 
 def protected(case: Case, made: List[bytes]) -> Case:
     """Adds credentials that are hidden without user verification, of RP IDs of one character and of 253."""
-    case.greet().make(p2={"id": "a", "name": "x"}, p6={"credProtect": 3}, p7=RK)
-    case.made(1, "up extension credProtect 03").get(p1="a", p3=[descriptor(1)]).expect("status 2e")
+    case.allocate().make(p2={"id": "a", "name": "x"}, p6={"credProtect": 3}, p7=RK)
+    case.expect_credential(1, "up extension credProtect 03").get(p1="a", p3=[descriptor(1)]).expect("status 2e")
     case.get(p1="a").expect("status 2e")
     for _ in range(2):
         case.get(p1="a", p3=[descriptor(number) for number in (8, 1, 9)]).expect("status 2e")
     rp = "x" * 253
     case.make(p2={"id": rp, "name": "x"}, p3=user_of(16), p6={"credProtect": 2}, p7=RK)
-    case.made(2, "up extension credProtect 02").get(p1=rp, p3=[descriptor(2)], p5=SILENT)
-    case.asserted(f"no-up counter-rises user {user_of(16)['id'].hex()}", presence=False)
+    case.expect_credential(2, "up extension credProtect 02").get(p1=rp, p3=[descriptor(2)], p5=SILENT)
+    case.expect_assertion(f"no-up counter-rises user {user_of(16)['id'].hex()}", presence=False)
     return case.get(p1=rp).expect("status 2e")
 
 
 def register_with_extensions(case: Case, count: int = 2) -> Case:
     """Registers two credentials with all extensions."""
     words = "up extension credBlob f5 extension hmac-secret f5"
-    case.make(p6={"credBlob": BLOBS_OF[0], **BOTH_KEYS}, p7=RK).made(1, f"{words} blob-key of-1")
+    case.make(p6={"credBlob": BLOBS_OF[0], **BOTH_KEYS}, p7=RK).expect_credential(1, f"{words} blob-key of-1")
     if count > 1:
-        case.make(p3=user(2), p6={"credBlob": BLOBS_OF[1], **BOTH_KEYS}, p7=RK).made(2, f"{words} blob-key of-2")
+        case.make(p3=user(2), p6={"credBlob": BLOBS_OF[1], **BOTH_KEYS}, p7=RK).expect_credential(
+            2, f"{words} blob-key of-2"
+        )
     return case
 
 
 def extensions_of_one(case: Case, made: List[bytes]) -> Case:
     """Adds a credential with all extensions."""
-    sign_in_with_extensions(register_with_extensions(case.greet(), 1), 1)
+    sign_in_with_extensions(register_with_extensions(case.allocate(), 1), 1)
     case.get(p4={"credBlob": True}, p5=SILENT)
-    return case.asserted(f"no-up no-number extension credBlob {encode(BLOBS_OF[0]).hex()}", presence=False)
+    return case.expect_assertion(f"no-up no-number extension credBlob {encode(BLOBS_OF[0]).hex()}", presence=False)
 
 
 def sign_in_with_extensions(case: Case, number: int) -> Case:
     """Signs in with and without extensions; then no assertion is pending."""
     case.get(p3=[descriptor(number)], p4={"credBlob": True, "largeBlobKey": True}, p5=SILENT)
     words = f"no-up counter-rises extension credBlob {encode(BLOBS_OF[number - 1]).hex()} blob-key of-{number}"
-    case.asserted(words, presence=False).get(p3=[descriptor(number)], p5=SILENT)
-    return case.asserted("no-up counter-rises no-blob-key", presence=False).cbor(NEXT).expect("status 30")
+    case.expect_assertion(words, presence=False).get(p3=[descriptor(number)], p5=SILENT)
+    return case.expect_assertion("no-up counter-rises no-blob-key", presence=False).cbor(NEXT).expect("status 30")
 
 
 def extensions_of_two(case: Case, made: List[bytes]) -> Case:
     """Adds two credentials with all extensions."""
-    register_with_extensions(case.greet())
+    register_with_extensions(case.allocate())
     for number in (2, 1):
         sign_in_with_extensions(case, number)
     case.get(p4={"credBlob": True}, p5=SILENT)
     words = f"no-up user 02 number 2 extension credBlob {encode(BLOBS_OF[1]).hex()}"
-    return case.asserted(words, presence=False).cbor(NEXT).asserted("no-up user 01", presence=False)
+    return case.expect_assertion(words, presence=False).cbor(NEXT).expect_assertion("no-up user 01", presence=False)
 
 
 def secrets(case: Case, made: List[bytes], has_all: bool = True) -> Case:
@@ -303,49 +318,64 @@ def secrets(case: Case, made: List[bytes], has_all: bool = True) -> Case:
     for protocol in (1, 2):
         asked: Dict[int, Any] = {1: b"=agreement", 2: b"=encrypt:" + b"1" * 32, 3: b"=auth:2", 4: protocol}
         two, wrong = {**asked, 2: asked[2] + b"2" * 32}, {**asked, 3: bytes(16 * protocol)}
-        tour.by(protocol)
+        tour.use_protocol(protocol)
         for number, salts, name in ((1, two, "one+two"), (2, asked, "of-2")):
-            tour.agree().get(p3=[descriptor(number)], p4={"hmac-secret": salts}).asserted(f"up secret {name}")
+            tour.agree().get(p3=[descriptor(number)], p4={"hmac-secret": salts}).expect_assertion(f"up secret {name}")
         tour.agree().get(p3=[descriptor(1)], p4={"hmac-secret": wrong}).presence().expect("status 33")
     return tour
 
 
 def lost_touch(case: Case, made: List[bytes]) -> Case:
     """Adds a touch after a power cycle, and before registrations."""
-    case.greet().make().expect("keepalive 02").power_cycle().greet().tick(250).expect("silence")
-    case.presence().expect("silence").alive().tick(100)
+    case.allocate().make().expect("keepalive 02").power_cycle().allocate().tick(250).expect("silence")
+    case.presence().expect("silence").expect_alive().tick(100)
     return refuse_earlier_touch(refuse_earlier_touch(case.make(p7=RK)).make())
 
 
 def changed_pin(case: Case, made: List[bytes]) -> Case:
     """Adds a change of the PIN by one PIN protocol, and the change back by the other."""
-    tour = TourCase().with_pin()
+    tour = TourCase().set_new_pin()
     for protocol, old, new in ((1, RIGHT, OTHER), (2, OTHER, RIGHT)):
-        tour.by(protocol).change(old, new).expect("status 00").ask_token(old).expect("status 31").token(pin=new)
+        tour.use_protocol(protocol).change(old, new).expect("status 00").ask_token(old).expect("status 31").token(
+            pin=new
+        )
     return tour
 
 
 def managed(case: Case, made: List[bytes]) -> Case:
     """Adds deletions and replacements of credentials until none is left, twice."""
-    tour = TourCase().stored_at_several().with_pin()
+    tour = TourCase().register_at_several().set_new_pin()
     for protocol in (1, 2):
-        tour.by(protocol).managing().manage(DELETE, {2: descriptor(protocol)}).expect("status 00").managing()
+        tour.use_protocol(protocol).get_management_token().manage(DELETE, {2: descriptor(protocol)}).expect(
+            "status 00"
+        ).get_management_token()
         tour.manage(CREDENTIALS, rp_parameters()).expect(f"managed credentials {3 - protocol}")
         tour.get(p3=[descriptor(protocol)]).expect("status 2e")
         sign_in_silently(tour, protocol + 1)
-    tour.by(1)
+    tour.use_protocol(1)
     more = {"p3": user(3), "p6": {"credProtect": 2, "largeBlobKey": True}, "p7": RK}
-    tour.token().register_with_token(**more).made(7, "up uv extension credProtect 02 blob-key one")
+    tour.token().register_with_token(**more).expect_credential(7, "up uv extension credProtect 02 blob-key one")
     for protocol in (1, 2):
-        tour.by(protocol).managing().manage(COUNT).expect("managed count 2").managing()
+        tour.use_protocol(protocol).get_management_token().manage(COUNT).expect(
+            "managed count 2"
+        ).get_management_token()
         tour.manage(CREDENTIALS, rp_parameters()).expect("managed credentials 1 protect 2 blob-key one")
     for number in (4, 7):
-        tour.by(1).managing().manage(DELETE, {2: descriptor(number)}).expect("status 00")
-    tour.managing().manage(COUNT).expect("managed count 0").get().expect("status 2e")
+        tour.use_protocol(1).get_management_token().manage(DELETE, {2: descriptor(number)}).expect("status 00")
+    tour.get_management_token().manage(COUNT).expect("managed count 0").get().expect("status 2e")
     for protocol in (1, 2):
-        tour.by(protocol).managing().manage(RPS).expect("status 2e")
-    tour.token().register_with_token(p7=RK).made(8, "up uv").managing().manage(DELETE, {2: descriptor(8)})
-    return tour.expect("status 00").managing().manage(COUNT).expect("managed count 0").get().expect("status 2e")
+        tour.use_protocol(protocol).get_management_token().manage(RPS).expect("status 2e")
+    tour.token().register_with_token(p7=RK).expect_credential(8, "up uv").get_management_token().manage(
+        DELETE, {2: descriptor(8)}
+    )
+    return (
+        tour.expect("status 00")
+        .get_management_token()
+        .manage(COUNT)
+        .expect("managed count 0")
+        .get()
+        .expect("status 2e")
+    )
 
 
 def by_each_protocol(names: str) -> str:

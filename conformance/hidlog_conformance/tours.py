@@ -76,7 +76,7 @@ def make_tour(parts: Union[Part, Tuple[Part, ...]], covers: str, required: str =
 
 def sign_in_silently(case: Case, number: int, rp: str = "example.com") -> Case:
     """Signs in without a touch."""
-    return case.get(p1=rp, p3=[descriptor(number)], p5=SILENT).asserted("no-up counter-rises", presence=False)
+    return case.get(p1=rp, p3=[descriptor(number)], p5=SILENT).expect_assertion("no-up counter-rises", presence=False)
 
 
 def refuse_earlier_touch(case: Case) -> Case:
@@ -86,23 +86,23 @@ def refuse_earlier_touch(case: Case) -> Case:
 
 def touched_sign_ins(case: Case, made: List[bytes]) -> Case:
     """Adds sign-ins with and without touches in turn, with all options; a touch counts once."""
-    case.greet().register(1).get(p3=[descriptor(1)], p5={"up": True, "uv": False}).expect("keepalive 02")
-    sign_in_silently(case.asserted(COUNTER_INCREASES + " no-uv"), 1)
-    case.get(p3=[descriptor(1)]).asserted(COUNTER_INCREASES)
+    case.allocate().register(1).get(p3=[descriptor(1)], p5={"up": True, "uv": False}).expect("keepalive 02")
+    sign_in_silently(case.expect_assertion(COUNTER_INCREASES + " no-uv"), 1)
+    case.get(p3=[descriptor(1)]).expect_assertion(COUNTER_INCREASES)
     return sign_in_silently(refuse_earlier_touch(case.get(p3=[descriptor(1)])), 1)
 
 
 def useless_touch(case: Case, made: List[bytes]) -> Case:
     """Adds a touch after a CANCEL, and before a sign-in."""
-    case.greet().register(1).make().expect("keepalive 02").send(1, hid.CANCEL).expect("status 2d")
-    case.presence().expect("silence").tick(150).expect("silence").alive()
+    case.allocate().register(1).make().expect("keepalive 02").send(1, hid.CANCEL).expect("status 2d")
+    case.presence().expect("silence").tick(150).expect("silence").expect_alive()
     return refuse_earlier_touch(case.get(p3=[descriptor(1)]))
 
 
 def selection(case: Case, made: List[bytes]) -> Case:
     """Adds a selection, with everything that cases expect of it."""
-    case.greet().register(1).cbor(SELECTION).expect("keepalive 02").tick(100).expect("nothing")
-    case.presence().expect("status 00").tick(200).expect("silence").alive()
+    case.allocate().register(1).cbor(SELECTION).expect("keepalive 02").tick(100).expect("nothing")
+    case.presence().expect("status 00").tick(200).expect("silence").expect_alive()
     return sign_in_silently(case, 1)
 
 
@@ -124,17 +124,17 @@ def exclude_lists(case: Case, rp: str = "ü.example", has_power_cycle: bool = Tr
     credentials as the first two."""
     unknown, named = [descriptor(number) for number in range(20, 28)], {"id": rp, "name": "Example"}
     if rp == "example.com":
-        case.greet().register(1)
+        case.allocate().register(1)
     else:
-        case.greet().register(1, p2=named, p3={"id": b"\2", **LONG_NAMES}, p5=unknown[:2])
+        case.allocate().register(1, p2=named, p3={"id": b"\2", **LONG_NAMES}, p5=unknown[:2])
         sign_in_silently(case, 1, rp)
     if has_power_cycle:
-        case.power_cycle().greet()
+        case.power_cycle().allocate()
     case.make(p2=named, p5=[*unknown, descriptor(9), {**descriptor(1), "transports": ["usb"]}]).presence()
-    case.expect("status 19").alive()
+    case.expect("status 19").expect_alive()
     if has_first:
         case.make(p2=named, p5=[descriptor(1), descriptor(1), *unknown], p7={"rk": True}).presence()
-        case.expect("status 19").alive()
+        case.expect("status 19").expect_alive()
     return case
 
 
@@ -163,23 +163,25 @@ def es256_registration(case: Case, number: int, rp: Dict[str, Any], user: Dict[s
         p6={"hmac-secret": False},
         p7={"rk": False, "up": True, "uv": False},
     )
-    return sign_in_silently(case.made(number, "up no-uv"), number, str(rp["id"]))
+    return sign_in_silently(case.expect_credential(number, "up no-uv"), number, str(rp["id"]))
 
 
 def unusual_es256(case: Case, is_long: bool = True) -> Case:
     """Adds a registration like that of `es256_registration`, with an unusual RP and user."""
     rp, user = {"id": "a", "name": "x" * (1800 if is_long else 1)}, {"id": b"somebody@example.com", "name": "x"}
-    return es256_registration(case.greet(), 2, rp, {**user, "displayName": "x"})
+    return es256_registration(case.allocate(), 2, rp, {**user, "displayName": "x"})
 
 
 def eddsa_registrations(case: Case, is_long: bool = True) -> Case:
     """Adds registrations like those of `unusual_es256` with EdDSA, alone and first among other algorithms."""
     rp, user = "example.com:443", {"id": b"somebody-else@example.com", "name": "x"}
     user = {**user, "displayName": "x" * (1700 if is_long else 1)}
-    case.greet().register(1).make(p2={"id": rp, "name": "x"}, p3=user, p4=[UNKNOWN, EDDSA, ES256], p5=[descriptor(1)])
-    sign_in_silently(case.made(2), 2, rp)
+    case.allocate().register(1).make(
+        p2={"id": rp, "name": "x"}, p3=user, p4=[UNKNOWN, EDDSA, ES256], p5=[descriptor(1)]
+    )
+    sign_in_silently(case.expect_credential(2), 2, rp)
     rp, user = "x" * 253, {"id": b"\3" * 64, "name": "x", "displayName": "x"}
-    case.make(p2={"id": rp, "name": "x"}, p3=user, p4=[EDDSA], p5=[descriptor(9)]).made(3)
+    case.make(p2={"id": rp, "name": "x"}, p3=user, p4=[EDDSA], p5=[descriptor(9)]).expect_credential(3)
     return sign_in_silently(case, 3, rp)
 
 

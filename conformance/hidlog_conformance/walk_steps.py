@@ -38,7 +38,7 @@ class Block(Case):
         self.channel = channel
         self.lines: List[str] = []
 
-    def judged(self, more: str = "") -> Block:
+    def expect_judged(self, more: str = "") -> Block:
         """Expects a response that the judge accepts."""
         self.comment("expect judged" + more + (f" on {self.channel:08x}" if self.channel != 1 else ""))
         return self
@@ -46,11 +46,11 @@ class Block(Case):
     def ask(self, data: bytes, more: str = "") -> Block:
         """Sends a request, and expects a response that the judge accepts."""
         self.cbor(data, self.channel)
-        return self.judged(more)
+        return self.expect_judged(more)
 
     def greet_hosts(self) -> Block:
         """Allocates a channel for each host."""
-        self.greet(HOSTS)
+        self.allocate(HOSTS)
         return self
 
 
@@ -183,7 +183,7 @@ class Steps:
         block.send(
             block.channel, hid.PING, bytes(self.random.randrange(256) for _ in range(self.random.choice((1, 90))))
         )
-        return block.judged()
+        return block.expect_judged()
 
     def wait(self) -> Block:
         """Waits; pending assertions end after 30 seconds."""

@@ -116,11 +116,11 @@ def refusal_cases() -> List[Case]:
             if level == 4 and item[0] >> 5 in (4, 5):
                 continue
             case = Case(f"cbor/{name}_level_{level}", "cbor", f"{says}, at level {level} of the parameters.", **more)
-            cases.append(case.greet().cbor(nest_item(item, level)).expect(answer).alive())
+            cases.append(case.allocate().cbor(nest_item(item, level)).expect(answer).expect_alive())
         profile = {"profile": "the standard does not say which of two errors is reported"}
         more_whole = profile if answer == "status 12" else more
         case = Case(f"cbor/{name}_level_1", "cbor", f"{says}, instead of the parameters.", **more_whole)
-        cases.append(case.greet().cbor(MAKE + item).expect(answer).alive())
+        cases.append(case.allocate().cbor(MAKE + item).expect(answer).expect_alive())
     return cases
 
 
@@ -130,26 +130,26 @@ def message_cases() -> List[Case]:
     good = encode(registration_parameters())
     for name, more in (("integer", b"\0"), ("null", b"\xf6"), ("map", b"\xa0"), ("break", b"\xff")):
         case = Case(f"cbor/trailing_{name}", "cbor", "Bytes after the map of parameters are refused.", level="should")
-        cases.append(case.greet().cbor(MAKE + good + more).expect("status 12").alive())
+        cases.append(case.allocate().cbor(MAKE + good + more).expect("status 12").expect_alive())
     for count in (1, 2, 10, len(good) // 2, len(good) - 1):
         case = Case(f"cbor/cut_after_{count:03}", "cbor", "A truncated map of parameters is refused.")
-        cases.append(case.greet().cbor(MAKE + good[:count]).expect("refused 12").alive())
+        cases.append(case.allocate().cbor(MAKE + good[:count]).expect("refused 12").expect_alive())
     for level in (5, 6, 16, 200):
         requirement = f"More than four levels of nesting are refused: {level}."
         case = Case(
             f"cbor/nested_{level:03}", "cbor", requirement, profile="an authenticator may accept more than four levels"
         )
         item = b"\x81" * (level - 2) + b"\x80"
-        cases.append(case.greet().cbor(nest_item(item, 2)).expect("status 12").alive())
+        cases.append(case.allocate().cbor(nest_item(item, 2)).expect("status 12").expect_alive())
     swapped = b"\xa2" + encode(2) + encode({"id": "example.com"}) + encode(1) + encode(bytes(32))
     case = Case("cbor/parameters_out_of_order", "cbor", "Parameters out of order are refused.", level="should")
-    cases.append(case.greet().cbor(MAKE + swapped).expect("status 12").alive())
+    cases.append(case.allocate().cbor(MAKE + swapped).expect("status 12").expect_alive())
     twice = b"\xa6" + good[1:35] + good[1:]
     case = Case("cbor/parameter_twice", "cbor", "A duplicate parameter is refused.", level="should")
-    cases.append(case.greet().cbor(MAKE + twice).expect("status 12").alive())
+    cases.append(case.allocate().cbor(MAKE + twice).expect("status 12").expect_alive())
     case = Case("cbor/rp_out_of_order", "cbor", "Members of rp out of order are refused.", level="should")
     rp = Raw(b"\xa2" + encode("name") + encode("x") + encode("id") + encode("example.com"))
-    cases.append(case.greet().make(p2=rp).expect("status 12").alive())
+    cases.append(case.allocate().make(p2=rp).expect("status 12").expect_alive())
     return cases
 
 
@@ -161,17 +161,17 @@ def ignored_item_cases() -> List[Case]:
         requirement = f"An unknown parameter is ignored: {name.replace('_', ' ')} under the key {number}."
         case = Case(f"cbor/taken_{name}", "cbor", requirement, needs=["touch"])
         asked = {**registration_parameters(), number: value}
-        cases.append(case.greet().cbor(MAKE + encode(asked)).made(1))
+        cases.append(case.allocate().cbor(MAKE + encode(asked)).expect_credential(1))
     others: List[Any] = [0, -1, b"\1", "1"]
     for key in others:
         case = Case(f"cbor/taken_key_{encode(key).hex()}", "cbor", "An unknown key is ignored.", needs=["touch"])
-        cases.append(case.greet().cbor(MAKE + encode({**registration_parameters(), key: 0})).made(1))
+        cases.append(case.allocate().cbor(MAKE + encode({**registration_parameters(), key: 0})).expect_credential(1))
     case = Case("cbor/taken_members", "cbor", "Unknown members are ignored, also in rp and user.", needs=["touch"])
     rp = {"id": "example.com", "name": "Example", "icon": "x"}
     user = {"id": b"\1", "name": "alice", "displayName": "Alice", "icon": "x", "more": [1]}
-    cases.append(case.greet().make(p2=rp, p3=user, p7={"unknown": True}).made(1))
+    cases.append(case.allocate().make(p2=rp, p3=user, p7={"unknown": True}).expect_credential(1))
     case = Case("cbor/taken_extension", "cbor", "An unknown extension is ignored.", needs=["touch"])
-    cases.append(case.greet().make(p6={"an unknown extension": [1, 2]}).made(1))
+    cases.append(case.allocate().make(p6={"an unknown extension": [1, 2]}).expect_credential(1))
     return cases
 
 

@@ -156,18 +156,20 @@ def type_cases(chapter: str, command: bytes, good: Asked, known: Dict[int, Tuple
     for key, name, other, value in list_wrong_types(known):
         requirement = f"{name} with a wrong type ({other}) is refused."
         case = Case(f"{chapter}/type_{key}_{other}", section, requirement)
-        cases.append(case.greet().cbor(command + replace_value(good, key, value)).expect("refused 11").alive())
+        cases.append(
+            case.allocate().cbor(command + replace_value(good, key, value)).expect("refused 11").expect_alive()
+        )
     for name, item in (("integer", 1), ("bytes", b"x"), ("text", "x"), ("array", []), ("true", True), ("null", None)):
         case = Case(f"{chapter}/parameters_{name}", section, f"Parameters that are not a map ({name}) are refused.")
-        cases.append(case.greet().cbor(command + encode(item)).expect("refused 11").alive())
+        cases.append(case.allocate().cbor(command + encode(item)).expect("refused 11").expect_alive())
     case = Case(f"{chapter}/parameters_absent", section, "A command without its parameters is refused.")
-    cases.append(case.greet().cbor(command).expect("refused 12").alive())
+    cases.append(case.allocate().cbor(command).expect("refused 12").expect_alive())
     for key in [key for key in good if isinstance(key, int)]:
         case = Case(f"{chapter}/missing_{key}", section, f"The parameter {known[key][0]} is required.")
         left = {other: value for other, value in good.items() if other != key}
-        cases.append(case.greet().cbor(command + encode(left)).expect("status 14").alive())
+        cases.append(case.allocate().cbor(command + encode(left)).expect("status 14").expect_alive())
     case = Case(f"{chapter}/missing_all", section, "An empty map is refused, since parameters are missing.")
-    cases.append(case.greet().cbor(command + encode({})).expect("status 14").alive())
+    cases.append(case.allocate().cbor(command + encode({})).expect("status 14").expect_alive())
     return cases
 
 
@@ -181,10 +183,10 @@ def member_type_cases() -> List[Case]:
             f"make/inside_{name}", "make", requirement, profile="the standard requires an error, but not this status"
         )
         cases.append(
-            case.greet()
+            case.allocate()
             .cbor(MAKE + replace_value(registration_parameters(), key, value))
             .expect(f"status {status}")
-            .alive()
+            .expect_alive()
         )
     for name, allow, status in (
         ("type", [{"id": credential_name(1), "type": 1}], "11"),
@@ -197,7 +199,7 @@ def member_type_cases() -> List[Case]:
         case = Case(
             f"get/inside_{name}", "get", requirement, profile="the standard requires an error, but not this status"
         )
-        cases.append(case.greet().get(p3=allow).expect(f"status {status}").alive())
+        cases.append(case.allocate().get(p3=allow).expect(f"status {status}").expect_alive())
     return cases
 
 
@@ -208,20 +210,20 @@ def invalid_value_cases() -> List[Case]:
         for chapter, key in (("make", "p1"), ("get", "p2")):
             requirement = f"A clientDataHash of {quantity(length, 'byte')} instead of 32 is refused."
             case = Case(f"{chapter}/hash_of_{length}", chapter, requirement, profile=LENGTH_STATUS)
-            case.greet()
+            case.allocate()
             changes: Dict[str, Any] = {key: bytes(length)}
             case = case.make(**changes) if chapter == "make" else case.get(**changes)
-            cases.append(case.expect("status 03").alive())
+            cases.append(case.expect("status 03").expect_alive())
     case = Case("make/user_id_of_65", "make", "A user.id of more than 64 bytes is refused.", profile=LENGTH_STATUS)
-    cases.append(case.greet().make(p3={"id": bytes(65), "name": "x"}).expect("status 03").alive())
+    cases.append(case.allocate().make(p3={"id": bytes(65), "name": "x"}).expect("status 03").expect_alive())
     case = Case("make/user_id_of_64", "make", "A user.id of 64 bytes is accepted.", needs=["touch"])
-    cases.append(case.greet().register(1, p3={"id": bytes(64), "name": "x", "displayName": "x"}))
+    cases.append(case.allocate().register(1, p3={"id": bytes(64), "name": "x", "displayName": "x"}))
     lists = {"none": [], "unknown": [{"alg": -65535, "type": KIND}], "other_type": [{"alg": -7, "type": "other"}]}
     for name, entries in lists.items():
         case = Case(f"make/algorithms_{name}", "make", "A request without a supported algorithm is refused.")
         if name == "none":
             case.comment("profile: an empty list has no supported algorithm")
-        cases.append(case.greet().make(p4=entries).expect("status 26").alive())
+        cases.append(case.allocate().make(p4=entries).expect("status 26").expect_alive())
     return cases
 
 
@@ -231,16 +233,16 @@ def valid_value_cases() -> List[Case]:
     both = [{"alg": -65535, "type": KIND}, {"alg": -7, "type": "other"}, {"alg": -7, "type": KIND}]
     case = Case("make/algorithms_last", "make", "The first supported algorithm is chosen.", needs=["touch"])
     case.comment("uses: algorithm -7")
-    cases.append(case.greet().register(1, p4=both))
+    cases.append(case.allocate().register(1, p4=both))
     case = Case("make/option_up_false", "make", "The option up false is refused in a registration.")
-    cases.append(case.greet().make(p7={"up": False}).expect("status 2c").alive())
+    cases.append(case.allocate().make(p7={"up": False}).expect("status 2c").expect_alive())
     case = Case(
         "make/options_as_they_are",
         "make",
         "The default options rk false, up true and uv false are accepted.",
         needs=["touch"],
     )
-    cases.append(case.greet().register(1, p7={"rk": False, "up": True, "uv": False}))
+    cases.append(case.allocate().register(1, p7={"rk": False, "up": True, "uv": False}))
     for command in ("make", "get"):
         case = Case(
             f"{command}/pin_of_no_bytes",
@@ -249,10 +251,10 @@ def valid_value_cases() -> List[Case]:
             uses=["no pin"],
             profile=PIN_PARAMETERS,
         )
-        case.greet()
-        cases.append((case.make(p8=b"") if command == "make" else case.get(p6=b"")).expect("status 02").alive())
+        case.allocate()
+        cases.append((case.make(p8=b"") if command == "make" else case.get(p6=b"")).expect("status 02").expect_alive())
     case = Case("get/option_rk_false", "get", "The option rk is refused in a sign-in, even if false.")
-    cases.append(case.greet().get(p5={"rk": False}).expect("status 2b").alive())
+    cases.append(case.allocate().get(p5={"rk": False}).expect("status 2b").expect_alive())
     return cases
 
 
@@ -266,7 +268,7 @@ def pair_case(chapter: str, command: bytes, good: Asked, first: Check, second: C
     case = Case(f"{chapter}/first_{first.name}_then_{second.name}", chapter, requirement, **more)
     second.spoil(good)
     first.spoil(good)
-    return case.greet().cbor(command + encode(good)).expect(f"status {first.status}").alive()
+    return case.allocate().cbor(command + encode(good)).expect(f"status {first.status}").expect_alive()
 
 
 def order_cases(chapter: str, command: bytes, good: Callable[[], Asked], checks: List[Check]) -> List[Case]:
@@ -278,10 +280,10 @@ def order_cases(chapter: str, command: bytes, good: Callable[[], Asked], checks:
         asked = good()
         check.spoil(asked)
         word = "refused" if check.name == "type" else "status"
-        cases.append(case.greet().cbor(command + encode(asked)).expect(f"{word} {check.status}").alive())
+        cases.append(case.allocate().cbor(command + encode(asked)).expect(f"{word} {check.status}").expect_alive())
         requirement = "Invalid CBOR is reported before errors in its contents."
         case = Case(f"{chapter}/first_cbor_then_{check.name}", chapter, requirement)
-        cases.append(case.greet().cbor(command + encode(asked)[:-1]).expect("refused 12").alive())
+        cases.append(case.allocate().cbor(command + encode(asked)[:-1]).expect("refused 12").expect_alive())
         for later in checks[place + 1 :]:
             cases.append(pair_case(chapter, command, good(), check, later))
     return cases

@@ -120,7 +120,7 @@ class Case:
         data = count_bytes(length)[57 + 59 * sequence :][:59]
         return self.packets([(channel.to_bytes(4, "big") + bytes([sequence]) + data).ljust(64, b"\0")])
 
-    def greet(self, count: int = 1) -> Self:
+    def allocate(self, count: int = 1) -> Self:
         """Allocates channels."""
         for number in range(count):
             nonce = NONCE[:7] + bytes([7 + number])
@@ -166,12 +166,12 @@ class Case:
         self.lines.append(f"s {self.at} {'dd' * 70}")
         return self
 
-    def made(self, number: int, words: str = "up", channel: int = 1) -> Self:
+    def expect_credential(self, number: int, words: str = "up", channel: int = 1) -> Self:
         """Adds a touch for a registration, and expects a credential."""
         self.presence().key(number).sign()
         return self.expect(f"made {words}" + (f" on {channel:08x}" if channel != 1 else ""))
 
-    def alike(self, number: int, kind: str) -> Dict[str, Any]:
+    def similar_descriptor(self, number: int, kind: str) -> Dict[str, Any]:
         """Returns the descriptor of an ID similar to that of credential `number`."""
         name = similar_name(number, kind)
         self.comment(f"derived: {kind} {credential_name(number).hex()} {name.hex()}")
@@ -181,16 +181,16 @@ class Case:
         """Registers a credential."""
         if rk:
             changes.setdefault("p7", {"rk": True})
-        return self.make(channel, **changes).made(number, channel=channel)
+        return self.make(channel, **changes).expect_credential(number, channel=channel)
 
-    def asserted(self, words: str, channel: int = 1, presence: bool = True) -> Self:
+    def expect_assertion(self, words: str, channel: int = 1, presence: bool = True) -> Self:
         """Adds a touch for a sign-in, and expects an assertion."""
         if presence:
             self.presence()
         self.sign()
         return self.expect(f"asserted {words}" + (f" on {channel:08x}" if channel != 1 else ""))
 
-    def alive(self, channel: int = 1) -> Self:
+    def expect_alive(self, channel: int = 1) -> Self:
         """Checks with a PING that the channel still works."""
         return self.send(channel, hid.PING, b"still here").expect(f"echo on {channel:08x}")
 

@@ -23,7 +23,7 @@ class U2fCase(Case):
 
     def __init__(self, name: str, requirement: str) -> None:
         super().__init__(f"u2f/{name}", "ctap1", requirement, needs=["touch"], uses=["msg"])
-        self.greet()
+        self.allocate()
 
     def apdu(self, instruction: int, control: int, data: bytes) -> Self:
         """Sends an extended APDU."""
@@ -59,13 +59,15 @@ def cases() -> List[Case]:
     case = U2fCase("unknown_handle", "An unknown key handle returns 6a80.")
     found.append(case.sign(CHECK_ONLY).expect(f"message 03 {WRONG_DATA}"))
     case = U2fCase("unknown_handle_signs", "An unknown key handle signs nothing.")
-    found.append(case.sign().expect(f"message 03 {WRONG_DATA}").alive())
+    found.append(case.sign().expect(f"message 03 {WRONG_DATA}").expect_alive())
     case = U2fCase("other_application", "A key handle returns 6a80 for another application, and 6985 for its own.")
     case.register_u2f().sign(CHECK_ONLY, OTHER).expect(f"message 03 {WRONG_DATA}")
     case.sign(ENFORCE, OTHER).expect(f"message 03 {WRONG_DATA}").sign(CHECK_ONLY).expect(f"message 03 {NO_TOUCH}")
     found.append(case.presence().sign().expect(f"u2f_signed {HANDLE.hex()}"))
     case = U2fCase("short_registration", "A registration without an application returns 6700.")
-    found.append(case.apdu(REGISTER, 0, CHALLENGE).expect(f"message 03 {WRONG_LENGTH}").alive())
+    found.append(case.apdu(REGISTER, 0, CHALLENGE).expect(f"message 03 {WRONG_LENGTH}").expect_alive())
     case = U2fCase("long_registration", "A registration with additional bytes returns 6700.")
-    found.append(case.apdu(REGISTER, 0, CHALLENGE + APPLICATION + b"x").expect(f"message 03 {WRONG_LENGTH}").alive())
+    found.append(
+        case.apdu(REGISTER, 0, CHALLENGE + APPLICATION + b"x").expect(f"message 03 {WRONG_LENGTH}").expect_alive()
+    )
     return found

@@ -34,18 +34,18 @@ class EnrollCase(PinCase):
         self.cbor(COMMAND + encode(asked))
         return self
 
-    def enrolling(self) -> Self:
+    def prepare_enrolment(self) -> Self:
         """Sets a PIN, asks for the number of samples, and gets a token with the permission be."""
         self.enroll(SENSOR, None, None).expect("sensor 3")
-        return self.with_pin().token(permissions=ENROLL, rp="")
+        return self.set_new_pin().token(permissions=ENROLL, rp="")
 
-    def begun(self) -> Self:
+    def take_first_sample(self) -> Self:
         """Takes the first sample."""
         return self.enroll(BEGIN, {3: 10000}).presence().expect(f"sample as {TEMPLATE.hex()}")
 
-    def enrolled(self) -> Self:
+    def enroll_finger(self) -> Self:
         """Enrols a finger by three samples."""
-        self.begun()
+        self.take_first_sample()
         for number in (2, 3):
             self.enroll(NEXT_SAMPLE, {1: TEMPLATE, 3: 10000}).presence().expect(f"sample left {number}")
         return self
@@ -55,25 +55,29 @@ def template_cases(protocol: int) -> List[Case]:
     """Returns cases about enrolment, and changes of templates."""
     cases: List[Case] = []
     case = EnrollCase("whole", "A finger is enrolled by its samples, and listed (6.7.4, 6.7.6).", protocol)
-    case.enrolling().cbor(INFO).expect("option bioEnroll false").enrolled().cbor(INFO).expect("option bioEnroll true")
+    case.prepare_enrolment().cbor(INFO).expect("option bioEnroll false").enroll_finger().cbor(INFO).expect(
+        "option bioEnroll true"
+    )
     cases.append(case.enroll(ENUMERATE).expect(f"templates {TEMPLATE.hex()}"))
     case = EnrollCase("name", "A template can be named (6.7.7).", protocol)
-    case.enrolling().enrolled().enroll(RENAME, {1: TEMPLATE, 2: NAME}).expect("status 00")
+    case.prepare_enrolment().enroll_finger().enroll(RENAME, {1: TEMPLATE, 2: NAME}).expect("status 00")
     cases.append(case.enroll(ENUMERATE).expect(f"templates {TEMPLATE.hex()} name {NAME}"))
     case = EnrollCase("removed", "A template can be removed (6.7.8).", protocol)
-    case.enrolling().enrolled().enroll(REMOVE, {1: TEMPLATE}).expect("status 00")
+    case.prepare_enrolment().enroll_finger().enroll(REMOVE, {1: TEMPLATE}).expect("status 00")
     cases.append(case.enroll(ENUMERATE).expect("status 2c").cbor(INFO).expect("option bioEnroll false"))
     case = EnrollCase("cancelled", "A cancelled enrolment leaves no template, and needs no token (6.7.5).", protocol)
-    case.enrolling().begun().enroll(CANCEL, None, None).expect("status 00")
+    case.prepare_enrolment().take_first_sample().enroll(CANCEL, None, None).expect("status 00")
     case.enroll(NEXT_SAMPLE, {1: TEMPLATE, 3: 10000}).expect("refused 30 or touch")
     cases.append(case.enroll(ENUMERATE).expect("status 2c"))
     case = EnrollCase("half", "An incomplete enrolment is not listed (6.7.4).", protocol)
-    cases.append(case.enrolling().begun().enroll(ENUMERATE).expect("status 2c"))
+    cases.append(case.prepare_enrolment().take_first_sample().enroll(ENUMERATE).expect("status 2c"))
     case = EnrollCase("none", "Without a template the status is 2c (6.7.6).", protocol)
-    cases.append(case.enrolling().enroll(ENUMERATE).expect("status 2c").alive())
+    cases.append(case.prepare_enrolment().enroll(ENUMERATE).expect("status 2c").expect_alive())
     for name, command in (("name", RENAME), ("remove", REMOVE)):
         case = EnrollCase(f"{name}_unknown", "An unknown template is refused (6.7.7, 6.7.8).", protocol)
-        cases.append(case.enrolling().enroll(command, {1: UNKNOWN_TEMPLATE, 2: NAME}).expect("status 2c").alive())
+        cases.append(
+            case.prepare_enrolment().enroll(command, {1: UNKNOWN_TEMPLATE, 2: NAME}).expect("status 2c").expect_alive()
+        )
     return cases
 
 
@@ -89,12 +93,12 @@ def refusal_cases(protocol: int) -> List[Case]:
     wrong = bytes(16 if protocol == 1 else 32)
     for name, (command, parameters) in asked.items():
         case = EnrollCase(f"{name}_without_token", "Without a token the status is 36 (6.7).", protocol)
-        cases.append(case.with_pin().enroll(command, parameters, None).expect("status 36").alive())
+        cases.append(case.set_new_pin().enroll(command, parameters, None).expect("status 36").expect_alive())
         case = EnrollCase(f"{name}_not_authentic", "A wrong pinUvAuthParam is refused (6.7).", protocol)
-        cases.append(case.enrolling().enroll(command, parameters, wrong).expect("status 33").alive())
+        cases.append(case.prepare_enrolment().enroll(command, parameters, wrong).expect("status 33").expect_alive())
         case = EnrollCase(f"{name}_not_permitted", "A token without the permission be is refused (6.7).", protocol)
-        case.with_pin().token(permissions=MAKE | GET).enroll(command, parameters)
-        cases.append(case.expect("status 33").alive())
+        case.set_new_pin().token(permissions=MAKE | GET).enroll(command, parameters)
+        cases.append(case.expect("status 33").expect_alive())
     case = EnrollCase("modality", "The modality is 1, fingerprint (6.7.2).", protocol)
     cases.append(case.cbor(COMMAND + encode({6: True})).expect("modality"))
     case = EnrollCase("sensor", "The kind of sensor and the number of samples are returned (6.7.3).", protocol)

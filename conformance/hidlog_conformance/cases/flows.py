@@ -19,11 +19,11 @@ def info_cases() -> List[Case]:
     case = Case(
         "info/shape", "info", "The response is a map with versions and an AAGUID of 16 bytes, in canonical CBOR."
     )
-    cases.append(case.greet().cbor(INFO).expect("info"))
+    cases.append(case.allocate().cbor(INFO).expect("info"))
     case = Case("info/twice", "info", "getInfo can be repeated.")
-    cases.append(case.greet().cbor(INFO).expect("info").cbor(INFO).expect("info"))
+    cases.append(case.allocate().cbor(INFO).expect("info").cbor(INFO).expect("info"))
     case = Case("info/each_host", "info", "Each host gets a response.")
-    cases.append(case.greet(2).cbor(INFO, 2).expect("info on 2").cbor(INFO, 1).expect("info"))
+    cases.append(case.allocate(2).cbor(INFO, 2).expect("info on 2").cbor(INFO, 1).expect("info"))
     for name, data, byte in (
         ("info", INFO, "04"),
         ("reset", RESET, "07"),
@@ -38,7 +38,7 @@ def info_cases() -> List[Case]:
         case.comment("profile: the standard does not say how parameters are refused")
         if name == "reset":
             case.comment("needs: reset")
-        cases.append(case.greet().cbor(data + b"\xa0").expect("status 03").alive())
+        cases.append(case.allocate().cbor(data + b"\xa0").expect("status 03").expect_alive())
     return cases
 
 
@@ -51,7 +51,7 @@ def registration_cases() -> List[Case]:
         "The response has authenticator data with UP and AT, a public key and an attestation.",
         **TOUCH,
     )
-    cases.append(case.greet().make().made(1, "up no-uv"))
+    cases.append(case.allocate().make().expect_credential(1, "up no-uv"))
     case = Case(
         "make/counter_of_a_new_one",
         "make",
@@ -59,12 +59,12 @@ def registration_cases() -> List[Case]:
         **TOUCH,
         profile="a counter may start at any value",
     )
-    cases.append(case.greet().make().made(1, "up counter 0"))
+    cases.append(case.allocate().make().expect_credential(1, "up counter 0"))
     case = Case("make/three_ids", "make", "Each registration has a new credential ID.", **TOUCH)
-    cases.append(case.greet().register(1).register(2).register(3))
+    cases.append(case.allocate().register(1).register(2).register(3))
     for word, status in (("denied", "27"), ("timeout", "27")):
         case = Case(f"make/user_{word}", "make", "Without user presence no credential is made.", needs=["denial"])
-        cases.append(case.greet().make().presence(word).expect(f"status {status}").alive())
+        cases.append(case.allocate().make().presence(word).expect(f"status {status}").expect_alive())
     return cases
 
 
@@ -73,9 +73,9 @@ def missing_key_cases() -> List[Case]:
     cases = []
     case = Case("make/no_key", "make", "If no key pair can be made, the response is an error.", needs=["refusal"])
     case.comment("profile: the standard does not say which error")
-    case.greet().make().presence()
+    case.allocate().make().presence()
     case.lines.append(f"k {case.at} no")
-    cases.append(case.expect("status 7f").alive())
+    cases.append(case.expect("status 7f").expect_alive())
     case = Case(
         "make/no_signature",
         "make",
@@ -83,12 +83,12 @@ def missing_key_cases() -> List[Case]:
         needs=["refusal"],
     )
     case.comment("profile: the standard does not say which error")
-    case.greet().make(p7={"rk": True}).presence().key(1)
+    case.allocate().make(p7={"rk": True}).presence().key(1)
     case.lines.append(f"s {case.at} no")
     cases.append(case.expect("status 7f").get().expect("status 2e"))
     case = Case("make/full", "make", "If the device is full, the status is 28.", needs=["capacity 64"])
     case.comment("profile: the capacity is 64")
-    case.greet()
+    case.allocate()
     for number in range(64):
         case.register(number)
     cases.append(case.make().presence().expect("status 28"))
@@ -112,13 +112,13 @@ def exclude_list_cases() -> List[Case]:
             "A credential of this RP in the exclude list ends the request after the touch.",
             **TOUCH,
         )
-        cases.append(case.greet().register(1).make(p5=exclude).presence().expect("status 19").alive())
+        cases.append(case.allocate().register(1).make(p5=exclude).presence().expect("status 19").expect_alive())
     for word in ("denied", "timeout"):
         case = Case(
             f"lists/exclude_{word}", "make", "An excluded registration has this status whether or not the user touches."
         )
         case.comment("needs: denial")
-        cases.append(case.greet().register(1).make(p5=[descriptor(1)]).presence(word).expect("status 19"))
+        cases.append(case.allocate().register(1).make(p5=[descriptor(1)]).presence(word).expect("status 19"))
     return cases
 
 
@@ -133,23 +133,23 @@ def exclude_without_match_cases() -> List[Case]:
             "An exclude list without a credential of this RP has no effect.",
             **TOUCH,
         )
-        cases.append(case.greet().register(1).register(2, p5=exclude))
+        cases.append(case.allocate().register(1).register(2, p5=exclude))
     case = Case("lists/exclude_of_another_rp", "make", "A credential of another RP does not exclude.", **TOUCH)
-    cases.append(case.greet().register(1).register(2, p2={"id": "example.org", "name": "x"}, p5=[descriptor(1)]))
+    cases.append(case.allocate().register(1).register(2, p2={"id": "example.org", "name": "x"}, p5=[descriptor(1)]))
     case = Case(
         "lists/exclude_asks_first",
         "make",
         "User presence is requested before the error about an excluded credential.",
         **TOUCH,
     )
-    case.greet().register(1).make(p5=[descriptor(1)]).expect("keepalive 02").tick(100).expect("nothing")
+    case.allocate().register(1).make(p5=[descriptor(1)]).expect("keepalive 02").tick(100).expect("nothing")
     cases.append(case.send(1, hid.CANCEL).expect("status 2d"))
     case = Case("lists/exclude_discoverable", "make", "A discoverable credential can be excluded.", **EMPTY)
     cases.append(
-        case.greet().register(1, rk=True).make(p5=[descriptor(1)], p7={"rk": True}).presence().expect("status 19")
+        case.allocate().register(1, rk=True).make(p5=[descriptor(1)], p7={"rk": True}).presence().expect("status 19")
     )
     case = Case("lists/exclude_replaced", "make", "A replaced credential does not exclude.", **EMPTY)
-    cases.append(case.greet().register(1, rk=True).register(2, rk=True).register(3, p5=[descriptor(1)]))
+    cases.append(case.allocate().register(1, rk=True).register(2, rk=True).register(3, p5=[descriptor(1)]))
     return cases
 
 
@@ -165,7 +165,7 @@ def allow_list_cases() -> List[Case]:
     }
     for name, allow in found.items():
         case = Case(f"lists/allow_{name}", "get", "The credential of this RP in the allow list signs.", **TOUCH)
-        cases.append(case.greet().register(1).get(p3=allow).asserted(COUNTER_INCREASES + " no-uv no-number"))
+        cases.append(case.allocate().register(1).get(p3=allow).expect_assertion(COUNTER_INCREASES + " no-uv no-number"))
     return cases
 
 
@@ -181,12 +181,14 @@ def allow_without_match_cases() -> List[Case]:
         case = Case(
             f"lists/allow_{name}", "get", "If the allow list has no credential of this RP, the status is 2e.", **TOUCH
         )
-        cases.append(case.greet().register(1).get(p3=allow).expect("status 2e").alive())
+        cases.append(case.allocate().register(1).get(p3=allow).expect("status 2e").expect_alive())
     case = Case("lists/allow_of_another_rp", "get", "A credential signs only for its own RP.", **TOUCH)
-    cases.append(case.greet().register(1).get(p1="example.org", p3=[descriptor(1)]).expect("status 2e").alive())
+    cases.append(
+        case.allocate().register(1).get(p1="example.org", p3=[descriptor(1)]).expect("status 2e").expect_alive()
+    )
     for name, rp in (("capital", "Example.com"), ("longer", "example.com."), ("empty", "")):
         case = Case(f"lists/allow_rp_{name}", "get", "RP IDs are compared byte by byte.", **TOUCH)
-        cases.append(case.greet().register(1).get(p1=rp, p3=[descriptor(1)]).expect("status 2e").alive())
+        cases.append(case.allocate().register(1).get(p1=rp, p3=[descriptor(1)]).expect("status 2e").expect_alive())
     return cases
 
 
@@ -200,11 +202,11 @@ def allow_several_cases() -> List[Case]:
         **TOUCH,
     )
     cases.append(
-        case.greet()
+        case.allocate()
         .register(1)
         .register(2)
         .get(p3=[descriptor(2), descriptor(1)])
-        .asserted(COUNTER_INCREASES + " no-number")
+        .expect_assertion(COUNTER_INCREASES + " no-number")
     )
     case = Case(
         "lists/allow_two_first",
@@ -213,23 +215,23 @@ def allow_several_cases() -> List[Case]:
         **TOUCH,
         profile="either may sign",
     )
-    case.greet().register(1).register(2).get(p3=[descriptor(2), descriptor(1)])
-    cases.append(case.asserted(f"id {descriptor(2)['id'].hex()}"))
+    case.allocate().register(1).register(2).get(p3=[descriptor(2), descriptor(1)])
+    cases.append(case.expect_assertion(f"id {descriptor(2)['id'].hex()}"))
     case = Case("lists/allow_empty", "get", "An empty allow list is treated as absent.", **EMPTY)
-    cases.append(case.greet().register(1, rk=True).get(p3=[]).asserted(COUNTER_INCREASES))
+    cases.append(case.allocate().register(1, rk=True).get(p3=[]).expect_assertion(COUNTER_INCREASES))
     case = Case(
         "lists/allow_unknown_discoverable",
         "get",
         "An allow list without a known credential is not treated as absent.",
         **EMPTY,
     )
-    cases.append(case.greet().register(1, rk=True).get(p3=[descriptor(9)]).expect("status 2e"))
+    cases.append(case.allocate().register(1, rk=True).get(p3=[descriptor(9)]).expect("status 2e"))
     case = Case("lists/allow_then_next", "next", "After a sign-in with an allow list no assertion is pending.", **EMPTY)
     case.comment("since: CTAP 2.0 allows further assertions after an allow list")
-    case.greet().register(1, rk=True, p3=user(1)).register(2, rk=True, p3=user(2)).get(
+    case.allocate().register(1, rk=True, p3=user(1)).register(2, rk=True, p3=user(2)).get(
         p3=[descriptor(1), descriptor(2)]
     )
-    cases.append(case.asserted(COUNTER_INCREASES).cbor(NEXT).expect("status 30"))
+    cases.append(case.expect_assertion(COUNTER_INCREASES).cbor(NEXT).expect("status 30"))
     return cases
 
 
@@ -237,12 +239,12 @@ def sign_in_cases() -> List[Case]:
     """Returns cases about counters, and user presence."""
     cases = []
     case = Case("get/counter_rises", "get", "The counter rises at each sign-in.", **TOUCH)
-    case.greet().register(1)
+    case.allocate().register(1)
     for _ in range(4):
-        case.get(p3=[descriptor(1)]).asserted(COUNTER_INCREASES)
+        case.get(p3=[descriptor(1)]).expect_assertion(COUNTER_INCREASES)
     cases.append(case)
     case = Case("get/counter_rises_by_one", "get", "The counter rises.", **TOUCH, profile="a counter may stay 0")
-    cases.append(case.greet().register(1).get(p3=[descriptor(1)]).asserted(COUNTER_INCREASES + " strictly"))
+    cases.append(case.allocate().register(1).get(p3=[descriptor(1)]).expect_assertion(COUNTER_INCREASES + " strictly"))
     case = Case(
         "get/without_presence",
         "get",
@@ -251,22 +253,25 @@ def sign_in_cases() -> List[Case]:
         uses=["up"],
     )
     cases.append(
-        case.greet()
+        case.allocate()
         .register(1)
         .get(p3=[descriptor(1)], p5={"up": False})
-        .asserted("no-up counter-rises", presence=False)
+        .expect_assertion("no-up counter-rises", presence=False)
     )
     case = Case("get/up_true", "get", "With up true a touch is requested.", **TOUCH)
     cases.append(
-        case.greet()
+        case.allocate()
         .register(1)
         .get(p3=[descriptor(1)], p5={"up": True})
         .expect("keepalive 02")
-        .asserted(COUNTER_INCREASES)
+        .expect_assertion(COUNTER_INCREASES)
     )
     case = Case("get/up_true_uv_false", "get", "The option uv false has no effect.", **TOUCH)
     cases.append(
-        case.greet().register(1).get(p3=[descriptor(1)], p5={"uv": False}).asserted(COUNTER_INCREASES + " no-uv")
+        case.allocate()
+        .register(1)
+        .get(p3=[descriptor(1)], p5={"uv": False})
+        .expect_assertion(COUNTER_INCREASES + " no-uv")
     )
     return cases
 
@@ -276,20 +281,31 @@ def refused_sign_in_cases() -> List[Case]:
     cases = []
     for word in ("denied", "timeout"):
         case = Case(f"get/user_{word}", "get", "Without user presence nothing is signed.", needs=["denial"])
-        cases.append(case.greet().register(1).get(p3=[descriptor(1)]).presence(word).expect("status 27").alive())
+        cases.append(
+            case.allocate().register(1).get(p3=[descriptor(1)]).presence(word).expect("status 27").expect_alive()
+        )
     case = Case("get/nothing_registered", "get", "Without a credential of the RP the status is 2e.", needs=["reset"])
-    cases.append(case.greet().get().expect("status 2e").alive())
+    cases.append(case.allocate().get().expect("status 2e").expect_alive())
     case = Case(
         "get/other_credentials_stay_hidden",
         "get",
         "A non-discoverable credential is only found by an allow list.",
         **EMPTY,
     )
-    cases.append(case.greet().register(1).get().expect("status 2e").get(p3=[descriptor(1)]).asserted(COUNTER_INCREASES))
+    cases.append(
+        case.allocate()
+        .register(1)
+        .get()
+        .expect("status 2e")
+        .get(p3=[descriptor(1)])
+        .expect_assertion(COUNTER_INCREASES)
+    )
     case = Case(
         "get/discoverable", "get", "A discoverable credential is found without an allow list, with its user.", **EMPTY
     )
-    cases.append(case.greet().register(1, rk=True).get().asserted(COUNTER_INCREASES + " user 01 no-number no-name"))
+    cases.append(
+        case.allocate().register(1, rk=True).get().expect_assertion(COUNTER_INCREASES + " user 01 no-number no-name")
+    )
     case = Case(
         "get/discoverable_by_list",
         "get",
@@ -297,7 +313,10 @@ def refused_sign_in_cases() -> List[Case]:
         **EMPTY,
     )
     cases.append(
-        case.greet().register(1, rk=True).get(p3=[descriptor(1)]).asserted(COUNTER_INCREASES + " user 01 no-name")
+        case.allocate()
+        .register(1, rk=True)
+        .get(p3=[descriptor(1)])
+        .expect_assertion(COUNTER_INCREASES + " user 01 no-name")
     )
     return cases
 
@@ -308,29 +327,29 @@ def same_user_cases() -> List[Case]:
     case = Case(
         "get/same_user_again", "get", "A discoverable credential replaces that of the same RP and user.", **EMPTY
     )
-    case.greet().register(1, rk=True).register(2, rk=True).get().asserted(
+    case.allocate().register(1, rk=True).register(2, rk=True).get().expect_assertion(
         f"{COUNTER_INCREASES} no-number id {descriptor(2)['id'].hex()}"
     )
     cases.append(case.get(p3=[descriptor(1)]).expect("status 2e"))
     case = Case("get/same_user_of_another_rp", "get", "The same user ID at another RP is a different user.", **EMPTY)
-    case.greet().register(1, rk=True).register(2, rk=True, p2={"id": "example.org", "name": "x"})
-    cases.append(case.get().asserted(f"{COUNTER_INCREASES} no-number id {descriptor(1)['id'].hex()}"))
+    case.allocate().register(1, rk=True).register(2, rk=True, p2={"id": "example.org", "name": "x"})
+    cases.append(case.get().expect_assertion(f"{COUNTER_INCREASES} no-number id {descriptor(1)['id'].hex()}"))
     case = Case("get/hidden_replaces_nothing", "get", "A non-discoverable credential replaces none.", **EMPTY)
-    case.greet().register(1, rk=True).register(2)
-    cases.append(case.get().asserted(f"{COUNTER_INCREASES} no-number id {descriptor(1)['id'].hex()}"))
+    case.allocate().register(1, rk=True).register(2)
+    cases.append(case.get().expect_assertion(f"{COUNTER_INCREASES} no-number id {descriptor(1)['id'].hex()}"))
     for number, rp in enumerate(("a", "example.com:443", "x" * 253, "ü.example"), 1):
         case = Case(f"get/rp_{number}", "get", "RP IDs have any length and characters.", **TOUCH)
-        case.greet().register(1, p2={"id": rp, "name": "x"}).get(p1=rp, p3=[descriptor(1)])
-        cases.append(case.asserted("up counter-rises"))
+        case.allocate().register(1, p2={"id": rp, "name": "x"}).get(p1=rp, p3=[descriptor(1)])
+        cases.append(case.expect_assertion("up counter-rises"))
     return cases
 
 
 def register_three_users(case: Case) -> Case:
     """Registers three users and signs in without an allowList: the newest credential signs."""
-    case.greet()
+    case.allocate()
     for number in (1, 2, 3):
         case.register(number, rk=True, p3=user(number))
-    return case.get().asserted(f"{COUNTER_INCREASES} user 03 number 3 no-name")
+    return case.get().expect_assertion(f"{COUNTER_INCREASES} user 03 number 3 no-name")
 
 
 def next_assertion_cases() -> List[Case]:
@@ -340,12 +359,14 @@ def next_assertion_cases() -> List[Case]:
         Case("next/newest_first", "next", "The other assertions follow, each once, newest first.", **EMPTY)
     )
     for number in (2, 1):
-        case.cbor(NEXT).asserted(f"{COUNTER_INCREASES} user 0{number} no-number", presence=False)
+        case.cbor(NEXT).expect_assertion(f"{COUNTER_INCREASES} user 0{number} no-number", presence=False)
     cases.append(case.cbor(NEXT).expect("status 30"))
     case = Case("next/nothing_pending", "next", "Without a sign-in before it the status is 30.")
-    cases.append(case.greet().cbor(NEXT).expect("status 30").alive())
+    cases.append(case.allocate().cbor(NEXT).expect("status 30").expect_alive())
     case = Case("next/one_credential", "next", "After a sign-in with one credential nothing is pending.", **EMPTY)
-    cases.append(case.greet().register(1, rk=True).get().asserted(COUNTER_INCREASES).cbor(NEXT).expect("status 30"))
+    cases.append(
+        case.allocate().register(1, rk=True).get().expect_assertion(COUNTER_INCREASES).cbor(NEXT).expect("status 30")
+    )
     return cases
 
 
@@ -366,11 +387,11 @@ def pending_time_cases() -> List[Case]:
             **EMPTY,
         )
     )
-    case.cbor(NEXT).asserted(f"{COUNTER_INCREASES} user 02", presence=False)
+    case.cbor(NEXT).expect_assertion(f"{COUNTER_INCREASES} user 02", presence=False)
     cases.append(case.wait(30500).cbor(NEXT).expect("status 30"))
     case = register_three_users(Case("next/each_renews", "next", "Each assertion restarts the 30 seconds.", **EMPTY))
-    case.wait(20000).cbor(NEXT).asserted(f"{COUNTER_INCREASES} user 02", presence=False)
-    cases.append(case.wait(20000).cbor(NEXT).asserted(f"{COUNTER_INCREASES} user 01", presence=False))
+    case.wait(20000).cbor(NEXT).expect_assertion(f"{COUNTER_INCREASES} user 02", presence=False)
+    cases.append(case.wait(20000).cbor(NEXT).expect_assertion(f"{COUNTER_INCREASES} user 01", presence=False))
     for wait, late in ((30000, False), (30001, True)):
         case = Case(
             f"next/at_{wait}", "next", "The 30 seconds are exact to the millisecond.", needs=["exact time", "reset"]
@@ -378,7 +399,7 @@ def pending_time_cases() -> List[Case]:
         case.comment("profile: other authenticators have no such exact clock")
         register_three_users(case).wait(wait).cbor(NEXT)
         cases.append(
-            case.expect("status 30") if late else case.asserted(f"{COUNTER_INCREASES} user 02", presence=False)
+            case.expect("status 30") if late else case.expect_assertion(f"{COUNTER_INCREASES} user 02", presence=False)
         )
     return cases
 
@@ -387,7 +408,7 @@ def interleaved_cases() -> List[Case]:
     """Returns cases about other messages between assertions."""
     cases = []
     case = register_three_users(Case("next/ping_between", "next", "A PING in between has no effect.", **EMPTY))
-    cases.append(case.alive().cbor(NEXT).asserted(f"{COUNTER_INCREASES} user 02", presence=False))
+    cases.append(case.expect_alive().cbor(NEXT).expect_assertion(f"{COUNTER_INCREASES} user 02", presence=False))
     case = register_three_users(
         Case("next/refused_packet_between", "next", "A refused packet in between has no effect.", **EMPTY)
     )
@@ -395,7 +416,7 @@ def interleaved_cases() -> List[Case]:
         case.send(9, hid.PING, b"a")
         .expect("error 0b on 9")
         .cbor(NEXT)
-        .asserted(f"{COUNTER_INCREASES} user 02", presence=False)
+        .expect_assertion(f"{COUNTER_INCREASES} user 02", presence=False)
     )
     case = register_three_users(
         Case(
@@ -431,19 +452,19 @@ def new_sign_in_cases() -> List[Case]:
     case = register_three_users(
         Case("next/new_sign_in", "next", "A new sign-in starts over with the newest credential.", **EMPTY)
     )
-    case.cbor(NEXT).asserted(f"{COUNTER_INCREASES} user 02", presence=False).get().asserted(
+    case.cbor(NEXT).expect_assertion(f"{COUNTER_INCREASES} user 02", presence=False).get().expect_assertion(
         f"{COUNTER_INCREASES} user 03 number 3"
     )
-    cases.append(case.cbor(NEXT).asserted(f"{COUNTER_INCREASES} user 02", presence=False))
+    cases.append(case.cbor(NEXT).expect_assertion(f"{COUNTER_INCREASES} user 02", presence=False))
     case = Case("next/without_presence", "next", "The flags are those of the first assertion: UP is not set.", **EMPTY)
-    case.greet().register(1, rk=True, p3=user(1)).register(2, rk=True, p3=user(2))
-    case.get(p5={"up": False}).asserted("no-up user 02 number 2", presence=False)
-    cases.append(case.cbor(NEXT).asserted("no-up user 01", presence=False))
+    case.allocate().register(1, rk=True, p3=user(1)).register(2, rk=True, p3=user(2))
+    case.get(p5={"up": False}).expect_assertion("no-up user 02 number 2", presence=False)
+    cases.append(case.cbor(NEXT).expect_assertion("no-up user 01", presence=False))
     case = Case("next/two_rps", "next", "Credentials of other RPs are not counted.", **EMPTY)
-    case.greet().register(1, rk=True, p3=user(1)).register(
+    case.allocate().register(1, rk=True, p3=user(1)).register(
         2, rk=True, p3=user(2), p2={"id": "example.org", "name": "x"}
     )
-    cases.append(case.register(3, rk=True, p3=user(3)).get().asserted(f"{COUNTER_INCREASES} user 03 number 2"))
+    cases.append(case.register(3, rk=True, p3=user(3)).get().expect_assertion(f"{COUNTER_INCREASES} user 03 number 2"))
     return cases
 
 
@@ -451,33 +472,33 @@ def reset_cases() -> List[Case]:
     """Returns cases about authenticatorReset and authenticatorSelection."""
     cases = []
     case = Case("reset/granted", "reset", "A reset with a touch returns 00.", **NEW_TOUCH)
-    cases.append(case.greet().cbor(RESET).presence().expect("status 00").alive())
+    cases.append(case.allocate().cbor(RESET).presence().expect("status 00").expect_alive())
     case = Case("reset/forgets", "reset", "After a reset no credential is left.", **NEW_TOUCH, uses=["rk"])
-    case.greet().register(1).register(2, rk=True).cbor(RESET).presence().expect("status 00")
+    case.allocate().register(1).register(2, rk=True).cbor(RESET).presence().expect("status 00")
     cases.append(case.get(p3=[descriptor(1)]).expect("status 2e").get().expect("status 2e"))
     case = Case("reset/serves_again", "reset", "After a reset credentials can be registered.", **NEW_TOUCH)
     cases.append(
-        case.greet()
+        case.allocate()
         .cbor(RESET)
         .presence()
         .expect("status 00")
         .register(1)
         .get(p3=[descriptor(1)])
-        .asserted(COUNTER_INCREASES)
+        .expect_assertion(COUNTER_INCREASES)
     )
     case = Case("reset/asks_for_the_user", "reset", "A reset requests a touch.", **NEW_TOUCH)
     cases.append(
-        case.greet().cbor(RESET).expect("keepalive 02").tick(100).expect("nothing").presence().expect("status 00")
+        case.allocate().cbor(RESET).expect("keepalive 02").tick(100).expect("nothing").presence().expect("status 00")
     )
     for word, status in (("denied", "27"), ("timeout", "2f")):
         case = Case(
             f"reset/user_{word}", "reset", "Without user presence a reset deletes nothing.", needs=["denial", "reset"]
         )
-        case.greet().register(1).cbor(RESET).presence(word).expect(f"status {status}")
-        cases.append(case.get(p3=[descriptor(1)]).asserted(COUNTER_INCREASES))
+        case.allocate().register(1).cbor(RESET).presence(word).expect(f"status {status}")
+        cases.append(case.get(p3=[descriptor(1)]).expect_assertion(COUNTER_INCREASES))
     case = Case("reset/cancelled", "reset", "A cancelled reset deletes nothing.", **NEW_TOUCH)
-    case.greet().register(1).cbor(RESET).expect("keepalive 02").send(1, hid.CANCEL).expect("status 2d")
-    cases.append(case.get(p3=[descriptor(1)]).asserted(COUNTER_INCREASES))
+    case.allocate().register(1).cbor(RESET).expect("keepalive 02").send(1, hid.CANCEL).expect("status 2d")
+    cases.append(case.get(p3=[descriptor(1)]).expect_assertion(COUNTER_INCREASES))
     return cases
 
 
@@ -486,13 +507,13 @@ def late_reset_cases() -> List[Case]:
     cases = []
     case = Case("reset/too_late", "reset", "A reset more than 10 seconds after power-up is refused.", **NEW_TOUCH)
     case.comment("uses: no display")
-    cases.append(case.greet().wait(10500).cbor(RESET).expect("status 30").alive())
+    cases.append(case.allocate().wait(10500).cbor(RESET).expect("status 30").expect_alive())
     for wait, answer in ((10000, "keepalive 02"), (10001, "status 30")):
         case = Case(
             f"reset/at_{wait}", "reset", "The 10 seconds are exact to the millisecond.", needs=["exact time", "reset"]
         )
         case.comment("profile: other authenticators have no such exact clock")
-        cases.append(case.greet().wait(wait).cbor(RESET).expect(answer))
+        cases.append(case.allocate().wait(wait).cbor(RESET).expect(answer))
     return cases
 
 
@@ -504,11 +525,11 @@ def selection_cases() -> List[Case]:
         case = Case(
             f"selection/{word}", "selection", f"A selection returns {status}.", needs=[need], uses=["selection"]
         )
-        cases.append(case.greet().cbor(SELECTION).presence(word).expect(f"status {status}").alive())
+        cases.append(case.allocate().cbor(SELECTION).presence(word).expect(f"status {status}").expect_alive())
     case = Case(
         "selection/asks_for_the_user", "selection", "A selection requests a touch.", **TOUCH, uses=["selection"]
     )
-    case.greet().cbor(SELECTION).expect("keepalive 02").tick(100).expect("nothing")
+    case.allocate().cbor(SELECTION).expect("keepalive 02").tick(100).expect("nothing")
     cases.append(case.presence().expect("status 00").tick(200).expect("silence"))
     case = Case(
         "selection/changes_nothing",
@@ -517,8 +538,8 @@ def selection_cases() -> List[Case]:
         **TOUCH,
         uses=["selection"],
     )
-    case.greet().register(1).cbor(SELECTION).presence().expect("status 00")
-    cases.append(case.get(p3=[descriptor(1)]).asserted(COUNTER_INCREASES))
+    case.allocate().register(1).cbor(SELECTION).presence().expect("status 00")
+    cases.append(case.get(p3=[descriptor(1)]).expect_assertion(COUNTER_INCREASES))
     return cases
 
 

@@ -20,22 +20,22 @@ class LockCase(Case):
 
     def __init__(self, name: str, requirement: str, level: str = "") -> None:
         super().__init__(f"lock/{name}", "lock", requirement, uses=["lock"], level=level)
-        self.greet(2)
+        self.allocate(2)
 
     def lock(self, seconds: int = SHORT, channel: int = 1) -> Self:
         """Sends a LOCK."""
         self.send(channel, hid.LOCK, bytes([seconds]))
         return self
 
-    def locked(self, seconds: int = SHORT) -> Self:
+    def lock_device(self, seconds: int = SHORT) -> Self:
         """Locks the device for the first host."""
         return self.lock(seconds).expect("message 04 none")
 
-    def released(self) -> Self:
+    def release_lock(self) -> Self:
         """Releases the lock before the next case."""
         return self.lock(0).expect("message 04 none")
 
-    def other_is_refused(self) -> Self:
+    def expect_other_refused(self) -> Self:
         """Sends a PING of the other host, which gets the error 06."""
         self.send(OTHER, hid.PING, b"let me in").expect(f"error 06 on {OTHER:08x}")
         return self
@@ -45,40 +45,42 @@ def cases() -> List[Case]:
     """Returns the cases of this file."""
     found: List[Case] = []
     case = LockCase("response", "The response to LOCK has no data.")
-    found.append(case.locked().released().alive())
+    found.append(case.lock_device().release_lock().expect_alive())
     case = LockCase("of_the_longest_time", "A lock of ten seconds is accepted.")
-    found.append(case.locked(MAX_LOCK).alive().released())
+    found.append(case.lock_device(MAX_LOCK).expect_alive().release_lock())
     case = LockCase("excludes_others", "During a lock other channels are refused.")
-    found.append(case.locked().other_is_refused().alive().other_is_refused().released())
+    found.append(case.lock_device().expect_other_refused().expect_alive().expect_other_refused().release_lock())
     case = LockCase("excludes_requests", "During a lock requests of other channels are refused.")
     found.append(
-        case.locked().cbor(INFO, OTHER).expect(f"error 06 on {OTHER:08x}").cbor(INFO).expect("info").released()
+        case.lock_device().cbor(INFO, OTHER).expect(f"error 06 on {OTHER:08x}").cbor(INFO).expect("info").release_lock()
     )
     case = LockCase("excludes_locks", "During a lock another channel cannot lock.")
-    case.locked().lock(SHORT, OTHER).expect(f"error 06 on {OTHER:08x}")
-    found.append(case.alive().other_is_refused().released())
+    case.lock_device().lock(SHORT, OTHER).expect(f"error 06 on {OTHER:08x}")
+    found.append(case.expect_alive().expect_other_refused().release_lock())
     case = LockCase("excludes_releases", "Another channel cannot release a lock.")
-    found.append(case.locked().lock(0, OTHER).expect(f"error 06 on {OTHER:08x}").other_is_refused().released())
+    found.append(
+        case.lock_device().lock(0, OTHER).expect(f"error 06 on {OTHER:08x}").expect_other_refused().release_lock()
+    )
     case = LockCase("released", "A LOCK of zero seconds releases the device.")
-    found.append(case.locked().released().alive(OTHER).alive())
+    found.append(case.lock_device().release_lock().expect_alive(OTHER).expect_alive())
     case = LockCase("released_unlocked", "A LOCK of zero seconds without a lock has no effect.")
-    found.append(case.released().alive(OTHER).alive())
+    found.append(case.release_lock().expect_alive(OTHER).expect_alive())
     case = LockCase("runs_out", "A lock ends after its time.")
-    found.append(case.locked().other_is_refused().tick(1500).alive(OTHER).alive())
+    found.append(case.lock_device().expect_other_refused().tick(1500).expect_alive(OTHER).expect_alive())
     case = LockCase("passes_on", "After a lock another channel can lock.")
-    case.locked().released().lock(SHORT, OTHER).expect(f"message 04 none on {OTHER:08x}")
-    case.send(1, hid.PING, b"and me").expect("error 06").alive(OTHER)
-    found.append(case.lock(0, OTHER).expect(f"message 04 none on {OTHER:08x}").alive())
+    case.lock_device().release_lock().lock(SHORT, OTHER).expect(f"message 04 none on {OTHER:08x}")
+    case.send(1, hid.PING, b"and me").expect("error 06").expect_alive(OTHER)
+    found.append(case.lock(0, OTHER).expect(f"message 04 none on {OTHER:08x}").expect_alive())
     case = LockCase("lasts", "A lock lasts for its time.")
-    found.append(case.locked(LONGER).tick(1400).other_is_refused().released())
+    found.append(case.lock_device(LONGER).tick(1400).expect_other_refused().release_lock())
     case = LockCase("renewed", "A further LOCK begins its time anew.")
-    case.locked(LONGER).tick(1400).locked(LONGER).tick(1400)
-    found.append(case.other_is_refused().released().alive(OTHER))
+    case.lock_device(LONGER).tick(1400).lock_device(LONGER).tick(1400)
+    found.append(case.expect_other_refused().release_lock().expect_alive(OTHER))
     case = LockCase("shortened", "A further LOCK may shorten a lock.")
-    found.append(case.locked(MAX_LOCK).locked().tick(1500).alive(OTHER).alive())
+    found.append(case.lock_device(MAX_LOCK).lock_device().tick(1500).expect_alive(OTHER).expect_alive())
     for length in (0, 2):
         case = LockCase(f"length_{length}", "A LOCK with an invalid length is refused.")
-        found.append(case.send(1, hid.LOCK, bytes(length)).expect("error 03").alive(OTHER).alive())
+        found.append(case.send(1, hid.LOCK, bytes(length)).expect("error 03").expect_alive(OTHER).expect_alive())
     case = LockCase("of_eleven_seconds", "A lock is for at most ten seconds.", "should")
-    found.append(case.lock(MAX_LOCK + 1).expect("error 02").alive(OTHER))
+    found.append(case.lock(MAX_LOCK + 1).expect("error 02").expect_alive(OTHER))
     return found

@@ -144,11 +144,11 @@ def expect_afterwards(case: Case, state: str, goes_on: str) -> None:
     if goes_on == "message":
         case.go_on(channel).expect(f"echo on {channel}")
     elif goes_on == "work":
-        case.made(1, channel=channel)
+        case.expect_credential(1, channel=channel)
     elif state == "own_message":
-        case.go_on(1).expect("silence").alive()
+        case.go_on(1).expect("silence").expect_alive()
     else:
-        case.tick(150).expect("silence").alive()
+        case.tick(150).expect("silence").expect_alive()
 
 
 def cases() -> List[Case]:
@@ -163,7 +163,7 @@ def cases() -> List[Case]:
             "profile": "" if fixed else PROFILE_CHOICE,
         }
         case = Case(f"order/{state}_and_{what}", section, requirement, **more)
-        STATES[state](case.greet(2))
+        STATES[state](case.allocate(2))
         add_packet(case, what)
         case.expect(answer or "nothing")
         expect_afterwards(case, state, goes_on)

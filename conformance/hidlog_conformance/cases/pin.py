@@ -26,7 +26,7 @@ class PinCase(Case):
     def __init__(self, name: str, section: str, requirement: str, protocol: int) -> None:
         super().__init__(f"{name}_{protocol}", section, requirement, **required_features(protocol))
         self.protocol = protocol
-        self.greet()
+        self.allocate()
 
     def pin(self, command: int, **members: Any) -> Self:
         """Sends a subcommand with parameters p3, p4 .."""
@@ -43,7 +43,7 @@ class PinCase(Case):
         """Sets a PIN."""
         return self.agree().pin(3, p3=b"=agreement", p4=auth, p5=b"=encrypt:" + pin.ljust(64, b"\0"))
 
-    def with_pin(self, pin: bytes = RIGHT) -> Self:
+    def set_new_pin(self, pin: bytes = RIGHT) -> Self:
         """Sets a PIN successfully."""
         self.set(pin).expect("status 00")
         return self
@@ -78,27 +78,27 @@ def set_pin_cases(protocol: int) -> List[Case]:
     """Returns cases about setPIN and changePIN."""
     cases: List[Case] = []
     case = PinCase("pin/set", "pin", "A PIN can be set, and getInfo shows it.", protocol)
-    cases.append(case.with_pin().cbor(INFO).expect("option clientPin true"))
+    cases.append(case.set_new_pin().cbor(INFO).expect("option clientPin true"))
     case = PinCase("pin/not_set", "pin", "Without a PIN no token is issued.", protocol)
     cases.append(case.ask_token().expect("status 35"))
     for name, pin in (("of_three", b"123"), ("empty", b""), ("of_two_letters", "éé".encode())):
         case = PinCase(f"pin/{name}", "pin", "A PIN of fewer than four characters is refused.", protocol)
         cases.append(case.set(pin).expect("status 37").cbor(INFO).expect("option clientPin false"))
     case = PinCase("pin/of_63", "pin", "A PIN of 63 bytes is accepted.", protocol)
-    cases.append(case.with_pin(b"x" * 63).token(pin=b"x" * 63))
+    cases.append(case.set_new_pin(b"x" * 63).token(pin=b"x" * 63))
     case = PinCase("pin/wrong_authentication", "pin", "A wrong pinUvAuthParam is refused.", protocol)
     wrong = bytes(16 if protocol == 1 else 32)
     cases.append(case.set(auth=wrong).expect("status 33").cbor(INFO).expect("option clientPin false"))
     case = PinCase("pin/set_twice", "pin", "A PIN cannot be set twice.", protocol)
-    cases.append(case.with_pin().set(OTHER).expect("status 33").token())
+    cases.append(case.set_new_pin().set(OTHER).expect("status 33").token())
     case = PinCase("pin/change", "pin", "After a change only the new PIN is accepted.", protocol)
-    case.with_pin().change(RIGHT, OTHER).expect("status 00")
+    case.set_new_pin().change(RIGHT, OTHER).expect("status 00")
     cases.append(case.ask_token(RIGHT).expect("status 31").token(pin=OTHER))
     case = PinCase("pin/change_by_a_wrong_one", "pin", "A change with a wrong PIN is refused.", protocol)
-    cases.append(case.with_pin().change(WRONG, OTHER).expect("status 31").token())
+    cases.append(case.set_new_pin().change(WRONG, OTHER).expect("status 31").token())
     case = PinCase("pin/reset", "pin", "A reset removes the PIN.", protocol)
-    case.with_pin().cbor(RESET).presence().expect("status 00").cbor(INFO).expect("option clientPin false")
-    cases.append(case.with_pin(OTHER).token(pin=OTHER))
+    case.set_new_pin().cbor(RESET).presence().expect("status 00").cbor(INFO).expect("option clientPin false")
+    cases.append(case.set_new_pin(OTHER).token(pin=OTHER))
     return cases
 
 
@@ -108,15 +108,17 @@ def wrong_pin_cases(protocol: int) -> List[Case]:
     case = PinCase(
         "pin/retries", "pin", "A wrong PIN decrements the retries, and the right one restores them.", protocol
     )
-    case.with_pin().pin(1).expect("retries 8").ask_token(WRONG).expect("status 31").pin(1).expect("retries 7")
+    case.set_new_pin().pin(1).expect("retries 8").ask_token(WRONG).expect("status 31").pin(1).expect("retries 7")
     cases.append(case.token().pin(1).expect("retries 8"))
     case = PinCase("pin/three_wrong", "pin", "After three consecutive wrong PINs a power cycle is required.", protocol)
-    case.with_pin().pin(1).expect("retries 8")
+    case.set_new_pin().pin(1).expect("retries 8")
     for status in ("31", "31", "34"):
         case.ask_token(WRONG).expect(f"status {status}")
     cases.append(case.ask_token().expect("status 34").pin(1).expect("retries 5"))
     case = PinCase("pin/key_renewed", "pin", "After a wrong PIN the key agreement key is new.", protocol)
-    case.with_pin().ask_token(WRONG).expect("status 31").pin(9, p3=b"=agreement", p6=b"=hash:" + RIGHT, p9=3, p10="a.b")
+    case.set_new_pin().ask_token(WRONG).expect("status 31").pin(
+        9, p3=b"=agreement", p6=b"=hash:" + RIGHT, p9=3, p10="a.b"
+    )
     cases.append(case.expect("status 31"))
     return cases
 
@@ -125,36 +127,40 @@ def token_cases(protocol: int) -> List[Case]:
     """Returns cases about permissions of tokens."""
     cases: List[Case] = []
     case = PinCase("pin/registers", "make", "With a token flag UV is set.", protocol)
-    cases.append(case.with_pin().token().register_with_token().made(1, "up uv"))
+    cases.append(case.set_new_pin().token().register_with_token().expect_credential(1, "up uv"))
     case = PinCase("pin/signs_in", "get", "With a token flag UV is set.", protocol)
-    case.with_pin().token().register_with_token().made(1, "up uv")
-    cases.append(case.token().sign_in_with_token(p3=[descriptor(1)]).asserted("up uv counter-rises"))
+    case.set_new_pin().token().register_with_token().expect_credential(1, "up uv")
+    cases.append(case.token().sign_in_with_token(p3=[descriptor(1)]).expect_assertion("up uv counter-rises"))
     case = PinCase("pin/old_token", "get", "A token from getPinToken can register and sign in.", protocol)
-    case.with_pin().agree().pin(5, p3=b"=agreement", p6=b"=hash:" + RIGHT).expect("token")
-    case.register_with_token().made(1, "up uv").agree().pin(5, p3=b"=agreement", p6=b"=hash:" + RIGHT).expect("token")
-    cases.append(case.sign_in_with_token(p3=[descriptor(1)]).asserted("up uv counter-rises"))
+    case.set_new_pin().agree().pin(5, p3=b"=agreement", p6=b"=hash:" + RIGHT).expect("token")
+    case.register_with_token().expect_credential(1, "up uv").agree().pin(
+        5, p3=b"=agreement", p6=b"=hash:" + RIGHT
+    ).expect("token")
+    cases.append(case.sign_in_with_token(p3=[descriptor(1)]).expect_assertion("up uv counter-rises"))
     case = PinCase(
         "pin/discoverable_needs_it", "make", "With a PIN set, a discoverable credential needs a token.", protocol
     )
-    cases.append(case.with_pin().make(p7={"rk": True}).expect("refused 36").alive())
+    cases.append(case.set_new_pin().make(p7={"rk": True}).expect("refused 36").expect_alive())
     case = PinCase("pin/sign_in_without", "get", "Without a token flag UV is not set in a sign-in.", protocol)
-    case.with_pin().token().register_with_token().made(1, "up uv").get(p3=[descriptor(1)])
-    cases.append(case.asserted("up no-uv counter-rises"))
+    case.set_new_pin().token().register_with_token().expect_credential(1, "up uv").get(p3=[descriptor(1)])
+    cases.append(case.expect_assertion("up no-uv counter-rises"))
     refused: Dict[str, Tuple[str, Dict[str, Any]]] = {
         "of_another_rp": ("for another RP", {"rp": "example.org"}),
         "that_signs_in": ("with only the permission ga", {"permissions": GET}),
     }
     for name, (token, more) in refused.items():
         case = PinCase(f"pin/token_{name}", "make", f"A token {token} cannot register.", protocol)
-        cases.append(case.with_pin().token(**more).register_with_token().expect("status 33"))
+        cases.append(case.set_new_pin().token(**more).register_with_token().expect("status 33"))
     case = PinCase("pin/token_that_registers", "get", "A token with only the permission mc cannot sign in.", protocol)
-    case.with_pin().token().register_with_token().made(1, "up uv").token(permissions=MAKE)
+    case.set_new_pin().token().register_with_token().expect_credential(1, "up uv").token(permissions=MAKE)
     cases.append(case.sign_in_with_token(p3=[descriptor(1)]).expect("status 33"))
     wrong = bytes(16 if protocol == 1 else 32)
     case = PinCase("pin/wrong_param", "make", "A wrong pinUvAuthParam is refused in a registration.", protocol)
-    cases.append(case.with_pin().token().make(p8=wrong, p9=protocol).expect("status 33"))
+    cases.append(case.set_new_pin().token().make(p8=wrong, p9=protocol).expect("status 33"))
     case = PinCase("pin/wrong_param_of_sign_in", "get", "A wrong pinUvAuthParam is refused in a sign-in.", protocol)
-    case.with_pin().token().register_with_token().made(1, "up uv").get(p3=[descriptor(1)], p6=wrong, p7=protocol)
+    case.set_new_pin().token().register_with_token().expect_credential(1, "up uv").get(
+        p3=[descriptor(1)], p6=wrong, p7=protocol
+    )
     cases.append(case.expect("status 33"))
     return cases
 
@@ -170,17 +176,17 @@ def hmac_secret_cases(protocol: int) -> List[Case]:
     case.comment("uses: extension hmac-secret")
     case.register(1, p6={"hmac-secret": True})
     for name, given in (("one", asked), ("one", asked), ("two", other)):
-        case.agree().get(p3=[descriptor(1)], p4={"hmac-secret": given}).asserted(f"up secret {name}")
+        case.agree().get(p3=[descriptor(1)], p4={"hmac-secret": given}).expect_assertion(f"up secret {name}")
     cases.append(case)
     case = PinCase("secret/of_two_salts", "secret", "Two salts give two secrets.", protocol)
     case.comment("uses: extension hmac-secret")
     case.register(1, p6={"hmac-secret": True}).agree()
-    cases.append(case.get(p3=[descriptor(1)], p4={"hmac-secret": two}).asserted("up secret both"))
+    cases.append(case.get(p3=[descriptor(1)], p4={"hmac-secret": two}).expect_assertion("up secret both"))
     case = PinCase("secret/of_each_credential", "secret", "Each credential has different secrets.", protocol)
     case.comment("uses: extension hmac-secret")
     for number in (1, 2):
         case.register(number, p6={"hmac-secret": True}).agree()
-        case.get(p3=[descriptor(number)], p4={"hmac-secret": asked}).asserted(f"up secret of-{number}")
+        case.get(p3=[descriptor(number)], p4={"hmac-secret": asked}).expect_assertion(f"up secret of-{number}")
     cases.append(case)
     case = PinCase("secret/not_authentic", "secret", "A wrong saltAuth is refused.", protocol)
     case.comment("uses: extension hmac-secret")
@@ -196,22 +202,24 @@ def extension_cases() -> List[Case]:
     found: Dict[str, Any] = {"needs": ["touch", "reset"], "uses": ["rk", "extension credProtect"]}
     for level in (1, 2, 3):
         case = Case(f"protect/level_{level}", "protect", "The credProtect level is returned.", **found)
-        case.greet().make(p6={"credProtect": level}, p7={"rk": True}).made(1, f"up extension credProtect 0{level}")
+        case.allocate().make(p6={"credProtect": level}, p7={"rk": True}).expect_credential(
+            1, f"up extension credProtect 0{level}"
+        )
         by_list, alone = case.get(p3=[descriptor(1)]), level < 2
-        case = by_list.asserted("up counter-rises") if level < 3 else by_list.expect("status 2e")
+        case = by_list.expect_assertion("up counter-rises") if level < 3 else by_list.expect("status 2e")
         case = case.get()
-        cases.append(case.asserted("up counter-rises") if alone else case.expect("status 2e"))
+        cases.append(case.expect_assertion("up counter-rises") if alone else case.expect("status 2e"))
     blob: Dict[str, Any] = {"needs": ["touch", "reset"], "uses": ["rk", "extension credBlob"]}
     for name, data in (("kept", b"a blob"), ("of_32", bytes(range(32)))):
         case = Case(f"blob/{name}", "blob", "A credBlob is returned unchanged.", **blob)
-        case.greet().make(p6={"credBlob": data}, p7={"rk": True}).made(1, "up extension credBlob f5")
+        case.allocate().make(p6={"credBlob": data}, p7={"rk": True}).expect_credential(1, "up extension credBlob f5")
         case.get(p4={"credBlob": True})
-        cases.append(case.asserted(f"up extension credBlob {encode(data).hex()}"))
+        cases.append(case.expect_assertion(f"up extension credBlob {encode(data).hex()}"))
     for name, value in (("made", True), ("not_asked", False)):
         case = Case(f"secret/{name}", "secret", "A registration with hmac-secret returns true.", needs=["touch"])
         case.comment("uses: extension hmac-secret")
         words = "up extension hmac-secret f5" if value else "up"
-        cases.append(case.greet().make(p6={"hmac-secret": value}).made(1, words))
+        cases.append(case.allocate().make(p6={"hmac-secret": value}).expect_credential(1, words))
     return cases
 
 

@@ -26,12 +26,12 @@ class LengthCase(ConfigCase):
 
     def authorize_rps(self, *rps: str) -> Self:
         """Sets a PIN, minPINLength and minPinLengthRPIDs."""
-        self.with_pin(LONG_PIN).token(pin=LONG_PIN, permissions=0x20, rp="")
+        self.set_new_pin(LONG_PIN).token(pin=LONG_PIN, permissions=0x20, rp="")
         return self.configure(MIN_PIN_LENGTH, {1: RAISED, 2: list(rps)}).expect("status 00")
 
     def ask(self, words: str, number: int = 1) -> Self:
         """Registers with the extension."""
-        return self.token(pin=LONG_PIN).register_with_token(p6={EXTENSION: True}).made(number, words)
+        return self.token(pin=LONG_PIN).register_with_token(p6={EXTENSION: True}).expect_credential(number, words)
 
 
 def cases_of(protocol: int) -> List[Case]:
@@ -47,7 +47,7 @@ def cases_of(protocol: int) -> List[Case]:
     add("one_of_two", "Each authorized RP gets minPINLength.").authorize_rps(OTHER_RP, RP).ask(LENGTH_OUTPUT)
     add("not_authorized", "Another RP does not get minPINLength.").authorize_rps(OTHER_RP).ask(NO_LENGTH_OUTPUT)
     case = add("not_requested", "minPINLength is returned only if the extension is requested.").authorize_rps(RP)
-    case.token(pin=LONG_PIN).register_with_token().made(1, NO_LENGTH_OUTPUT)
+    case.token(pin=LONG_PIN).register_with_token().expect_credential(1, NO_LENGTH_OUTPUT)
     case = add("replaced", "A later minPinLengthRPIDs replaces the earlier one (6.11.4).").authorize_rps(RP)
     case.token(pin=LONG_PIN, permissions=0x20, rp="").configure(MIN_PIN_LENGTH, {2: [OTHER_RP]}).expect("status 00")
     case.ask(NO_LENGTH_OUTPUT)
@@ -57,11 +57,11 @@ def cases_of(protocol: int) -> List[Case]:
     )
     case = add("kept", "The authorized RPs survive a power cycle.")
     case.comment("needs: power cycle")
-    case.authorize_rps(RP).power_cycle().greet().ask(LENGTH_OUTPUT)
+    case.authorize_rps(RP).power_cycle().allocate().ask(LENGTH_OUTPUT)
     case = add("reset", "A reset restores the authorized RPs (6.6).", "reset").authorize_rps(RP)
-    case.cbor(RESET).presence().expect("status 00").with_pin(LONG_PIN).ask(NO_LENGTH_OUTPUT)
+    case.cbor(RESET).presence().expect("status 00").set_new_pin(LONG_PIN).ask(NO_LENGTH_OUTPUT)
     case = add("shown", "With the extension getInfo has maxRPIDsForSetMinPINLength (6.4, member 10).", "info")
-    case.shows(f"member {MAX_RP_IDS} any")
+    case.expect_info(f"member {MAX_RP_IDS} any")
     return list(cases)
 
 
@@ -70,7 +70,7 @@ def cases_without(protocol: int) -> List[Case]:
     requirement = "minPinLengthRPIDs is refused without the extension minPinLength (6.11.4)."
     case = ConfigCase("rp_ids_without_extension", requirement, protocol, "config", "setMinPINLength")
     case.comment(f"uses: no extension {EXTENSION}")
-    case.with_pin().configuring().configure(MIN_PIN_LENGTH, {2: [RP]}).expect("refused 02").alive()
+    case.set_new_pin().get_config_token().configure(MIN_PIN_LENGTH, {2: [RP]}).expect("refused 02").expect_alive()
     return [case]
 
 

@@ -36,11 +36,11 @@ class ConfigCase(PinCase):
         self.cbor(COMMAND + encode(asked))
         return self
 
-    def configuring(self) -> Self:
+    def get_config_token(self) -> Self:
         """Gets a token with the permission acfg."""
         return self.token(permissions=CONFIGURE, rp="")
 
-    def shows(self, *expected: str) -> Self:
+    def expect_info(self, *expected: str) -> Self:
         """Asks for getInfo."""
         for text in expected:
             self.cbor(INFO).expect(text)
@@ -58,38 +58,40 @@ def min_pin_cases(protocol: int) -> List[Case]:
         return cases[-1]
 
     case = add("min_pin_length", "minPINLength can be raised, and getInfo shows it (6.11.4).")
-    case.with_pin(LONG_PIN).token(pin=LONG_PIN, permissions=CONFIGURE, rp="").configure(MIN_PIN_LENGTH, {1: RAISED})
-    case.expect("status 00").shows(f"member {LENGTH} {RAISED}", f"member {FORCED} false")
+    case.set_new_pin(LONG_PIN).token(pin=LONG_PIN, permissions=CONFIGURE, rp="").configure(MIN_PIN_LENGTH, {1: RAISED})
+    case.expect("status 00").expect_info(f"member {LENGTH} {RAISED}", f"member {FORCED} false")
     case.agree().change(LONG_PIN, b"54321").expect("status 37")
     case = add("min_pin_length_not_lowered", "minPINLength cannot be lowered (6.11.4).")
-    case.with_pin(LONG_PIN).token(pin=LONG_PIN, permissions=CONFIGURE, rp="").configure(MIN_PIN_LENGTH, {1: RAISED})
+    case.set_new_pin(LONG_PIN).token(pin=LONG_PIN, permissions=CONFIGURE, rp="").configure(MIN_PIN_LENGTH, {1: RAISED})
     case.expect("status 00").token(pin=LONG_PIN, permissions=CONFIGURE, rp="").configure(
         MIN_PIN_LENGTH, {1: RAISED - 1}
     )
-    case.expect("status 37").shows(f"member {LENGTH} {RAISED}")
+    case.expect("status 37").expect_info(f"member {LENGTH} {RAISED}")
     case = add("short_pin_must_change", "A PIN below a raised minPINLength must be changed (6.11.4).")
-    case.with_pin().configuring().configure(MIN_PIN_LENGTH, {1: RAISED}).expect("status 00").shows(
+    case.set_new_pin().get_config_token().configure(MIN_PIN_LENGTH, {1: RAISED}).expect("status 00").expect_info(
         f"member {FORCED} true"
     )
-    case.ask_token().expect("refused 37").change(RIGHT, LONG_PIN).expect("status 00").shows(f"member {FORCED} false")
+    case.ask_token().expect("refused 37").change(RIGHT, LONG_PIN).expect("status 00").expect_info(
+        f"member {FORCED} false"
+    )
     case.token(pin=LONG_PIN)
     case = add("forced_change", "With forceChangePin no token is issued before the PIN is changed (6.5.5.7).", "pin")
-    case.with_pin().configuring().configure(MIN_PIN_LENGTH, {3: True}).expect("status 00").shows(
+    case.set_new_pin().get_config_token().configure(MIN_PIN_LENGTH, {3: True}).expect("status 00").expect_info(
         f"member {FORCED} true"
     )
-    case.ask_token().expect("refused 37").change(RIGHT, OTHER).expect("status 00").shows(f"member {FORCED} false")
+    case.ask_token().expect("refused 37").change(RIGHT, OTHER).expect("status 00").expect_info(f"member {FORCED} false")
     case.token(pin=OTHER)
     case = add("forced_change_to_the_same", "A forced change to the same PIN is refused (6.5.5.6).", "pin")
-    case.with_pin().configuring().configure(MIN_PIN_LENGTH, {3: True}).expect("status 00")
-    case.change(RIGHT, RIGHT).expect("refused 37").shows(f"member {FORCED} true")
+    case.set_new_pin().get_config_token().configure(MIN_PIN_LENGTH, {3: True}).expect("status 00")
+    case.change(RIGHT, RIGHT).expect("refused 37").expect_info(f"member {FORCED} true")
     case = add("forced_without_pin", "forceChangePin without a PIN is refused (6.11.4).")
-    case.configure(MIN_PIN_LENGTH, {3: True}, None).expect("refused 35").shows(f"member {FORCED} false")
+    case.configure(MIN_PIN_LENGTH, {3: True}, None).expect("refused 35").expect_info(f"member {FORCED} false")
     case = add("reset", "A reset restores minPINLength and forcePINChange (6.6).", "reset")
-    case.shows(f"member {LENGTH} any").with_pin().configuring().configure(MIN_PIN_LENGTH, {1: RAISED}).expect(
-        "status 00"
-    )
-    case.shows(f"member {LENGTH} {RAISED}").cbor(RESET).presence().expect("status 00")
-    case.shows(f"member {LENGTH} less", f"member {FORCED} false")
+    case.expect_info(f"member {LENGTH} any").set_new_pin().get_config_token().configure(
+        MIN_PIN_LENGTH, {1: RAISED}
+    ).expect("status 00")
+    case.expect_info(f"member {LENGTH} {RAISED}").cbor(RESET).presence().expect("status 00")
+    case.expect_info(f"member {LENGTH} less", f"member {FORCED} false")
     return list(cases)
 
 
@@ -97,7 +99,7 @@ def always_uv_cases(protocol: int) -> List[Case]:
     """Returns cases about toggleAlwaysUv (6.11.2)."""
     case = ConfigCase("always_uv", "alwaysUv can be turned on, and then requests need a token (6.11.2).", protocol)
     case.comment("uses: option alwaysUv")
-    case.with_pin().configuring().configure(ALWAYS_UV).expect("status 00").shows("option alwaysUv true")
+    case.set_new_pin().get_config_token().configure(ALWAYS_UV).expect("status 00").expect_info("option alwaysUv true")
     return [case.make().expect("refused 36").get().expect("refused 36")]
 
 
@@ -106,20 +108,22 @@ def enterprise_cases(protocol: int) -> List[Case]:
     cases: List[Case] = []
     for name, kind, words in (("enterprise", 2, "up uv ep"), ("enterprise_of_vendor", 1, "up uv")):
         case = ConfigCase(name, "Enabled enterprise attestation is accepted (6.1.2, step 9).", protocol, "make", "ep")
-        case.with_pin().configuring().configure(ENTERPRISE).expect("status 00").shows("option ep true")
-        cases.append(case.token().register_with_token(p10=kind).made(1, words))
+        case.set_new_pin().get_config_token().configure(ENTERPRISE).expect("status 00").expect_info("option ep true")
+        cases.append(case.token().register_with_token(p10=kind).expect_credential(1, words))
     case = ConfigCase(
         "enterprise_3", "An unknown enterpriseAttestation is refused (6.1.2, step 9).", protocol, "make", "ep"
     )
-    case.with_pin().configuring().configure(ENTERPRISE).expect("status 00")
+    case.set_new_pin().get_config_token().configure(ENTERPRISE).expect("status 00")
     cases.append(case.token().register_with_token(p10=3).expect("status 2c"))
     case = ConfigCase(
         "enterprise_disabled", "Disabled enterprise attestation is refused (6.1.2, step 9).", protocol, "make", "ep"
     )
-    cases.append(case.shows("option ep false").make(p10=2).expect("status 02"))
+    cases.append(case.expect_info("option ep false").make(p10=2).expect("status 02"))
     case = ConfigCase("enterprise_reset", "A reset disables enterprise attestation (6.6).", protocol, "reset", "ep")
-    case.with_pin().configuring().configure(ENTERPRISE).expect("status 00").cbor(RESET).presence().expect("status 00")
-    cases.append(case.shows("option ep false").make(p10=2).expect("status 02"))
+    case.set_new_pin().get_config_token().configure(ENTERPRISE).expect("status 00").cbor(RESET).presence().expect(
+        "status 00"
+    )
+    cases.append(case.expect_info("option ep false").make(p10=2).expect("status 02"))
     return cases
 
 
@@ -137,12 +141,16 @@ def refusal_cases(protocol: int) -> List[Case]:
         case = ConfigCase(
             f"{name}_without_token", "Without a token the status is 36 (6.11).", protocol, "config", option
         )
-        cases.append(case.with_pin().configure(command, parameters, None).expect("status 36").shows(shown))
+        cases.append(case.set_new_pin().configure(command, parameters, None).expect("status 36").expect_info(shown))
         case = ConfigCase(
             f"{name}_not_authentic", "A wrong pinUvAuthParam is refused (6.11).", protocol, "config", option
         )
         cases.append(
-            case.with_pin().configuring().configure(command, parameters, wrong).expect("status 33").shows(shown)
+            case.set_new_pin()
+            .get_config_token()
+            .configure(command, parameters, wrong)
+            .expect("status 33")
+            .expect_info(shown)
         )
         case = ConfigCase(
             f"{name}_not_permitted",
@@ -151,12 +159,12 @@ def refusal_cases(protocol: int) -> List[Case]:
             "config",
             option,
         )
-        case.with_pin().token(permissions=MAKE | GET).configure(command, parameters).expect("status 33")
-        cases.append(case.shows(shown))
+        case.set_new_pin().token(permissions=MAKE | GET).configure(command, parameters).expect("status 33")
+        cases.append(case.expect_info(shown))
     case = ConfigCase("unknown", "An unknown subcommand is refused (6.11).", protocol)
-    cases.append(case.with_pin().configuring().configure(UNKNOWN).expect("refused 02").alive())
+    cases.append(case.set_new_pin().get_config_token().configure(UNKNOWN).expect("refused 02").expect_alive())
     case = ConfigCase("without_subcommand", "A request without a subcommand is refused (6.11).", protocol)
-    cases.append(case.cbor(COMMAND + b"\xa0").expect("refused 14").alive())
+    cases.append(case.cbor(COMMAND + b"\xa0").expect("refused 14").expect_alive())
     return cases
 
 
@@ -167,8 +175,8 @@ def block_pin(case: PinCase) -> PinCase:
         status = "32" if number == RETRIES else "34" if number % IN_A_ROW == 0 else "31"
         case.ask_token(WRONG).expect(f"status {status}")
         if number % IN_A_ROW == 0:
-            case.power_cycle().greet()
-    case.power_cycle().greet()
+            case.power_cycle().allocate()
+    case.power_cycle().allocate()
     return case
 
 
@@ -181,13 +189,13 @@ def blocked_cases(protocol: int) -> List[Case]:
             f"blocked/{name}", section, "A PIN without retries is blocked until a reset (6.5.5.7).", protocol
         )
         case.comment("needs: power cycle")
-        block_pin(case.with_pin().pin(1).expect("retries 8"))
+        block_pin(case.set_new_pin().pin(1).expect("retries 8"))
         if name == "token":
             case.pin(1).expect("retries 0").ask_token().expect("status 32")
         elif name == "change":
             case.change(RIGHT, OTHER).expect("status 32")
         else:
-            case.cbor(RESET).presence().expect("status 00").with_pin(OTHER).token(pin=OTHER)
+            case.cbor(RESET).presence().expect("status 00").set_new_pin(OTHER).token(pin=OTHER)
         cases.append(case)
     return cases
 

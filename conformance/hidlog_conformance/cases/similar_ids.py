@@ -21,15 +21,15 @@ def similar_id_cases() -> List[Case]:
     cases = []
     for kind in ("changed", "longer", "shorter"):
         case = Case(f"lists/allow_{kind}", "get", f"A {kind} credential ID matches no credential.", **TOUCH)
-        case.greet().register(1)
-        cases.append(case.get(p3=[case.alike(1, kind)]).expect("status 2e").alive())
+        case.allocate().register(1)
+        cases.append(case.get(p3=[case.similar_descriptor(1, kind)]).expect("status 2e").expect_alive())
         case = Case(f"lists/exclude_{kind}", "make", f"A {kind} credential ID does not exclude.", **TOUCH)
-        case.greet().register(1)
-        cases.append(case.register(2, p5=[case.alike(1, kind)]))
+        case.allocate().register(1)
+        cases.append(case.register(2, p5=[case.similar_descriptor(1, kind)]))
     case = Case("lists/allow_alike_and_one", "get", "Similar IDs do not hide the right one.", **TOUCH)
-    case.greet().register(1)
-    found = [case.alike(1, kind) for kind in ("changed", "longer", "shorter")]
-    cases.append(case.get(p3=[*found, descriptor(1)]).asserted(COUNTER_INCREASES))
+    case.allocate().register(1)
+    found = [case.similar_descriptor(1, kind) for kind in ("changed", "longer", "shorter")]
+    cases.append(case.get(p3=[*found, descriptor(1)]).expect_assertion(COUNTER_INCREASES))
     for count in (1, 3):
         case = Case(
             f"lists/allow_{count}_of_another_type",
@@ -37,7 +37,7 @@ def similar_id_cases() -> List[Case]:
             "An allow list with only unknown types is not treated as absent.",
             **EMPTY,
         )
-        case.greet().register(1, rk=True)
+        case.allocate().register(1, rk=True)
         cases.append(case.get(p3=[descriptor(number, "other") for number in range(1, 1 + count)]).expect("status 2e"))
     return cases
 
@@ -46,8 +46,8 @@ def state_cases() -> List[Case]:
     """Returns cases about state that a request must not leave."""
     cases = []
     case = Case("next/after_reset", "next", "After a reset nothing is pending.", **EMPTY)
-    case.greet().register(1, rk=True, p3=user(1)).register(2, rk=True, p3=user(2))
-    case.get().asserted(f"{COUNTER_INCREASES} user 02 number 2")
+    case.allocate().register(1, rk=True, p3=user(1)).register(2, rk=True, p3=user(2))
+    case.get().expect_assertion(f"{COUNTER_INCREASES} user 02 number 2")
     cases.append(case.cbor(RESET).presence().expect("status 00").cbor(NEXT).expect("status 30"))
     case = register_three_users(
         Case(
@@ -70,15 +70,15 @@ def state_cases() -> List[Case]:
         case = Case(
             f"make/touch_before_{name}", "make", "A touch before the request does not count.", **NEW_TOUCH, uses=uses
         )
-        case.greet().presence().expect("silence").tick(100).make(**request).expect("keepalive 02").tick(100)
+        case.allocate().presence().expect("silence").tick(100).make(**request).expect("keepalive 02").tick(100)
         cases.append(case.expect("nothing").send(1, hid.CANCEL).expect("status 2d"))
     case = Case("get/touch_before", "get", "A touch before the request does not count.", **TOUCH)
-    case.greet().register(1).presence().expect("silence").tick(100).get(p3=[descriptor(1)]).expect("keepalive 02")
+    case.allocate().register(1).presence().expect("silence").tick(100).get(p3=[descriptor(1)]).expect("keepalive 02")
     cases.append(case.tick(100).expect("nothing").send(1, hid.CANCEL).expect("status 2d"))
     case = Case("get/touch_counts_once", "get", "The touch of one request does not count for the next.", **TOUCH)
-    case.greet().register(1).get(p3=[descriptor(1)]).asserted(COUNTER_INCREASES).get(p3=[descriptor(1)]).expect(
-        "keepalive 02"
-    )
+    case.allocate().register(1).get(p3=[descriptor(1)]).expect_assertion(COUNTER_INCREASES).get(
+        p3=[descriptor(1)]
+    ).expect("keepalive 02")
     cases.append(case.tick(100).expect("nothing").send(1, hid.CANCEL).expect("status 2d"))
     return cases
 
@@ -87,23 +87,23 @@ def counter_cases() -> List[Case]:
     """Returns cases about counters of further assertions, and of several credentials."""
     cases = []
     case = Case("next/counter_rises", "next", "The counters of further assertions rise, too.", **EMPTY)
-    case.greet().register(1, rk=True, p3=user(1)).register(2, rk=True, p3=user(2))
+    case.allocate().register(1, rk=True, p3=user(1)).register(2, rk=True, p3=user(2))
     for _ in range(3):
-        case.get().asserted(f"{COUNTER_INCREASES} user 02 number 2").cbor(NEXT).asserted(
+        case.get().expect_assertion(f"{COUNTER_INCREASES} user 02 number 2").cbor(NEXT).expect_assertion(
             f"{COUNTER_INCREASES} user 01", presence=False
         )
     cases.append(case)
     case = Case("get/counters_of_two", "get", "Each credential's counter rises.", **TOUCH)
-    case.greet().register(1).register(2)
+    case.allocate().register(1).register(2)
     for number in (1, 2, 2, 1):
-        case.get(p3=[descriptor(number)]).asserted(COUNTER_INCREASES)
+        case.get(p3=[descriptor(number)]).expect_assertion(COUNTER_INCREASES)
     cases.append(case)
     case = Case(
         "get/counter_rises_without_touch", "get", "The counter rises without a touch, too.", **TOUCH, uses=["up"]
     )
-    case.greet().register(1)
+    case.allocate().register(1)
     for _ in range(3):
-        case.get(p3=[descriptor(1)], p5={"up": False}).asserted("no-up counter-rises", presence=False)
+        case.get(p3=[descriptor(1)], p5={"up": False}).expect_assertion("no-up counter-rises", presence=False)
     mixed = Case(
         "get/counter_rises_with_and_without_touch",
         "get",
@@ -111,9 +111,11 @@ def counter_cases() -> List[Case]:
         **TOUCH,
         uses=["up"],
     )
-    mixed.greet().register(1)
+    mixed.allocate().register(1)
     for word, options in (("up", {}), ("no-up", {"up": False}), ("up", {}), ("no-up", {"up": False})):
-        mixed.get(p3=[descriptor(1)], p5=options or None).asserted(f"{word} counter-rises", presence=word == "up")
+        mixed.get(p3=[descriptor(1)], p5=options or None).expect_assertion(
+            f"{word} counter-rises", presence=word == "up"
+        )
     return cases + [case, mixed]
 
 
@@ -128,16 +130,16 @@ def long_request_cases() -> List[Case]:
             **EMPTY,
         )
         identity = bytes((7 * number + 3) % 256 for number in range(length))
-        case.greet().register(1, rk=True, p3={"id": identity, "name": "x", "displayName": "x"})
-        cases.append(case.get().asserted(f"{COUNTER_INCREASES} user {identity.hex()}"))
+        case.allocate().register(1, rk=True, p3={"id": identity, "name": "x", "displayName": "x"})
+        cases.append(case.get().expect_assertion(f"{COUNTER_INCREASES} user {identity.hex()}"))
     case = Case("make/user_id_in_no_id", "make", "The credential ID does not contain the user ID.", **TOUCH)
     known = {"id": b"somebody@example.com", "name": "x", "displayName": "x"}
-    cases.append(case.greet().register(1, p3=known).register(2, p3={**known, "id": b"somebody-else@example.com"}))
+    cases.append(case.allocate().register(1, p3=known).register(2, p3={**known, "id": b"somebody-else@example.com"}))
     case = Case("make/long_request", "make", "A request of 2000 bytes is accepted if maxMsgSize allows it.", **LONG)
-    cases.append(case.greet().register(1, p2={"id": "example.com", "name": "x" * 1800}))
+    cases.append(case.allocate().register(1, p2={"id": "example.com", "name": "x" * 1800}))
     case = Case("get/long_request", "get", "A sign-in of 1800 bytes is accepted if maxMsgSize allows it.", **LONG)
-    case.greet().register(1).get(p3=[descriptor(1)], p4={"unknown": "x" * 1600})
-    cases.append(case.asserted(COUNTER_INCREASES))
+    case.allocate().register(1).get(p3=[descriptor(1)], p4={"unknown": "x" * 1600})
+    cases.append(case.expect_assertion(COUNTER_INCREASES))
     for name, rk, more in (("by_list", False, " no-name"), ("discoverable_by_list", True, " no-name")):
         uses = ["rk"] if rk else []
         case = Case(
@@ -147,25 +149,33 @@ def long_request_cases() -> List[Case]:
             **NEW_TOUCH,
             uses=uses,
         )
-        cases.append(case.greet().register(1, rk=rk).get(p3=[descriptor(1)]).asserted(COUNTER_INCREASES + more))
+        cases.append(
+            case.allocate().register(1, rk=rk).get(p3=[descriptor(1)]).expect_assertion(COUNTER_INCREASES + more)
+        )
     case = Case("get/discoverable_replaces_no_hidden", "get", "A non-discoverable credential is not replaced.", **EMPTY)
-    case.greet().register(1).register(2, rk=True)
+    case.allocate().register(1).register(2, rk=True)
     cases.append(
-        case.get(p3=[descriptor(1)]).asserted(COUNTER_INCREASES).get(p3=[descriptor(2)]).asserted(COUNTER_INCREASES)
+        case.get(p3=[descriptor(1)])
+        .expect_assertion(COUNTER_INCREASES)
+        .get(p3=[descriptor(2)])
+        .expect_assertion(COUNTER_INCREASES)
     )
     case = Case("get/other_user_replaces_nothing", "get", "A credential of another user is not replaced.", **EMPTY)
-    case.greet().register(1, rk=True, p3=user(1)).register(2, rk=True, p3=user(2))
+    case.allocate().register(1, rk=True, p3=user(1)).register(2, rk=True, p3=user(2))
     cases.append(
-        case.get(p3=[descriptor(1)]).asserted(COUNTER_INCREASES).get(p3=[descriptor(2)]).asserted(COUNTER_INCREASES)
+        case.get(p3=[descriptor(1)])
+        .expect_assertion(COUNTER_INCREASES)
+        .get(p3=[descriptor(2)])
+        .expect_assertion(COUNTER_INCREASES)
     )
     case = Case("make/many_stay", "make", "If the device is full, the status is 28, and no credential is lost.")
     case.comment("needs: reset")
     case.comment("needs: capacity 64")
     case.comment("uses: rk")
-    case.greet()
+    case.allocate()
     for number in range(70):
         case.make(p7={"rk": True}, p3=user(number)).presence().key(number).sign().expect("made up or 28")
-    cases.append(case.get(p3=[descriptor(0)]).asserted("up counter-rises user 00"))
+    cases.append(case.get(p3=[descriptor(0)]).expect_assertion("up counter-rises user 00"))
     return cases + [fill_and_sign_in("", 1), fill_and_sign_in("_of_two_rps", 2)]
 
 
@@ -174,11 +184,11 @@ def fill_and_sign_in(name: str, rps: int) -> Case:
     case = Case(f"get/newest_of_many{name}", "get", "On a full device all registered credentials sign, newest first.")
     for line in ("needs: reset", "needs: capacity 64", "uses: rk"):
         case.comment(line)
-    case.greet()
+    case.allocate()
     for number in range(66):
         rp = {"id": ("example.com", "example.org")[number % rps], "name": "x"}
         case.make(p2=rp, p7={"rk": True}, p3=user(number)).presence().key(number).sign().expect("made up or 28")
-    return case.get().asserted("up counter-rises newest")
+    return case.get().expect_assertion("up counter-rises newest")
 
 
 def algorithm_cases() -> List[Case]:
@@ -186,23 +196,27 @@ def algorithm_cases() -> List[Case]:
     cases = []
     eddsa, es256 = {"alg": -8, "type": KIND}, {"alg": -7, "type": KIND}
     case = Case("make/eddsa", "make", "EdDSA works if getInfo has it.", **EDDSA)
-    cases.append(case.greet().register(1, p4=[eddsa]).get(p3=[descriptor(1)]).asserted(COUNTER_INCREASES))
+    cases.append(case.allocate().register(1, p4=[eddsa]).get(p3=[descriptor(1)]).expect_assertion(COUNTER_INCREASES))
     case = Case("make/eddsa_twice", "make", "Each EdDSA credential has a new key pair.", **EDDSA)
     cases.append(
-        case.greet().register(1, p4=[eddsa]).register(2, p4=[eddsa]).get(p3=[descriptor(2)]).asserted(COUNTER_INCREASES)
+        case.allocate()
+        .register(1, p4=[eddsa])
+        .register(2, p4=[eddsa])
+        .get(p3=[descriptor(2)])
+        .expect_assertion(COUNTER_INCREASES)
     )
     for name, listed in (("es256", [es256, eddsa]), ("eddsa", [eddsa, es256])):
         case = Case(f"make/first_is_{name}", "make", "The first supported algorithm of the request is chosen.", **BOTH)
-        cases.append(case.greet().register(1, p4=listed).get(p3=[descriptor(1)]).asserted(COUNTER_INCREASES))
+        cases.append(case.allocate().register(1, p4=listed).get(p3=[descriptor(1)]).expect_assertion(COUNTER_INCREASES))
         unknown = {"alg": -65535, "type": KIND}
         case = Case(
             f"make/first_known_is_{name}", "make", "Unknown algorithms before a supported one are ignored.", **BOTH
         )
-        cases.append(case.greet().register(1, p4=[unknown, *listed]))
+        cases.append(case.allocate().register(1, p4=[unknown, *listed]))
     case = Case("make/es256_twice_listed", "make", "A duplicate algorithm is accepted.", **TOUCH)
-    cases.append(case.greet().register(1, p4=[es256, es256]))
+    cases.append(case.allocate().register(1, p4=[es256, es256]))
     case = Case("make/other_type_first", "make", "An entry with an unknown type is ignored.", **TOUCH)
-    cases.append(case.greet().register(1, p4=[{"alg": -8, "type": "other"}, es256]))
+    cases.append(case.allocate().register(1, p4=[{"alg": -8, "type": "other"}, es256]))
     return cases
 
 
@@ -210,32 +224,38 @@ def capability_cases() -> List[Case]:
     """Returns cases about capabilities of INIT's response, and errors."""
     cases = []
     case = Case("commands/msg_version", "msg", "Without the capability NMSG, CTAPHID_MSG is supported.", uses=["msg"])
-    cases.append(case.greet().send(1, hid.MSG, VERSION + bytes(3)).expect("message 03 5532465f56329000").alive())
+    cases.append(
+        case.allocate().send(1, hid.MSG, VERSION + bytes(3)).expect("message 03 5532465f56329000").expect_alive()
+    )
     case = Case("commands/msg_unknown", "msg", "An unknown instruction gets its own status.", uses=["msg"])
-    cases.append(case.greet().send(1, hid.MSG, bytes([0, 0x70, 0, 0, 0, 0, 0])).expect("message 03 6d00").alive())
+    cases.append(
+        case.allocate().send(1, hid.MSG, bytes([0, 0x70, 0, 0, 0, 0, 0])).expect("message 03 6d00").expect_alive()
+    )
     case = Case("commands/msg_class", "msg", "An unknown class gets its own status.", uses=["msg"])
-    cases.append(case.greet().send(1, hid.MSG, bytes([0x60, 3, 0, 0, 0, 0, 0])).expect("message 03 6e00").alive())
+    cases.append(
+        case.allocate().send(1, hid.MSG, bytes([0x60, 3, 0, 0, 0, 0, 0])).expect("message 03 6e00").expect_alive()
+    )
     for count in (1, 2):
         case = Case(
             f"commands/wink_{count}", "wink", "With the capability WINK, CTAPHID_WINK is supported.", uses=["wink"]
         )
-        case.greet()
+        case.allocate()
         for _ in range(count):
             case.send(1, hid.WINK).expect("message 08")
-        cases.append(case.alive())
+        cases.append(case.expect_alive())
     for name, channel, command in (("unknown", 1, 0x02), ("strange", 9, hid.PING)):
         case = Case(
             f"commands/zeros_behind_{name}", "packets", "Unused bytes of an ERROR should be zero.", level="should"
         )
         expected = "error 01" if name == "unknown" else "error 0b on 9"
-        cases.append(case.greet().send(channel, command, b"a").expect(expected, "zeros").alive())
+        cases.append(case.allocate().send(channel, command, b"a").expect(expected, "zeros").expect_alive())
     case = Case(
         "ping/zeros_behind_after_a_long_one",
         "packets",
         "Padding should not contain bytes of other messages.",
         level="should",
     )
-    case.greet().send(1, hid.PING, b"\xee" * 57).expect("echo").send(1, hid.PING, b"a").expect("echo", "zeros")
+    case.allocate().send(1, hid.PING, b"\xee" * 57).expect("echo").send(1, hid.PING, b"a").expect("echo", "zeros")
     return cases + [case]
 
 

@@ -23,17 +23,17 @@ def ping_cases() -> List[Case]:
         )
         if size > 57:
             case.comment("why: The first packet has 57 bytes of data, the others 59.")
-        cases.append(case.greet().send(1, hid.PING, count_bytes(size)).expect("echo"))
+        cases.append(case.allocate().send(1, hid.PING, count_bytes(size)).expect("echo"))
     case = Case("ping/padding_is_ignored", "packets", "Padding is ignored.")
     packet = hid.fragment_message(1, hid.PING, b"abc")[0]
-    cases.append(case.greet().packets([packet[:10] + b"\xff" * 54]).expect("ping 616263"))
+    cases.append(case.allocate().packets([packet[:10] + b"\xff" * 54]).expect("ping 616263"))
     case = Case("ping/zeros_behind", "packets", "Unused bytes of a packet should be zero.", level="should")
-    cases.append(case.greet().packets([packet[:10] + b"\xff" * 54]).expect("ping 616263", "zeros"))
+    cases.append(case.allocate().packets([packet[:10] + b"\xff" * 54]).expect("ping 616263", "zeros"))
     case = Case("ping/padding_of_a_continuation", "packets", "Padding in a continuation packet is ignored.")
     first, last = hid.fragment_message(1, hid.PING, count_bytes(60))
-    cases.append(case.greet().packets([first, last[:8] + b"\xff" * 56]).expect("echo"))
+    cases.append(case.allocate().packets([first, last[:8] + b"\xff" * 56]).expect("echo"))
     case = Case("ping/many_in_a_row", "ping", "Several PINGs in a row get their responses.")
-    case.greet()
+    case.allocate()
     for size in (3, 100, 0, 57, 58):
         case.send(1, hid.PING, count_bytes(size)).expect("echo")
     return cases + [case]
@@ -51,27 +51,29 @@ def init_cases() -> List[Case]:
         case = Case(f"init/nonce_{name}", "init", "The response has the nonce of the request, and a new channel.")
         cases.append(case.send(hid.BROADCAST, hid.INIT, nonce).expect(f"init nonce {nonce.hex()}"))
     case = Case("init/eight_channels", "init", "Each INIT on the broadcast channel allocates a new channel.")
-    case.greet(8)
+    case.allocate(8)
     for number in range(1, 9):
-        case.alive(number)
+        case.expect_alive(number)
     cases.append(case)
     case = Case("init/padding_is_ignored", "init", "Padding after the nonce is ignored.")
     packet = hid.fragment_message(hid.BROADCAST, hid.INIT, NONCE)[0]
     cases.append(case.packets([packet[:15] + b"\xee" * 49]).expect(f"init nonce {NONCE.hex()}"))
     case = Case("init/on_its_own_channel", "init", "INIT on an allocated channel returns this channel.")
-    case.greet().send(1, hid.INIT, b"\x08" * 8).expect("init nonce 0808080808080808 on 1")
-    cases.append(case.alive())
+    case.allocate().send(1, hid.INIT, b"\x08" * 8).expect("init nonce 0808080808080808 on 1")
+    cases.append(case.expect_alive())
     case = Case("init/on_its_own_channel_twice", "init", "INIT on an allocated channel allocates no new one.")
-    case.greet()
+    case.allocate()
     for byte in (b"\1", b"\2"):
         case.send(1, hid.INIT, byte * 8).expect(f"init nonce {byte.hex() * 8} on 1")
-    cases.append(case.alive())
+    cases.append(case.expect_alive())
     case = Case("init/drops_an_open_message", "abort", "INIT aborts an incomplete message on its channel.")
-    case.greet().begin(1).send(1, hid.INIT, b"\x08" * 8).expect("init nonce 0808080808080808 on 1")
-    cases.append(case.go_on(1).expect("nothing").alive())
+    case.allocate().begin(1).send(1, hid.INIT, b"\x08" * 8).expect("init nonce 0808080808080808 on 1")
+    cases.append(case.go_on(1).expect("nothing").expect_alive())
     case = Case("init/drops_waiting_work", "abort", "INIT aborts a pending request on its channel.")
-    case.greet().make().expect("keepalive 02").send(1, hid.INIT, b"\x08" * 8).expect("init nonce 0808080808080808 on 1")
-    cases.append(case.tick(200).expect("silence").alive())
+    case.allocate().make().expect("keepalive 02").send(1, hid.INIT, b"\x08" * 8).expect(
+        "init nonce 0808080808080808 on 1"
+    )
+    cases.append(case.tick(200).expect("silence").expect_alive())
     return cases + invalid_init_cases()
 
 
@@ -82,8 +84,8 @@ def invalid_init_cases() -> List[Case]:
         for place, channel in (("broadcast", hid.BROADCAST), ("own_channel", 1)):
             requirement = f"INIT of {quantity(length, 'byte')} instead of 8 is refused."
             case = Case(f"init/{place}_length_{length:02}", "init", requirement)
-            case.greet().send(channel, hid.INIT, count_bytes(length)).expect(f"error 03 on {channel:08x}")
-            cases.append(case.alive())
+            case.allocate().send(channel, hid.INIT, count_bytes(length)).expect(f"error 03 on {channel:08x}")
+            cases.append(case.expect_alive())
     return cases
 
 
@@ -107,15 +109,15 @@ def channel_cases() -> List[Case]:
                 requirement,
                 "Channel 0 is reserved, and the broadcast channel is only for INIT.",
             )
-            case.greet().send(channel, command, data).expect(f"error 0b on {channel:08x}")
-            cases.append(case.alive())
+            case.allocate().send(channel, command, data).expect(f"error 0b on {channel:08x}")
+            cases.append(case.expect_alive())
     case = Case("channels/before_any_init", "channels", "Before an INIT no channel is allocated.")
     cases.append(case.send(UNALLOCATED_CHANNEL, hid.PING, b"a").expect(f"error 0b on {UNALLOCATED_CHANNEL:08x}"))
     for place, channel in (("strange", UNALLOCATED_CHANNEL), ("own", 1), ("broadcast", hid.BROADCAST), ("zero", 0)):
         case = Case(
             f"channels/continuation_on_{place}", "sequence", "A continuation packet outside any transaction is ignored."
         )
-        cases.append(case.greet().go_on(channel).expect("silence").alive())
+        cases.append(case.allocate().go_on(channel).expect("silence").expect_alive())
     return cases
 
 
@@ -125,28 +127,28 @@ def command_cases() -> List[Case]:
     served = {"msg": (hid.MSG, ["no msg"]), "wink": (hid.WINK, ["no wink"])}
     for name, (command, uses) in served.items():
         case = Case(f"commands/{name}", "error", f"{name.upper()} is refused without its capability.", uses=uses)
-        cases.append(case.greet().send(1, command, b"").expect("error 01").alive())
+        cases.append(case.allocate().send(1, command, b"").expect("error 01").expect_alive())
     for command in (0x00, 0x02, 0x05, 0x07, 0x12, 0x20, 0x3A, 0x3C, 0x3E):
         case = Case(f"commands/unknown_{command:02x}", "error", "An unknown command is refused.")
-        cases.append(case.greet().send(1, command, b"a").expect("error 01").alive())
+        cases.append(case.allocate().send(1, command, b"a").expect("error 01").expect_alive())
     for command, name in ((hid.KEEPALIVE, "keepalive"), (hid.ERROR, "error")):
         case = Case(f"commands/{name}_from_the_host", "error", "A message that only devices send is refused.")
-        cases.append(case.greet().send(1, command, b"\1").expect("error 01").alive())
+        cases.append(case.allocate().send(1, command, b"\1").expect("error 01").expect_alive())
     for command, name in ((hid.LOCK, "lock"), (0x40, "vendor_40"), (0x7F, "vendor_7f")):
         case = Case(
             f"commands/{name}", "error", "An unsupported optional command is refused.", profile="it is not supported"
         )
-        cases.append(case.greet().send(1, command, b"").expect("error 01").alive())
+        cases.append(case.allocate().send(1, command, b"").expect("error 01").expect_alive())
     for length in (7610, 7611, 0x7FFF, 0xFFFF):
         case = Case(f"commands/ping_length_{length}", "packets", "An invalid length is refused.")
-        cases.append(case.greet().send(1, hid.PING, b"", length).expect("error 03").alive())
+        cases.append(case.allocate().send(1, hid.PING, b"", length).expect("error 03").expect_alive())
         case = Case(f"commands/cbor_length_{length}", "packets", "An invalid length is refused.")
-        cases.append(case.greet().send(1, hid.CBOR, INFO, length).expect("error 03").alive())
+        cases.append(case.allocate().send(1, hid.CBOR, INFO, length).expect("error 03").expect_alive())
     case = Case("commands/cbor_length_0", "cbor command", "A CBOR message has at least its command byte.")
-    cases.append(case.greet().send(1, hid.CBOR, b"").expect("error 03 or status").alive())
+    cases.append(case.allocate().send(1, hid.CBOR, b"").expect("error 03 or status").expect_alive())
     for command in (0x00, 0x03, 0x05, 0x0E, 0x3F, 0xFF):
         case = Case(f"commands/ctap_{command:02x}", "commands", "An unknown command byte is refused.")
-        cases.append(case.greet().cbor(bytes([command])).expect("status 01").alive())
+        cases.append(case.allocate().cbor(bytes([command])).expect("status 01").expect_alive())
     return cases
 
 
@@ -159,26 +161,32 @@ def sequence_cases() -> List[Case]:
             "sequence",
             "A continuation packet with a wrong sequence number is refused.",
         )
-        cases.append(case.greet().begin(1, 200).go_on(1, number, 200).expect("error 04").alive())
+        cases.append(case.allocate().begin(1, 200).go_on(1, number, 200).expect("error 04").expect_alive())
     case = Case("sequence/repeated", "sequence", "A repeated sequence number is refused.")
-    cases.append(case.greet().begin(1, 200).go_on(1, 0, 200).go_on(1, 0, 200).expect("error 04").alive())
+    cases.append(case.allocate().begin(1, 200).go_on(1, 0, 200).go_on(1, 0, 200).expect("error 04").expect_alive())
     case = Case("sequence/second_skips_one", "sequence", "A skipped sequence number is refused.")
-    cases.append(case.greet().begin(1, 300).go_on(1, 0, 300).go_on(1, 2, 300).expect("error 04").alive())
+    cases.append(case.allocate().begin(1, 300).go_on(1, 0, 300).go_on(1, 2, 300).expect("error 04").expect_alive())
     case = Case(
         "sequence/message_is_dropped", "sequence", "After a wrong sequence number the message cannot be continued."
     )
-    cases.append(case.greet().begin(1).go_on(1, 1).expect("error 04").go_on(1, 0).expect("silence").alive())
+    cases.append(case.allocate().begin(1).go_on(1, 1).expect("error 04").go_on(1, 0).expect("silence").expect_alive())
     case = Case("sequence/of_another_channel", "sequence", "A continuation packet on another channel has no effect.")
-    case.greet(2).begin(1).go_on(2).expect("silence").go_on(1).expect("echo")
+    case.allocate(2).begin(1).go_on(2).expect("silence").go_on(1).expect("echo")
     cases.append(case)
     case = Case("sequence/after_the_last", "sequence", "A continuation packet after a complete message is ignored.")
-    cases.append(case.greet().send(1, hid.PING, count_bytes(100)).expect("echo").go_on(1, 1).expect("silence").alive())
+    cases.append(
+        case.allocate().send(1, hid.PING, count_bytes(100)).expect("echo").go_on(1, 1).expect("silence").expect_alive()
+    )
     case = Case("sequence/cbor_message", "sequence", "A CBOR message out of order is refused, and not processed.")
     packets = hid.fragment_message(1, hid.CBOR, MAKE + encode(registration_parameters()))
-    cases.append(case.greet().packets([packets[0], packets[2]]).expect("error 04").tick(150).expect("silence").alive())
+    cases.append(
+        case.allocate().packets([packets[0], packets[2]]).expect("error 04").tick(150).expect("silence").expect_alive()
+    )
     case = Case("sequence/init_packet_inside", "sequence", "An initialization packet within a message aborts it.")
     case.comment("profile: the standard does not say how a host that starts over without INIT is answered")
-    cases.append(case.greet().begin(1).send(1, hid.PING, b"a").expect("error 04").go_on(1).expect("silence").alive())
+    cases.append(
+        case.allocate().begin(1).send(1, hid.PING, b"a").expect("error 04").go_on(1).expect("silence").expect_alive()
+    )
     return cases
 
 

@@ -26,20 +26,20 @@ def cases() -> List[Case]:
         requirement = f"Without the option {option} the command {command:02x} is not supported (6.4)."
         for name, data in ((option, encode(asked)), (f"{option}_at_all", b"")):
             case = Case(f"truth/no_{name}", "info", requirement, uses=[f"no option {option}"])
-            found.append(case.greet().cbor(bytes([command]) + data).expect("refused 01").alive())
+            found.append(case.allocate().cbor(bytes([command]) + data).expect("refused 01").expect_alive())
     more: Dict[str, Any] = {"needs": ["touch", "reset"], "uses": ["rk", f"member {REMAINING}"]}
     case = Case(
         "truth/remaining", "info", "remainingDiscoverableCredentials decreases with registrations (6.4).", **more
     )
-    case.greet().cbor(INFO).expect(f"member {REMAINING} any").register(1, rk=True, p3=user(1))
+    case.allocate().cbor(INFO).expect(f"member {REMAINING} any").register(1, rk=True, p3=user(1))
     case.cbor(INFO).expect(f"member {REMAINING} less").register(2, rk=True, p3=user(2))
     found.append(case.cbor(INFO).expect(f"member {REMAINING} less"))
     case = Case("truth/remaining_of_two_rps", "info", "remainingDiscoverableCredentials is for all RPs (6.4).", **more)
-    case.greet().cbor(INFO).expect(f"member {REMAINING} any").register(1, rk=True)
+    case.allocate().cbor(INFO).expect(f"member {REMAINING} any").register(1, rk=True)
     case.register(2, rk=True, p2={"id": "example.org", "name": "x"})
     found.append(case.cbor(INFO).expect(f"member {REMAINING} less"))
     for number in (1, 2):
         requirement = f"PIN protocol {number} is supported if getInfo has it (6.4, member 06)."
         case = Case(f"truth/pin_protocol_{number}", "info", requirement, uses=[f"pin protocol {number}", "pin"])
-        found.append(case.greet().cbor(b"\x06" + encode({1: number, 2: 2})).expect("agreement"))
+        found.append(case.allocate().cbor(b"\x06" + encode({1: number, 2: 2})).expect("agreement"))
     return found
