@@ -133,9 +133,9 @@ class FullPlayer(Player):
         except CaseSkipped:
             raise
         except Mismatch as differs:
-            self.difference = self.difference or self.failed(differs.expected, differs.actual, None)
+            self.difference = self.difference or self.make_failure(differs.expected, differs.actual, None)
         except (KeyError, TypeError, ValueError, IndexError, AttributeError) as fault:
-            self.difference = self.difference or self.failed(
+            self.difference = self.difference or self.make_failure(
                 "a response with the standard's structure", repr(fault), None
             )
 

@@ -23,15 +23,15 @@ PAUSE = 0.2
 class SettingsReader(ResponseReader):
     """Reads responses about settings."""
 
-    def whole(self, command: int, channel: int, expected: str) -> bytes:
+    def read_data(self, command: int, channel: int, expected: str) -> bytes:
         """Returns the data of the next message, which must have this command and channel."""
-        message = self.answer(expected)
+        message = self.read_response(expected)
         check(message.command == command and message.channel == channel, expected, message.shown())
         return message.data
 
     def check_option(self, words: List[str], channel: int, expected: str) -> None:
         """`option clientPin true`: an option of authenticatorGetInfo."""
-        options = answers.check_get_info_response(self.whole(hid.CBOR, channel, expected)).get(4, {})
+        options = answers.check_get_info_response(self.read_data(hid.CBOR, channel, expected)).get(4, {})
         check(options.get(words[0]) is (words[1] == "true"), expected, options)
 
     def check_attestation(self, item: Any, words: List[str]) -> None:
@@ -41,7 +41,7 @@ class SettingsReader(ResponseReader):
 
     def check_member(self, words: List[str], channel: int, expected: str) -> None:
         """`member 0d 6`: a getInfo response with this member; `member 14 less`: with a lower number than before."""
-        item = answers.check_get_info_response(self.whole(hid.CBOR, channel, expected))
+        item = answers.check_get_info_response(self.read_data(hid.CBOR, channel, expected))
         key = int(words[0], 16)
         found = get_member(item, key, object, f"member {words[0]}")
         if words[1] == "less":
@@ -56,13 +56,13 @@ class SettingsReader(ResponseReader):
 
     def check_modality(self, words: List[str], channel: int, expected: str) -> None:
         """`modality`: the modality fingerprint (6.7.1)."""
-        item = answers.decode_map(self.whole(hid.CBOR, channel, expected))
+        item = answers.decode_map(self.read_data(hid.CBOR, channel, expected))
         check(item.get(MODALITY) == FINGERPRINT, "the modality 1, fingerprint", item)
 
     def check_sensor(self, words: List[str], channel: int, expected: str) -> None:
         """`sensor`: fingerprintKind and maxCaptureSamplesRequiredForEnroll (6.7.3); `sensor 3` skips the case if the
         device needs another number of samples."""
-        item = answers.decode_map(self.whole(hid.CBOR, channel, expected))
+        item = answers.decode_map(self.read_data(hid.CBOR, channel, expected))
         check(item.get(KIND) in KINDS, "a fingerprintKind of 1 or 2", item)
         self.samples = get_member(item, MAX_SAMPLES, int, "maxCaptureSamplesRequiredForEnroll")
         check(self.samples > 0, "at least one sample", item)
@@ -71,7 +71,7 @@ class SettingsReader(ResponseReader):
 
     def check_sample(self, words: List[str], channel: int, expected: str) -> None:
         """`sample as ID`: the first sample of a new template; `sample left N`: N further samples are needed."""
-        item = answers.decode_map(self.whole(hid.CBOR, channel, expected))
+        item = answers.decode_map(self.read_data(hid.CBOR, channel, expected))
         left = get_member(item, REMAINING, int, "remainingSamples")
         check(isinstance(get_member(item, SAMPLE_STATUS, int, "lastEnrollSampleStatus"), int), expected, item)
         if words[0] == "as":
@@ -84,7 +84,7 @@ class SettingsReader(ResponseReader):
 
     def check_templates(self, words: List[str], channel: int, expected: str) -> None:
         """`templates ID`, `templates ID name TEXT`: a list with this template alone."""
-        item = answers.decode_map(self.whole(hid.CBOR, channel, expected))
+        item = answers.decode_map(self.read_data(hid.CBOR, channel, expected))
         listed = get_member(item, TEMPLATES, list, "templateInfos")
         check(len(listed) == 1, "one template", listed)
         check(listed[0].get(1) == self.other_ids[bytes.fromhex(words[0])], "the template that was enrolled", listed)
@@ -97,7 +97,7 @@ class SettingsReader(ResponseReader):
         """Returns the data of a successful U2F response. A real device is asked again until the user touches."""
         end = time.monotonic() + PERSON
         while True:
-            data = self.whole(hid.MSG, channel, expected)
+            data = self.read_data(hid.MSG, channel, expected)
             if data != NO_TOUCH or self.device.virtual or time.monotonic() > end:
                 break
             time.sleep(PAUSE)

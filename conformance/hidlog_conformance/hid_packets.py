@@ -78,7 +78,7 @@ class Collector:
             )
         part.due += 1
         part.data += packet[5:]
-        return self.ended(channel, part)
+        return self.take_complete(channel, part)
 
     def begin(self, channel: int, packet: bytes) -> Optional[Message]:
         """Processes an initialization packet; CANCEL does not affect an incomplete message."""
@@ -91,9 +91,9 @@ class Collector:
         if part.length > LONGEST:
             return Message(channel, part.command, b"", f"a length of {part.length} on {channel:08x}")
         self.open[channel] = part
-        return self.ended(channel, part)
+        return self.take_complete(channel, part)
 
-    def ended(self, channel: int, part: Part) -> Optional[Message]:
+    def take_complete(self, channel: int, part: Part) -> Optional[Message]:
         """Returns the message if it is complete, or None."""
         if len(part.data) < part.length:
             return None

@@ -126,7 +126,7 @@ class AnswerJudge:
         request = transaction.data
         if request[1:2] == b"\1" and data[-2:] == b"\x90\x00":
             self.is_complete = False
-        is_sure = self.is_recent(self.u2f.when_shown(request), transaction)
+        is_sure = self.is_recent(self.u2f.find_last_response(request), transaction)
         self.u2f.judge(request, data, transaction.last, is_sure)
 
     def is_recent(self, at: int, transaction: Transaction) -> bool:
@@ -265,7 +265,7 @@ class AnswerJudge:
         if answers.decode_parameters(request).get(8):
             words.append("uv")
         made = answers.check_make_credential_response(
-            data, request, words, self.kept.near(read_credential_id(data)), self.facts
+            data, request, words, self.kept.find_similar(read_credential_id(data)), self.facts
         )
         check(ctap_cbor.encode(made.cose) not in self.kept.by_key, "a new key pair", made.cose)
         asked = answers.decode_parameters(request)
@@ -278,7 +278,7 @@ class AnswerJudge:
         kept.shown = transaction.last
         self.kept.add(kept)
         self.settings.made += kept.discoverable
-        self.stored.check_key(data, self.served(extensions), made.id, 5, True)
+        self.stored.check_key(data, self.list_served(extensions), made.id, 5, True)
         self.check_setting_use(transaction, asked, data)
         answers.check_certificate(answers.decode_map(data))
 
@@ -288,7 +288,7 @@ class AnswerJudge:
             is_sure = self.is_recent(self.settings.shown, transaction)
             self.settings.check_use(transaction.data, asked, data, is_sure)
 
-    def served(self, extensions: Dict[str, Any]) -> Dict[str, Any]:
+    def list_served(self, extensions: Dict[str, Any]) -> Dict[str, Any]:
         """Returns the extensions that getInfo names."""
         return {name: value for name, value in extensions.items() if name in self.info.get(2, [])}
 
@@ -316,7 +316,7 @@ class AnswerJudge:
         asked = answers.decode_parameters(request)
         item = answers.decode_map(data)
         words = self.list_words(asked, item, follows)
-        identity = self.identity(asked, item)
+        identity = self.find_signer(asked, item)
         kept = self.kept.get(identity)
         if identity in self.forgotten:
             self.recording.add_finding(
@@ -341,7 +341,7 @@ class AnswerJudge:
         self.check_account(transaction, item, follows, identity)
         if kept is not None:
             kept.shown = transaction.last
-            self.stored.check_key(data, self.served(asked.get(4, {})), identity, 7, BLOB_KEY in extensions)
+            self.stored.check_key(data, self.list_served(asked.get(4, {})), identity, 7, BLOB_KEY in extensions)
         if not follows:
             self.check_setting_use(transaction, asked, data)
 
@@ -371,7 +371,7 @@ class AnswerJudge:
                 "12.1", f"no assertion by a credential of level {level} without user verification", "an assertion"
             )
 
-    def identity(self, asked: Dict[Any, Any], item: Dict[Any, Any]) -> bytes:
+    def find_signer(self, asked: Dict[Any, Any], item: Dict[Any, Any]) -> bytes:
         """Returns the ID of the credential that signed."""
         if isinstance(item.get(1), dict) and isinstance(item[1].get("id"), bytes):
             return bytes(item[1]["id"])
@@ -398,7 +398,7 @@ class AnswerJudge:
             raise kind("no numberOfCredentials of 1", ctap_cbor.to_diagnostic(item))
         if follows or asked.get(3):
             return
-        mine, kept = self.statuses.candidates(asked), self.kept.get(identity)
+        mine, kept = self.statuses.list_candidates(asked), self.kept.get(identity)
         if kept is not None:
             words = ["user", kept.credential.user.hex()]
             answers.check_user_entity(item, words, self.facts)
@@ -440,7 +440,7 @@ class AnswerJudge:
             self.no_display = self.no_display or (isinstance(number, int) and number > 1)
             left = number - 1 if isinstance(number, int) else 0
             flags = auth[32] if isinstance(auth, bytes) and len(auth) > 32 else 0
-            signed = [self.identity(decode_parameters(transaction.data) or {}, item)]
+            signed = [self.find_signer(decode_parameters(transaction.data) or {}, item)]
             self.pending = Pending(transaction.data, left, entry.at, transaction.channel, True, signed, flags)
         elif command == NEXT and status == 0 and self.pending is not None:
             self.pending.left, self.pending.at = self.pending.left - 1, entry.at

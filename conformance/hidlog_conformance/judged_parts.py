@@ -84,14 +84,14 @@ class KnownCredentials:
         """Returns the credential with an ID, or None."""
         return self.by_id.get(identity)
 
-    def near(self, identity: bytes) -> Dict[bytes, Credential]:
+    def find_similar(self, identity: bytes) -> Dict[bytes, Credential]:
         """Returns the credentials whose ID equals this one or is numerically close, by ID."""
         front = read_id_prefix(identity)
         found = [*self.by_front.get(front - 1, {}).values(), *self.by_front.get(front, {}).values()]
         found += self.by_front.get(front + 1, {}).values()
         return {one.credential.id: one.credential for one in found}
 
-    def stored(self) -> List[Credential]:
+    def list_discoverable(self) -> List[Credential]:
         """Returns the discoverable credentials."""
         return [one.credential for of_rp in self.discoverable.values() for one in of_rp.values()]
 

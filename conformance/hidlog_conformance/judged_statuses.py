@@ -231,8 +231,8 @@ class StatusJudge:
         """Checks the status of a sign-in."""
         status = data[0]
         asked = decode_parameters(transaction.data) or {}
-        mine = self.candidates(asked)
-        used = self.answers.identity(asked, decode_parameters(data) or {}) if status == 0 else b""
+        mine = self.list_candidates(asked)
+        used = self.answers.find_signer(asked, decode_parameters(data) or {}) if status == 0 else b""
         if used in self.answers.forgotten:
             raise ExtensionMismatch("6.6", "no credential from before the reset", used.hex())
         if mine and self.answers.facts.protection < 2 and status == NO_CREDENTIALS:
@@ -253,7 +253,7 @@ class StatusJudge:
         """Returns whether the RP has a credential that credProtect hides."""
         return bool(self.answers.kept.extended.get(asked[1]))
 
-    def candidates(self, asked: Dict[Any, Any]) -> List[KnownCredential]:
+    def list_candidates(self, asked: Dict[Any, Any]) -> List[KnownCredential]:
         """Returns the credentials of the log that a sign-in may use."""
         if asked.get(3):
             return self.list_known(asked, 3, asked[1])

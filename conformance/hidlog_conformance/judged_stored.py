@@ -90,7 +90,7 @@ class StoredJudge:
         if command not in (NEXT_RP, NEXT):
             self.check_token(asked, 4, MAY_MANAGE, pins)
             self.check_rp(command, parameters, kept, pins)
-        stored = kept.stored()
+        stored = kept.list_discoverable()
         if command == COUNT:
             self.listing.check_count(answers.decode_map(data), len(stored))
         elif command in (LIST_RPS, NEXT_RP):

@@ -33,7 +33,7 @@ class U2fJudge:
         # By key handle: the application, the public key, the last counter, and the time of the last response about it.
         self.made: Dict[bytes, Tuple[bytes, bytes, int, int]] = {}
 
-    def when_shown(self, request: bytes) -> int:
+    def find_last_response(self, request: bytes) -> int:
         """Returns the time of the last response about the key handle in a request, or 0."""
         known = self.made.get(read_data(request)[HASHES + 1 :])
         return known[3] if known is not None else 0

@@ -190,12 +190,12 @@ class KnownAnswers(AnswerJudge):
         allowed: Tuple[int, ...] = (due,)
         why = "the PIN is right" if filled.pin == pin else "the PIN is wrong" if pin else "no PIN is set"
         if not due:
-            allowed, why = self.after_right_pin(kind, filled)
+            allowed, why = self.expect_after_right_pin(kind, filled)
         if status in allowed or (due and status and not self.knows_retries):
             return
         self.add_known_finding(entry, PIN, f"status {allowed[0]:02x}, since {why}", f"status {status:02x}")
 
-    def after_right_pin(self, kind: int, filled: Filled) -> Tuple[Tuple[int, ...], str]:
+    def expect_after_right_pin(self, kind: int, filled: Filled) -> Tuple[Tuple[int, ...], str]:
         """Returns the possible statuses of a request with the right PIN, and why: the PIN may have to be changed, or
         the new one may be too short (6.5.5.6, 6.5.5.7)."""
         why, policy = "the PIN is right", (POLICY, PIN_INVALID) if kind == GET_TOKEN else (POLICY,)

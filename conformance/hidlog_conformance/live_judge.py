@@ -34,7 +34,7 @@ class SentOwners(Owners):
         """Returns the transaction of the last line."""
         return self.now
 
-    def see(self, number: int, line: bytes) -> None:
+    def take_line(self, number: int, line: bytes) -> None:
         """Processes a line."""
         self.now = Owned()
         if line == POWER_CYCLE:
@@ -81,7 +81,7 @@ class LiveJudge:
         self.key.answers = self.answers
         self.seen = 0
 
-    def sent(self, request: bytes, filled: Filled) -> None:
+    def record_filled(self, request: bytes, filled: Filled) -> None:
         """Records the values of a request's placeholders."""
         if filled != Filled():
             self.answers.filled[request] = filled
@@ -91,7 +91,7 @@ class LiveJudge:
         for text in lines[self.seen :]:
             self.seen += 1
             line = text.encode()
-            self.owners.see(self.seen, line)
+            self.owners.take_line(self.seen, line)
             self.recording.take(self.seen, line, self.owners)
             if line[:1] == b"<" and self.recording.walk.is_quiet:
                 check_entries(self.recording, self.host, self.key)

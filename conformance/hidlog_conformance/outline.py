@@ -136,7 +136,7 @@ class OutlineReader:
         """Returns the number of the first step that resets the device, or the number of steps."""
         steps = range(len(self.steps))
         resets = (number for number in steps if self.requests[number][:1] == bytes([RESET]))
-        return next((number for number in resets if self.expected_of(number) == "status 00"), len(self.steps))
+        return next((number for number in resets if self.get_first_expectation(number) == "status 00"), len(self.steps))
 
     def tolerates_pin(self, end: int) -> bool:
         """Returns whether a PIN that is set has no effect up to the reset of the case."""
@@ -208,7 +208,7 @@ class OutlineReader:
                 return True
         return False
 
-    def expected_of(self, number: int) -> str:
+    def get_first_expectation(self, number: int) -> str:
         """Returns the first expectation after a request and before the next one."""
         for step in self.steps[number : number + len(REGISTRATION)]:
             if step.kind == ">" and step is not self.steps[number]:
@@ -224,7 +224,7 @@ class OutlineReader:
         found.touches += count_step_touches(step)
         if not request:
             return
-        asked, expected = decode_parameters(request), self.expected_of(number)
+        asked, expected = decode_parameters(request), self.get_first_expectation(number)
         is_done = expected == "status 00"
         if request[0] == RESET and is_done:
             found.resets, found.changes_pin, found.stores, found.writes = True, False, False, False

@@ -93,7 +93,7 @@ class Platform:
         else:
             self.for_auth, self.for_encryption = derive_hkdf(z, b"CTAP2 HMAC key"), derive_hkdf(z, b"CTAP2 AES key")
 
-    def own_key(self) -> Dict[int, Any]:
+    def get_public_key(self) -> Dict[int, Any]:
         """Returns the platform's public key."""
         numbers = self.private.public_key().public_numbers()
         return {1: 2, 3: -25, -1: 1, -2: numbers.x.to_bytes(32, "big"), -3: numbers.y.to_bytes(32, "big")}
@@ -168,7 +168,7 @@ class Platform:
     def fill_value(self, value: Any) -> Any:
         """Returns the value of a placeholder."""
         if value == b"=agreement":
-            return self.own_key()
+            return self.get_public_key()
         if isinstance(value, bytes) and value.startswith(b"=encrypt:"):
             data = self.adapt_data(value[9:])
             self.last_filled.new_pin = data.rstrip(b"\0")

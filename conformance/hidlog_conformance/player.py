@@ -75,12 +75,12 @@ class Player(SettingsReader):
             reason = self.find_excuse()
             if reason:
                 return Outcome(self.session, "skip", reason)
-            return self.failed(differs.expected, differs.actual, step)
+            return self.make_failure(differs.expected, differs.actual, step)
         except (KeyError, TypeError, ValueError, IndexError, AttributeError) as fault:
             # The response's structure is unexpected.
-            return self.failed("a response with the standard's structure", repr(fault), step)
+            return self.make_failure("a response with the standard's structure", repr(fault), step)
         except OSError as fault:
-            return self.failed(GOES_ON, str(fault), step)
+            return self.make_failure(GOES_ON, str(fault), step)
         finally:
             self.cancel_pending_requests()
             self.delete_credentials()
@@ -115,11 +115,11 @@ class Player(SettingsReader):
 
     def is_left_out(self, step: Step) -> bool:
         """Returns whether a step sets a PIN that is set already."""
-        if self.sharing is not None and self.sharing.leaves_out(self.number):
+        if self.sharing is not None and self.sharing.is_left_out(self.number):
             return True
         return self.pin_user is not None and self.pin_user.sets_pin(step)
 
-    def failed(self, expected: str, actual: str, step: Optional[Step]) -> Outcome:
+    def make_failure(self, expected: str, actual: str, step: Optional[Step]) -> Outcome:
         """Returns the outcome of a difference, with the violated rule."""
         own = self.session.section
         partial = self.actual is None and bool(self.guest.open)
@@ -192,7 +192,7 @@ class Player(SettingsReader):
         """Checks that only KEEPALIVEs of pending requests are left."""
         self.expected = "rest"
         while True:
-            message = self.message(0)
+            message = self.read_message(0)
             if message is None:
                 break
             check(self.is_expected_keepalive(message), "nothing more", message.shown())
@@ -201,9 +201,11 @@ class Player(SettingsReader):
     def check_end(self) -> None:
         """Checks that a device in real time sends no further message."""
         self.expected = "rest"
-        message = self.message(REST)
+        message = self.read_message(REST)
         check(
-            message is None or self.is_expected_keepalive(message), "nothing more", message.shown() if message else ""
+            message is None or self.is_expected_keepalive(message),
+            "nothing more",
+            message.shown() if message else "",
         )
         check(not self.guest.open, "complete messages", "an incomplete message")
 
@@ -225,29 +227,29 @@ class Player(SettingsReader):
         """`nothing`: no message comes but KEEPALIVEs of pending requests."""
         end = time.monotonic() + 0.3
         while self.device.virtual or time.monotonic() < end:
-            message = self.message(end - time.monotonic())
+            message = self.read_message(end - time.monotonic())
             if message is None:
                 return
             check(self.is_expected_keepalive(message), expected, message.shown())
 
     def check_silence(self, words: List[str], channel: int, expected: str) -> None:
         """`silence`: no packet comes."""
-        message = self.message(0.3)
+        message = self.read_message(0.3)
         check(message is None, expected, message.shown() if message else "")
 
     def check_init(self, words: List[str], channel: int, expected: str) -> None:
         """`init nonce HEX`, and `on N` unless on the broadcast channel: a response to INIT."""
         resync = expected.split(" ")[-2] == "on"
         if len(self.allocated) >= MIN_CHANNELS and not resync:
-            self.no_channel_left(expected)
-        data = self.whole(hid.INIT, channel if resync else hid.BROADCAST, expected)
+            self.skip_without_channel(expected)
+        data = self.read_data(hid.INIT, channel if resync else hid.BROADCAST, expected)
         found = check_init_response(data, bytes.fromhex(words[1]), channel if resync else hid.BROADCAST, self.allocated)
         if not resync:
             self.allocated.append(found)
 
-    def no_channel_left(self, expected: str) -> None:
+    def skip_without_channel(self, expected: str) -> None:
         """Skips a session that needs more channels than the device has."""
-        message = self.answer(expected)
+        message = self.read_response(expected)
         if message.command == hid.ERROR and message.channel == hid.BROADCAST:
             raise CaseSkipped(f"the device has {quantity(len(self.allocated), 'channel')}: ERROR {message.data.hex()}")
         self.early.insert(0, message)
@@ -255,35 +257,35 @@ class Player(SettingsReader):
     def check_error(self, words: List[str], channel: int, expected: str) -> None:
         """`error 06`, `error 05|06`: an ERROR with one of these codes; with `or status`, or an error status."""
         if "or" in words:
-            message = self.answer(expected)
+            message = self.read_response(expected)
             if message.command == hid.CBOR and message.channel == channel:
                 check(len(message.data) == 1 and message.data != b"\0", expected, message.shown())
                 return
             self.early.insert(0, message)
-        data = self.whole(hid.ERROR, channel, expected)
+        data = self.read_data(hid.ERROR, channel, expected)
         check(len(data) == 1 and data.hex() in words[0].split("|"), expected, f"ERROR {data.hex()}")
 
     def check_maybe(self, words: List[str], channel: int, expected: str) -> None:
         """`maybe error 06`: this ERROR or nothing."""
-        message = self.message(ANSWER if not self.device.virtual else 0)
+        message = self.read_message(ANSWER if not self.device.virtual else 0)
         if message is not None:
             self.early.insert(0, message)
             self.check_error(words[1:], channel, expected)
 
     def check_message(self, words: List[str], channel: int, expected: str) -> None:
         """`message 03 HEX`: a response with this command, and with these bytes if given; `none`: without data."""
-        data = self.whole(int(words[0], 16), channel, expected)
+        data = self.read_data(int(words[0], 16), channel, expected)
         check(len(words) == 1 or data.hex() == words[1].replace("none", ""), expected, data)
 
     def check_echo(self, words: List[str], channel: int, expected: str) -> None:
         """`echo`: a PING with the bytes of the request."""
-        data = self.whole(hid.PING, channel, expected)
+        data = self.read_data(hid.PING, channel, expected)
         ping = self.sent[channel].data if channel in self.sent else b""
         check(data == ping, f"the {quantity(len(ping), 'byte')} of the PING", data)
 
     def check_ping(self, words: List[str], channel: int, expected: str) -> None:
         """`ping HEX`: a PING with these bytes."""
-        data = self.whole(hid.PING, channel, expected)
+        data = self.read_data(hid.PING, channel, expected)
         check(data == bytes.fromhex("".join(words)), expected, data)
 
     def check_zeros(self, words: List[str], channel: int, expected: str) -> None:
@@ -294,36 +296,38 @@ class Player(SettingsReader):
     def check_keepalive(self, words: List[str], channel: int, expected: str) -> None:
         """`keepalive 02`: a KEEPALIVE with this status, after any other KEEPALIVEs of the request."""
         while True:
-            message = self.message(self.patience)
+            message = self.read_message(self.patience)
             if message is None:
-                raise Mismatch(expected, self.nothing())
+                raise Mismatch(expected, self.describe_silence())
             check(message.command == hid.KEEPALIVE and message.channel == channel, expected, message.shown())
             check(
-                self.is_expected_keepalive(message), "a KEEPALIVE of one byte, 01 or 02, for a request", message.shown()
+                self.is_expected_keepalive(message),
+                "a KEEPALIVE of one byte, 01 or 02, for a request",
+                message.shown(),
             )
             if message.data == bytes.fromhex(words[0]):
                 return
 
     def check_status(self, words: List[str], channel: int, expected: str) -> None:
         """`status 2e`, `status 2e|36`: a response that is only a status."""
-        data = self.whole(hid.CBOR, channel, expected)
+        data = self.read_data(hid.CBOR, channel, expected)
         check(len(data) == 1 and data.hex() in words[0].split("|"), expected, f"response {data[:40].hex()}")
 
     def check_refused(self, words: List[str], channel: int, expected: str) -> None:
         """`refused 2e`: a status other than 00; with --profile-choices, this one."""
-        data = self.whole(hid.CBOR, channel, expected)
+        data = self.read_data(hid.CBOR, channel, expected)
         check(len(data) == 1 and data != b"\0", expected, f"response {data[:40].hex()}")
         check(not self.strict or data.hex() == words[0], expected, f"response {data.hex()}")
 
     def check_info(self, words: List[str], channel: int, expected: str) -> None:
         """`info`, `info HEX`: a response to authenticatorGetInfo, equal to these bytes if given."""
-        item = answers.check_get_info_response(self.whole(hid.CBOR, channel, expected))
+        item = answers.check_get_info_response(self.read_data(hid.CBOR, channel, expected))
         if words:
             check(ctap_cbor.encode(item).hex() == words[0], expected, item)
 
     def check_made(self, words: List[str], channel: int, expected: str) -> None:
         """`made`: a registration. Keeps its credential under the ID of the session's k line."""
-        data = self.whole(hid.CBOR, channel, expected)
+        data = self.read_data(hid.CBOR, channel, expected)
         if (
             data == b"\x28"
             and not self.device.fresh
@@ -347,7 +351,7 @@ class Player(SettingsReader):
 
     def check_asserted(self, words: List[str], channel: int, expected: str) -> None:
         """`asserted`: an assertion for the last authenticatorGetAssertion."""
-        data = self.whole(hid.CBOR, channel, expected)
+        data = self.read_data(hid.CBOR, channel, expected)
         identity: Any = None
         if "id" in words:
             identity = self.known[bytes.fromhex(words[words.index("id") + 1])].id
@@ -367,17 +371,19 @@ class Player(SettingsReader):
 
     def check_agreement(self, words: List[str], channel: int, expected: str) -> None:
         """`agreement`: the device's key agreement key. Derives the shared secret."""
-        data = self.whole(hid.CBOR, channel, expected)
+        data = self.read_data(hid.CBOR, channel, expected)
         self.platform.agree(answers.decode_map(data), answers.decode_parameters(self.request))
 
     def check_token(self, words: List[str], channel: int, expected: str) -> None:
         """`token`: a pinUvAuthToken."""
-        self.platform.take_token(answers.decode_map(self.whole(hid.CBOR, channel, expected)))
+        self.platform.take_token(answers.decode_map(self.read_data(hid.CBOR, channel, expected)))
 
     def check_retries(self, words: List[str], channel: int, expected: str) -> None:
         """`retries 7`: the PIN retries left of 8. For a device with a lower maximum, the difference from the maximum is
         compared."""
-        left = answers.get_member(answers.decode_map(self.whole(hid.CBOR, channel, expected)), 3, int, "the retries")
+        left = answers.get_member(
+            answers.decode_map(self.read_data(hid.CBOR, channel, expected)), 3, int, "the retries"
+        )
         self.most_retries = self.most_retries or left
         check(
             left == self.most_retries - MAX_RETRIES + int(words[0]) and left <= MAX_RETRIES,
@@ -387,7 +393,9 @@ class Player(SettingsReader):
 
     def check_user_retries(self, words: List[str], channel: int, expected: str) -> None:
         """`user_retries`: the user verification retries left; with `less`, one less than before."""
-        left = answers.get_member(answers.decode_map(self.whole(hid.CBOR, channel, expected)), 5, int, "the retries")
+        left = answers.get_member(
+            answers.decode_map(self.read_data(hid.CBOR, channel, expected)), 5, int, "the retries"
+        )
         check(1 <= left <= MAX_USER_RETRIES, f"1 to {MAX_USER_RETRIES} retries", quantity(left, "retry", "retries"))
         check(
             not words or left == self.user_retries - 1,
@@ -399,7 +407,7 @@ class Player(SettingsReader):
     def check_managed(self, words: List[str], channel: int, expected: str) -> None:
         """`managed count 2`, `managed rps 2`, `managed rp`, `managed credentials 2`, `managed credential`: a response
         to authenticatorCredentialManagement. The first of an enumeration has the total."""
-        item = answers.decode_map(self.whole(hid.CBOR, channel, expected))
+        item = answers.decode_map(self.read_data(hid.CBOR, channel, expected))
         known, total = list(self.known.values()), int(words[1]) if words[0] in ("count", "rps", "credentials") else None
         if words[0] == "count":
             self.listing.check_count(item, int(words[1]))
@@ -413,13 +421,13 @@ class Player(SettingsReader):
 
     def check_piece(self, words: List[str], channel: int, expected: str) -> None:
         """`piece HEX`: a fragment of the large-blob array."""
-        check_fragment(answers.decode_map(self.whole(hid.CBOR, channel, expected)), bytes.fromhex("".join(words)))
+        check_fragment(answers.decode_map(self.read_data(hid.CBOR, channel, expected)), bytes.fromhex("".join(words)))
 
     def check_judged(self, words: List[str], channel: int, expected: str) -> None:
         """`judged`, `judged as NAME`: a response that the rules of `hidlog judge` accept after all that came before.
         The user touches if the device asks; NAME stands for the ID of a credential or template that was made."""
         self.device.provide(self.at)
-        message = self.answer(expected)
+        message = self.read_response(expected)
         self.live.take(self.log)
         found = self.live.violation
         if found is not None:

@@ -207,8 +207,8 @@ WRITERS: Dict[str, Callable[[List[Outcome], Header], None]] = {
     "text": write_text,
     "tap": write_tap,
     "junit": write_junit,
-    "json": lambda outcomes, header: report_page.json_report(to_rows(outcomes), header, DISCLAIMER),
-    "html": lambda outcomes, header: report_page.html_report(to_rows(outcomes), header, DISCLAIMER),
+    "json": lambda outcomes, header: report_page.to_json(to_rows(outcomes), header, DISCLAIMER),
+    "html": lambda outcomes, header: report_page.to_html(to_rows(outcomes), header, DISCLAIMER),
 }
 
 

@@ -28,12 +28,12 @@ class Row(NamedTuple):
     actual: str = ""
 
 
-def counts(rows: List[Row]) -> Dict[str, int]:
+def count_outcomes(rows: List[Row]) -> Dict[str, int]:
     """Returns the number of cases by outcome."""
     return {word: sum(row.status == status for row in rows) for status, word in STATUS_WORDS.items()}
 
 
-def by_rule(rows: List[Row]) -> Dict[str, List[Row]]:
+def group_by_rule(rows: List[Row]) -> Dict[str, List[Row]]:
     """Returns the cases of each rule."""
     found: Dict[str, List[Row]] = {}
     for row in sorted(rows, key=lambda row: [int(part) for part in get_section_number(row.rule).split(".")]):
@@ -46,7 +46,7 @@ def get_section_number(rule: str) -> str:
     return rule.partition(", ")[2].split(" ")[0] or "0"
 
 
-def case_object(row: Row) -> Dict[str, object]:
+def to_case_object(row: Row) -> Dict[str, object]:
     """Returns a case as an object of the JSON report."""
     case: Dict[str, object] = {"name": row.name, "rule": row.rule, "result": STATUS_WORDS[row.status]}
     case.update({"details": row.details, "said": row.details})
@@ -57,13 +57,15 @@ def case_object(row: Row) -> Dict[str, object]:
     return case
 
 
-def json_report(rows: List[Row], header: Dict[str, str], note: str) -> None:
+def to_json(rows: List[Row], header: Dict[str, str], note: str) -> None:
     """Writes JSON."""
-    cases = [case_object(row) for row in rows]
-    print(json.dumps({"format": FORMAT, **header, "note": note, "totals": counts(rows), "cases": cases}, indent=1))
+    cases = [to_case_object(row) for row in rows]
+    print(
+        json.dumps({"format": FORMAT, **header, "note": note, "totals": count_outcomes(rows), "cases": cases}, indent=1)
+    )
 
 
-def html_report(rows: List[Row], header: Dict[str, str], note: str) -> None:
+def to_html(rows: List[Row], header: Dict[str, str], note: str) -> None:
     """Writes a page: the header, a table by section, and each case that did not pass."""
     escape = html.escape
     print('<!DOCTYPE html>\n<html lang="en"><head><meta charset="utf-8"><title>CTAP 2.1: conformance report</title>')
@@ -74,10 +76,10 @@ def html_report(rows: List[Row], header: Dict[str, str], note: str) -> None:
         print(f"<tr><th>{escape(name)}</th><td><code>{escape(value)}</code></td></tr>")
     print(f"</table>\n<p>{escape(note)}</p>\n<h2>By section</h2>\n<table>")
     print("<tr><th>Section</th>" + "".join(f"<th>{word}</th>" for word in STATUS_WORDS.values()) + "</tr>")
-    for rule, found in by_rule(rows).items():
-        cells = "".join(f"<td>{count}</td>" for count in counts(found).values())
+    for rule, found in group_by_rule(rows).items():
+        cells = "".join(f"<td>{count}</td>" for count in count_outcomes(found).values())
         print(f"<tr><td>{escape(rule)}</td>{cells}</tr>")
-    cells = "".join(f"<th>{count}</th>" for count in counts(rows).values())
+    cells = "".join(f"<th>{count}</th>" for count in count_outcomes(rows).values())
     print(f"<tr><th>All</th>{cells}</tr></table>")
     for status, heading in (
         ("not ok", "Failed"),

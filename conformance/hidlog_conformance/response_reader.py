@@ -154,11 +154,11 @@ class ResponseReader:
         if step.kind == ">":
             self.send(step)
         elif step.kind == "power":
-            self.switch_on_again(step.at)
+            self.restart_device(step.at)
         elif step.kind == "t":
             self.device.tick(step.at)
         elif step.kind == "p":
-            self.until_asked()
+            self.wait_for_touch_request()
             self.touched = True
             self.patience = PERSON
             self.device.presence(step.at, step.words[0])
@@ -168,20 +168,20 @@ class ResponseReader:
         else:
             self.device.signature(step.at, step.words)
 
-    def until_asked(self) -> None:
+    def wait_for_touch_request(self) -> None:
         """Waits until a device in real time asks for a touch; keeps responses that it sends before."""
         if self.device.virtual:
             return
         end = time.monotonic() + ANSWER
         while any(self.working.values()) and not self.asked_user and not self.early:
-            message = self.message(end - time.monotonic())
+            message = self.read_message(end - time.monotonic())
             if message is None:
                 return
             if not self.is_expected_keepalive(message):
                 self.early.append(message)
             end = time.monotonic() + ANSWER
 
-    def switch_on_again(self, at: int) -> None:
+    def restart_device(self, at: int) -> None:
         """Power cycles the device, after which no request is pending."""
         self.device.power_cycle(at)
         self.has_answered = False
@@ -196,7 +196,7 @@ class ResponseReader:
         """Sends packets, with the session's channels and credential IDs replaced by the device's."""
         self.patience = ANSWER if self.has_answered else START
         self.asked_user = self.touched = False
-        packets = self.renamed([packet for _, packet in step.packets])
+        packets = self.rename_ids([packet for _, packet in step.packets])
         for number, packet in enumerate(packets):
             moment = step.packets[min(number, len(step.packets) - 1)][0]
             channel = self.channel(int.from_bytes(packet[:4], "big"))
@@ -210,7 +210,7 @@ class ResponseReader:
             self.log.append(f"> {moment} {packet.hex()}")
             self.device.send(moment, packet)
 
-    def recording(self) -> str:
+    def format_recording(self) -> str:
         """Returns the packets so far, as a log with the session's times."""
         return "".join(line + "\n" for line in self.log)
 
@@ -226,7 +226,7 @@ class ResponseReader:
             if message.data:
                 self.asked[message.channel, message.data[0]] = message.data
 
-    def renamed(self, packets: List[bytes]) -> List[bytes]:
+    def rename_ids(self, packets: List[bytes]) -> List[bytes]:
         """Replaces the credential IDs of a complete CBOR message by the device's."""
         collector = hid.Collector()
         messages = [message for message in map(collector.feed, packets) if message]
@@ -238,7 +238,7 @@ class ResponseReader:
         for name, identity in self.find_names(data):
             data = data.replace(ctap_cbor.encode(name), ctap_cbor.encode(identity))
         data = self.platform.fill(data)
-        self.live.sent(data, self.platform.last_filled)
+        self.live.record_filled(data, self.platform.last_filled)
         data = prefix_rp_id(data, self.front) if self.front else data
         data = self.with_token(messages[0].channel, data)
         if data == messages[0].data:
@@ -272,8 +272,8 @@ class ResponseReader:
             self.log.append(f"> {self.at} {packet.hex()}")
             self.device.send(self.at, packet)
         while True:
-            message = self.message(ANSWER)
-            check(message is not None, "a response to authenticatorClientPIN", self.nothing())
+            message = self.read_message(ANSWER)
+            check(message is not None, "a response to authenticatorClientPIN", self.describe_silence())
             if message is not None and message.channel == channel and message.command == hid.CBOR:
                 return message.data
 
@@ -292,7 +292,7 @@ class ResponseReader:
             return False
         return is_valid_keepalive(message.data)
 
-    def message(self, seconds: float) -> Optional[Message]:
+    def read_message(self, seconds: float) -> Optional[Message]:
         """Returns the next message of the device."""
         if self.early:
             self.actual = self.early.pop(0)
@@ -301,7 +301,7 @@ class ResponseReader:
         self.actual = None
         while self.actual is None:
             packet = self.device.read(max(0.0, end - time.monotonic()))
-            self.in_time()
+            self.check_deadline()
             if packet is None:
                 return None
             self.packets += 1
@@ -314,7 +314,7 @@ class ResponseReader:
         self.asked_user = self.asked_user or (self.actual.command == hid.KEEPALIVE and self.actual.data == b"\2")
         return self.actual
 
-    def in_time(self) -> None:
+    def check_deadline(self) -> None:
         """Raises an exception once the deadline is over."""
         if not self.device.virtual and time.monotonic() >= self.deadline:
             actual = "KEEPALIVEs without a response" if self.asked_user else "no end"
@@ -329,19 +329,19 @@ class ResponseReader:
             return packet[7:15] not in self.nonces
         return channel not in self.used and channel not in self.allocated
 
-    def nothing(self) -> str:
+    def describe_silence(self) -> str:
         """Describes a missing response."""
         if not self.others:
             return "nothing"
         return f"nothing (skipped {quantity(self.others, 'packet')} for other hosts)"
 
-    def answer(self, expected: str) -> Message:
+    def read_response(self, expected: str) -> Message:
         """Returns the next message that is not an expected KEEPALIVE."""
         end = time.monotonic() + self.patience
         while True:
-            message = self.message(end - time.monotonic())
+            message = self.read_message(end - time.monotonic())
             if message is None:
-                raise Mismatch(expected, self.nothing())
+                raise Mismatch(expected, self.describe_silence())
             if self.is_expected_keepalive(message):
                 if message.data == b"\1" or self.touched:
                     end = max(end, time.monotonic() + ANSWER)

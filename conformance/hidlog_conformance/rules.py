@@ -63,17 +63,17 @@ class Difference:
     cancelled: bool
 
     @property
-    def of_request(self) -> str:
+    def request_section(self) -> str:
         """Returns the rule of the request's command."""
         return COMMANDS.get(self.request[0], self.own) if self.request else self.own
 
     @property
-    def refusal(self) -> str:
+    def error_code(self) -> str:
         """The code of the ERROR received, or empty."""
         return self.actual.data.hex() if self.actual is not None and self.actual.command == hid.ERROR else ""
 
     @property
-    def answered(self) -> bytes:
+    def cbor_response(self) -> bytes:
         """The CBOR response received, or empty."""
         return self.actual.data if self.actual is not None and self.actual.command == hid.CBOR else b""
 
@@ -91,16 +91,16 @@ def find_violated_section(difference: Difference) -> str:
         return TIMEOUT
     if kind != "silence" and difference.actual is not None and difference.actual.command == hid.KEEPALIVE:
         return KEEPALIVE
-    if kind != "error" and difference.refusal in ("04", "05", "06"):
-        return CODES[difference.refusal]
+    if kind != "error" and difference.error_code in ("04", "05", "06"):
+        return CODES[difference.error_code]
     if kind in ("nothing", "silence") and difference.cancelled:
         return CANCEL
-    if len(difference.answered) > 1 and difference.answered[0] != 0:
+    if len(difference.cbor_response) > 1 and difference.cbor_response[0] != 0:
         # An error status has no data.
         return CBOR
     if kind in ANSWERS and difference.actual is not None and difference.actual.command not in REPLY_COMMANDS:
         return CBOR
-    if kind in MAPS and difference.answered == b"\0":
+    if kind in MAPS and difference.cbor_response == b"\0":
         return CBOR
     if kind in ("echo", "ping"):
         return PING if difference.actual is not None and difference.actual.command == hid.PING else difference.own
@@ -121,14 +121,22 @@ def find_response_section(kind: str, difference: Difference) -> str:
         return difference.own
     if kind == "keepalive":
         return (
-            difference.of_request if difference.answered else KEEPALIVE if difference.actual is None else difference.own
+            difference.request_section
+            if difference.cbor_response
+            else KEEPALIVE
+            if difference.actual is None
+            else difference.own
         )
-    success = difference.answered[:1] == b"\0"
+    success = difference.cbor_response[:1] == b"\0"
     if kind == "rest":
-        return difference.of_request if difference.answered and not difference.own.startswith("8") else difference.own
+        return (
+            difference.request_section
+            if difference.cbor_response and not difference.own.startswith("8")
+            else difference.own
+        )
     if kind in MAPS and (success or difference.own.startswith("6.")):
-        return difference.of_request
-    if kind == "status" and difference.answered and not success and difference.own.startswith("6."):
+        return difference.request_section
+    if kind == "status" and difference.cbor_response and not success and difference.own.startswith("6."):
         # A status other than the expected one.
-        return difference.of_request
+        return difference.request_section
     return difference.own

@@ -186,7 +186,7 @@ def play_one(
     if outcome.status == "not ok" and not outcome.hung and is_choice(session, options, device_info):
         outcome = player.judge_choice(outcome)
     device_info.protection = max(device_info.protection, player.facts.protection)
-    outcome.recordings = [player.recording()]
+    outcome.recordings = [player.format_recording()]
     if saver is not None and options.reset:
         saver.end(session, outcome.status == "ok", player.known)
     if may_be_late(device, outcome, options) and again:

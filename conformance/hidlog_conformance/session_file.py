@@ -69,30 +69,30 @@ class SessionReader:
         self.host = Collector(of_host=True)
         self.open = False
 
-    def wrong(self, line: int, text: str) -> SessionSyntaxError:
+    def make_error(self, line: int, text: str) -> SessionSyntaxError:
         """Returns the exception for a line."""
         return SessionSyntaxError(f"{self.session.name}: line {line}: {text}")
 
-    def last(self, line: int) -> Step:
+    def get_last_step(self, line: int) -> Step:
         """Returns the step that a comment belongs to."""
         if not self.session.steps:
-            raise self.wrong(line, "the comment needs an input before it")
+            raise self.make_error(line, "the comment needs an input before it")
         return self.session.steps[-1]
 
     def comment(self, text: str, line: int) -> None:
         """Processes a comment."""
         word, _, rest = text.partition(" ")
         if text == POWER_CYCLE:
-            self.session.steps.append(Step("power", self.last(line).at, [], line))
+            self.session.steps.append(Step("power", self.get_last_step(line).at, [], line))
             self.host = Collector(of_host=True)
             self.open = False
         elif word == "expect":
-            self.last(line).expects.append(rest)
+            self.get_last_step(line).expects.append(rest)
             self.open = False
         elif word == "derived:":
             words = rest.split(" ")
             if len(words) != 3:
-                raise self.wrong(line, "expected `derived: KIND CREDENTIAL_ID DERIVED_ID`")
+                raise self.make_error(line, "expected `derived: KIND CREDENTIAL_ID DERIVED_ID`")
             self.session.derived[self.check_bytes(words[2], line)] = (words[0], self.check_bytes(words[1], line))
         elif word.rstrip(":") in LISTS:
             getattr(self.session, word.rstrip(":")).append(rest)
@@ -104,12 +104,12 @@ class SessionReader:
         try:
             return bytes.fromhex(word)
         except ValueError:
-            raise self.wrong(line, f"{word[:40]!r} is not hexadecimal") from None
+            raise self.make_error(line, f"{word[:40]!r} is not hexadecimal") from None
 
     def parse_time(self, word: str, line: int) -> int:
         """Parses a timestamp in milliseconds."""
         if not (word.isascii() and word.isdigit() and len(word) <= MAX_DIGITS):
-            raise self.wrong(line, f"{word[:40]!r} is not a timestamp")
+            raise self.make_error(line, f"{word[:40]!r} is not a timestamp")
         return int(word)
 
     def packet(self, at: int, packet: bytes, line: int) -> None:
@@ -128,13 +128,13 @@ class SessionReader:
         if kind == ">":
             packet = self.check_bytes("".join(words), line)
             if len(words) != 1 or len(packet) != PACKET:
-                raise self.wrong(line, f"expected a packet of {PACKET} bytes as one word")
+                raise self.make_error(line, f"expected a packet of {PACKET} bytes as one word")
             self.packet(self.parse_time(at, line), packet, line)
         elif kind in ("t", "p", "k", "s"):
             self.session.steps.append(Step(kind, self.parse_time(at, line), words, line))
             self.open = False
         else:
-            raise self.wrong(line, f"unknown line kind {kind[:40]!r}; expected >, <, t, p, k, s or #")
+            raise self.make_error(line, f"unknown line kind {kind[:40]!r}; expected >, <, t, p, k, s or #")
 
 
 def sends_reset(step: Step) -> bool:

@@ -49,7 +49,7 @@ class Group:
     items: List[Item] = field(default_factory=list)
     is_spoiled: bool = False
 
-    def begins(self, registrations: List[Registration]) -> bool:
+    def can_begin(self, registrations: List[Registration]) -> bool:
         """Returns whether these can replace the first registrations of a case."""
         if self.is_spoiled or len(self.items) > len(registrations):
             return False
@@ -96,7 +96,7 @@ class DeviceState:
             if self.has_others or any(group.front or group.is_spoiled for group in stored):
                 return None
             groups = [group for group in self.groups if not group.front]
-        fitting = [group for group in groups if group.begins(outline.registrations)]
+        fitting = [group for group in groups if group.can_begin(outline.registrations)]
         if fitting:
             return max(fitting, key=lambda group: len(group.items))
         if outline.is_global:
@@ -148,7 +148,7 @@ class DeviceState:
         self.pin = outline.left_pin if outline.changes_pin else self.pin
         self.was_guessed = self.was_guessed or outline.guesses
 
-    def doubt(self, outline: Outline, visit: Visit) -> None:
+    def leave_unknown(self, outline: Outline, visit: Visit) -> None:
         """Processes the end of a case that did not pass: the state of the device is unknown."""
         if visit.group is not None:
             visit.group.is_spoiled = True

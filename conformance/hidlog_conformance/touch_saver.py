@@ -45,7 +45,7 @@ class Sharing:
         """Returns the session's ID of the registration at this step."""
         return next(one.name for one in self.outline.registrations if one.number == number)
 
-    def leaves_out(self, number: int) -> bool:
+    def is_left_out(self, number: int) -> bool:
         """Returns whether a step is left out, since it sets the PIN that the device has."""
         return self.has_pin and number == self.outline.pin_step
 
@@ -71,7 +71,7 @@ class TouchSaver:
         self.outlines: Dict[str, Outline] = {}
         self.visit = Visit(None)
 
-    def outline(self, session: Session) -> Outline:
+    def get_outline(self, session: Session) -> Outline:
         """Returns the outline of a session."""
         if session.name not in self.outlines:
             self.outlines[session.name] = read_outline(session)
@@ -80,7 +80,7 @@ class TouchSaver:
     def begin(self, session: Session) -> "tuple[str, Optional[Sharing]]":
         """Prepares the device for a case. Returns why the case cannot be played, or empty; and the state that it
         reuses."""
-        outline = self.outline(session)
+        outline = self.get_outline(session)
         if not outline.needs_empty:
             return (self.reset(session) if self.state.pin else ""), None
         self.visit = visit = self.state.plan(outline)
@@ -120,13 +120,13 @@ class TouchSaver:
 
     def end(self, session: Session, passed: bool, known: Dict[bytes, Credential]) -> None:
         """Records the state that a case left on the device."""
-        outline = self.outline(session)
+        outline = self.get_outline(session)
         if any(map(sends_reset, session.steps)):
             self.pool.made = {}
         if not outline.needs_empty:
             return
         if not passed:
-            self.state.doubt(outline, self.visit)
+            self.state.leave_unknown(outline, self.visit)
             return
         self.state.leave(outline, self.visit, known)
         for name in outline.updated:
@@ -135,7 +135,7 @@ class TouchSaver:
             except REFUSED:
                 is_restored = False
             if not is_restored:
-                self.state.doubt(outline, self.visit)
+                self.state.leave_unknown(outline, self.visit)
 
     def forget(self) -> TouchSaver:
         """Processes that the device is full: it is reset before the next case that registers."""

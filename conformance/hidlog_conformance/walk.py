@@ -84,11 +84,11 @@ class WalkPlayer(Player):
                 for expected in step.expects:
                     self.judge(expected)
         except (KeyError, TypeError, ValueError, IndexError, AttributeError) as fault:
-            return self.failed("a response with the standard's structure", repr(fault), step)
+            return self.make_failure("a response with the standard's structure", repr(fault), step)
         except Mismatch as differs:
-            return self.failed(differs.expected, differs.actual, step)
+            return self.make_failure(differs.expected, differs.actual, step)
         except OSError as fault:
-            return self.failed(GOES_ON, str(fault), step)
+            return self.make_failure(GOES_ON, str(fault), step)
         return None
 
 

@@ -49,9 +49,9 @@ class SettingSteps(Steps):
         self.always_uv = bool(device_info.options.get("alwaysUv"))
         super().__init__(seed, device_info)
 
-    def weighted(self) -> List[Tuple[float, Callable[[], Block]]]:
+    def list_actions(self) -> List[Tuple[float, Callable[[], Block]]]:
         """Returns the possible actions with their weights."""
-        found = super().weighted()
+        found = super().list_actions()
         if self.has_pin and self.device_info.options.get("authnrCfg"):
             found += [(6, self.configure), (2, self.force)]
         if self.has_pin and "bioEnroll" in self.device_info.options:
@@ -66,23 +66,23 @@ class SettingSteps(Steps):
 
     def new_pin(self) -> bytes:
         """Returns a PIN of digits, rarely one that is too short."""
-        length = max(PIN_LENGTH, self.shortest) - (self.shortest > PIN_LENGTH and self.chance(0.2))
+        length = max(PIN_LENGTH, self.shortest) - (self.shortest > PIN_LENGTH and self.happens(0.2))
         return b"".join(b"%d" % self.random.randrange(10) for _ in range(length))
 
     def make_request(self, rp: str, more: Dict[int, Any]) -> bytes:
         """Returns a registration, perhaps with minPinLength or enterprise attestation."""
-        if EXTENSION in self.device_info.extensions and self.chance(0.5):
+        if EXTENSION in self.device_info.extensions and self.happens(0.5):
             more = {**more, 6: {EXTENSION: True}}
-        if "ep" in self.device_info.options and self.chance(0.1):
+        if "ep" in self.device_info.options and self.happens(0.1):
             more = {**more, 10: self.random.choice((1, 2))}
         return super().make_request(rp, more)
 
     def with_permission(self, permission: int) -> Block:
         """Gets a token with a permission; rarely with another one instead."""
-        if self.chance(0.1):
-            return self.asks_token(self.block(), self.secrets.pin or b"", MAKES, RPS[0])
+        if self.happens(0.1):
+            return self.ask_token(self.new_block(), self.secrets.pin or b"", MAKES, RPS[0])
         members = {"p3": b"=agreement", "p6": b"=hash:" + (self.secrets.pin or b""), "p9": permission}
-        return self.get_agreement_key(self.block()).ask(self.pin_request(NEW_TOKEN, **members))
+        return self.get_agreement_key(self.new_block()).ask(self.pin_request(NEW_TOKEN, **members))
 
     # authenticatorConfig (6.11).
 
@@ -90,18 +90,18 @@ class SettingSteps(Steps):
         """Changes a setting, perhaps without a token, and asks for getInfo."""
         if not self.secrets.pin:
             return self.info()
-        if self.always_uv or self.chance(0.1):
+        if self.always_uv or self.happens(0.1):
             self.always_uv = not self.always_uv
             return self.add_config(self.with_permission(MAY_CONFIGURE), TOGGLE_ALWAYS_UV)
-        if self.chance(0.2):
+        if self.happens(0.2):
             return self.add_config(self.with_permission(MAY_CONFIGURE), ENABLE_ENTERPRISE)
         return self.add_config(self.with_permission(MAY_CONFIGURE), SET_MIN_PIN_LENGTH, self.length_parameters())
 
     def length_parameters(self) -> Dict[int, Any]:
         """Returns parameters of setMinPINLength: a higher or a lower minPINLength, or minPinLengthRPIDs."""
-        if EXTENSION in self.device_info.extensions and self.chance(0.6):
+        if EXTENSION in self.device_info.extensions and self.happens(0.6):
             return {RP_IDS: self.random.sample(RPS, self.random.randrange(3))}
-        if self.shortest >= LONGEST_PIN or self.chance(0.3):
+        if self.shortest >= LONGEST_PIN or self.happens(0.3):
             return {NEW_LENGTH: self.shortest - 1}
         self.shortest += 1
         return {NEW_LENGTH: self.shortest}
@@ -111,7 +111,7 @@ class SettingSteps(Steps):
         asked: Dict[int, Any] = {1: command}
         if parameters is not None:
             asked[2] = parameters
-        if self.chance(0.9):
+        if self.happens(0.9):
             asked.update({3: self.protocol, 4: b"=config"})
         return block.ask(bytes([CONFIG]) + encode(asked)).ask(INFO)
 
@@ -121,11 +121,11 @@ class SettingSteps(Steps):
         if not pin:
             return self.info()
         block = self.add_config(self.with_permission(MAY_CONFIGURE), SET_MIN_PIN_LENGTH, {FORCE_CHANGE: True})
-        if self.chance(0.5):
+        if self.happens(0.5):
             block.tick().power_cycle()
             block.channel = 1
             block.greet_hosts().ask(INFO)
-        self.asks_token(block, pin, MAKES, RPS[0])
+        self.ask_token(block, pin, MAKES, RPS[0])
         return self.change_pin(block, pin, self.new_pin()).ask(INFO)
 
     # authenticatorBioEnrollment (6.7).
@@ -142,7 +142,7 @@ class SettingSteps(Steps):
         asked: Dict[int, Any] = {1: FINGERPRINT, 2: command}
         if parameters is not None:
             asked[3] = parameters
-        if command != CANCEL and self.chance(part):
+        if command != CANCEL and self.happens(part):
             asked.update({4: self.protocol, 5: b"=enroll"})
         return block.ask(bytes([BIO]) + encode(asked), more)
 
@@ -156,9 +156,9 @@ class SettingSteps(Steps):
         self.add_bio(block, BEGIN, {3: SAMPLE_TIME}, f" as {name.hex()}")
         for _ in range(self.random.choice((0, 1, 2, 2, 2, 3))):
             self.add_bio(block, NEXT_SAMPLE, {1: name, 3: SAMPLE_TIME})
-        if self.chance(0.2):
+        if self.happens(0.2):
             self.add_bio(block, CANCEL)
-        elif self.chance(0.3):
+        elif self.happens(0.3):
             block.tick().power_cycle()
             block.channel = 1
             block.greet_hosts().ask(INFO)
@@ -170,7 +170,7 @@ class SettingSteps(Steps):
             return self.list_templates()
         name = walk_template(self.random.randrange(max(1, self.enrolled - 3), self.enrolled + 1))
         block = self.with_permission(MAY_ENROLL)
-        if self.chance(0.5):
+        if self.happens(0.5):
             self.add_bio(block, RENAME, {1: name, 2: self.random.choice(NAMES)})
         else:
             self.add_bio(block, REMOVE, {1: name})
@@ -180,7 +180,7 @@ class SettingSteps(Steps):
         """Lists the templates, perhaps after a power cycle."""
         if not self.secrets.pin:
             return self.info()
-        block = self.power_cycle() if self.chance(0.5) else self.block()
+        block = self.power_cycle() if self.happens(0.5) else self.new_block()
         members = {"p3": b"=agreement", "p6": b"=hash:" + self.secrets.pin, "p9": MAY_ENROLL}
         self.get_agreement_key(block).ask(self.pin_request(NEW_TOKEN, **members))
         return self.add_bio(block, ENUMERATE)

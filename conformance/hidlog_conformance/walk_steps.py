@@ -89,9 +89,9 @@ class Steps:
         protocols = device_info.info.get(6) if isinstance(device_info.info.get(6), list) else []
         self.protocol = self.random.choice(protocols) if protocols else 0
         self.secrets = Secrets()
-        self.actions = self.weighted()
+        self.actions = self.list_actions()
 
-    def weighted(self) -> List[Tuple[float, Callable[[], Block]]]:
+    def list_actions(self) -> List[Tuple[float, Callable[[], Block]]]:
         """Returns the possible actions with their weights."""
         found: List[Tuple[float, Callable[[], Block]]] = [
             (14, self.make),
@@ -106,10 +106,10 @@ class Steps:
         ]
         if self.has_pin:
             found += [
-                (10, self.token),
-                (5, self.retries),
+                (10, self.get_token),
+                (5, self.ask_retries),
                 (4, self.set_or_change),
-                (4, self.two_uses),
+                (4, self.use_token_twice),
                 (3, self.try_wrong_pin),
             ]
             found += [(0.3, self.block_pin)]
@@ -120,7 +120,7 @@ class Steps:
         """Whether the device supports PINs."""
         return bool(self.protocol) and self.device_info.options.get("clientPin") is not None
 
-    def block(self) -> Block:
+    def new_block(self) -> Block:
         """Returns an empty step of one of the hosts."""
         self.at += self.random.choice(PAUSES)
         return Block(self.at, self.random.choice((1, 1, HOSTS)))
@@ -129,7 +129,7 @@ class Steps:
         """Returns the next step; `secrets` are the PIN and the token."""
         self.secrets = secrets
         is_blocked = self.has_pin and not secrets.retries
-        if len(self.present) >= FULL or (is_blocked and self.chance(0.3)) or self.chance(0.004):
+        if len(self.present) >= FULL or (is_blocked and self.happens(0.3)) or self.happens(0.004):
             return self.reset()
         actions = [action for _, action in self.actions]
         weights = [weight for weight, _ in self.actions]
@@ -137,7 +137,7 @@ class Steps:
         self.at = block.at
         return block
 
-    def chance(self, part: float) -> bool:
+    def happens(self, part: float) -> bool:
         """Returns True with the probability `part`."""
         return self.random.random() < part
 
@@ -154,7 +154,7 @@ class Steps:
 
     def power_cycle(self) -> Block:
         """Power cycles the device; the hosts allocate channels again."""
-        block = self.block()
+        block = self.new_block()
         block.channel = 1
         block.tick().power_cycle()
         return block.greet_hosts()
@@ -162,24 +162,24 @@ class Steps:
     def use_outdated(self) -> Block:
         """Uses pending assertions, or a token, after a power cycle."""
         rp = self.random.choice(RPS)
-        if self.secrets.pin and self.chance(0.6):
-            before = self.asks_token(self.block(), self.secrets.pin, MAKES | GETS, rp)
+        if self.secrets.pin and self.happens(0.6):
+            before = self.ask_token(self.new_block(), self.secrets.pin, MAKES | GETS, rp)
             param = {8: b"=token:1", 9: self.protocol}
         else:
-            before, param = self.block().ask(GET + encode({1: rp, 2: self.random.randbytes(32)})), {}
+            before, param = self.new_block().ask(GET + encode({1: rp, 2: self.random.randbytes(32)})), {}
         block = self.power_cycle()
         block.lines, block.began = before.lines + block.lines, before.began
         if not param:
             return block.ask(NEXT)
-        return block.ask(self.make_request(rp, param), self.new_credential(rp))
+        return block.ask(self.make_request(rp, param), self.count_credential(rp))
 
     def info(self) -> Block:
         """Asks for getInfo."""
-        return self.block().ask(INFO)
+        return self.new_block().ask(INFO)
 
     def ping(self) -> Block:
         """Sends a PING."""
-        block = self.block()
+        block = self.new_block()
         block.send(
             block.channel, hid.PING, bytes(self.random.randrange(256) for _ in range(self.random.choice((1, 90))))
         )
@@ -187,20 +187,20 @@ class Steps:
 
     def wait(self) -> Block:
         """Waits; pending assertions end after 30 seconds."""
-        block = self.block()
+        block = self.new_block()
         block.tick(self.random.choice((LONG, LONGER)))
         self.at = block.at
         return block.ask(INFO)
 
     def next(self) -> Block:
         """Asks for a further assertion."""
-        return self.block().ask(NEXT)
+        return self.new_block().ask(NEXT)
 
     def sign_in_to_all(self) -> Block:
         """Signs in without a list, and asks for all further assertions, and for one more."""
-        block, rp = self.block(), self.random.choice(RPS)
+        block, rp = self.new_block(), self.random.choice(RPS)
         asked: Dict[int, Any] = {1: rp, 2: self.random.randbytes(32)}
-        if self.chance(0.5):
+        if self.happens(0.5):
             asked[5] = {"up": False}
         block.ask(GET + encode(asked))
         for _ in range(len({user for number, user in self.users.items() if self.rps[number] == rp}) + 1):
@@ -209,9 +209,9 @@ class Steps:
 
     # Registrations and sign-ins.
 
-    def listed(self, rp: str) -> Optional[List[Dict[str, Any]]]:
+    def choose_list(self, rp: str) -> Optional[List[Dict[str, Any]]]:
         """Returns a list of credentials of this RP, of another RP, from before a reset, or unknown ones; or None."""
-        if self.chance(0.45):
+        if self.happens(0.45):
             return None
         own = [number for number in self.present if self.rps[number] == rp]
         others = [number for number in self.present if self.rps[number] != rp]
@@ -224,7 +224,7 @@ class Steps:
         count = longest if isinstance(longest, int) else MAX_LISTED
         return [{"id": identity, "type": KIND} for identity in dict.fromkeys(chosen)][:count]
 
-    def param(self, key: int) -> Dict[int, Any]:
+    def make_auth_param(self, key: int) -> Dict[int, Any]:
         """Returns pinUvAuthParam, with this key, and its protocol: by the last token, by the token before it, or
         truncated."""
         kind = self.random.choice((b"=token:", b"=token:", b"=token:", b"=former:", b"=cut:"))
@@ -242,14 +242,14 @@ class Steps:
             4: [{"alg": alg, "type": KIND} for alg in self.device_info.algorithms or [-7]],
             **more,
         }
-        if self.device_info.options.get("rk") and self.chance(0.6):
+        if self.device_info.options.get("rk") and self.happens(0.6):
             asked[7] = {"rk": True}
-            # `new_credential` counts the credential.
+            # `count_credential` counts the credential.
             self.users[self.made + 1] = user
             self.rps[self.made + 1] = rp
         return MAKE + encode(asked)
 
-    def new_credential(self, rp: str) -> str:
+    def count_credential(self, rp: str) -> str:
         """Counts a new credential; returns the words of the expectation that name it."""
         self.made += 1
         self.rps[self.made] = rp
@@ -259,35 +259,35 @@ class Steps:
     def make(self) -> Block:
         """Registers."""
         rp, more = self.random.choice(RPS), {}
-        listed = self.listed(rp)
-        if listed is not None and self.chance(0.6):
+        listed = self.choose_list(rp)
+        if listed is not None and self.happens(0.6):
             more[5] = listed
-        if self.secrets.pin and self.chance(0.8):
-            return self.by_new_token(rp, MAKES, lambda block: self.add_make(block, rp, more))
-        return self.add_make(self.block(), rp, more)
+        if self.secrets.pin and self.happens(0.8):
+            return self.use_new_token(rp, MAKES, lambda block: self.add_make(block, rp, more))
+        return self.add_make(self.new_block(), rp, more)
 
     def add_make(self, block: Block, rp: str, more: Dict[int, Any]) -> Block:
         """Adds a registration, with pinUvAuthParam if a PIN is set."""
-        param = self.param(8) if self.secrets.pin and self.chance(0.9) else {}
-        return block.ask(self.make_request(rp, {**more, **param}), self.new_credential(rp))
+        param = self.make_auth_param(8) if self.secrets.pin and self.happens(0.9) else {}
+        return block.ask(self.make_request(rp, {**more, **param}), self.count_credential(rp))
 
     def get(self) -> Block:
         """Signs in."""
         rp = self.random.choice(RPS)
-        if self.secrets.pin and self.chance(0.4):
-            return self.by_new_token(rp, GETS, lambda block: self.add_get(block, rp))
-        return self.add_get(self.block(), rp)
+        if self.secrets.pin and self.happens(0.4):
+            return self.use_new_token(rp, GETS, lambda block: self.add_get(block, rp))
+        return self.add_get(self.new_block(), rp)
 
     def add_get(self, block: Block, rp: str, silent: float = 0.2) -> Block:
         """Adds a sign-in; `silent` is the probability of the option up false."""
         asked: Dict[int, Any] = {1: rp, 2: self.random.randbytes(32)}
-        listed = self.listed(rp)
+        listed = self.choose_list(rp)
         if listed is not None:
             asked[3] = listed
-        if self.chance(silent):
+        if self.happens(silent):
             asked[5] = {"up": False}
-        if self.secrets.pin and self.chance(0.5 if silent < 0.5 else 0.9):
-            asked.update(self.param(6))
+        if self.secrets.pin and self.happens(0.5 if silent < 0.5 else 0.9):
+            asked.update(self.make_auth_param(6))
         return block.ask(GET + encode(asked))
 
     # PINs and tokens.
@@ -301,55 +301,55 @@ class Steps:
         """Gets the key agreement key."""
         return block.ask(self.pin_request(GET_AGREEMENT))
 
-    def guessed_pin(self) -> bytes:
+    def choose_pin(self) -> bytes:
         """Returns a PIN to use: mostly the right one; else the former PIN, a colliding PIN, or another wrong one."""
         pin = self.secrets.pin
         if not pin:
             return b"1234567"
-        if self.chance(0.75 if self.secrets.retries > 2 else 0.97):
+        if self.happens(0.75 if self.secrets.retries > 2 else 0.97):
             return pin
-        if self.secrets.former and self.chance(0.3):
+        if self.secrets.former and self.happens(0.3):
             return self.secrets.former
-        return make_colliding_pin(pin, self.random) if self.chance(0.6) else pin[::-1] + b"0"
+        return make_colliding_pin(pin, self.random) if self.happens(0.6) else pin[::-1] + b"0"
 
-    def asks_token(self, block: Block, pin: bytes, permissions: int, rp: str) -> Block:
+    def ask_token(self, block: Block, pin: bytes, permissions: int, rp: str) -> Block:
         """Adds a request for a token."""
         hashed = b"=hash:" + pin
-        if not self.device_info.options.get("pinUvAuthToken") or self.chance(0.1):
+        if not self.device_info.options.get("pinUvAuthToken") or self.happens(0.1):
             return self.get_agreement_key(block).ask(self.pin_request(GET_TOKEN, p3=b"=agreement", p6=hashed))
         members = {"p3": b"=agreement", "p6": hashed, "p9": permissions, "p10": rp}
         return self.get_agreement_key(block).ask(self.pin_request(NEW_TOKEN, **members))
 
-    def by_new_token(self, rp: str, permissions: int, add: Callable[[Block], Block]) -> Block:
+    def use_new_token(self, rp: str, permissions: int, add: Callable[[Block], Block]) -> Block:
         """Gets a token for an RP with the right PIN, and uses it."""
-        return add(self.asks_token(self.block(), self.secrets.pin or b"", permissions, rp))
+        return add(self.ask_token(self.new_block(), self.secrets.pin or b"", permissions, rp))
 
-    def token(self) -> Block:
+    def get_token(self) -> Block:
         """Gets a token."""
         permissions = self.random.choice((MAKES, GETS, MAKES | GETS))
-        return self.asks_token(self.block(), self.guessed_pin(), permissions, self.random.choice(RPS))
+        return self.ask_token(self.new_block(), self.choose_pin(), permissions, self.random.choice(RPS))
 
-    def two_uses(self) -> Block:
+    def use_token_twice(self) -> Block:
         """Uses a token twice, perhaps after a change of the PIN."""
         rp, pin = self.random.choice(RPS), self.secrets.pin
-        block = self.asks_token(self.block(), pin or b"", MAKES | GETS, rp)
-        if pin and self.chance(0.3):
+        block = self.ask_token(self.new_block(), pin or b"", MAKES | GETS, rp)
+        if pin and self.happens(0.3):
             self.change_pin(block, pin, pin[::-1])
         for silent in (0.6, 0.2):
-            self.add_make(block, rp, {}) if self.chance(0.5) else self.add_get(block, rp, silent)
+            self.add_make(block, rp, {}) if self.happens(0.5) else self.add_get(block, rp, silent)
         return block
 
-    def retries(self) -> Block:
+    def ask_retries(self) -> Block:
         """Asks for the PIN retries."""
-        return self.block().ask(self.pin_request(GET_RETRIES))
+        return self.new_block().ask(self.pin_request(GET_RETRIES))
 
     def try_wrong_pin(self) -> Block:
         """Tries a wrong PIN, and asks for the retries, perhaps also after a power cycle."""
         pin = self.secrets.pin
         if not pin or self.secrets.retries < MAX_RETRIES - 4:
-            return self.token()
-        block = self.asks_token(self.block(), make_colliding_pin(pin, self.random), MAKES, RPS[0])
-        if self.chance(0.5):
+            return self.get_token()
+        block = self.ask_token(self.new_block(), make_colliding_pin(pin, self.random), MAKES, RPS[0])
+        if self.happens(0.5):
             block.ask(self.pin_request(GET_RETRIES)).tick().power_cycle()
             block.channel = 1
             block.greet_hosts().ask(INFO)
@@ -358,17 +358,17 @@ class Steps:
     def block_pin(self) -> Block:
         """Tries wrong PINs until the PIN is blocked, which only a reset ends: not a power cycle, nor the right PIN."""
         pin = self.secrets.pin
-        if not pin or not self.chance(0.5):
-            return self.retries()
+        if not pin or not self.happens(0.5):
+            return self.ask_retries()
         block = self.power_cycle()
         for number in range(self.secrets.retries):
-            self.asks_token(block, make_colliding_pin(pin, self.random), MAKES, RPS[0])
+            self.ask_token(block, make_colliding_pin(pin, self.random), MAKES, RPS[0])
             if number % 3 == 2:
                 block.tick().power_cycle()
                 block.greet_hosts()
         block.tick().power_cycle()
         block.greet_hosts().ask(self.pin_request(GET_RETRIES))
-        return self.asks_token(block, pin, MAKES, RPS[0])
+        return self.ask_token(block, pin, MAKES, RPS[0])
 
     def new_pin(self) -> bytes:
         """Returns a PIN of digits."""
@@ -377,9 +377,9 @@ class Steps:
 
     def set_or_change(self) -> Block:
         """Sets a PIN, or changes it with the right or a wrong one."""
-        block, pin = self.block(), self.secrets.pin
-        if pin and self.chance(0.9):
-            return self.change_pin(block, self.guessed_pin(), self.new_pin())
+        block, pin = self.new_block(), self.secrets.pin
+        if pin and self.happens(0.9):
+            return self.change_pin(block, self.choose_pin(), self.new_pin())
         padded = b"=encrypt:" + self.new_pin().ljust(PADDED_PIN, b"\0")
         self.get_agreement_key(block).ask(self.pin_request(SET_PIN, p3=b"=agreement", p4=b"=auth:5", p5=padded))
         return block.ask(self.pin_request(GET_RETRIES))

@@ -240,7 +240,7 @@ TESTS: Dict[str, Test] = {
     "device/other_hosts": check_detected(test_other_hosts, (Player, "is_for_others", lambda self, packet: False)),
     "device/keepalive_first": check_detected(test_keepalive_first, (device_info, "read_message", first_message)),
     "device/skip_reason": check_detected(test_skip_reason, (device_info.DeviceInfo, "find_skip_reason", skips)),
-    "device/busy": check_detected(test_busy_device, (Player, "until_asked", never_asked)),
+    "device/busy": check_detected(test_busy_device, (Player, "wait_for_touch_request", never_asked)),
     "device/for_ever": test_endless_keepalives,
     "device/without_line_feed": test_line_without_newline,
     "device/flood": test_flood,

@@ -56,11 +56,11 @@ def test_wrong_pin_while_forced() -> None:
         for make_block in (
             steps.set_or_change,
             lambda: steps.add_config(steps.with_permission(MAY_CONFIGURE), SET_MIN_PIN_LENGTH, {FORCE_CHANGE: True}),
-            steps.retries,
-            lambda: steps.asks_token(steps.block(), b"0" + (steps.secrets.pin or b""), MAKES, RPS[0]),
-            steps.retries,
-            lambda: steps.asks_token(steps.block(), steps.secrets.pin or b"", MAKES, RPS[0]),
-            steps.retries,
+            steps.ask_retries,
+            lambda: steps.ask_token(steps.new_block(), b"0" + (steps.secrets.pin or b""), MAKES, RPS[0]),
+            steps.ask_retries,
+            lambda: steps.ask_token(steps.new_block(), steps.secrets.pin or b"", MAKES, RPS[0]),
+            steps.ask_retries,
         ):
             steps.secrets = player.live.answers.secrets
             outcome = player.play_block(make_block())
@@ -130,7 +130,7 @@ TESTS: Dict[str, Test] = {
         (KnownAnswers, "check_retries", lambda *words: None),
         (KnownAnswers, "find_token_fault", lambda *words: ("", True)),
         (Secrets, "use", lambda self, pin: 0),
-        (live_judge.SentOwners, "see", lambda *words: None),
+        (live_judge.SentOwners, "take_line", lambda *words: None),
     ),
     "walked/conforming": check_detected(
         test_conforming,
