@@ -84,7 +84,7 @@ const testPaste = async () => {
     expect(listTexts().join() === before, "the log is kept");
     answer = true;
     paste("any words");
-    await waitUntil(() => readNotice().startsWith("Cannot open pasted.log: it is not a session log"), "an error");
+    await waitUntil(() => readNotice().startsWith("Cannot open pasted.log: not a session log"), "an error");
     expect(listTexts().join() === before && readCard().side === "user", "the log is kept");
     paste(log);
     await waitUntil(() => readNotice() === "pasted.log: 43 lines.", "the pasted log");
@@ -157,7 +157,7 @@ const testExample = async () => {
 /** A file that only begins like a snapshot is rejected. */
 const testNoSnapshot = async () => {
     await openLog("a.bin", Uint8Array.of(0xa2, 0x41, 1, 2, 3));
-    const told = "Cannot open a.bin: it is not a text file: it starts with the bytes a2 41 01 02.";
+    const told = "Cannot open a.bin: not a text file: the first bytes are a2 41 01 02.";
     expect(readNotice() === told, readNotice());
 };
 

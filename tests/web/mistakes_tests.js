@@ -52,11 +52,11 @@ const testOtherFiles = async () => {
     const packets = (await fetchText("registration.log")).split("\n").filter((line) => line.startsWith("> "));
     const wrapped = mapLines(packets.join("\n"), (line) => line.replace(/^(.{80})(.+)/, "$1\n$2"));
     const files = [
-        ["a.pdf", "%PDF-1.7\n", "it is a PDF document.", "Open a session log or a USB capture."],
-        ["a.html", "<!DOCTYPE html>\n", "it is an HTML page.", "Open it in a browser, if it was saved here with a log."],
-        ["a.json", "[{}]", "it is JSON", "Save what key.log() returns as a text file."],
-        ["a.txt", shown, "it is the output of hidlog show.", "Open the log from which it was made."],
-        ["a.txt", "hidlog: line 3: differs at packet 1\n", "it is the output of hidlog check.",
+        ["a.pdf", "%PDF-1.7\n", "the file is a PDF document.", "Open a session log or a USB capture."],
+        ["a.html", "<!DOCTYPE html>\n", "the file is an HTML page.", "Open it in a browser, if it was saved here with a log."],
+        ["a.json", "[{}]", "the file is JSON", "Save what key.log() returns as a text file."],
+        ["a.txt", shown, "the file is the output of hidlog show.", "Open the log from which it was made."],
+        ["a.txt", "hidlog: line 3: differs at packet 1\n", "the file is the output of hidlog check.",
             "Open the log from which it was made."],
         ["a.log", wrapped, "its packet has 76 hexadecimal digits, not 128", "Copy the whole log."],
         ["a.log", `000000\n${await fetchText("registration.log")}`, "it is a part of a packet", "Copy the whole log."],
@@ -111,7 +111,7 @@ const testSeveralFiles = async () => {
         [[["a.log", log], ["a.snapshot", snapshot]], "a.log: 32 lines, with the credentials of a.snapshot."],
         [[["a.snapshot", snapshot], ["a.log", log]], "a.log: 32 lines, with the credentials of a.snapshot."],
         [[["b.pdf", pdf], ["c.log", other]], "c.log: 12 lines. Not opened: b.pdf."],
-        [[["c.log", other], ["b.pdf", pdf]], "Cannot compare with b.pdf: it is a PDF document."],
+        [[["c.log", other], ["b.pdf", pdf]], "Cannot compare with b.pdf: the file is a PDF document."],
         [[["c.log", other], ["d.log", log], ["e.log", log]], "c.log beside d.log. Not opened: e.log."],
     ];
     for (const [files, notice] of drops) {

@@ -240,11 +240,11 @@ const testQuietView = async () => {
 
 /** Files that are not logs, and the page's messages. */
 const UNREADABLE_FILES = [
-    ["picture.png", Uint8Array.of(0x89, 0x50, 0x4e, 0x47, 13, 10, 26, 10, 0, 0), "it is a picture"],
-    ["empty.log", new Uint8Array(0), "it is empty; a log must have at least one line"],
-    ["zeros.log", new Uint8Array(16 * 1024 * 1024), "it is not a text file: it starts with the bytes 00 00 00 00"],
-    ["words.log", encodeText("what is this\n"), "it is not a session log: line 1: not a log line: “what is this”"],
-    ["state.json", encodeText('{"format": 2}\n'), "it is JSON; a page's key returns its log by key.log() and key.recordings()"],
+    ["picture.png", Uint8Array.of(0x89, 0x50, 0x4e, 0x47, 13, 10, 26, 10, 0, 0), "the file is a picture"],
+    ["empty.log", new Uint8Array(0), "the file is empty; a log must have at least one line"],
+    ["zeros.log", new Uint8Array(16 * 1024 * 1024), "not a text file: the first bytes are 00 00 00 00"],
+    ["words.log", encodeText("what is this\n"), "not a session log: line 1: not a log line: “what is this”"],
+    ["state.json", encodeText('{"format": 2}\n'), "the file is JSON; a page's key returns its log by key.log() and key.recordings()"],
 ];
 
 const testInvalidLines = async () => {

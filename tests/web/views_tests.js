@@ -262,7 +262,7 @@ const testUnreadableOther = async () => {
     files.items.add(new (getPage().File)(["any words\n"], "words.txt"));
     getElement("other-file").files = files.files;
     getElement("other-file").dispatchEvent(new (getPage().Event)("change"));
-    await waitUntil(() => readNotice().startsWith("Cannot compare with words.txt: it is not a session log"), "an error");
+    await waitUntil(() => readNotice().startsWith("Cannot compare with words.txt: not a session log"), "an error");
     expect(listTexts().join() === before && getElement("two-logs").hidden, "the log is still shown");
     pressKey("t");
     expect(getElement("drawing-tab").getAttribute("aria-selected") === "true", "keys work");
