@@ -46,6 +46,11 @@ class ErrorJudge:
                 entry.line, rules.CANCEL, "status 2d, since the request was cancelled", f"ERROR {code:02x}"
             )
             return
+        may_be_busy = self.key.lacks_start and not self.key.answered_request and transaction.command != hid.INIT
+        if code == BUSY and may_be_busy:
+            # A request from before the log may be in progress, perhaps on this channel.
+            self.key.unsure.add(entry.packet[:4])
+            return
         expected = self.expected_codes(transaction, entry)
         if expected and code not in expected:
             words = "|".join(f"{item:02x}" for item in expected)
@@ -149,10 +154,6 @@ class ErrorJudge:
         if code == OTHER_ERROR:
             return
         if code == BUSY and (self.key.recording.is_single_client or self.is_locked_out(transaction)):
-            return
-        if code == BUSY and self.key.lacks_start and not self.key.answered_request:
-            # A request from before the log may be in progress, perhaps on this channel.
-            self.key.unsure.add(entry.packet[:4])
             return
         if transaction.command == hid.LOCK and code == BUSY and self.was_locked:
             self.key.add_finding(entry.line, rules.LOCK, "a response, since no other channel has the lock", "ERROR 06")
