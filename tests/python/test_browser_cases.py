@@ -1,7 +1,7 @@
 """The cases of registrations and sign-ins in browser_cases.json, with all installed implementations.
 
 The expected results are those of Chromium's own virtual authenticator, in browser_cases_chromium.json. They are compared
-with an installed Chromium, and HIDLOG_RECORD_CASES=1 records them again. The members of a case:
+with an installed Chromium, and HIDLOG_RECORD_CASES=FILE records them again. The members of a case:
 
     call, options, without   the call, and how its options differ from those at the start of the table
     raw                      options that replace these

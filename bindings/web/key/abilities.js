@@ -20,6 +20,8 @@ const UUID = /^[0-9a-f]{8}(-[0-9a-f]{4}){3}-[0-9a-f]{12}$/;
 const VERIFIES = 1;
 const IS_PLATFORM = 4;
 const HAS_RESIDENT_KEY = 8;
+const HAS_CRED_PROTECT = 16;
+const HAS_LARGE_BLOB = 32;
 /** @type {Record<string, any>} */
 const DEFAULTS = {
     protocol: "ctap2", hasUserVerification: false, isUserVerified: false, transport: "usb", hasResidentKey: true,
@@ -142,7 +144,8 @@ export class AuthenticatorOptions {
     get bits() {
         const { hasResidentKey, hasUserVerification } = this.#values;
         return (hasUserVerification ? VERIFIES : 0) | (this.attachment === "platform" ? IS_PLATFORM : 0)
-            | (hasResidentKey ? HAS_RESIDENT_KEY : 0);
+            | (hasResidentKey ? HAS_RESIDENT_KEY : 0) | (this.supports("credProtect") ? HAS_CRED_PROTECT : 0)
+            | (this.supports("largeBlob") ? HAS_LARGE_BLOB : 0);
     }
 
     /**

@@ -4,9 +4,8 @@ import { ES256 } from "./algorithms.js";
 import { equalBytes, fromHex, toBase64url } from "./bytes.js";
 import { ClientCall, MAX_BUFFER_BYTES } from "./client.js";
 import { makeNotAllowed } from "./errors.js";
-import { checkExtensions } from "./extensions.js";
 import { encodeClientData, makeCrossOriginMembers } from "./frames.js";
-import { checkRequired, dropRequiredExtensions } from "./key_extensions.js";
+import { renameCredentials, dropListInputs } from "./key_extensions.js";
 
 const PUBLIC_KEY = "public-key";
 const LISTS = { create: "excludeCredentials", get: "allowCredentials" };
@@ -55,32 +54,31 @@ export class Ceremony {
     #abilities;
     #call;
     #checked;
+    #isNarrowed;
     #ownClientData;
 
     /**
      * Checks the options. Throws the error that a page gets if they are invalid.
      * @param {CeremonyName} name @param {any} options converted ones @param {string} mediation @param {string} origin
      * @param {import("./abilities.js").AuthenticatorOptions} abilities
+     * @param {boolean} [isNarrowed] whether the list has only some of the page's credentials, and was checked before
      */
-    constructor(name, options, mediation, origin, abilities) {
+    constructor(name, options, mediation, origin, abilities, isNarrowed = false) {
         this.name = name;
         this.options = options;
         this.mediation = mediation;
         this.origin = origin;
         this.#abilities = abilities;
+        this.#isNarrowed = isNarrowed;
         const listed = options[LISTS[name]] ?? [];
         /** @type {Uint8Array[]} the credential IDs of the page's list */
         this.ids = listed.filter((/** @type {any} */ { type }) => type === PUBLIC_KEY)
             .map((/** @type {any} */ { id }) => id);
-        checkExtensions(name, options.extensions ?? {}, this.ids);
         /** @type {number} the algorithm of a new credential */
         this.algorithm = name === "create" ? abilities.selectAlgorithm(options.pubKeyCredParams) : ES256;
         this.#call = this.#makeCall(this.ids.map((id) => id.subarray(0, MAX_SENT_ID_BYTES)));
         this.#checked = this.#call.request();
         this.#ownClientData = makeOwnClientData(this);
-        if (name === "create" && abilities.supports("largeBlob")) {
-            checkRequired(options.extensions ?? {}, this.isDiscoverable);
-        }
         /** @type {string} */
         this.rpId = (name === "create" ? options.rp.id : options.rpId) ?? new URL(origin).hostname;
     }
@@ -100,13 +98,24 @@ export class Ceremony {
             ...rest, [LISTS[this.name]]: descriptors, timeout: undefined,
             // The client rejects credProps in a sign-in, even if its value is false.
             extensions: extensions && {
-                ...dropRequiredExtensions(extensions, this.#abilities), credProps: extensions.credProps || undefined,
+                ...this.#makeInputs(extensions, ids), credProps: extensions.credProps || undefined,
             },
         };
         if (this.algorithm !== ES256) {
             options.pubKeyCredParams = [{ type: PUBLIC_KEY, alg: ES256 }];
         }
         return new ClientCall(this.name, options, this.mediation, this.origin, this.#abilities.bits);
+    }
+
+    /**
+     * Extension inputs for a call with these credential IDs.
+     * @param {any} extensions @param {Uint8Array[]} ids
+     */
+    #makeInputs(extensions, ids) {
+        if (this.#isNarrowed) {
+            return dropListInputs(extensions);
+        }
+        return extensions.prf ? { ...extensions, prf: renameCredentials(extensions.prf, this.ids, ids) } : extensions;
     }
 
     /** Whether a registration requests a discoverable credential. */
@@ -136,7 +145,7 @@ export class Ceremony {
      */
     withCredentials(ids) {
         const options = { ...this.options, allowCredentials: ids.map((id) => ({ type: PUBLIC_KEY, id })) };
-        return new Ceremony(this.name, options, "optional", this.origin, this.#abilities);
+        return new Ceremony(this.name, options, "optional", this.origin, this.#abilities, true);
     }
 
     /**

@@ -54,9 +54,19 @@ const MESSAGES = {
         "'prf' extension has 'evalByCredential' with an empty allow list",
     "evalByCredential has a name that isn't base64url":
         "'prf' extension contains invalid base64url data in 'evalByCredential'",
+    "evalByCredential has the ID of a credential that isn't in allowCredentials":
+        "'prf' extension contains 'evalByCredential' key that doesn't match any in allowedCredentials",
+    "read is only valid when requesting an assertion":
+        "The 'largeBlob' extension's 'read' parameter is only valid when requesting an assertion",
+    "write is only valid when requesting an assertion":
+        "The 'largeBlob' extension's 'write' parameter is only valid when requesting an assertion",
+    "write needs exactly one credential in allowCredentials":
+        "The 'largeBlob' extension's 'write' parameter can only be used with a single allow credential",
+    "userVerificationOptional cannot be enforced":
+        "Requested protection policy is inconsistent or incongruent with other requested parameters.",
     "The relying party ID is not a registrable domain suffix of, nor equal to the current domain":
         "The relying party ID is not a registrable domain suffix of, nor equal to the current domain.",
-    "This is an invalid domain: the host is an address; serve the page at http://localhost": INVALID_DOMAIN,
+    "This is an invalid domain: the host is an IP address; serve the page at http://localhost": INVALID_DOMAIN,
     "the extension's URL isn't over https": INVALID_DOMAIN,
     "the extension's URL belongs to another site": INVALID_DOMAIN,
     "the key holds a credential of excludeCredentials": "The user attempted to register an authenticator that contains"

@@ -1,8 +1,7 @@
 // Extensions that a key supports outside the core (WebAuthn Level 3, section 10; CTAP 2.1, section 12): prf, largeBlob,
 // credProtect, credBlob and minPinLength, with the results of Chromium's virtual authenticator.
-import { concatBytes, decodeBase64url, encodeUtf8, toBase64url } from "./bytes.js";
+import { concatBytes, decodeBase64url, encodeUtf8, equalBytes, fromBase64url, toBase64url } from "./bytes.js";
 import { encodeBytes, encodeMap, encodeNumber, encodeText } from "./ctap_response.js";
-import { makeNotAllowed } from "./errors.js";
 
 const POLICIES = ["userVerificationOptional", "userVerificationOptionalWithCredentialIDList", "userVerificationRequired"];
 const [, WITH_LIST, VERIFIED] = [1, 2, 3];
@@ -20,28 +19,27 @@ const TRUE = Uint8Array.of(0xf5);
  */
 
 /**
- * Returns the extensions for the core's client without required ones, since the client supports none of them.
- * @param {any} extensions @param {AuthenticatorOptions} abilities
+ * Returns the extension inputs without those that are checked against the page's list.
+ * @param {any} inputs
  */
-export const dropRequiredExtensions = (extensions, abilities) => {
-    const made = { ...extensions };
-    if (made.largeBlob?.support === "required" && abilities.supports("largeBlob")) {
-        made.largeBlob = { ...made.largeBlob, support: "preferred" };
-    }
-    if (abilities.supports("credProtect")) {
-        made.enforceCredentialProtectionPolicy = false;
-    }
-    return made;
-};
+export const dropListInputs = ({ prf, largeBlob, ...inputs }) => ({
+    ...inputs,
+    ...(prf && { prf: { ...prf, evalByCredential: undefined } }),
+    ...(largeBlob && { largeBlob: { ...largeBlob, write: undefined } }),
+});
 
 /**
- * Rejects a registration that requires a large blob, which only discoverable credentials have.
- * @param {any} extensions @param {boolean} isDiscoverable
+ * Returns the inputs of the extension prf with other IDs of the same credentials.
+ * @param {any} prf @param {Uint8Array[]} ids @param {Uint8Array[]} others
  */
-export const checkRequired = ({ largeBlob }, isDiscoverable) => {
-    if (largeBlob?.support === "required" && !isDiscoverable) {
-        throw makeNotAllowed("largeBlob is required, but the credential is not discoverable");
-    }
+export const renameCredentials = ({ evalByCredential, ...prf }, ids, others) => {
+    const rename = (/** @type {string} */ name) => {
+        const id = fromBase64url(name);
+        const place = id ? ids.findIndex((other) => equalBytes(id, other)) : -1;
+        return place < 0 ? name : toBase64url(others[place]);
+    };
+    const renamed = Object.entries(evalByCredential ?? {}).map(([name, values]) => [rename(name), values]);
+    return evalByCredential ? { ...prf, evalByCredential: Object.fromEntries(renamed) } : prf;
 };
 
 /**

@@ -169,4 +169,5 @@ class AuthenticatorSettings:
     @property
     def authenticator_options(self) -> AuthenticatorOptions:
         """The authenticator's abilities, for the library's client."""
-        return AuthenticatorOptions(self._verification, self._attachment, self._has_resident_key)
+        extensions = self.supports("credProtect"), self.supports("largeBlob")
+        return AuthenticatorOptions(self._verification, self._attachment, self._has_resident_key, *extensions)

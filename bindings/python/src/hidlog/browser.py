@@ -19,7 +19,7 @@ from .client import Client
 from .credentials import Credential
 from .departures import Departures, adapt_options
 from .errors import CtapError, InvalidChannelError, KeyTimeoutError, describe
-from .key_extensions import check_inputs, is_usable, read_inputs, requires_blob
+from .key_extensions import drop_list_inputs, is_usable, read_inputs
 from .packets import CBOR, GET_NEXT_ASSERTION
 from .private_keys import public_point
 from .relying_party import parse_origin
@@ -145,12 +145,20 @@ class Browser:
 
     # Requests to the key.
 
-    def _begin(self, ceremony: str, options: object, mediation: object, signal: Signal | None) -> _PendingCall:
+    def _begin(
+        self, ceremony: str, options: Any, mediation: object, signal: Signal | None, is_narrowed: bool = False
+    ) -> _PendingCall:
         """Checks a call's options, and builds the request. Type errors are reported before a signal that is already
-        set."""
+        set.
+
+        `is_narrowed`: allowCredentials has only some of the page's credentials, whose list was checked before.
+        """
         inner = _get_public_key(options)
         departs = not self._key.is_plain and isinstance(inner, Mapping)
         given = {"publicKey": adapt_options(ceremony, dict(inner), self._key)} if departs else options
+        if is_narrowed and inner.get("extensions"):
+            left = drop_list_inputs(read_inputs(inner))
+            given = {"publicKey": {**_get_public_key(given), "extensions": left}}
         call = ClientCall(ceremony, self._with_core_ids(given), mediation, self.origin, self._key.authenticator_options)
         try:
             request = call.request()
@@ -159,18 +167,12 @@ class Browser:
         except WebAuthnError:
             _check_signal(signal)
             raise
-        if isinstance(inner, Mapping) and inner.get("extensions"):
-            check_inputs(read_inputs(inner), [one.get("id") for one in inner.get("allowCredentials") or ()])
         _check_signal(signal)
-        return _PendingCall(call, request, self._make_departures(ceremony, dict(inner), request) if departs else None)
-
-    def _make_departures(self, ceremony: str, options: Json, request: Request) -> Departures:
-        """Returns the features of a call that are outside the core."""
+        if not departs:
+            return _PendingCall(call, request, None)
         is_discoverable = request.message.endswith(_DISCOVERABLE_END)
-        made = Departures(self._key, self._key._metadata, ceremony, options, is_discoverable)
-        if self._key.supports("largeBlob") and requires_blob(made.inputs) and not is_discoverable:
-            raise NotAllowedError("largeBlob is required, but the credential is not discoverable")
-        return made
+        departures = Departures(self._key, self._key._metadata, ceremony, dict(inner), is_discoverable)
+        return _PendingCall(call, request, departures)
 
     def _complete(self, started: _PendingCall, made: Json) -> Json:
         """Returns a credential's JSON, completed with the features outside the core."""
@@ -204,33 +206,42 @@ class Browser:
         pages = [self._key.page_id(core_id) for core_id in core_ids]
         descriptors = [{"type": "public-key", "id": b64url_encode(page)} for page in pages]
         inner = {**_get_public_key(options), "allowCredentials": descriptors}
-        return self._begin("get", {"publicKey": inner}, "optional", signal)
+        return self._begin("get", {"publicKey": inner}, "optional", signal, is_narrowed=True)
 
     def _with_core_ids(self, options: Any) -> Any:
         """Returns the options with the core's credential IDs."""
         inner = _get_public_key(options)
         if not isinstance(inner, Mapping):
             return options
-        changed = {}
+        changed: Json = {}
         for name in _DESCRIPTOR_LISTS:
             listed = inner.get(name)
             if isinstance(listed, (list, tuple)):
                 named = [self._with_core_id(descriptor) for descriptor in listed]
                 if any(one is not other for one, other in zip(named, listed)):
                     changed[name] = named
+        prf = read_inputs(inner).get("prf") if changed else None
+        if isinstance(prf, Mapping) and isinstance(prf.get("evalByCredential"), Mapping):
+            values = {self._to_core_id(page_id): value for page_id, value in prf["evalByCredential"].items()}
+            changed["extensions"] = {**inner["extensions"], "prf": {**prf, "evalByCredential": values}}
         return {"publicKey": {**inner, **changed}} if changed else options
 
     def _with_core_id(self, descriptor: Any) -> Any:
         """Returns a credential descriptor with the core's ID."""
         page_id = descriptor.get("id") if isinstance(descriptor, Mapping) else None
+        core_id = self._to_core_id(page_id)
+        return descriptor if core_id == page_id else {**descriptor, "id": core_id}
+
+    def _to_core_id(self, page_id: Any) -> Any:
+        """Returns the core's ID of a page's credential, both as base64url. Other values are returned unchanged."""
         if not isinstance(page_id, str) or not (self._key.has_page_ids or len(page_id) > _SENT_LETTERS):
-            return descriptor
+            return page_id
         try:
             data = b64url_decode(page_id)
         except ValueError:
-            return descriptor
+            return page_id
         core_id = self._key.core_id(data)
-        return descriptor if core_id == data else {**descriptor, "id": b64url_encode(core_id)}
+        return page_id if core_id == data else b64url_encode(core_id)
 
     def _exchange(self, started: _PendingCall, message: bytes, ending: _Cancellation) -> bytes:
         """Sends a request, and returns the response. A status other than 0 raises the DOM's error."""

@@ -52,14 +52,11 @@ def select_algorithm(parameters: Any, algorithms: tuple[int, ...]) -> int:
 
 
 def adapt_options(ceremony: str, options: Json, settings: AuthenticatorSettings) -> Json:
-    """Returns options for the library's client and the core, which support neither other algorithms nor extensions."""
-    made = dict(options)
-    if isinstance(options.get("extensions"), Mapping):
-        made["extensions"] = key_extensions.drop_required(dict(options["extensions"]), settings)
+    """Returns options for the library's client and the core, which support no algorithm except ES256."""
     parameters = options.get("pubKeyCredParams")
     if ceremony == "create" and select_algorithm(parameters, settings.algorithms) != ES256:
-        made["pubKeyCredParams"] = [{"type": _PUBLIC_KEY, "alg": ES256}, *(parameters or ())]
-    return made
+        return {**options, "pubKeyCredParams": [{"type": _PUBLIC_KEY, "alg": ES256}, *(parameters or ())]}
+    return options
 
 
 class Departures:

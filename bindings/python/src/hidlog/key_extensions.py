@@ -12,7 +12,6 @@ from hashlib import sha256
 from typing import TYPE_CHECKING, Any
 
 from . import cbor
-from .webauthn_errors import NotSupportedError, WebAuthnSyntaxError
 from .webauthn_json import b64url_decode, b64url_encode
 
 if TYPE_CHECKING:
@@ -36,34 +35,13 @@ def read_inputs(options: Any) -> Json:
     return dict(extensions) if isinstance(extensions, Mapping) else {}
 
 
-def drop_required(inputs: Json, settings: AuthenticatorSettings) -> Json:
-    """Returns the inputs for the library's client, without required extensions, since the client supports none of
-    them."""
-    made, blob = dict(inputs), inputs.get("largeBlob")
-    if isinstance(blob, Mapping) and blob.get("support") == "required" and settings.supports("largeBlob"):
-        made["largeBlob"] = {**blob, "support": "preferred"}
-    if "enforceCredentialProtectionPolicy" in made and settings.supports("credProtect"):
-        made["enforceCredentialProtectionPolicy"] = False
+def drop_list_inputs(inputs: Json) -> Json:
+    """Returns the inputs without those that are checked against allowCredentials."""
+    made = dict(inputs)
+    for name, member in (("prf", "evalByCredential"), ("largeBlob", "write")):
+        if isinstance(made.get(name), Mapping):
+            made[name] = {key: value for key, value in made[name].items() if key != member}
     return made
-
-
-def check_inputs(inputs: Json, allowed: list[Any]) -> None:
-    """Raises the DOM's error for inputs that Chromium rejects, but the library's client does not.
-
-    bindings/web/key/extensions.js has the same checks. `allowed` are the credential IDs of allowCredentials, as JSON.
-    """
-    policy, is_enforced = inputs.get("credentialProtectionPolicy"), inputs.get("enforceCredentialProtectionPolicy")
-    if policy == _POLICIES[0] and is_enforced:
-        raise NotSupportedError("credentialProtectionPolicy: userVerificationOptional can't be enforced")
-    if (inputs.get("largeBlob") or {}).get("write") and len(allowed) != 1:
-        raise NotSupportedError("largeBlob: 'write' can only be used with a single allow credential")
-    if not set((inputs.get("prf") or {}).get("evalByCredential") or {}) <= set(allowed):
-        raise WebAuthnSyntaxError("prf: 'evalByCredential' has a key that doesn't match any in allowCredentials")
-
-
-def requires_blob(inputs: Json) -> bool:
-    """Returns whether a registration requires a large blob."""
-    return isinstance(inputs.get("largeBlob"), Mapping) and inputs["largeBlob"].get("support") == "required"
 
 
 def _select_protection(selection: Json) -> int:

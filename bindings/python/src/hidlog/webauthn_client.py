@@ -32,9 +32,9 @@ from .webauthn_errors import (
 Json = dict[str, Any]
 # Values of enum hidlog_client_ceremony.
 _CEREMONIES = {"create": 0, "get": 1}
-# Flags of enum hidlog_client_ability for user verification, attachment and discoverable credentials.
+# Flags of enum hidlog_client_ability for user verification, attachment, discoverable credentials and extensions.
 _VERIFICATION = {"none": 0, "verified": 1, "failed": 2}
-_PLATFORM, _RESIDENT_KEY = 4, 8
+_PLATFORM, _RESIDENT_KEY, _CRED_PROTECT, _LARGE_BLOB = 4, 8, 16, 32
 # The exceptions for enum hidlog_client_error.
 _ERRORS: dict[int, type[WebAuthnError]] = {
     -1: WebAuthnTypeError,
@@ -59,11 +59,15 @@ class AuthenticatorOptions(NamedTuple):
     verification      result of user verification: "verified", "failed" or "none" (unsupported).
     attachment        "cross-platform" or "platform".
     has_resident_key  whether the authenticator creates discoverable credentials.
+    has_cred_protect  whether it supports the extension credProtect (outside the core).
+    has_large_blob    whether its discoverable credentials have large blobs (outside the core).
     """
 
     verification: str = "none"
     attachment: str = "cross-platform"
     has_resident_key: bool = True
+    has_cred_protect: bool = False
+    has_large_blob: bool = False
 
     @property
     def transport(self) -> str:
@@ -74,7 +78,8 @@ class AuthenticatorOptions(NamedTuple):
     def to_bits(self) -> int:
         """Flags of enum hidlog_client_ability."""
         kind = _PLATFORM if self.attachment == "platform" else 0
-        return _VERIFICATION[self.verification] | kind | _RESIDENT_KEY * self.has_resident_key
+        extensions = _CRED_PROTECT * self.has_cred_protect | _LARGE_BLOB * self.has_large_blob
+        return _VERIFICATION[self.verification] | kind | _RESIDENT_KEY * self.has_resident_key | extensions
 
 
 class Request(NamedTuple):
