@@ -39,7 +39,15 @@ func (b *Browser) Get(optionsJSON []byte) ([]byte, error) {
 	return b.call(getCeremony, optionsJSON)
 }
 
+// call makes a call, and adds it to the key's report.
 func (b *Browser) call(kind ceremony, options []byte) ([]byte, error) {
+	credential, err := b.perform(kind, options)
+	b.key.addCall(browserCall{kind, b.origin, clone(options), credential, err})
+	return credential, err
+}
+
+// perform makes a call.
+func (b *Browser) perform(kind ceremony, options []byte) ([]byte, error) {
 	c := newClient(kind, options, b.origin)
 	request, err := c.buildRequest()
 	if err != nil {

@@ -51,6 +51,7 @@ type SecurityKey struct {
 	privateKeys map[CredentialID]*ecdsa.PrivateKey
 	channel     [4]byte
 	last        map[CredentialID]uint32 // signature counter of the previous response
+	calls       []browserCall           // the last calls of browsers
 }
 
 // Status is the CTAP2 status code with which a key rejected a request.
