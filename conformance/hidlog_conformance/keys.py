@@ -11,7 +11,10 @@ try:
     from cryptography.exceptions import InvalidSignature
     from cryptography.hazmat.primitives import hashes
     from cryptography.hazmat.primitives.asymmetric import ec, ed25519, padding, rsa
+    from cryptography.hazmat.primitives.asymmetric.utils import Prehashed
 
+    # ECDSA with SHA-256, of a digest.
+    ES256_OF_DIGEST = ec.ECDSA(Prehashed(hashes.SHA256()))
     AVAILABLE = True
 except ImportError:
     AVAILABLE = False
@@ -67,7 +70,7 @@ def to_public_key(cose: Any) -> Any:
 def verify_or_raise(public: Any, signed: bytes, signature: bytes) -> None:
     """Verifies a signature by the key's algorithm; raises InvalidSignature."""
     if isinstance(public, ec.EllipticCurvePublicKey):
-        public.verify(signature, signed, ec.ECDSA(hashes.SHA256()))
+        public.verify(signature, hashlib.sha256(signed).digest(), ES256_OF_DIGEST)
     elif isinstance(public, rsa.RSAPublicKey):
         public.verify(signature, signed, padding.PKCS1v15(), hashes.SHA256())
     elif isinstance(public, ed25519.Ed25519PublicKey):
