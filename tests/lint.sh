@@ -6,7 +6,7 @@ cd "$(dirname "${BASH_SOURCE[0]}")/.."
 # Other versions of black format differently, and other versions of mypy report other errors.
 for tool in "black 23" "mypy 1.0"; do
     [[ $(${tool% *} --version) = ${tool% *}*\ ${tool#* }.* ]] ||
-        { echo "tests/lint.sh: ${tool% *} ${tool#* } of Debian 12 is missing; nothing was run" >&2 && exit 3; }
+        { echo "tests/lint.sh: ${tool% *} ${tool#* } (Debian 12's version) is required; nothing was run" >&2 && exit 3; }
 done
 # Finds variables called `it`, exception classes whose name does not end in Error (except those that are not errors),
 # and constants called _MOST.

@@ -69,13 +69,13 @@ class SettingSteps(Steps):
         length = max(PIN_LENGTH, self.shortest) - (self.shortest > PIN_LENGTH and self.happens(0.2))
         return b"".join(b"%d" % self.random.randrange(10) for _ in range(length))
 
-    def make_request(self, rp: str, more: Dict[int, Any]) -> bytes:
-        """Returns a registration, perhaps with minPinLength or enterprise attestation."""
+    def registration_request(self, rp: str, more: Dict[int, Any]) -> bytes:
+        """Returns an authenticatorMakeCredential request, perhaps with minPinLength or enterprise attestation."""
         if EXTENSION in self.device_info.extensions and self.happens(0.5):
             more = {**more, 6: {EXTENSION: True}}
         if "ep" in self.device_info.options and self.happens(0.1):
             more = {**more, 10: self.random.choice((1, 2))}
-        return super().make_request(rp, more)
+        return super().registration_request(rp, more)
 
     def with_permission(self, permission: int) -> Block:
         """Gets a token with a permission; rarely with another one instead."""

@@ -171,7 +171,7 @@ class Steps:
         block.lines, block.began = before.lines + block.lines, before.began
         if not param:
             return block.ask(NEXT)
-        return block.ask(self.make_request(rp, param), self.count_credential(rp))
+        return block.ask(self.registration_request(rp, param), self.count_credential(rp))
 
     def info(self) -> Block:
         """Asks for getInfo."""
@@ -232,7 +232,7 @@ class Steps:
         word = kind + (b"%d:" % length if kind == b"=cut:" else b"")
         return {key: word + (b"1" if key == 8 else b"2"), key + 1: self.protocol}
 
-    def make_request(self, rp: str, more: Dict[int, Any]) -> bytes:
+    def registration_request(self, rp: str, more: Dict[int, Any]) -> bytes:
         """Returns a registration."""
         user = self.random.choice(USERS)
         asked: Dict[int, Any] = {
@@ -269,7 +269,7 @@ class Steps:
     def add_make(self, block: Block, rp: str, more: Dict[int, Any]) -> Block:
         """Adds a registration, with pinUvAuthParam if a PIN is set."""
         param = self.make_auth_param(8) if self.secrets.pin and self.happens(0.9) else {}
-        return block.ask(self.make_request(rp, {**more, **param}), self.count_credential(rp))
+        return block.ask(self.registration_request(rp, {**more, **param}), self.count_credential(rp))
 
     def get(self) -> Block:
         """Signs in."""

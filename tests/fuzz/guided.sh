@@ -68,7 +68,7 @@ build_core() {
     "${checked[@]}" -fsanitize=fuzzer-no-link -c "$top/tests/fuzz/module_key.c" -o "$work/module_key.o"
 }
 
-# Builds a fuzzer and runs it: run_libfuzzer NAME LONGEST OPTIONS ..
+# Builds a fuzzer and runs it: run_libfuzzer NAME MAX_LENGTH COMPILER_OPTION ..
 run_libfuzzer() {
     local name=$1 longest=$2
     build_core

@@ -48,7 +48,7 @@ const testPackedCapture = async () => {
 };
 
 /** A capture is not converted as text, even if it has CR LF in a field that readers ignore. */
-const testCaptureWithReturns = async () => {
+const testCaptureWithCrLf = async () => {
     const capture = await fetchBytes("tests/captures/data/keyboard_beside.48.pcap");
     await openLog("a.pcap", capture);
     const expected = listTexts().join();
@@ -96,7 +96,7 @@ const testPaste = async () => {
     await waitUntil(() => readNotice() === "pasted.log: 43 lines.", "the pasted log in a new page");
 };
 
-/** Input before the core is loaded is opened afterwards, in order, without an error. */
+/** Files that are dropped before the core is loaded are opened once it is loaded, in order, without an error. */
 const testEarlyInput = async () => {
     const [one, other] = [await fetchExample("failing/denied_user.log"), await fetchExample("two_hosts.log")];
     const errors = [];
@@ -185,7 +185,7 @@ const testStatusNames = async () => {
 run({
     "files in other encodings": testEncodings,
     "a packed capture": testPackedCapture,
-    "a capture with CR LF": testCaptureWithReturns,
+    "a capture with CR LF": testCaptureWithCrLf,
     "pasted text": testPaste,
     "input while the page loads": testEarlyInput,
     "input before the core": testSlowCore,

@@ -3,7 +3,7 @@
 const PAGE_BYTES = 65536;
 
 /**
- * Grows a memory to at least a number of bytes.
+ * Grows a memory to at least `size` bytes.
  * @param {WebAssembly.Memory} memory @param {number} size
  */
 export const growMemory = (memory, size) => {
