@@ -48,7 +48,7 @@ func (b *Browser) call(kind ceremony, options []byte) ([]byte, error) {
 
 // perform makes a call.
 func (b *Browser) perform(kind ceremony, options []byte) ([]byte, error) {
-	c := newClient(kind, options, b.origin)
+	c := newClientCall(kind, options, b.origin)
 	request, err := c.buildRequest()
 	if err != nil {
 		return nil, err

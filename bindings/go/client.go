@@ -37,20 +37,20 @@ var domErrorNames = map[C.int64_t]string{
 	C.HIDLOG_CLIENT_SYNTAX_ERROR:        "SyntaxError",
 }
 
-// client has the parameters of one call of navigator.credentials. The C library (hidlog.h) checks the options, and
+// clientCall has the parameters of one call of navigator.credentials. The C library (hidlog.h) checks the options, and
 // builds the request for the key and the credential's JSON.
-type client struct {
+type clientCall struct {
 	ceremony          ceremony
 	options, origin   []byte
 	mediation, suffix []byte
 }
 
-func newClient(kind ceremony, options []byte, origin string) *client {
-	return &client{ceremony: kind, options: options, origin: []byte(origin), mediation: []byte("optional")}
+func newClientCall(kind ceremony, options []byte, origin string) *clientCall {
+	return &clientCall{ceremony: kind, options: options, origin: []byte(origin), mediation: []byte("optional")}
 }
 
 // buildRequest checks the options and returns the request for the key: the command byte, then CBOR.
-func (c *client) buildRequest() ([]byte, error) {
+func (c *clientCall) buildRequest() ([]byte, error) {
 	out := make([]byte, requestCapacity)
 	var report C.struct_hidlog_client_report
 	length := C.hidlog_client_request(C.uint32_t(c.ceremony), firstByte(c.options), C.size_t(len(c.options)),
@@ -60,7 +60,7 @@ func (c *client) buildRequest() ([]byte, error) {
 }
 
 // buildCredential returns the credential as JSON. The key's response is a status byte, then CBOR.
-func (c *client) buildCredential(from []byte) ([]byte, error) {
+func (c *clientCall) buildCredential(from []byte) ([]byte, error) {
 	out := make([]byte, credentialCapacity)
 	var report C.struct_hidlog_client_report
 	length := C.hidlog_client_response(C.uint32_t(c.ceremony), firstByte(c.options), C.size_t(len(c.options)),

@@ -138,7 +138,7 @@ func TestRegisterAndSignIn(t *testing.T) {
 		used, err := browser.Get(get)
 		signedIn := parseCredential(t, used, err)
 		if signedIn.ID != registered.ID || signedIn.Response.UserHandle != "YW5u" {
-			t.Fatalf("expected the user handle of the registered account, got %s", used)
+			t.Fatalf("expected the credential and the user handle of the registered account, got %s", used)
 		}
 		if !isVerified(t, registered, signedIn) || signCount(t, signedIn) != expected {
 			t.Fatalf("sign-in %d: %s", expected, used)
@@ -284,7 +284,7 @@ func TestCredentials(t *testing.T) {
 	}
 	second := hidlog.Credential{ID: hidlog.CredentialID{8}, RPIDHash: rp, UserID: []byte("bob"), Discoverable: true}
 	if err := key.Add(second); err == nil {
-		t.Fatal("expected an error for a second discoverable credential of the user")
+		t.Fatal("expected an error for a second discoverable credential of the same user and RP")
 	}
 	if err := key.Add(hidlog.Credential{UserID: make([]byte, 65)}); err == nil {
 		t.Fatal("expected an error for a user handle of 65 bytes")

@@ -394,7 +394,7 @@ def check_saved(log, output, fault, run, folder, damaged):
     check(
         is_refused or whole == wrong,
         "refused",
-        f"a snapshot with the checksums of another one: status {status}, stderr {said!r}",
+        f"a damaged snapshot with the original's checksums must be refused; got status {status}, stderr {said!r}",
     )
 
 

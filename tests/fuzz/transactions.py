@@ -402,7 +402,9 @@ def check_objects(objects: list[dict], machine: Machine) -> None:
         if kind == "answer":
             owner = machine.answers[line]
             if row.get("transaction") != (owner.line if owner else None):
-                raise FindingError(f"the response of line {line} belongs to another transaction")
+                raise FindingError(
+                    f"the response of line {line}: expected transaction {owner and owner.line}, got {row.get('transaction')}"
+                )
             if row.get("command") != (owner.request if owner else None):
                 raise FindingError(
                     f"the response of line {line} is to {owner and owner.request}, not to {row.get('command')}"

@@ -184,10 +184,10 @@ const testStatusFault = async (key) => {
     key.faults.truncateBy = 10;
     await expectError(getAssertion(), "NotAllowedError", "not CBOR");
     key.faults.clear();
-    const resolveWith = () => key.log().match(/^< 00000001bb000101/gm).length;
-    const before = resolveWith();
+    const countKeepalives = () => key.log().match(/^< 00000001bb000101/gm).length;
+    const before = countKeepalives();
     // A busy machine sends fewer KEEPALIVEs.
-    for (let delay = 350; resolveWith() - before < 2; delay *= 2) {
+    for (let delay = 350; countKeepalives() - before < 2; delay *= 2) {
         expect(delay < 200_000, "with KEEPALIVEs");
         key.faults.delay = delay;
         const begun = performance.now();

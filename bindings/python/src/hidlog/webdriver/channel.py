@@ -35,7 +35,7 @@ def _encode_bytes(data: bytes) -> str:
     return base64.b64encode(data).decode()
 
 
-def _load_library() -> str:
+def _make_page_script() -> str:
     """Returns the key and the page's functions as a script that does nothing in documents without the channel."""
     condition = f"globalThis.{BINDING} && !globalThis.hidlogPage && /^https?:/.test(globalThis.origin)"
     return f"(function library() {{ if ({condition}) {{\n{read_script()}\nhidlogPage.library = library;\n}} }})();"
@@ -49,7 +49,7 @@ class Channel:
         self._authenticator: Authenticator | None = None
         self._recorder: Recorder | None = None
         self._set_calls()
-        self._devtools = DevTools(address, window, self._receive, _load_library())
+        self._devtools = DevTools(address, window, self._receive, _make_page_script())
 
     def _set_calls(self) -> None:
         self._calls: dict[str, Callable[[Authenticator, Document, Json], Json | None]] = {
