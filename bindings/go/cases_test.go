@@ -64,7 +64,7 @@ func expand(value any, ids []string) any {
 		}
 		found := object{}
 		for name, inner := range value {
-			found[name] = expand(inner, ids)
+			found[expand(name, ids).(string)] = expand(inner, ids)
 		}
 		return found
 	case []any:

@@ -38,7 +38,7 @@ const fill = (value, ids) => {
     if ("$repeat" in value) {
         return Array.from({ length: value.$repeat }, (_, index) => ({ type: "public-key", id: encode([index, 255]) }));
     }
-    return Object.fromEntries(Object.entries(value).map(([name, inner]) => [name, fill(inner, ids)]));
+    return Object.fromEntries(Object.entries(value).map(([name, inner]) => [fill(name, ids), fill(inner, ids)]));
 };
 
 const makeOptions = ({ call, options = {}, without = [], raw, wrapped }, ids) => {
