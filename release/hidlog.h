@@ -322,7 +322,9 @@ enum hidlog_client_ability {
     HIDLOG_CLIENT_VERIFIES = 1,           /* user verification is supported, and succeeds */
     HIDLOG_CLIENT_VERIFICATION_FAILS = 2, /* user verification is supported, and fails */
     HIDLOG_CLIENT_PLATFORM = 4,           /* a platform authenticator; otherwise a USB key */
-    HIDLOG_CLIENT_RESIDENT_KEY = 8        /* discoverable credentials are supported */
+    HIDLOG_CLIENT_RESIDENT_KEY = 8,       /* discoverable credentials are supported */
+    HIDLOG_CLIENT_CRED_PROTECT = 16,      /* the caller supports the extension credProtect, outside the core */
+    HIDLOG_CLIENT_LARGE_BLOB = 32         /* the caller supports large blobs of discoverable credentials */
 };
 
 enum hidlog_client_error {
