@@ -39,7 +39,8 @@ def test_crash_is_no_refusal() -> None:
 
 def test_child_processes() -> None:
     """A client's child processes are killed."""
-    seconds = "39.4321"
+    # The number names the child among those of other runs of this test.
+    seconds = f"39.{os.getpid():07d}"
     run_command(["--client", f"sh -c 'sleep {seconds}; true'", "--only", "plain/info", "--deadline", "1"])
     found = os.popen("ps -eo args").read()
     assert f"sleep {seconds}" not in found, found

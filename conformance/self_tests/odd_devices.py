@@ -108,7 +108,8 @@ def test_full_device() -> None:
 
 def test_child_processes() -> None:
     """A command's child processes are killed."""
-    seconds = "38.4321"
+    # The number names the child among those of other runs of this test.
+    seconds = f"38.{os.getpid():07d}"
     run_command([*make_device_arguments(f"with_a_child {seconds}"), "--only", "init/nonce_count"])
     found = subprocess.run(["ps", "-eo", "args"], capture_output=True, text=True, check=True).stdout
     assert f"sleep {seconds}" not in found, found
