@@ -86,7 +86,7 @@ const testImportableTexts = async () => {
     for (const [name, kind] of names) {
         await openLog(name, await fetchBytes(`tests/captures/data/${name}`));
         const { text } = await waitForCard();
-        expect(text.includes(`it is ${kind}.`), `${name}: ${text}`);
+        expect(text.includes(`the file is ${kind}.`), `${name}: ${text}`);
         expect(text.endsWith(`hidlog import ${name} -o session.log`), `${name}: ${text}`);
     }
 };
