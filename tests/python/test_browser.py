@@ -342,3 +342,26 @@ def test_the_attestation_is_the_keys(make: Make) -> None:
     made = make().browser("https://example.com").create(make_creation_options(attestation="direct"))
     attestation = cbor.decode(b64url_decode(made["response"]["attestationObject"]))
     assert attestation["fmt"] == "packed" and set(attestation["attStmt"]) == {"alg", "sig"}
+
+
+def test_inputs_for_an_excluded_credential_are_allowed() -> None:
+    """The page's list is checked as a whole (WebAuthn Level 3, section 10.1.4). A credential in it that requires user
+    verification (CTAP 2.1, section 12.1) is then left out of the request of an unverified sign-in."""
+    required = {"credentialProtectionPolicy": "userVerificationRequired", "prf": {}}
+    selection = {**DISCOVERABLE, "userVerification": "required"}
+    with hidlog.SecurityKey(verification="verified", extensions=("prf", "credProtect")) as key:
+        browser = key.browser("https://example.com")
+        protected = browser.create(make_creation_options(authenticatorSelection=selection, extensions=required))["id"]
+        other = browser.create(
+            make_creation_options(
+                "bob", extensions={"credentialProtectionPolicy": "userVerificationOptional", "prf": {}}
+            )
+        )["id"]
+        listed = [{"type": "public-key", "id": credential_id} for credential_id in (protected, other)]
+        values = {credential_id: {"first": "AQ"} for credential_id in (protected, other)}
+        options = {**REQUEST_OPTIONS, "userVerification": "discouraged", "allowCredentials": listed}
+        signed = browser.get({**options, "extensions": {"prf": {"evalByCredential": values}}})
+        assert signed["id"] == other
+        assert "first" in signed["clientExtensionResults"]["prf"]["results"]
+        with pytest.raises(hidlog.WebAuthnSyntaxError):
+            browser.get({**options, "extensions": {"prf": {"evalByCredential": {**values, "AQ": {"first": "AQ"}}}}})
