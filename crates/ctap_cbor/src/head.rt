@@ -1,11 +1,11 @@
 //! Decoding of one item: its head and, for a string, the content (RFC 8949, section 3).
 
-ghost use Rattle.std.specs.Prelude.{◌≡◌, ◌≢◌, ◌<◌, ◌≤◌, length, MatchOption, true, false};
+ghost use Rattle.std.specs.Prelude.{◌≡◌, ◌<◌, ◌≤◌, length, MatchOption, true, false};
 ghost use Rattle.std.specs.Str.{is_utf8};
 ghost use Rattle.ctap_cbor.specs.Head.{info, argument_len, argument, least_argument};
 ghost use Rattle.ctap_cbor.specs.Faults.{first_fault_of, first_faults};
 ghost use Rattle.ctap_cbor.specs.Parts.{read};
-ghost use Rattle.ctap_cbor.specs.Views.{IsDecodedItem, IsDecodedItemRest, IsHeadArgument, to_part, expected_of, item_with_head};
+ghost use Rattle.ctap_cbor.specs.Views.{IsDecodedItem, IsDecodedItemRest, IsHeadArgument, to_part, expected_of};
 
 use crate::fault::Kind;
 use crate::item::Item;
@@ -64,11 +64,13 @@ fn find_argument(first: u8, rest: &[u8]) -> Result<(u64, usize), (Kind, usize)>
     if info < 24 {
         return Ok((u64::from(info), 0));
     }
-    let (len, least) = argument_form(info);
-    if rest.len() < len {
-        return Err((Kind::Truncated, 1 + rest.len()));
-    }
-    let argument = read_argument(first, rest);
+    let (argument, len, least) = match info {
+        24 if 1 <= rest.len() => (u64::from(rest[0]), 1, 24),
+        25 if 2 <= rest.len() => (u64::from(BigEndian::read_u16(rest)), 2, 0x100),
+        26 if 4 <= rest.len() => (u64::from(BigEndian::read_u32(rest)), 4, 0x1_0000),
+        27 if 8 <= rest.len() => (BigEndian::read_u64(rest), 8, 0x1_0000_0000),
+        _ => return Err((Kind::Truncated, 1 + rest.len())),
+    };
     if argument < least {
         return Err((Kind::NotShortest, 1 + len));
     }
@@ -83,10 +85,20 @@ fn decode_item_rest<'a>(first: u8, rest: &'a [u8]) -> Result<(Item<'a>, usize), 
     ensures { IsDecodedItemRest first rest.now result }
 {
     let major = first / 32;
-    let info = first % 32;
     let (argument, len) = find_argument(first, rest)?;
     if major != 2 && major != 3 {
-        return Ok((non_string_item(major, info, argument), 1 + len));
+        let item = match major {
+            0 => Item::Int(i128::from(argument)),
+            1 => Item::Int(-1 - i128::from(argument)),
+            4 => Item::Array(argument),
+            5 => Item::Map(argument),
+            _ => match first % 32 {
+                20 => Item::Bool(false),
+                21 => Item::Bool(true),
+                _ => Item::Null,
+            },
+        };
+        return Ok((item, 1 + len));
     }
     let content = &rest[len..];
     if (content.len() as u64) < argument {
@@ -99,57 +111,5 @@ fn decode_item_rest<'a>(first: u8, rest: &'a [u8]) -> Result<(Item<'a>, usize), 
     match str::from_utf8(string) {
         Ok(text) => Ok((Item::Text(text), 1 + len + string.len())),
         Err(_) => Err((Kind::NotUtf8, 1 + len + string.len())),
-    }
-}
-
-/// Returns the number of argument bytes after an initial byte with this additional information, and the smallest
-/// argument whose shortest encoding has so many bytes.
-#[tactic(auto, unfolding(crate::specs::Head::argument_len, crate::specs::Head::least_argument))]
-fn argument_form(info: u8) -> (usize, u64)
-    requires { info < 28 }
-    ensures len { result.0 ≡ argument_len info }
-    ensures small { result.0 ≤ 8 }
-    ensures least { result.1 ≡ least_argument info }
-{
-    match info {
-        24 => (1, 24),
-        25 => (2, 0x100),
-        26 => (4, 0x1_0000),
-        27 => (8, 0x1_0000_0000),
-        _ => (0, 0),
-    }
-}
-
-/// Returns the argument of a head.
-#[tactic(auto, unfolding(crate::specs::Head::argument, crate::specs::Head::argument_len))]
-fn read_argument(first: u8, rest: &[u8]) -> u64
-    requires known { info first < 28 }
-    requires space { argument_len (info first) ≤ length rest.now }
-    ensures { result ≡ argument first rest.now }
-{
-    match first % 32 {
-        24 => u64::from(rest[0]),
-        25 => u64::from(BigEndian::read_u16(rest)),
-        26 => u64::from(BigEndian::read_u32(rest)),
-        27 => BigEndian::read_u64(rest),
-        info => u64::from(info),
-    }
-}
-
-/// Returns the item with a head that doesn't belong to a string.
-fn non_string_item<'a>(major: u8, info: u8, argument: u64) -> Item<'a>
-    requires { major ≢ 2 × major ≢ 3 }
-    ensures { to_part result ≡ item_with_head major info argument }
-{
-    match major {
-        0 => Item::Int(i128::from(argument)),
-        1 => Item::Int(-1 - i128::from(argument)),
-        4 => Item::Array(argument),
-        5 => Item::Map(argument),
-        _ => match info {
-            20 => Item::Bool(false),
-            21 => Item::Bool(true),
-            _ => Item::Null,
-        },
     }
 }

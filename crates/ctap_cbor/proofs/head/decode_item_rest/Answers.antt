@@ -4,6 +4,7 @@ use Rattle.std.specs.Str.{is_utf8, IsUtf8}
 use Rattle.ctap_cbor.specs.Faults.{AnItem, first_fault_of, later_faults, body_faults, string_len, item_len, passed}
 use Rattle.ctap_cbor.specs.Head.{major, info, argument, argument_len, least_argument}
 use Rattle.ctap_cbor.specs.{Parts.item_by_major, Views.item_with_head}
+use Rattle.ctap_cbor.proofs.head.decode_item_rest.Goals.{in-0, in-1, in-4, in-5, in_default+in-20, in_default+in-21, in_default+in_default-2}
 use Rattle.ctap_cbor.proofs.head.decode_item_rest.Goals as goal
 
 not_utf8 : (s : List ℕ) → (IsUtf8 s → ⊥) → is_utf8 s ≡ false
@@ -48,7 +49,7 @@ returns-then-major-ne3 c =
     let long : 1 + c.in_ok-argument.len ≡ item_len first rest =
     ap (λ (n : ℕ). 1 + n) head.1 ∙ head_only first rest bytes text in (
       no_fault first rest (omega (arith, head.1, head.2)) (omega (arith, head.0, head.3)) bytes text,
-      c.non_string_item.ensures ∙ ap (item_with_head (major first) (info first)) head.0
+      elim c.match-major.branch [ in-0 w ↦ grind (arith, w.item-is, w.in-0.is) | in-1 w ↦ grind (arith, w.item-is, w.in-1.is) | in-4 w ↦ grind (arith, w.item-is, w.in-4.is) | in-5 w ↦ grind (arith, w.item-is, w.in-5.is) | in_default+in-20 w ↦ grind (arith, w.item-is, w.in-20.is) | in_default+in-21 w ↦ grind (arith, w.item-is, w.in-21.is) | in_default+in_default-2 w ↦ grind (arith, w.item-is) ] ∙ ap (item_with_head (major first) (info first)) head.0
           ∙ same_item (major first) first rest bytes text,
       long,
       omega (arith, head.2),
