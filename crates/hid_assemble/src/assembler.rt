@@ -28,21 +28,6 @@ pub(crate) struct OpenMessage {
     pub(crate) last: u64,
 }
 
-impl OpenMessage {
-    /// Returns the message that an initialization packet begins.
-    fn new(cid: u32, cmd: u8, len: u16, last: u64) -> Self
-        ensures { result ≡ record { cid = cid; cmd = cmd; len = len; kept = 0; last = last } }
-    {
-        OpenMessage {
-            cid,
-            cmd,
-            len,
-            kept: 0,
-            last,
-        }
-    }
-}
-
 /// What the buffer contains.
 #[derive(Clone, Copy)]
 enum Contents {
@@ -270,7 +255,13 @@ impl Assembler {
             }
             ReplyRow::Long => {
                 put_data(&mut self.buffer, 0, part);
-                self.contents = Contents::Open(OpenMessage::new(cid, cmd, len, at));
+                self.contents = Contents::Open(OpenMessage {
+                    cid,
+                    cmd,
+                    len,
+                    kept: 0,
+                    last: at,
+                });
                 Verdict::Kept
             }
         }

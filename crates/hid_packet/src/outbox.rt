@@ -38,18 +38,6 @@ impl Model for Outbox {
     ghost invariant = { λ o. IsQueued o.entries.items o.ring o.len };
 }
 
-/// Removes the first entry, which usually is the only entry.
-fn drop_first(entries: &mut Entries)
-    requires { 1 ≤ array_vec_len entries.old }
-    ensures { entries.new.items ≡ remove entries.old.items 0 }
-{
-    if entries.len() == 1 {
-        entries.clear();
-    } else {
-        entries.remove(0);
-    }
-}
-
 /// Removes and returns the next packet of the first entry. The entry is removed with its last packet.
 fn take_first(entry: Queued, entries: &mut Entries, ring: &mut RingBuffer) -> Packet
     requires first { (more : List Queued) × (entries.old.items ≡ entry ∷ more) }
@@ -60,7 +48,7 @@ fn take_first(entry: Queued, entries: &mut Entries, ring: &mut RingBuffer) -> Pa
     match entry {
         Queued::Whole => {
             let mut packet = [0; 64];
-            drop_first(entries);
+            entries.remove(0);
             ring.take(&mut packet);
             Packet(packet)
         }
@@ -70,7 +58,7 @@ fn take_first(entry: Queued, entries: &mut Entries, ring: &mut RingBuffer) -> Pa
                 entries[0] = Queued::Part(message);
                 return packet;
             }
-            drop_first(entries);
+            entries.remove(0);
             packet
         }
     }

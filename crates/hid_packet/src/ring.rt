@@ -30,18 +30,6 @@ impl Model for RingBuffer {
     ghost invariant = { λ r. (r.first < RING_SIZE) × (r.len ≤ RING_SIZE) × (length r.bytes ≡ RING_SIZE) };
 }
 
-/// Reduces an index that may be past the end of the ring buffer to an index in it.
-fn wrap_index(place: usize) -> usize
-    requires { place < 2 * RING_SIZE }
-    ensures { result ≡ place % RING_SIZE }
-{
-    if place < RING_SIZE {
-        place
-    } else {
-        place - RING_SIZE
-    }
-}
-
 impl RingBuffer {
     /// Returns an empty ring.
     pub(crate) fn new() -> Self
@@ -59,7 +47,7 @@ impl RingBuffer {
         requires { length self.old + length bytes.now ≤ RING_SIZE }
         ensures { self.new ≡ self.old ++ bytes.now }
     {
-        let end = wrap_index(self.first + self.len);
+        let end = (self.first + self.len) % RING_SIZE;
         let straight = RING_SIZE - end;
         self.len += bytes.len();
         if bytes.len() <= straight {
@@ -80,7 +68,7 @@ impl RingBuffer {
         let len = out.len();
         let first = self.first;
         let straight = RING_SIZE - first;
-        self.first = wrap_index(first + len);
+        self.first = (first + len) % RING_SIZE;
         self.len -= len;
         if len <= straight {
             out.copy_from_slice(&self.bytes[first..first + len]);

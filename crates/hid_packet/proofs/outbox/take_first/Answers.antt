@@ -9,12 +9,12 @@ returns-in-Whole-clause-packets c =
     let is = c.requires.first.1 ∙ ap (λ e. e ∷ c.requires.first.0) c.in-Whole.is in
     queued_packets-pop c.args.entries.now.items c.requires.first.0 Whole c.args.ring.now is
     ∙ ap₂ (λ (p : List ℕ) (ps : List (List ℕ)). p ∷ ps) (sym c.take.ensures.taken)
-    (sym (ap₂ queued_packets c.drop_first.ensures c.take.ensures.left))
+    (sym (ap₂ queued_packets c.remove.ensures.items c.take.ensures.left))
 
 pub returns-in-Whole-clause-held : goal.returns-in-Whole-clause-held
 returns-in-Whole-clause-held c =
     let is = c.requires.first.1 ∙ ap (λ e. e ∷ c.requires.first.0) c.in-Whole.is in
-    rw (c.drop_first.ensures, c.take.ensures.left) (held-pop c.args.entries.now.items c.requires.first.0 Whole
+    rw (c.remove.ensures.items, c.take.ensures.left) (held-pop c.args.entries.now.items c.requires.first.0 Whole
     c.args.ring.now is c.requires.held)
 
 pub returns-then-message-gt0-clause-packets : goal.returns-then-message-gt0-clause-packets
@@ -30,8 +30,8 @@ returns-then-message-gt0-clause-packets c =
 pub returns-else-message-gt0-clause-packets : goal.returns-else-message-gt0-clause-packets
 returns-else-message-gt0-clause-packets c =
     let is = c.requires.first.1 ∙ ap (λ e. e ∷ c.requires.first.0) c.in-Part.is in
-    part_last c.args.entries.now.items c.drop_first-in-Part.new.entries.items c.requires.first.0
+    part_last c.args.entries.now.items c.remove-in-Part.new.self.items c.requires.first.0
     (Part c.in-Part.message) c.args.ring.now c.next_packet-packet.new.ring _ c.next_packet-packet.new.self.left
-    (packets_left c.next_packet-packet.new.self.cid c.next_packet-packet.new.self.due) is c.drop_first-in-Part.ensures
+    (packets_left c.next_packet-packet.new.self.cid c.next_packet-packet.new.self.due) is c.remove-in-Part.ensures.items
     c.next_packet-packet.ensures.packet c.next_packet-packet.ensures.others (omega (arith, c.if-message-gt0.false))
     (c.next_packet-packet.ensures.last (omega (arith, c.if-message-gt0.false)))

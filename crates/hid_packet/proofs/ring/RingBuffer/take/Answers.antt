@@ -1,5 +1,5 @@
-use Rattle.std.proofs.Common.{◌-◌, length, ap, ◌∙◌, arith, rules}
-use Rattle.hid_packet.{specs.Queue.window, proofs.Filling.window-front, proofs.Filling.window-rest}
+use Rattle.std.proofs.Common.{◌-◌, length, ◌∙◌, arith, rules}
+use Rattle.hid_packet.{proofs.Filling.window-front, proofs.Filling.window-rest}
 use Rattle.hid_packet.proofs.ring.RingBuffer.take.Goals as goal
 
 pub returns-then-len-straight-clause-taken : goal.returns-then-len-straight-clause-taken
@@ -19,13 +19,11 @@ returns-clause-taken c =
 pub returns-then-len-straight-clause-left : goal.returns-then-len-straight-clause-left
 returns-then-len-straight-clause-left c =
     let ring = c.self.inside in
-    ap (λ first. window first (ring.len - length c.args.out.now) ring.bytes) c.wrap_index-self-inside.ensures
-    ∙ window-rest 8320 ring.first ring.len _ ring.bytes _ c.self.invariant.0 c.self.invariant.1 c.self.invariant.2
+    window-rest 8320 ring.first ring.len _ ring.bytes _ c.self.invariant.0 c.self.invariant.1 c.self.invariant.2
     c.self.view_is c.requires
 
 pub returns-clause-left : goal.returns-clause-left
 returns-clause-left c =
     let ring = c.self.inside in
-    ap (λ first. window first (ring.len - length c.args.out.now) ring.bytes) c.wrap_index-self-inside.ensures
-    ∙ window-rest 8320 ring.first ring.len _ ring.bytes _ c.self.invariant.0 c.self.invariant.1 c.self.invariant.2
+    window-rest 8320 ring.first ring.len _ ring.bytes _ c.self.invariant.0 c.self.invariant.1 c.self.invariant.2
     c.self.view_is c.requires
