@@ -1,11 +1,13 @@
 #!/usr/bin/env bash
-# Counts, with callgrind, the instructions of the calls of both credential tables, with 1, 64 and 256 rows in tables
-# with capacity for 256. Needs rt and valgrind.
+# Counts, with callgrind, the instructions of each call of cred_table's two credential tables: `Listed` (a list of
+# rows) and `Chained` (linked lists by age and by ID). Each has capacity for 256 rows and holds 1, 64 or 256. Needs rt
+# and valgrind.
 #
-# Each count is the difference between a run of 1,020 rounds and a run without rounds, divided by 1,020. A round is one
-# call, together with the calls that its precondition needs: `put` and `raise` need a `find`, and `replace` needs a
-# `find` and a `same_user`. The count of `put` is the difference between filling and clearing a table, divided by the
-# number of rows. The program is built in a separate directory, with copies of the crates.
+# Except for `put`, a count is for one round, the mean of 1,020: a run of 1,020 rounds minus a run without rounds. A
+# round is the call and the calls that its precondition needs: `raise` needs a `find`, and `replace` a `find` and a
+# `same_user`. For `put`, a round clears the table and puts all rows, each with a `find`; its count is the mean of 16
+# rounds minus one call of `clear`, divided by the number of rows. The program is built in a separate directory, with
+# copies of the crates.
 set -eu
 here=$(cd "$(dirname "$0")" && pwd)
 work=${1:-$(mktemp -d)}

@@ -513,7 +513,7 @@ void authenticator_request(uint64_t now_ms, uint32_t channel, const uint8_t *mes
     is_make_credential ? begin_make_credential(now_ms, &request) : begin_get_assertion(now_ms, &request);
 }
 
-void authenticator_presence(uint64_t now_ms, bool is_granted) {
+void authenticator_provide_presence(uint64_t now_ms, bool is_granted) {
     if (pending.need != PRESENCE) {
         return;
     }
@@ -532,7 +532,7 @@ void authenticator_presence(uint64_t now_ms, bool is_granted) {
     }
 }
 
-void authenticator_key_pair(uint64_t now_ms, const uint8_t *key_pair) {
+void authenticator_provide_key_pair(uint64_t now_ms, const uint8_t *key_pair) {
     (void)now_ms;
     if (pending.need != KEY_PAIR) {
         return;
@@ -630,7 +630,7 @@ static void write_get_assertion(struct response *response, const uint8_t *signat
     }
 }
 
-void authenticator_signature(uint64_t now_ms, const uint8_t *signature, size_t len) {
+void authenticator_provide_signature(uint64_t now_ms, const uint8_t *signature, size_t len) {
     (void)now_ms;
     if (pending.need != SIGNATURE) {
         return;

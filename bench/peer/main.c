@@ -95,7 +95,7 @@ static bool play_presence(const uint8_t *line, size_t line_len, uint64_t time_ms
     }
     copy_line(line, line_len);
     advance_time(time_ms);
-    authenticator_presence(now_ms, is_granted);
+    authenticator_provide_presence(now_ms, is_granted);
     return true;
 }
 
@@ -109,7 +109,7 @@ static bool play_key_pair(const uint8_t *line, size_t line_len, uint64_t time_ms
     }
     copy_line(line, line_len);
     advance_time(time_ms);
-    authenticator_key_pair(now_ms, is_refused ? NULL : key_pair);
+    authenticator_provide_key_pair(now_ms, is_refused ? NULL : key_pair);
     return true;
 }
 
@@ -121,7 +121,7 @@ static bool play_signature(const uint8_t *line, size_t line_len, uint64_t time_m
     }
     copy_line(line, line_len);
     advance_time(time_ms);
-    authenticator_signature(now_ms, signature, is_refused ? 0 : len / 2);
+    authenticator_provide_signature(now_ms, signature, is_refused ? 0 : len / 2);
     return true;
 }
 

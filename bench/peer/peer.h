@@ -51,9 +51,9 @@ bool authenticator_is_pending_on(uint32_t channel);
 void authenticator_cancel(void); /* with a response */
 void authenticator_abort(void);  /* without a response */
 void authenticator_advance_time(uint64_t now_ms);
-void authenticator_presence(uint64_t now_ms, bool granted);
-void authenticator_key_pair(uint64_t now_ms, const uint8_t *key_pair); /* id, x and y, or NULL */
-void authenticator_signature(uint64_t now_ms, const uint8_t *signature, size_t len);
+void authenticator_provide_presence(uint64_t now_ms, bool granted);
+void authenticator_provide_key_pair(uint64_t now_ms, const uint8_t *key_pair); /* id, x and y, or NULL */
+void authenticator_provide_signature(uint64_t now_ms, const uint8_t *signature, size_t len);
 struct stats authenticator_stats(void);
 
 /* CTAP2 canonical CBOR. */

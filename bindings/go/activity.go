@@ -47,9 +47,9 @@ func (k *SecurityKey) ReportOnFailure(t TestingT) {
 	})
 }
 
-// Report describes what the browsers of the key did, for the output of a failed test: who registered and signed in, what
-// was refused and why, one call per line, and then the faults that are enabled. It is empty if there were no calls and
-// no fault is enabled.
+// Report describes the last calls of the key's browsers, for the output of a failed test: who registered and signed in,
+// what was refused and why, one call per line, and then the faults that are enabled. It is empty if there were no calls
+// and no fault is enabled.
 func (k *SecurityKey) Report() string {
 	names := map[string]string{}
 	for _, credential := range k.Credentials() {

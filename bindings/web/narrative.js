@@ -65,7 +65,7 @@
      * The word of the last presence reply in a transaction.
      * @param {Viewer.Transaction} transaction
      */
-    const findReply = ({ all }) => all.filter((line) => line.kind === "presence").at(-1)?.says ?? "none";
+    const findPresenceWord = ({ all }) => all.filter((line) => line.kind === "presence").at(-1)?.says ?? "none";
 
     /**
      * How a transaction ended, in words.
@@ -78,7 +78,7 @@
         }
         if (answer) {
             const status = answer.command === CBOR && answer.length ? answer.byteAt(0) : 0;
-            const ending = status === DENIED ? DENIAL_TEXTS[findReply(transaction)] : describeStatus(status);
+            const ending = status === DENIED ? DENIAL_TEXTS[findPresenceWord(transaction)] : describeStatus(status);
             return answer.isWhole ? ending : "incomplete response";
         }
         /** @type {Record<string, string>} */

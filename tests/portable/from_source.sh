@@ -7,7 +7,8 @@
 set -euo pipefail
 top=$(cd "$(dirname "${BASH_SOURCE[0]}")/../.." && pwd)
 python=/usr/bin/python3
-if ! "$python" -c 'import hatchling, venv, cryptography' 2>/dev/null || ! command -v wasm2c gcc >/dev/null; then
+if ! "$python" -c 'import hatchling, venv, cryptography' 2>/dev/null || ! command -v wasm2c >/dev/null ||
+        ! command -v gcc >/dev/null; then
     echo "tests/portable/from_source.sh: hatchling, venv, cryptography, wabt or gcc is missing (tests/run --install); nothing was run" >&2
     exit 3
 fi

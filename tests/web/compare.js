@@ -89,7 +89,7 @@ const countSameMessages = (native, own) => {
 
 const sendDevTools = (command, parameters = {}) => post("/devtools", { command, parameters });
 
-/** The results of Chromium's authenticator with these options, and the median time of a registration and sign-in. */
+/** The results of Chromium's authenticator with these abilities, and the median time of a registration and sign-in. */
 const runInChromium = async (abilities) => {
     const options = { ...abilities, ...PROTOCOLS[abilities.protocol ?? "ctap2"], automaticPresenceSimulation: true };
     const made = await sendDevTools("WebAuthn.addVirtualAuthenticator", { options });
@@ -104,7 +104,7 @@ const runInChromium = async (abilities) => {
     }
 };
 
-/** The results of the key with these options, and the median time of a registration and sign-in. */
+/** The results of the key with these abilities, and the median time of a registration and sign-in. */
 const runWithKey = async (abilities) => {
     const key = install(abilities);
     try {
@@ -118,7 +118,7 @@ const runWithKey = async (abilities) => {
     }
 };
 
-/** The results of both authenticators with the same options, and the differences. */
+/** The results of both authenticators with the same abilities, and the differences. */
 const runBoth = async (kind, abilities) => {
     const [one, other] = [await runInChromium(abilities), await runWithKey(abilities)];
     const found = [...one.outcomes].flatMap(([name, outcome]) =>

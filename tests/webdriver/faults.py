@@ -169,7 +169,7 @@ def list_places(folder: Path) -> list[Place]:
     return list(injection.list_places(counts))
 
 
-def find_short_call_error() -> Optional[str]:
+def find_short_io_error() -> Optional[str]:
     """Runs a session with reads and writes of half their size, and returns what is wrong with the result."""
     with TemporaryDirectory() as folder:
         _, library = injection.short_calls_prefix(Path(folder))
@@ -203,7 +203,7 @@ def main() -> int:
     some = found if given.all else random.Random(given.seed).sample(found, min(given.count, len(found)))
     begun = time.monotonic()
     wrong = injection.check_places(some, find_error, given.jobs)
-    if shutil.which("gcc") and (text := find_short_call_error()) is not None:
+    if shutil.which("gcc") and (text := find_short_io_error()) is not None:
         wrong.append((Place("each call", 0, "half of the bytes"), text))
     for place, text in wrong:
         print(f"FAILED  {place}: {text}")

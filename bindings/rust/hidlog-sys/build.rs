@@ -38,7 +38,10 @@ fn compile_portable() -> PathBuf {
     let sources = Path::new(&var("CARGO_MANIFEST_DIR").unwrap()).join("lib/portable");
     let (target, out) = (var("TARGET").unwrap(), PathBuf::from(var("OUT_DIR").unwrap()));
     if !sources.join("hidlog.c").exists() || target.ends_with("msvc") {
-        panic!("hidlog-sys has no library for {target}: compile the portable library, and set HIDLOG_LIBRARY_FOLDER to its folder");
+        panic!(
+            "hidlog-sys has no library for {target}: compile hidlog.c, which bindings/c/sources.sh writes, to a static \
+            library, and set HIDLOG_LIBRARY_FOLDER to its folder"
+        );
     }
     let prefix = if target.ends_with("windows-gnu") && var("HOST") != Ok(target) { "x86_64-w64-mingw32-" } else { "" };
     let compiler = var("CC").unwrap_or(if prefix.is_empty() { "cc".into() } else { format!("{prefix}gcc") });

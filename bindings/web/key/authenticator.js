@@ -148,7 +148,8 @@ export class Authenticator {
             message = this.#collector.add(await this.#provide(turn));
         }
         if (message.command !== CBOR) {
-            throw new Error(`unexpected message ${message.command} from the authenticator: ${toHex(message.bytes)}`);
+            const command = toHex(Uint8Array.of(message.command));
+            throw new Error(`unexpected CTAPHID message 0x${command} from the authenticator: ${toHex(message.bytes)}`);
         }
         return message.bytes;
     }
