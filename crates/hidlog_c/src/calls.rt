@@ -145,7 +145,7 @@ pub extern "C" fn hidlog_key_refuse_key_pair(key: &mut KeyHandle, at: u64) -> i3
     key.process_input(at, Input::Key(None))
 }
 
-/// Provides a signature over the bytes to sign, of 1 to 72 bytes.
+/// Provides a signature (DER, 1 to 72 bytes) over the bytes to sign.
 #[unsafe(no_mangle)]
 pub extern "C" fn hidlog_key_provide_signature(
     key: &mut KeyHandle,

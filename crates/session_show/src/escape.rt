@@ -39,7 +39,7 @@ pub fn is_invisible(c: char) -> bool {
 
 /// Returns whether a text needs no escaping: it is printable ASCII without characters that JSON escapes. Most texts
 /// are.
-pub fn is_printable(bytes: &[u8]) -> bool {
+pub fn needs_no_escape(bytes: &[u8]) -> bool {
     for byte in bytes {
         if !matches!(byte, b' ' | b'!' | b'#'..=b'[' | b']'..=b'~') {
             return false;
@@ -79,7 +79,7 @@ pub fn write_char(buf: &mut TextBuf, c: char, is_json: bool) {
 /// Writes untrusted bytes as text, with invisible characters escaped. If the bytes aren't UTF-8, each byte outside
 /// ASCII is written as `\x` and two digits.
 pub fn write_escaped(buf: &mut TextBuf, line: &[u8]) {
-    if is_printable(line) {
+    if needs_no_escape(line) {
         buf.bytes(line);
         return;
     }

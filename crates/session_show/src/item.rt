@@ -4,7 +4,7 @@ ghost use Rattle.session_show.specs.Written.{Writes};
 
 use crate::chunked::{Written, put_chunks};
 use crate::detail::Detail;
-use crate::escape::{is_printable, write_char};
+use crate::escape::{needs_no_escape, write_char};
 use crate::text_buf::TextBuf;
 use ctap_cbor::{Cursor, Fault, Item, check};
 use session_log::{Failed, Target};
@@ -166,7 +166,7 @@ pub fn write_scalar(buf: &mut TextBuf, item: Item<'_>, notation: &Notation) {
 /// Writes an untrusted text in quotation marks, with `"` and `\` escaped.
 pub fn write_text(buf: &mut TextBuf, text: &str, is_json: bool) {
     buf.text("\"");
-    if is_printable(text.as_bytes()) {
+    if needs_no_escape(text.as_bytes()) {
         buf.bytes(text.as_bytes());
     } else {
         for c in text.chars() {

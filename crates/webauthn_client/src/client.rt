@@ -28,8 +28,8 @@ pub struct Client<'a> {
     suffix: &'a [u8],
     abilities: Abilities,
     is_conditional: bool,
-    /// The timeout in the options, in milliseconds. For conditional mediation, which has no timeout, the browser's
-    /// default.
+    /// The timeout in milliseconds: that of the options, or `DEFAULT_TIMEOUT_MS` if the options have none or mediation
+    /// is conditional, which ignores it.
     pub timeout: u32,
 }
 

@@ -161,16 +161,20 @@ fn check_protection(
     }
 }
 
-/// Checks that the URL of the extension `appid` has the same site as the page.
-fn check_app_id(value: Option<&[u8]>, origin: &Origin) -> Result<(), Rejection> {
-    let Some(value) = value else {
+/// Checks that the URL in the extension `name`, `appid` or `appidExclude`, has the same site as the page.
+fn check_app_id(
+    extensions: Option<&[u8]>,
+    name: &'static str,
+    origin: &Origin,
+) -> Result<(), Rejection> {
+    let Some(value) = extension(extensions, name) else {
         return Ok(());
     };
     let text = to_string_value(value)?;
     if text.is_empty() {
         return Ok(());
     }
-    check_site(text.as_slice(), origin)
+    check_site(text.as_slice(), name, origin)
 }
 
 /// Checks the extensions of a registration.
@@ -183,7 +187,7 @@ pub fn check_creation(
     if extension(extensions, "appid").is_some() {
         return Err(unsupported("appid", "it is only valid when requesting an assertion"));
     }
-    check_app_id(extension(extensions, "appidExclude"), origin)?;
+    check_app_id(extensions, "appidExclude", origin)?;
     if inner_member(extensions, "largeBlob", "read").is_some() {
         return Err(unsupported(
             "largeBlob",
@@ -311,5 +315,5 @@ pub fn check_request(
     if let Some(record) = inner_member(extensions, "prf", "evalByCredential") {
         check_credential_names(record, allowed)?;
     }
-    check_app_id(extension(extensions, "appid"), origin)
+    check_app_id(extensions, "appid", origin)
 }

@@ -108,7 +108,7 @@ pub fn check_descriptors(list: Option<&[u8]>, name: &'static str) -> Result<(), 
     Ok(())
 }
 
-/// Decodes a member in base64url.
+/// Decodes the base64url value of the member `name`.
 pub fn decode_member(value: &[u8], name: &'static str) -> Result<Text, Rejection> {
     let text = to_string_value(value)?;
     decode(text.as_slice(), name)

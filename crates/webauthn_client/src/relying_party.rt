@@ -14,13 +14,14 @@ pub struct Origin<'a> {
     pub is_secure_scheme: bool,
 }
 
-/// Returns the error for an origin or RP ID that isn't allowed.
-fn security_error(reason: &'static str) -> Rejection
-    ensures { result.error ≡ Security }
+/// Returns the error for an origin, an RP ID or an extension's URL that isn't allowed.
+fn security_error(member: &'static str, reason: &'static str) -> Rejection
+    ensures error { result.error ≡ Security }
+    ensures member { result.member.now ≡ member.now }
 {
     Rejection {
         error: DomError::Security,
-        member: "",
+        member,
         reason,
     }
 }
@@ -111,12 +112,14 @@ pub fn may_use(id: &[u8], host: &[u8], suffix: &[u8]) -> bool
 fn check_context(origin: &Origin) -> Result<(), Rejection> {
     if is_address(origin.host) {
         return Err(security_error(
+            "",
             "This is an invalid domain: the host is an IP address; serve the page at http://localhost",
         ));
     }
     let is_local = origin.host == b"localhost".as_slice() || origin.host.ends_with(b".localhost");
     if !origin.is_secure_scheme && !is_local {
         return Err(security_error(
+            "",
             "the page is not in a secure context: browsers offer WebAuthn only on https:// and http://localhost",
         ));
     }
@@ -144,27 +147,28 @@ pub fn select_rp_id<'a>(
     };
     if !may_use(id, origin.host, known) {
         return Err(security_error(
+            "",
             "The relying party ID is not a registrable domain suffix of, nor equal to the current domain",
         ));
     }
     Ok(id)
 }
 
-/// Checks that a URL is valid and has the same site as the page. If the page's scheme is https, so must be that of the
-/// URL.
-pub fn check_site(url: &[u8], origin: &Origin) -> Result<(), Rejection> {
+/// Checks that the value of the extension `name` is an https URL of the page's site, and that the page's scheme is
+/// https.
+pub fn check_site(url: &[u8], name: &'static str, origin: &Origin) -> Result<(), Rejection> {
     let path = match url.iter().position(|&byte| byte == b'/') {
         Some(_) => url,
         None => {
             return Err(Rejection {
                 error: DomError::Syntax,
-                member: "appid",
+                member: name,
                 reason: "The extension value is neither empty/null nor a valid URL.",
             });
         }
     };
     let Some(rest) = path.strip_prefix(b"https://") else {
-        return Err(security_error("the extension's URL isn't over https"));
+        return Err(security_error(name, "the extension's URL isn't over https"));
     };
     let len = rest
         .iter()
@@ -174,7 +178,7 @@ pub fn check_site(url: &[u8], origin: &Origin) -> Result<(), Rejection> {
     let is_near = may_use(site, origin.host, last_label(origin.host))
         || may_use(origin.host, site, last_label(site));
     if !is_near || !origin.is_secure_scheme {
-        return Err(security_error("the extension's URL belongs to another site"));
+        return Err(security_error(name, "the extension's URL belongs to another site"));
     }
     Ok(())
 }
