@@ -6,8 +6,8 @@ use Rattle.ctap_cbor.specs.declared.item.Item.TheVariants as item
 use Rattle.ctap_cbor.specs.Tree.{push_pair, Tree, Trees, Pairs, Array, Map, Plain, Scalar}
 use Rattle.ctap_cbor.specs.{Faults.AnItem, Faults.AKey, Views.to_part}
 use Rattle.ctap_cbor.specs.Parts.{Part, One, OpensArray, OpensMap}
-use Rattle.ctap_cbor.specs.Reading.{Reading, TakesItem, HasItemError, Passes, PassesHead, PassesSome, Fails, PassesAll, FailsInArray}
-use Rattle.ctap_cbor.specs.Reading.{PassesPairs, PassesSomePairs, FailsInPairs, GivesKey}
+use Rattle.ctap_cbor.specs.Reading.{Reading, TakesItem, HasItemError, Passes, PassesHead, Fails, PassesAll, FailsInArray}
+use Rattle.ctap_cbor.specs.Reading.{PassesPairs, FailsInPairs, GivesKey}
 use Rattle.ctap_cbor.proofs.Moves.{pairs_more, array_halts, key_halts, value_halts}
 
 deeper : (level : ℕ) → 0 < 5 - level → 5 - level ≡ suc (5 - (level + 1))
@@ -43,13 +43,13 @@ plain_passes levels a b (item.Text s) no-array no-map t = (_, one_passes levels 
 plain_passes levels a b (item.Bool f) no-array no-map t = (_, one_passes levels a b _ t, refl)
 plain_passes levels a b item.Null no-array no-map t = (_, one_passes levels a b _ t, refl)
 
-pub array_whole : (level n : ℕ) (a b c : Reading) → TakesItem (5 - level) a b (OpensArray n) →
-    PassesSome (5 - (level + 1)) n b c → PassesHead (5 - level) (OpensArray n) a c
-array_whole level n a b c t h = (Array h.0, array_then level n h.0 a b c t h.1, ap OpensArray (sym h.1.number))
+pub array_whole : (level n : ℕ) (ts : Trees) (a b c : Reading) → TakesItem (5 - level) a b (OpensArray n) →
+    PassesAll (5 - (level + 1)) n ts b c → PassesHead (5 - level) (OpensArray n) a c
+array_whole level n ts a b c t h = (Array ts, array_then level n ts a b c t h, ap OpensArray (sym h.number))
 
-pub map_whole : (level n : ℕ) (a b c : Reading) → TakesItem (5 - level) a b (OpensMap n) →
-    PassesSomePairs (5 - (level + 1)) n b c → PassesHead (5 - level) (OpensMap n) a c
-map_whole level n a b c t h = (Map h.0, map_then level n h.0 h.1 a b c t h.2, ap OpensMap (sym h.2.number))
+pub map_whole : (level n : ℕ) (ps : Pairs) (last : Option (List ℕ)) (a b c : Reading) → TakesItem (5 - level) a b (OpensMap n) →
+    PassesPairs (5 - (level + 1)) n ps last b c → PassesHead (5 - level) (OpensMap n) a c
+map_whole level n ps last a b c t h = (Map ps, map_then level n ps last a b c t h, ap OpensMap (sym h.number))
 
 -- an item that is refused at once
 pub refused_halts : (levels : ℕ) (a b : Reading) (at : ℕ) (kind : Kind) → HasItemError levels AnItem a b at kind →

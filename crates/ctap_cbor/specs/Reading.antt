@@ -135,10 +135,6 @@ pub record FailsAtValue (levels n : ℕ) (old new : Reading) (at : ℕ) (kind : 
   pub takes : TakesKey last between at_value key
   pub halts : Fails levels at_value new at kind
 
--- The cursor reads `n` pairs of a map, with any keys and values.
-abbrev pub PassesSomePairs : ℕ → ℕ → Reading → Reading → Type 0
-PassesSomePairs levels n old new = (ps : Pairs) × (last : Option (List ℕ)) × PassesPairs levels n ps last old new
-
 -- The cursor reads any item with its content.
 abbrev pub PassesOne : ℕ → Reading → Reading → Type 0
 PassesOne levels old new = (t : Tree) × Passes levels t old new
@@ -152,10 +148,6 @@ part_of_tree (Map ps) = OpensMap (count_pairs ps)
 -- The cursor reads an item with this head, including its content.
 abbrev pub PassesHead : ℕ → Part → Reading → Reading → Type 0
 PassesHead levels part old new = (t : Tree) × Passes levels t old new × (part ≡ part_of_tree t)
-
--- The cursor reads any `n` items with their content.
-abbrev pub PassesSome : ℕ → ℕ → Reading → Reading → Type 0
-PassesSome levels n old new = (ts : Trees) × PassesAll levels n ts old new
 
 -- The cursor finds an error in a key or a value of a map.
 abbrev pub FailsInPairs : ℕ → ℕ → Reading → Reading → ℕ → Kind → Type 0

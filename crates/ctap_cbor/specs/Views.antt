@@ -1,5 +1,5 @@
 -- Borrowed items as values of the definitions, without their addresses in memory.
-use Rattle.std.specs.Prelude.{zero, suc, true, false, None, Some, nat_eq, pos, negsuc, if◌then◌else◌, ◌≡◌, ℕ, List, ◌∷◌}
+use Rattle.std.specs.Prelude.{suc, true, false, None, Some, ◌≡◌, ℕ, List, ◌∷◌}
 use Rattle.std.specs.Prelude.{◌++◌, drop, Result, Ok, Err, IsOkAnd, ◌≤◌, length}
 use Rattle.ctap_cbor.specs.declared.{fault.Fault.Fault, fault.Kind.Kind, item.Item.Item}
 use Rattle.ctap_cbor.specs.declared.fault.Kind.TheVariants.{Truncated, KeyOrder}
@@ -44,14 +44,6 @@ IsDecodedItem bytes (Err (kind, n)) read = (read ≡ Err kind) × (n ≡ passed 
 abbrev pub expected_of : Bool → Expected
 expected_of true = AKey None
 expected_of false = AnItem
-
--- The item with this major type, additional information and argument, unless it is a string.
-abbrev pub item_with_head : ℕ → ℕ → ℕ → Part
-item_with_head zero i n = One (tree.Int (pos n))
-item_with_head (suc zero) i n = One (tree.Int (negsuc n))
-item_with_head (suc (suc (suc (suc zero)))) i n = OpensArray n
-item_with_head (suc (suc (suc (suc (suc zero))))) i n = OpensMap n
-item_with_head m i n = One (if nat_eq i 20 then tree.Flag false else if nat_eq i 21 then tree.Flag true else tree.Null)
 
 -- The result of reading a head's argument after a valid initial byte: the argument and its length, or the first error
 -- and the number of bytes read.

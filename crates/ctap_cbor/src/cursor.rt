@@ -3,11 +3,11 @@
 ghost use Rattle.std.specs.Prelude.{◌≡◌, ◌-◌, ◌+◌, ◌≤◌, length, take, drop, MatchResult, Ok, Err};
 ghost use Rattle.std.specs.Option.{option_copied};
 ghost use Rattle.ctap_cbor.specs.Head.{AreBytes};
-ghost use Rattle.ctap_cbor.specs.Faults.{AnItem, AKey, is_above};
+ghost use Rattle.ctap_cbor.specs.Faults.{AnItem, AKey};
 ghost use Rattle.ctap_cbor.specs.Parts.{read, IsAllowed};
 ghost use Rattle.ctap_cbor.specs.Views.{to_part, ReadsItem, end_steps_of};
-ghost use Rattle.ctap_cbor.specs.Reading.{Reading, rest_of, advance, log_comparison, TakesItem, HasItemError, GivesKey, HasNoByteLeft, HasTrailingBytes};
-ghost use Rattle.ctap_cbor.specs.Reading.{PassesOne, PassesHead, PassesSome, PassesSomePairs, Fails, FailsInArray, FailsInPairs, IsOnlyResult, MovesOn};
+ghost use Rattle.ctap_cbor.specs.Reading.{Reading, rest_of, advance, TakesItem, HasItemError, GivesKey, HasNoByteLeft, HasTrailingBytes};
+ghost use Rattle.ctap_cbor.specs.Reading.{PassesOne, PassesHead, Fails, IsOnlyResult, MovesOn};
 
 use crate::fault::{Fault, Kind};
 use crate::head::find;
@@ -108,8 +108,11 @@ impl<'a> Cursor<'a> {
         match find(rest, 0, true) {
             Ok((item, len)) => {
                 let bytes = &rest[..len];
-                let (is_above, steps) = compare_keys(previous, bytes);
-                self.pass(len, steps);
+                let (is_above, compared) = match previous {
+                    None => (true, 0),
+                    Some(before) => (before.cmp(bytes).is_lt(), len),
+                };
+                self.pass(len, compared);
                 if is_above {
                     Ok(Key { item, bytes })
                 } else {
@@ -167,43 +170,23 @@ impl<'a> Cursor<'a> {
         ensures onward { MovesOn self.old self.new }
     {
         match item {
-            Item::Array(count) => self.skip_items(level + 1, count),
-            Item::Map(count) => self.skip_pairs(level + 1, count),
+            Item::Array(count) => {
+                for done in 0..count {
+                    self.skip(level + 1)?;
+                }
+                Ok(())
+            }
+            Item::Map(count) => {
+                let mut previous = None;
+                for done in 0..count {
+                    let key = self.key(previous)?;
+                    previous = Some(key.bytes);
+                    self.skip(level + 1)?;
+                }
+                Ok(())
+            }
             _ => Ok(()),
         }
-    }
-
-    /// Skips `count` items with their content.
-    #[cycle(skip)]
-    fn skip_items(&mut self, level: u8, count: u64) -> Result<(), Fault>
-        requires low { 1 ≤ level }
-        requires high { level ≤ 5 }
-        ensures { MatchResult result
-            (λ _. PassesSome (5 - level) count self.old self.new)
-            (λ f. FailsInArray (5 - level) count self.old self.new f.at f.kind) }
-    {
-        for done in 0..count {
-            self.skip(level)?;
-        }
-        Ok(())
-    }
-
-    /// Skips `count` keys, each followed by its value.
-    #[cycle(skip)]
-    fn skip_pairs(&mut self, level: u8, count: u64) -> Result<(), Fault>
-        requires low { 1 ≤ level }
-        requires high { level ≤ 5 }
-        ensures { MatchResult result
-            (λ _. PassesSomePairs (5 - level) count self.old self.new)
-            (λ f. FailsInPairs (5 - level) count self.old self.new f.at f.kind) }
-    {
-        let mut previous = None;
-        for done in 0..count {
-            let key = self.key(previous)?;
-            previous = Some(key.bytes);
-            self.skip(level)?;
-        }
-        Ok(())
     }
 
     /// Checks that no byte is left. If there is one, fails with [`Kind::Trailing`], and the cursor doesn't move.
@@ -258,18 +241,6 @@ impl<'a> Cursor<'a> {
             .steps
             .saturating_add(len as u64)
             .saturating_add(more as u64);
-    }
-}
-
-/// Returns whether a key is greater than the previous one in lexicographic order, and the number of steps of the
-/// comparison: one for each byte of the key.
-fn compare_keys(previous: Option<&[u8]>, key: &[u8]) -> (bool, usize)
-    ensures above { result.0 ≡ is_above (AKey (option_copied previous.entry)) key.now }
-    ensures steps { result.1 ≡ log_comparison (option_copied previous.entry) (length key.now) }
-{
-    match previous {
-        None => (true, 0),
-        Some(before) => (before.cmp(key).is_lt(), key.len()),
     }
 }
 

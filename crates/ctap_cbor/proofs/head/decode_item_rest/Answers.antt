@@ -1,9 +1,8 @@
-use Rattle.std.proofs.Common.{◌≡◌, ◌≢◌, ◌+◌, ◌≤◌, List, ℕ, zero, suc, None, length, false, refl, ap, ◌∙◌, arith}
+use Rattle.std.proofs.Common.{◌≡◌, ◌≢◌, ◌+◌, ◌≤◌, List, ℕ, None, length, false, ap, ◌∙◌, arith}
 use Rattle.std.proofs.lemmas.{Grind.common_steps, Str.is_utf8-from_IsUtf8, Str.IsUtf8-from_is_utf8}
 use Rattle.std.specs.Str.{is_utf8, IsUtf8}
 use Rattle.ctap_cbor.specs.Faults.{AnItem, first_fault_of, later_faults, body_faults, string_len, item_len, passed}
 use Rattle.ctap_cbor.specs.Head.{major, info, argument, argument_len, least_argument}
-use Rattle.ctap_cbor.specs.{Parts.item_by_major, Views.item_with_head}
 use Rattle.ctap_cbor.proofs.head.decode_item_rest.Goals.{in-0, in-1, in-4, in-5, in_default+in-20, in_default+in-21, in_default+in_default-2}
 use Rattle.ctap_cbor.proofs.head.decode_item_rest.Goals as goal
 
@@ -15,16 +14,6 @@ no_fault : (first : ℕ) (rest : List ℕ) → argument_len (info first) ≤ len
     → first_fault_of (later_faults AnItem first rest) ≡ None
 unfolding body_faults string_len
 no_fault first rest fits shortest bytes text = grind (arith, common_steps)
-
-same_item : (m first : ℕ) (rest : List ℕ) → m ≢ 2 → m ≢ 3
-    → item_with_head m (info first) (argument first rest) ≡ item_by_major m first rest
-same_item zero first rest bytes text = refl
-same_item (suc zero) first rest bytes text = refl
-same_item (suc (suc zero)) first rest bytes text = absurd (bytes refl)
-same_item (suc (suc (suc zero))) first rest bytes text = absurd (text refl)
-same_item (suc (suc (suc (suc zero)))) first rest bytes text = refl
-same_item (suc (suc (suc (suc (suc zero))))) first rest bytes text = refl
-same_item (suc (suc (suc (suc (suc (suc m)))))) first rest bytes text = refl
 
 head_only : (first : ℕ) (rest : List ℕ) → major first ≢ 2 → major first ≢ 3
     → 1 + argument_len (info first) ≡ item_len first rest
@@ -49,8 +38,15 @@ returns-then-major-ne3 c =
     let long : 1 + c.in_ok-argument.len ≡ item_len first rest =
     ap (λ (n : ℕ). 1 + n) head.1 ∙ head_only first rest bytes text in (
       no_fault first rest (omega (arith, head.1, head.2)) (omega (arith, head.0, head.3)) bytes text,
-      elim c.match-major.branch [ in-0 w ↦ grind (arith, w.item-is, w.in-0.is) | in-1 w ↦ grind (arith, w.item-is, w.in-1.is) | in-4 w ↦ grind (arith, w.item-is, w.in-4.is) | in-5 w ↦ grind (arith, w.item-is, w.in-5.is) | in_default+in-20 w ↦ grind (arith, w.item-is, w.in-20.is) | in_default+in-21 w ↦ grind (arith, w.item-is, w.in-21.is) | in_default+in_default-2 w ↦ grind (arith, w.item-is) ] ∙ ap (item_with_head (major first) (info first)) head.0
-          ∙ same_item (major first) first rest bytes text,
+      elim c.match-major.branch [
+        | in-0 w ↦ grind (arith, w.item-is, w.in-0.is)
+        | in-1 w ↦ grind (arith, w.item-is, w.in-1.is)
+        | in-4 w ↦ grind (arith, w.item-is, w.in-4.is)
+        | in-5 w ↦ grind (arith, w.item-is, w.in-5.is)
+        | in_default+in-20 w ↦ grind (arith, w.item-is, w.in-20.is)
+        | in_default+in-21 w ↦ grind (arith, w.item-is, w.in-21.is)
+        | in_default+in_default-2 w ↦ grind (arith, w.item-is)
+      ],
       long,
       omega (arith, head.2),
     )

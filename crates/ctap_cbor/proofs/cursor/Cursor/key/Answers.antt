@@ -1,22 +1,32 @@
-use Rattle.std.proofs.Common.{arith, sym, ap, ◌∙◌}
-use Rattle.std.{proofs.lemmas.List.length-take-le, specs.Option.option_copied}
-use Rattle.ctap_cbor.specs.{Views.to_part, Reading.log_comparison}
+use Rattle.std.proofs.Common.{arith, ap, take, ◌≡◌, ◌∙◌}
+use Rattle.std.specs.Option.{option_copied}
+use Rattle.ctap_cbor.specs.{Views.to_part, Reading.log_comparison, Faults.AKey, Faults.is_above}
+use Rattle.ctap_cbor.proofs.cursor.Cursor.key.Goals.{in-None, in-Some}
 use Rattle.ctap_cbor.proofs.Keys.{key_taken, key_below, key_refused, key_given, key_not_given}
 use Rattle.ctap_cbor.proofs.cursor.Cursor.key.Goals as goal
 
 pub returns-then-is_above-clause-gives : goal.returns-then-is_above-clause-gives
-returns-then-is_above-clause-gives c = grind (arith, key_taken, length-take-le)
+returns-then-is_above-clause-gives c =
+    let steps : c.match-previous.is_above.1 ≡ log_comparison (option_copied c.args.previous) c.in-Ok.len =
+    elim c.match-previous.branch [ in-None w ↦ grind (arith, w.in-None.is, w.is_above-is) | in-Some w ↦ grind (arith, w.in-Some.is, w.is_above-is, w.cmp.ensures, w.is_lt.ensures) ] in
+    let order : is_above (AKey (option_copied c.args.previous)) (take c.in-Ok.len c.rest-rest.result.now) ≡ c.match-previous.is_above.0 =
+    elim c.match-previous.branch [ in-None w ↦ grind (arith, w.in-None.is, w.is_above-is) | in-Some w ↦ grind (arith, w.in-Some.is, w.is_above-is, w.cmp.ensures, w.is_lt.ensures) ] in
+    key_taken c.args.self.now c.pass.new.self (option_copied c.args.previous) c.rest-rest.result.now
+    (to_part c.in-Ok.item) c.in-Ok.len c.match-previous.is_above.1 c.rest-rest.ensures.rest c.rest-rest.ensures.bytes
+    c.in-Ok.ensures steps c.pass.ensures (order ∙ c.if-is_above.true)
 
 pub returns-then-is_above-clause-exact : goal.returns-then-is_above-clause-exact
 returns-then-is_above-clause-exact c = key_given _ _ _ _ _ (returns-then-is_above-clause-gives c)
 
 pub returns-else-is_above-clause-gives : goal.returns-else-is_above-clause-gives
-returns-else-is_above-clause-gives c = key_below c.args.self.now c.pass.new.self (option_copied c.args.previous)
-    c.self.inside.place c.rest-rest.result.now (to_part c.in-Ok.item) c.in-Ok.len c.compare_keys-is_above.result.1
-    c.rest-rest.ensures.rest c.in-Ok.ensures (c.compare_keys-is_above.ensures.steps
-    ∙ ap (log_comparison (option_copied c.args.previous))
-    (length-take-le c.in-Ok.len c.rest-rest.result.now c.in-Ok.ensures.1)) c.pass.ensures
-    (sym c.compare_keys-is_above.ensures.above ∙ c.if-is_above.false) (ap (λ r. r.place) c.self.view_is)
+returns-else-is_above-clause-gives c =
+    let steps : c.match-previous.is_above.1 ≡ log_comparison (option_copied c.args.previous) c.in-Ok.len =
+    elim c.match-previous.branch [ in-None w ↦ grind (arith, w.in-None.is, w.is_above-is) | in-Some w ↦ grind (arith, w.in-Some.is, w.is_above-is, w.cmp.ensures, w.is_lt.ensures) ] in
+    let order : is_above (AKey (option_copied c.args.previous)) (take c.in-Ok.len c.rest-rest.result.now) ≡ c.match-previous.is_above.0 =
+    elim c.match-previous.branch [ in-None w ↦ grind (arith, w.in-None.is, w.is_above-is) | in-Some w ↦ grind (arith, w.in-Some.is, w.is_above-is, w.cmp.ensures, w.is_lt.ensures) ] in
+    key_below c.args.self.now c.pass.new.self (option_copied c.args.previous) c.self.inside.place c.rest-rest.result.now
+    (to_part c.in-Ok.item) c.in-Ok.len c.match-previous.is_above.1 c.rest-rest.ensures.rest c.in-Ok.ensures steps c.pass.ensures
+    (order ∙ c.if-is_above.false) (ap (λ r. r.place) c.self.view_is)
 
 pub returns-else-is_above-clause-exact : goal.returns-else-is_above-clause-exact
 returns-else-is_above-clause-exact c = key_not_given _ _ _ _ _ (returns-else-is_above-clause-gives c)
