@@ -34,7 +34,7 @@
             `line ${line}: longer than 255 bytes`,
             `line ${line}: differs at packet ${packet}`,
             `line ${line}: reading failed`,
-            "what is written is too long",
+            "the output is too long",
             "too many lines",
             `line ${line}: no memory`,
         ];

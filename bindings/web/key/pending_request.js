@@ -31,7 +31,7 @@ export class Requests {
         }
         this.#current?.end(makeDomError("AbortError", "Another request took over."));
         if (timeout === 0 && !isConditional) {
-            throw makeNotAllowed("the timeout of the options is 0");
+            throw makeNotAllowed("the request's timeout is 0");
         }
         const ending = new AbortController();
         /** @type {Current} */

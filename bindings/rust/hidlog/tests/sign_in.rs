@@ -79,7 +79,7 @@ fn registers_and_signs_in() {
     check_recordings(browser.key.recordings());
 }
 
-/// Options and responses as JSON, with a user name that has to be escaped.
+/// Options and responses as JSON, with a user name that must be escaped.
 #[test]
 fn exchanges_json() {
     let mut browser = new_browser();
