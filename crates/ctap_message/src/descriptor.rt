@@ -11,7 +11,7 @@ ghost use Rattle.ctap_message.specs.Fields.{descriptor_in, id_of_public_key, is_
 ghost use Rattle.ctap_message.specs.Collected.{to_descriptor, descriptor_next, IsPlainName, listing_in, to_list_summary, list_in, to_descriptor_list};
 
 use crate::descriptors::Descriptors;
-use crate::item::{is_public_key, read_members};
+use crate::item::{PUBLIC_KEY, read_members};
 use ctap_cbor::{Cursor, Entries, Fault, Item, Members, read_array};
 
 /// A collector that accepts only text strings.
@@ -50,7 +50,7 @@ impl<'a> Descriptor<'a> {
     pub fn public_key_id(&self) -> Option<&'a [u8]>
         ensures { option_copied result ≡ id_of_public_key (to_descriptor self.now) }
     {
-        if is_public_key(self.kind) {
+        if self.kind == Some(PUBLIC_KEY) {
             self.id
         } else {
             None

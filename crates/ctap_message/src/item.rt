@@ -1,12 +1,10 @@
 //! Helper functions for items and maps.
 
-ghost use Rattle.std.specs.Prelude.{◌≡◌, ◌&&◌, ◌||◌, ◌-◌, ◌≤◌, MatchResult};
-ghost use Rattle.std.specs.Option.{option_copied};
+ghost use Rattle.std.specs.Prelude.{◌≡◌, ◌-◌, ◌≤◌, MatchResult};
 ghost use Rattle.ctap_cbor.specs.Views.{to_part, head_tree};
 ghost use Rattle.ctap_cbor.specs.Tree.{is_map};
 ghost use Rattle.ctap_cbor.specs.Reading.{Fails};
 ghost use Rattle.ctap_message.specs.Walks.{ReadsMembers};
-ghost use Rattle.ctap_message.specs.Descriptors.{is_public_key as is_known_type};
 
 use ctap_cbor::{Cursor, Fault, Item, Members, read_map};
 
@@ -17,15 +15,8 @@ pub(crate) fn expect_map(item: Item<'_>) -> bool
     matches!(item, Item::Map(_))
 }
 
-/// Returns whether a credential type, if any, is `public-key`.
-pub(crate) fn is_public_key(kind: Option<&str>) -> bool
-    ensures { result ≡ is_known_type (option_copied kind.entry) }
-{
-    match kind {
-        Some("public-key") => true,
-        _ => false,
-    }
-}
+/// The credential type that descriptors and parameters must have.
+pub(crate) const PUBLIC_KEY: &str = "public-key";
 
 /// Reads the members of a map. Returns whether the item is a map all of whose members were accepted.
 pub(crate) fn read_members<'a, M: Members<'a>>(

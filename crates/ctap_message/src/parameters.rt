@@ -6,7 +6,7 @@ ghost use Rattle.ctap_message.specs.Descriptors.{parameter_types};
 ghost use Rattle.ctap_message.specs.Fields.{parameter_in, parameters_in};
 ghost use Rattle.ctap_message.specs.Collected.{to_parameter, to_parameters};
 
-use crate::item::{is_public_key, read_members};
+use crate::item::{PUBLIC_KEY, read_members};
 use ctap_cbor::{Cursor, Entries, Fault, Item, Members};
 
 /// ES256 as a COSE algorithm.
@@ -64,7 +64,7 @@ impl<'a> Entries<'a> for Parameters {
         };
         let typed = read_members(&mut parameter, cursor, level)?;
         self.is_whole &= parameter.alg.is_some() && parameter.kind.is_some();
-        self.has_es256 |= parameter.alg == Some(ES256) && is_public_key(parameter.kind);
+        self.has_es256 |= parameter.alg == Some(ES256) && parameter.kind == Some(PUBLIC_KEY);
         Ok(typed)
     }
 }
