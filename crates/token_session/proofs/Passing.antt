@@ -37,6 +37,18 @@ pub record IsPassed (v : SessionState) (t : ℕ) (new : SessionState) (sent : Li
 abbrev dropped : Option Open → ℕ → Option ℕ
 dropped c t = cond (is_overdue c t) (option_map (λ m. m.cid) c) None
 
+-- a message that is overdue is given up
+pub never : (c : Option Open) (t : ℕ) → is_overdue c t ≡ true → None ≡ dropped c t → ⊥
+unfolding is_overdue
+never c t late none = grind arith
+
+-- where no message is overdue, the assembly stays, and no message is given up
+pub stays : (a : Assembly) (t : ℕ) → is_overdue a.current t ≡ false → a ≡ passed_to a t
+stays a t early = rw early refl
+
+pub none_dropped : (c : Option Open) (t : ℕ) → is_overdue c t ≡ false → None ≡ dropped c t
+none_dropped c t early = rw early refl
+
 module _ (n b t : ℕ) (a d : Assembly) (k : CoreState) (m : Meters) (v : SessionState) (sent : List (List ℕ))
     (is : record { machine = whole n a k b; meters = m } ≡ v) (kept : d ≡ passed_to a t) where
   pub late_passed : (x : ℕ) → Some x ≡ dropped a.current t → sent ≡ error x 5

@@ -276,8 +276,9 @@ impl<const C: usize> Session<C> {
         ensures why { result ≡ time_cause self.old.machine.current at }
     {
         self.latest = at;
-        let last = self.assembler.last();
-        if let Some(cid) = self.assembler.pass(at) {
+        if self.assembler.overdue(at) {
+            let last = self.assembler.last();
+            let cid = self.assembler.pass(at)?;
             let why = Refusal::Overdue { last, at };
             outbox.put_message(cid, ERROR, &[why.code()]);
             return Some(why);

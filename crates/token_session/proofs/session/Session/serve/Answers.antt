@@ -1,4 +1,4 @@
-use Rattle.std.proofs.Common.{◌≡◌, Some, refl, arith}
+use Rattle.std.proofs.Common.{Some, refl, arith}
 use Rattle.authn_core.specs.State.{PresenceIs, KeyIs, SignatureIs}
 use Rattle.token_session.specs.Meters.{counted}
 use Rattle.token_session.proofs.{Few.event_few, Sizes.keeper_within}
