@@ -1,5 +1,5 @@
 -- What is collected: one pair or one entry more, and from these to the map or the array.
-use Rattle.std.proofs.Common.{arith, ◌≡◌, ℕ, ◌+◌, ◌-◌, ◌<◌, Bool, true, List, Option, Some, None, refl, sym, subst}
+use Rattle.std.proofs.Common.{arith, ◌≡◌, ℕ, ◌+◌, ◌-◌, ◌<◌, Bool, true, List, Option, Some, None, sym, subst}
 use Rattle.std.specs.Prelude.{◌&&◌}
 use Rattle.ctap_cbor.specs.{declared.fault.Kind.Kind, Parts.Part, Parts.OpensArray, Parts.OpensMap}
 use Rattle.ctap_cbor.specs.Tree.{Plain, Array, Map, Trees, no_trees, Pairs, no_pairs, push, push_pair}
@@ -39,10 +39,10 @@ all_more H levels n ok taken both x y z a b c h s is =
 pub map_read : {M : Type 0} (H : M → Bool → Pairs → Type 0) (level n : ℕ) (last : Option (List ℕ)) (ok : Bool) (x y : M)
     (a b c : Reading)
     → TakesItem (5 - level) a b (OpensMap n) → AddsPairs H (5 - (level + 1)) n last ok x y b c →
-    ReadsMap H (5 - level) (Some ok) x y a c
-map_read H level n last ok x y a b c t h = (Map h.0, map_then level n h.0 last a b c t h.1, (ok, refl, h.2))
+    ReadsMap H (5 - level) ok x y a c
+map_read H level n last ok x y a b c t h = (Map h.0, map_then level n h.0 last a b c t h.1, h.2)
 
 pub array_read : {M : Type 0} (H : M → Bool → Trees → Type 0) (level n : ℕ) (ok : Bool) (x y : M) (a b c : Reading)
     → TakesItem (5 - level) a b (OpensArray n) → AddsEntries H (5 - (level + 1)) n ok x y b c →
-    ReadsArray H (5 - level) (Some ok) x y a c
-array_read H level n ok x y a b c t h = (Array h.0, array_then level n h.0 a b c t h.1, (ok, refl, h.2))
+    ReadsArray H (5 - level) ok x y a c
+array_read H level n ok x y a b c t h = (Array h.0, array_then level n h.0 a b c t h.1, h.2)

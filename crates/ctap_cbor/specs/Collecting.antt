@@ -1,21 +1,21 @@
 -- How the members of a map, or the entries of an array, are collected while a cursor reads them. `H m ok ps` states
 -- that `m` was collected from the pairs or entries `ps`, and that `ok` is whether all of them were accepted.
-use Rattle.std.specs.Prelude.{◌≡◌, ℕ, Bool, true, ◌&&◌, Option, Some, None, List}
+use Rattle.std.specs.Prelude.{◌≡◌, ℕ, Bool, true, false, ◌&&◌, Option, List}
 use Rattle.ctap_cbor.specs.Tree.{Scalar, Tree, Plain, Array, Map, Trees, no_trees, Pairs, no_pairs, push, push_pair}
 use Rattle.ctap_cbor.specs.Parts.{Part, One}
 use Rattle.ctap_cbor.specs.Reading.{Reading, Passes, PassesAll, PassesPairs}
 
--- The effect of collecting the pairs of this item on the collector, from `before` to `after`. An item other than a map
--- leaves the collector unchanged.
-abbrev pub InMap : {M : Type 0} → (M → Bool → Pairs → Type 0) → Option Bool → M → M → Tree → Type 0
-InMap H result before after (Map ps) = (ok : Bool) × (result ≡ Some ok) × (H before true no_pairs → H after ok ps)
-InMap H result before after _ = (result ≡ None) × (after ≡ before)
+-- The effect of collecting the pairs of this item on the collector, from `before` to `after`. `taken` is whether the
+-- item is a map all of whose pairs were accepted. Another item leaves the collector unchanged.
+abbrev pub InMap : {M : Type 0} → (M → Bool → Pairs → Type 0) → Bool → M → M → Tree → Type 0
+InMap H taken before after (Map ps) = H before true no_pairs → H after taken ps
+InMap H taken before after _ = (taken ≡ false) × (after ≡ before)
 
--- The effect of collecting the entries of this item on the collector, from `before` to `after`. An item other than an
--- array leaves the collector unchanged.
-abbrev pub InArray : {M : Type 0} → (M → Bool → Trees → Type 0) → Option Bool → M → M → Tree → Type 0
-InArray H result before after (Array ts) = (ok : Bool) × (result ≡ Some ok) × (H before true no_trees → H after ok ts)
-InArray H result before after _ = (result ≡ None) × (after ≡ before)
+-- The effect of collecting the entries of this item on the collector, from `before` to `after`. `taken` is whether the
+-- item is an array all of whose entries were accepted. Another item leaves the collector unchanged.
+abbrev pub InArray : {M : Type 0} → (M → Bool → Trees → Type 0) → Bool → M → M → Tree → Type 0
+InArray H taken before after (Array ts) = H before true no_trees → H after taken ts
+InArray H taken before after _ = (taken ≡ false) × (after ≡ before)
 
 -- The cursor reads a value, and the collector accepts or skips it with its key.
 abbrev pub AddsPair : {M : Type 0} → (M → Bool → Pairs → Type 0) → ℕ → Part → Bool → M → M → Reading → Reading → Type 0
@@ -40,11 +40,9 @@ AddsEntries H levels n ok before after old new = (ts : Trees) × PassesAll level
     × (H before true no_trees → H after ok ts)
 
 -- The cursor reads an item. If the item is a map, its pairs are collected.
-abbrev pub ReadsMap : {M : Type 0} → (M → Bool → Pairs → Type 0) → ℕ → Option Bool → M → M → Reading → Reading
-    → Type 0
-ReadsMap H levels result before after old new = (t : Tree) × Passes levels t old new × InMap H result before after t
+abbrev pub ReadsMap : {M : Type 0} → (M → Bool → Pairs → Type 0) → ℕ → Bool → M → M → Reading → Reading → Type 0
+ReadsMap H levels taken before after old new = (t : Tree) × Passes levels t old new × InMap H taken before after t
 
 -- The cursor reads an item. If the item is an array, its entries are collected.
-abbrev pub ReadsArray : {M : Type 0} → (M → Bool → Trees → Type 0) → ℕ → Option Bool → M → M → Reading → Reading
-    → Type 0
-ReadsArray H levels result before after old new = (t : Tree) × Passes levels t old new × InArray H result before after t
+abbrev pub ReadsArray : {M : Type 0} → (M → Bool → Trees → Type 0) → ℕ → Bool → M → M → Reading → Reading → Type 0
+ReadsArray H levels taken before after old new = (t : Tree) × Passes levels t old new × InArray H taken before after t

@@ -42,25 +42,25 @@ pub trait Entries<'a> {
             (λ f. Fails (5 - level) cursor.old cursor.new f.at f.kind) };
 }
 
-/// Reads a whole item at this nesting level (1 to 5), and passes the pairs of a map to `members`. Returns whether all
-/// members were accepted, or None if the item isn't a map. Stops at the first error; the cursor is then where
+/// Reads a whole item at this nesting level (1 to 5), and passes the pairs of a map to `members`. Returns whether the
+/// item is a map all of whose members were accepted. Stops at the first error; the cursor is then where
 /// [`Cursor::skip`] leaves it.
 pub fn read_map<'a, M: Members<'a>>(
     members: &mut M,
     cursor: &mut Cursor<'a>,
     level: u8,
-) -> Result<Option<bool>, Fault>
+) -> Result<bool, Fault>
     requires low { 1 ≤ level }
     requires high { level ≤ 5 }
     ensures { MatchResult result
-        (λ r. ReadsMap M.Holds (5 - level) r members.old members.new cursor.old cursor.new)
+        (λ taken. ReadsMap M.Holds (5 - level) taken members.old members.new cursor.old cursor.new)
         (λ f. Fails (5 - level) cursor.old cursor.new f.at f.kind) }
 {
     let count = match cursor.item(level)? {
         Item::Map(count) => count,
         other => {
             cursor.skip_content(other, level)?;
-            return Ok(None);
+            return Ok(false);
         }
     };
     let mut previous = None;
@@ -71,28 +71,28 @@ pub fn read_map<'a, M: Members<'a>>(
         let taken = members.member(cursor, key.item, level + 1)?;
         ok &= taken;
     }
-    Ok(Some(ok))
+    Ok(ok)
 }
 
 /// Reads a whole item at this nesting level (1 to 5), and passes the entries of an array to `entries`. Returns whether
-/// all entries were accepted, or None if the item isn't an array. Stops at the first error; the cursor is then where
+/// the item is an array all of whose entries were accepted. Stops at the first error; the cursor is then where
 /// [`Cursor::skip`] leaves it.
 pub fn read_array<'a, M: Entries<'a>>(
     entries: &mut M,
     cursor: &mut Cursor<'a>,
     level: u8,
-) -> Result<Option<bool>, Fault>
+) -> Result<bool, Fault>
     requires low { 1 ≤ level }
     requires high { level ≤ 5 }
     ensures { MatchResult result
-        (λ r. ReadsArray M.HoldsAll (5 - level) r entries.old entries.new cursor.old cursor.new)
+        (λ taken. ReadsArray M.HoldsAll (5 - level) taken entries.old entries.new cursor.old cursor.new)
         (λ f. Fails (5 - level) cursor.old cursor.new f.at f.kind) }
 {
     let count = match cursor.item(level)? {
         Item::Array(count) => count,
         other => {
             cursor.skip_content(other, level)?;
-            return Ok(None);
+            return Ok(false);
         }
     };
     let mut ok = true;
@@ -100,5 +100,5 @@ pub fn read_array<'a, M: Entries<'a>>(
         let taken = entries.entry(cursor, level + 1)?;
         ok &= taken;
     }
-    Ok(Some(ok))
+    Ok(ok)
 }

@@ -1,13 +1,13 @@
 -- From pairs and entries that are taken one by one to what the whole map or array says.
-use Rattle.std.proofs.Common.{arith, ◌≡◌, ℕ, Bool, false, List, Option, Some, sym, ap, subst, ◌∙◌}
-use Rattle.std.specs.Prelude.{unwrap_or, Result, Ok, Err, MatchResult}
+use Rattle.std.proofs.Common.{arith, ◌≡◌, ℕ, Bool, List, Option, Some, sym, ap, subst, ◌∙◌}
+use Rattle.std.specs.Prelude.{Result, Ok, Err, MatchResult}
 use Rattle.ctap_cbor.specs.Tree.{Scalar, Tree, Plain, Array, Map, Trees, no_trees, Pairs, no_pairs, push, push_pair}
 use Rattle.ctap_cbor.specs.{Parts.Part, Parts.One, Views.head_tree}
 use Rattle.ctap_cbor.specs.{declared.fault.Fault.Fault, Reading.Reading, Reading.Passes, Reading.PassesHead}
 use Rattle.ctap_cbor.specs.Reading.{part_of_tree, Fails}
-use Rattle.ctap_cbor.specs.Collecting.{AddsPair, AddsEntry, ReadsArray}
+use Rattle.ctap_cbor.specs.Collecting.{AddsPair, AddsEntry, ReadsMap, ReadsArray}
 use Rattle.ctap_message.specs.Members.{MemberKey, pairs_of, entries_of, has_listed_type, all_pairs, all_entries, map_of, array_of}
-use Rattle.ctap_message.specs.Walks.{Reads, ReadsMembers, HasPairs, HasEntries}
+use Rattle.ctap_message.specs.Walks.{Reads, HasPairs, HasEntries}
 use Rattle.ctap_message.proofs.Pushes.{all_push, entries_push}
 
 -- ---- one pair more
@@ -60,28 +60,37 @@ adds_entry shown type view levels taken x y t a c passes is more = grind (arith,
 
 pub map_read : {M V : Type 0} (shown : M → V) (types : List (MemberKey × (Tree → Bool))) (view : Option Tree →
     V) (levels : ℕ) (b : Bool) (x y : M) (a c : Reading)
-    → ReadsMembers (λ m ok ps. HasPairs types view (shown m) ok ps) levels b x y a c
+    → ReadsMap (λ m ok ps. HasPairs types view (shown m) ok ps) levels b x y a c
     → shown x ≡ view (Some (Map no_pairs))
     → Reads {V = Bool × V} (λ t. (map_of types t, view (Some (Map (pairs_of (Some t)))))) levels (b, shown y) a c
 unfolding all_pairs
 map_read {V = V} shown types view levels b x y a c h start = grind arith
 
 pub array_read : {M V : Type 0} (shown : M → V) (type : Tree → Bool) (view : Option Tree →
-    V) (levels : ℕ) (r : Option Bool) (b : Bool) (x y : M) (a c : Reading) → b ≡ unwrap_or r false
-    → ReadsArray (λ m ok ts. HasEntries type view (shown m) ok ts) levels r x y a c →
+    V) (levels : ℕ) (b : Bool) (x y : M) (a c : Reading)
+    → ReadsArray (λ m ok ts. HasEntries type view (shown m) ok ts) levels b x y a c →
     shown x ≡ view (Some (Array no_trees))
     → Reads {V = Bool × V} (λ t. (array_of type t, view (Some (Array (entries_of (Some t)))))) levels (b, shown y) a c
 unfolding all_entries
-array_read {V = V} shown type view levels r b x y a c e h start = grind arith
+array_read {V = V} shown type view levels b x y a c h start = grind arith
 
 pub maps_read : {M V : Type 0} (shown : M → V) (types : List (MemberKey × (Tree → Bool))) (view : Option Tree →
     V) (levels : ℕ) (r : Result Bool Fault) (x y : M) (a c : Reading)
-    → MatchResult r (λ taken. ReadsMembers (λ m ok ps. HasPairs types view (shown m) ok ps) levels taken x y a c)
+    → MatchResult r (λ taken. ReadsMap (λ m ok ps. HasPairs types view (shown m) ok ps) levels taken x y a c)
     (λ f. Fails levels a c f.at f.kind) → shown x ≡ view (Some (Map no_pairs))
     → MatchResult r (λ taken. Reads {V = Bool × V} (λ t. (map_of types t, view (Some (Map (pairs_of (Some t)))))) levels
     (taken, shown y) a c) (λ f. Fails levels a c f.at f.kind)
 maps_read shown types view levels (Ok taken) x y a c h start = map_read shown types view levels taken x y a c h start
 maps_read shown types view levels (Err f) x y a c h start = h
+
+pub arrays_read : {M V : Type 0} (shown : M → V) (type : Tree → Bool) (view : Option Tree →
+    V) (levels : ℕ) (r : Result Bool Fault) (x y : M) (a c : Reading)
+    → MatchResult r (λ taken. ReadsArray (λ m ok ts. HasEntries type view (shown m) ok ts) levels taken x y a c)
+    (λ f. Fails levels a c f.at f.kind) → shown x ≡ view (Some (Array no_trees))
+    → MatchResult r (λ taken. Reads {V = Bool × V} (λ t. (array_of type t, view (Some (Array (entries_of (Some t)))))) levels
+    (taken, shown y) a c) (λ f. Fails levels a c f.at f.kind)
+arrays_read shown type view levels (Ok taken) x y a c h start = array_read shown type view levels taken x y a c h start
+arrays_read shown type view levels (Err f) x y a c h start = h
 
 -- a value that was read under a key is put into a field
 pub adds_read : {M V W : Type 0} (shown : M → V) (types : List (MemberKey × (Tree → Bool))) (view : Option Tree →

@@ -1,7 +1,7 @@
 -- What each map says, of one pair more, and which keys' values a head decides.
 use Rattle.std.proofs.Common.{arith, rules, ◌≡◌, ℕ, Bool, true, false, List, Option, Some, None, Result, Ok, Err, refl}
 use Rattle.std.{proofs.Common.◌∙◌, specs.Option.option_and_then}
-use Rattle.std.specs.Prelude.{ℤ, MatchResult, is_some, unwrap_or, ◌&&◌, ◌||◌, codes}
+use Rattle.std.specs.Prelude.{ℤ, MatchResult, is_some, ◌&&◌, ◌||◌, codes}
 use Rattle.ctap_cbor.specs.{declared.fault.Fault.Fault, Views.head_tree, Parts.Part, Parts.One}
 use Rattle.ctap_cbor.specs.Tree.{Text, Tree, Array, Map, Trees, no_trees, no_pairs, push, as_bytes, as_text}
 use Rattle.ctap_cbor.specs.{Tree.as_int, Tree.as_uint, Tree.as_flag, Reading.Reading, Reading.Fails, Reading.PassesHead}
@@ -168,15 +168,17 @@ pub texts_more : {M : Type 0} (levels : ℕ) (part : Part) (taken : Bool) (x y :
     AddsEntry {M = M} (λ _ ok ts. ok ≡ all_entries is_text ts) levels taken x y a c
 texts_more levels part taken x y a c h is = grind (arith, entries_push)
 
-texts_say : {M : Type 0} (t : Tree) (r : Option Bool) (x y : M) →
-    InArray {M = M} (λ _ ok ts. ok ≡ all_entries is_text ts) r x y t → unwrap_or r false ≡ array_of is_text t
+texts_say : {M : Type 0} (t : Tree) (b : Bool) (x y : M) →
+    InArray {M = M} (λ _ ok ts. ok ≡ all_entries is_text ts) b x y t → b ≡ array_of is_text t
 unfolding all_entries
-texts_say t r x y h = search (rules, arith)
+texts_say t b x y h = search (rules, arith)
 
-pub texts_read : {M : Type 0} (levels : ℕ) (r : Option Bool) (b : Bool) (x y : M) (a c : Reading) →
-    b ≡ unwrap_or r false → ReadsArray {M = M} (λ _ ok ts. ok ≡ all_entries is_text ts) levels r x y a c →
-    Reads (array_of is_text) levels b a c
-texts_read levels r b x y a c e h = (h.0, h.1, e ∙ texts_say h.0 r x y h.2)
+pub texts_read : {M : Type 0} (levels : ℕ) (r : Result Bool Fault) (x y : M) (a c : Reading) →
+    MatchResult r (λ b. ReadsArray {M = M} (λ _ ok ts. ok ≡ all_entries is_text ts) levels b x y a c)
+    (λ f. Fails levels a c f.at f.kind) →
+    MatchResult r (λ b. Reads (array_of is_text) levels b a c) (λ f. Fails levels a c f.at f.kind)
+texts_read levels (Ok b) x y a c h = (h.0, h.1, texts_say h.0 b x y h.2)
+texts_read levels (Err f) x y a c h = h
 
 -- ---- makeCredential
 

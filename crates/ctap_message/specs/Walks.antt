@@ -1,7 +1,6 @@
 -- The value of a tree that a cursor reads, and the values collected from the pairs of a map or the entries of an array.
-use Rattle.std.specs.Prelude.{◌≡◌, ℕ, Bool, false, List, Option, Some, unwrap_or}
+use Rattle.std.specs.Prelude.{◌≡◌, ℕ, Bool, List, Option, Some}
 use Rattle.ctap_cbor.specs.{Tree.Tree, Tree.Array, Tree.Map, Tree.Trees, Tree.Pairs, Reading.Reading, Reading.Passes}
-use Rattle.ctap_cbor.specs.Collecting.{ReadsMap}
 use Rattle.ctap_message.specs.Members.{MemberKey, all_pairs, all_entries, has_listed_type}
 
 -- The cursor reads a tree `t`, and `value` is `f t`.
@@ -19,9 +18,3 @@ HasPairs types view value ok ps = (ok ≡ all_pairs (has_listed_type types) ps) 
 -- `ok` is whether the entries have the type, and `value` is the value of the array of these entries.
 abbrev pub HasEntries : {V : Type 0} → (Tree → Bool) → (Option Tree → V) → V → Bool → Trees → Type 0
 HasEntries type view value ok ts = (ok ≡ all_entries type ts) × (value ≡ view (Some (Array ts)))
-
--- The cursor reads an item, and its members are collected. `taken` is whether the item is a map all of whose members
--- were accepted.
-abbrev pub ReadsMembers : {M : Type 0} → (M → Bool → Pairs → Type 0) → ℕ → Bool → M → M → Reading → Reading → Type 0
-ReadsMembers H levels taken before after old new =
-    (r : Option Bool) × (taken ≡ unwrap_or r false) × ReadsMap H levels r before after old new

@@ -11,8 +11,8 @@ ghost use Rattle.ctap_message.specs.Fields.{descriptor_in, id_of_public_key, is_
 ghost use Rattle.ctap_message.specs.Collected.{to_descriptor, descriptor_next, IsPlainName, listing_in, to_list_summary, list_in, to_descriptor_list};
 
 use crate::descriptors::Descriptors;
-use crate::item::{PUBLIC_KEY, read_members};
-use ctap_cbor::{Cursor, Entries, Fault, Item, Members, read_array};
+use crate::item::PUBLIC_KEY;
+use ctap_cbor::{Cursor, Entries, Fault, Item, Members, read_array, read_map};
 
 /// A collector that accepts only text strings.
 #[derive(Drop)]
@@ -35,7 +35,7 @@ fn read_texts(cursor: &mut Cursor<'_>, level: u8) -> Result<bool, Fault>
         (λ is. Reads (array_of is_text) (5 - level) is cursor.old cursor.new)
         (λ f. Fails (5 - level) cursor.old cursor.new f.at f.kind) }
 {
-    Ok(read_array(&mut TextStrings, cursor, level)?.unwrap_or(false))
+    read_array(&mut TextStrings, cursor, level)
 }
 
 /// The members of a descriptor that were read so far.
@@ -117,7 +117,7 @@ pub(crate) fn read_descriptor<'a>(
         id: None,
         kind: None,
     };
-    let typed = read_members(&mut found, cursor, level)?;
+    let typed = read_map(&mut found, cursor, level)?;
     Ok((typed, found))
 }
 
@@ -164,7 +164,7 @@ pub(crate) fn read_list<'a>(
         is_whole: true,
         given: false,
     };
-    let typed = read_array(&mut found, cursor, level)?.unwrap_or(false);
+    let typed = read_array(&mut found, cursor, level)?;
     list.is_whole = found.is_whole;
     list.list = if found.given {
         Descriptors::from_entries(cursor.bytes_since(from))

@@ -9,9 +9,9 @@ ghost use Rattle.ctap_message.specs.CollectedRequests.{assertion_in, to_assertio
 
 use crate::descriptor::{DescriptorList, read_list};
 use crate::descriptors::Descriptors;
-use crate::item::{expect_map, read_members};
+use crate::item::expect_map;
 use crate::options::Options;
-use ctap_cbor::{Cursor, Fault, Item, Members};
+use ctap_cbor::{Cursor, Fault, Item, Members, read_map};
 
 /// The parameters of authenticatorGetAssertion that were read so far.
 #[derive(Drop)]
@@ -31,7 +31,7 @@ impl<'a> Members<'a> for Assert<'a> {
             Item::Int(0x03) => read_list(&mut self.allow, cursor, level),
             Item::Int(0x05) => {
                 self.options = Options::NONE;
-                read_members(&mut self.options, cursor, level)
+                read_map(&mut self.options, cursor, level)
             }
             _ => {
                 let value = cursor.read_whole_item(level)?;
@@ -75,7 +75,7 @@ pub(crate) fn parse_get_assertion<'a>(cursor: &mut Cursor<'a>) -> Result<(bool, 
         options: Options::NONE,
         pin_uv_auth_param: None,
     };
-    let typed = read_members(&mut found, cursor, 1)?;
+    let typed = read_map(&mut found, cursor, 1)?;
     cursor.end()?;
     Ok((typed, found))
 }

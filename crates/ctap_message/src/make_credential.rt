@@ -9,12 +9,12 @@ ghost use Rattle.ctap_message.specs.CollectedRequests.{make_in, to_make_paramete
 
 use crate::descriptor::{DescriptorList, read_list};
 use crate::descriptors::Descriptors;
-use crate::item::{expect_map, read_members};
+use crate::item::expect_map;
 use crate::options::Options;
 use crate::parameters::Parameters;
 use crate::rp::Rp;
 use crate::user::User;
-use ctap_cbor::{Cursor, Fault, Item, Members, read_array};
+use ctap_cbor::{Cursor, Fault, Item, Members, read_array, read_map};
 
 /// The parameters of authenticatorMakeCredential that were read so far.
 #[derive(Drop)]
@@ -37,24 +37,24 @@ impl<'a> Members<'a> for Make<'a> {
         match key {
             Item::Int(0x02) => {
                 self.rp = Rp { id: None };
-                read_members(&mut self.rp, cursor, level)
+                read_map(&mut self.rp, cursor, level)
             }
             Item::Int(0x03) => {
                 self.user = User {
                     id: None,
                     name: None,
                 };
-                read_members(&mut self.user, cursor, level)
+                read_map(&mut self.user, cursor, level)
             }
             Item::Int(0x04) => {
                 self.has_parameters = true;
                 self.parameters = Parameters::NONE;
-                Ok(read_array(&mut self.parameters, cursor, level)?.unwrap_or(false))
+                read_array(&mut self.parameters, cursor, level)
             }
             Item::Int(0x05) => read_list(&mut self.exclude, cursor, level),
             Item::Int(0x07) => {
                 self.options = Options::NONE;
-                read_members(&mut self.options, cursor, level)
+                read_map(&mut self.options, cursor, level)
             }
             _ => {
                 let value = cursor.read_whole_item(level)?;
@@ -105,7 +105,7 @@ pub(crate) fn parse_make_credential<'a>(cursor: &mut Cursor<'a>) -> Result<(bool
         pin_uv_auth_param: None,
         enterprise_attestation: None,
     };
-    let typed = read_members(&mut found, cursor, 1)?;
+    let typed = read_map(&mut found, cursor, 1)?;
     cursor.end()?;
     Ok((typed, found))
 }

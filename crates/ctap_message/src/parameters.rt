@@ -6,8 +6,8 @@ ghost use Rattle.ctap_message.specs.Descriptors.{parameter_types};
 ghost use Rattle.ctap_message.specs.Fields.{parameter_in, parameters_in};
 ghost use Rattle.ctap_message.specs.Collected.{to_parameter, to_parameters};
 
-use crate::item::{PUBLIC_KEY, read_members};
-use ctap_cbor::{Cursor, Entries, Fault, Item, Members};
+use crate::item::PUBLIC_KEY;
+use ctap_cbor::{Cursor, Entries, Fault, Item, Members, read_map};
 
 /// ES256 as a COSE algorithm.
 const ES256: i128 = -7;
@@ -62,7 +62,7 @@ impl<'a> Entries<'a> for Parameters {
             alg: None,
             kind: None,
         };
-        let typed = read_members(&mut parameter, cursor, level)?;
+        let typed = read_map(&mut parameter, cursor, level)?;
         self.is_whole &= parameter.alg.is_some() && parameter.kind.is_some();
         self.has_es256 |= parameter.alg == Some(ES256) && parameter.kind == Some(PUBLIC_KEY);
         Ok(typed)

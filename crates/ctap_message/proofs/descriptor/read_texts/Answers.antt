@@ -3,5 +3,5 @@ use Rattle.ctap_message.proofs.Growing.{texts_read}
 use Rattle.ctap_message.proofs.descriptor.read_texts.Goals as goal
 
 pub returns : goal.returns
-returns c = texts_read (5 - c.args.level) c.in_ok-read_array.field-0 c.unwrap_or.result _ c.read_array.new.entries
-    c.args.cursor.now c.read_array.new.cursor c.unwrap_or.ensures c.in_ok-read_array.ensures
+returns c = texts_read (5 - c.args.level) c.read_array.result _ c.read_array.new.entries c.args.cursor.now
+    c.read_array.new.cursor c.read_array.ensures

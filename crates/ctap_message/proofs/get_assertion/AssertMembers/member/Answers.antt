@@ -22,12 +22,12 @@ pub returns-in-Int-eq5 : goal.returns-in-Int-eq5
 returns-in-Int-eq5 c =
     let x = to_assertion_parameters c.args.self.now in
     adds_read to_assertion_parameters assertion_types assertion_in assert_next (typed (map_of option_types) options_in)
-    (to_options c.read_members.new.members) (5 - c.args.level) (to_part c.args.key) (Int (pos 5)) c.args.self.now
-    (record c.args.self.now { options = c.read_members.new.members }) c.args.cursor.now c.read_members.new.cursor
-    c.read_members.result assert_grows (search rules) (λ v. refl)
+    (to_options c.read_map.new.members) (5 - c.args.level) (to_part c.args.key) (Int (pos 5)) c.args.self.now
+    (record c.args.self.now { options = c.read_map.new.members }) c.args.cursor.now c.read_map.new.cursor
+    c.read_map.result assert_grows (search rules) (λ v. refl)
     (λ v e. ap (λ w. (record x.0 { options = w }, x.1)) e)
-    (maps_read to_options option_types options_in (5 - c.args.level) c.read_members.result _
-    c.read_members.new.members c.args.cursor.now c.read_members.new.cursor c.read_members.ensures options_start)
+    (maps_read to_options option_types options_in (5 - c.args.level) c.read_map.result _
+    c.read_map.new.members c.args.cursor.now c.read_map.new.cursor c.read_map.ensures options_start)
 
 pub returns-in-Int-eq1 : goal.returns-in-Int-eq1
 returns-in-Int-eq1 c =

@@ -1,4 +1,4 @@
-use Rattle.std.proofs.Common.{◌-◌, true, refl, sym, ap, ◌∙◌, arith, rules, Ok}
+use Rattle.std.proofs.Common.{◌-◌, true, refl, sym, ap, ◌∙◌, arith, rules}
 use Rattle.std.specs.Prelude.{is_some, pos}
 use Rattle.ctap_cbor.specs.{Tree.Int, Views.to_part}
 use Rattle.ctap_message.specs.{Walks.typed, Members.map_of, Members.array_of}
@@ -7,7 +7,7 @@ use Rattle.ctap_message.specs.Descriptors.{parameter_types, descriptor_types, op
 use Rattle.ctap_message.specs.Fields.{rp_in, user_in, parameters_in, options_in}
 use Rattle.ctap_message.specs.Collected.{to_rp, to_user, to_parameters, to_options, to_descriptor_list, list_in}
 use Rattle.ctap_message.specs.CollectedRequests.{parameter_key, to_make_parameters, make_in, make_next}
-use Rattle.ctap_message.proofs.{Naming.copied_some, Collecting.maps_read, Collecting.array_read, Collecting.adds_read}
+use Rattle.ctap_message.proofs.{Naming.copied_some, Collecting.maps_read, Collecting.arrays_read, Collecting.adds_read}
 use Rattle.ctap_message.proofs.{Collecting.adds_put, Growing.rp_start, Growing.user_start, Growing.options_start}
 use Rattle.ctap_message.proofs.Growing.{parameters_start, make_grows, make_heads, make_other}
 use Rattle.ctap_message.proofs.make_credential.MakeMembers.member.Goals as goal
@@ -16,35 +16,34 @@ pub returns-in-Int-eq2 : goal.returns-in-Int-eq2
 returns-in-Int-eq2 c =
     let x = to_make_parameters c.args.self.now in
     adds_read to_make_parameters make_types make_in make_next (typed (map_of rp_types) rp_in)
-    (to_rp c.read_members.new.members) (5 - c.args.level) (to_part c.args.key) (Int (pos 2)) c.args.self.now
-    (record c.args.self.now { rp = c.read_members.new.members }) c.args.cursor.now c.read_members.new.cursor
-    c.read_members.result make_grows (search rules) (λ v. refl) (λ v e. ap (λ w. (record x.0 { rp_id = w }, x.1)) e)
-    (maps_read to_rp rp_types rp_in (5 - c.args.level) c.read_members.result _ c.read_members.new.members
-    c.args.cursor.now c.read_members.new.cursor c.read_members.ensures rp_start)
+    (to_rp c.read_map.new.members) (5 - c.args.level) (to_part c.args.key) (Int (pos 2)) c.args.self.now
+    (record c.args.self.now { rp = c.read_map.new.members }) c.args.cursor.now c.read_map.new.cursor
+    c.read_map.result make_grows (search rules) (λ v. refl) (λ v e. ap (λ w. (record x.0 { rp_id = w }, x.1)) e)
+    (maps_read to_rp rp_types rp_in (5 - c.args.level) c.read_map.result _ c.read_map.new.members
+    c.args.cursor.now c.read_map.new.cursor c.read_map.ensures rp_start)
 
 pub returns-in-Int-eq3 : goal.returns-in-Int-eq3
 returns-in-Int-eq3 c =
     let x = to_make_parameters c.args.self.now in
     adds_read to_make_parameters make_types make_in make_next (typed (map_of user_types) user_in)
-    (to_user c.read_members-in-Int-eq3.new.members) (5 - c.args.level) (to_part c.args.key) (Int (pos 3))
-    c.args.self.now (record c.args.self.now { user = c.read_members-in-Int-eq3.new.members }) c.args.cursor.now
-    c.read_members-in-Int-eq3.new.cursor c.read_members-in-Int-eq3.result make_grows (search rules) (λ v. refl)
+    (to_user c.read_map-in-Int-eq3.new.members) (5 - c.args.level) (to_part c.args.key) (Int (pos 3))
+    c.args.self.now (record c.args.self.now { user = c.read_map-in-Int-eq3.new.members }) c.args.cursor.now
+    c.read_map-in-Int-eq3.new.cursor c.read_map-in-Int-eq3.result make_grows (search rules) (λ v. refl)
     (λ v e. ap (λ w. (record x.0 { user = w }, x.1)) e)
-    (maps_read to_user user_types user_in (5 - c.args.level) c.read_members-in-Int-eq3.result _
-    c.read_members-in-Int-eq3.new.members c.args.cursor.now c.read_members-in-Int-eq3.new.cursor
-    c.read_members-in-Int-eq3.ensures user_start)
+    (maps_read to_user user_types user_in (5 - c.args.level) c.read_map-in-Int-eq3.result _
+    c.read_map-in-Int-eq3.new.members c.args.cursor.now c.read_map-in-Int-eq3.new.cursor
+    c.read_map-in-Int-eq3.ensures user_start)
 
-pub returns-in_ok-read_array-in-Int-eq4 : goal.returns-in_ok-read_array-in-Int-eq4
-returns-in_ok-read_array-in-Int-eq4 c =
+pub returns-in-Int-eq4 : goal.returns-in-Int-eq4
+returns-in-Int-eq4 c =
     let x = to_make_parameters c.args.self.now in
     adds_read to_make_parameters make_types make_in make_next (typed (array_of (map_of parameter_types)) parameters_in)
     (to_parameters c.read_array.new.entries) (5 - c.args.level) (to_part c.args.key) (Int (pos 4)) c.args.self.now
     (record c.args.self.now { has_parameters = true; parameters = c.read_array.new.entries }) c.args.cursor.now
-    c.read_array.new.cursor (Ok c.unwrap_or.result) make_grows (search rules) (λ v. refl)
+    c.read_array.new.cursor c.read_array.result make_grows (search rules) (λ v. refl)
     (λ v e. ap (λ w. (record x.0 { has_parameters = true; parameters = w }, x.1)) e)
-    (array_read to_parameters (map_of parameter_types) parameters_in (5 - c.args.level)
-    c.in_ok-read_array-in-Int-eq4.field-0 c.unwrap_or.result _ c.read_array.new.entries c.args.cursor.now
-    c.read_array.new.cursor c.unwrap_or.ensures c.in_ok-read_array-in-Int-eq4.ensures parameters_start)
+    (arrays_read to_parameters (map_of parameter_types) parameters_in (5 - c.args.level) c.read_array.result _
+    c.read_array.new.entries c.args.cursor.now c.read_array.new.cursor c.read_array.ensures parameters_start)
 
 pub returns-in-Int-eq5 : goal.returns-in-Int-eq5
 returns-in-Int-eq5 c =
@@ -59,13 +58,13 @@ pub returns-in-Int-eq7 : goal.returns-in-Int-eq7
 returns-in-Int-eq7 c =
     let x = to_make_parameters c.args.self.now in
     adds_read to_make_parameters make_types make_in make_next (typed (map_of option_types) options_in)
-    (to_options c.read_members-in-Int-eq7.new.members) (5 - c.args.level) (to_part c.args.key) (Int (pos 7))
-    c.args.self.now (record c.args.self.now { options = c.read_members-in-Int-eq7.new.members }) c.args.cursor.now
-    c.read_members-in-Int-eq7.new.cursor c.read_members-in-Int-eq7.result make_grows (search rules) (λ v. refl)
+    (to_options c.read_map-in-Int-eq7.new.members) (5 - c.args.level) (to_part c.args.key) (Int (pos 7))
+    c.args.self.now (record c.args.self.now { options = c.read_map-in-Int-eq7.new.members }) c.args.cursor.now
+    c.read_map-in-Int-eq7.new.cursor c.read_map-in-Int-eq7.result make_grows (search rules) (λ v. refl)
     (λ v e. ap (λ w. (record x.0 { options = w }, x.1)) e)
-    (maps_read to_options option_types options_in (5 - c.args.level) c.read_members-in-Int-eq7.result _
-    c.read_members-in-Int-eq7.new.members c.args.cursor.now c.read_members-in-Int-eq7.new.cursor
-    c.read_members-in-Int-eq7.ensures options_start)
+    (maps_read to_options option_types options_in (5 - c.args.level) c.read_map-in-Int-eq7.result _
+    c.read_map-in-Int-eq7.new.members c.args.cursor.now c.read_map-in-Int-eq7.new.cursor
+    c.read_map-in-Int-eq7.ensures options_start)
 
 pub returns-in-Int-eq1 : goal.returns-in-Int-eq1
 returns-in-Int-eq1 c =
