@@ -15,6 +15,9 @@ type Browser struct {
 	origin string
 	// Account is the index of the account to sign in with, if several match. The newest account has index 0.
 	Account int
+	// Mediation is the mediation of the calls [default: optional]. A sign-in with mediation "conditional" uses Account at
+	// once.
+	Mediation string
 }
 
 // DOMError is the error that a page would get. Name is, for example, NotAllowedError or InvalidStateError.
@@ -48,7 +51,7 @@ func (b *Browser) call(kind ceremony, options []byte) ([]byte, error) {
 
 // perform makes a call.
 func (b *Browser) perform(kind ceremony, options []byte) ([]byte, error) {
-	c := newClientCall(kind, options, b.origin)
+	c := newClientCall(kind, options, b.origin, b.Mediation, b.key.Options)
 	request, err := c.buildRequest()
 	if err != nil {
 		return nil, err
@@ -61,7 +64,7 @@ func (b *Browser) perform(kind ceremony, options []byte) ([]byte, error) {
 		return nil, err
 	}
 	if response[0] == 0 {
-		if response, err = b.applyFaults(kind, request, response); err != nil {
+		if response, err = b.alterResponse(c, request, response); err != nil {
 			return nil, err
 		}
 	}
@@ -95,8 +98,9 @@ type signedResponse struct {
 	clientDataHash  []byte
 }
 
-// applyFaults applies the enabled faults to a response, and records the response's signature counter.
-func (b *Browser) applyFaults(kind ceremony, request, response []byte) ([]byte, error) {
+// alterResponse applies the key's options and the enabled faults to a response, and stores the response's signature
+// counter.
+func (b *Browser) alterResponse(c *clientCall, request, response []byte) ([]byte, error) {
 	parameters, err := decodeMembers(request[1:])
 	if err != nil {
 		return nil, err
@@ -107,7 +111,7 @@ func (b *Browser) applyFaults(kind ceremony, request, response []byte) ([]byte, 
 	}
 	var signed signedResponse
 	signed.data, _ = members[2].([]byte)
-	if kind == createCeremony {
+	if c.ceremony == createCeremony {
 		statement, _ := members[3].(map[any]any)
 		signed.signature, _ = statement["sig"].([]byte)
 		signed.clientDataHash, _ = parameters[1].([]byte)
@@ -115,6 +119,7 @@ func (b *Browser) applyFaults(kind ceremony, request, response []byte) ([]byte, 
 			return nil, errCBOR
 		}
 		signed.id = *(*CredentialID)(signed.data[55:87])
+		b.key.backupFlags[signed.id] = b.key.Options.backupFlags()
 	} else {
 		credential, _ := members[1].(map[any]any)
 		id, _ := credential["id"].([]byte)
@@ -125,10 +130,21 @@ func (b *Browser) applyFaults(kind ceremony, request, response []byte) ([]byte, 
 		}
 		signed.id = *(*CredentialID)(id)
 	}
-	if err := b.injectFaults(&signed); err != nil {
+	flags := b.key.backupFlags[signed.id]
+	if c.isVerified {
+		flags |= flagUserVerified
+	}
+	if err := b.alterSigned(&signed, flags); err != nil {
 		return nil, err
 	}
-	return append([]byte{0}, encode(buildResponse(kind, members, signed))...), nil
+	if flags != 0 {
+		b.key.addComment("outside of the core: flags " + flagNames(flags) + ", and the signature over them")
+	}
+	hasNone := c.ceremony == createCeremony && b.key.Options.NoAttestation
+	if hasNone {
+		b.key.addComment("outside of the core: attestation none")
+	}
+	return append([]byte{0}, encode(buildResponse(c.ceremony, members, signed, hasNone))...), nil
 }
 
 // decodeMembers decodes bytes that must be exactly one CBOR map.
@@ -141,8 +157,12 @@ func decodeMembers(from []byte) (map[any]any, error) {
 	return members, nil
 }
 
-// buildResponse encodes a response in canonical order, with the authenticator data and the signature of signed.
-func buildResponse(kind ceremony, members map[any]any, signed signedResponse) []entry {
+// buildResponse returns a response in canonical order, with the authenticator data and the signature of signed. If
+// hasNone is true, the attestation is "none".
+func buildResponse(kind ceremony, members map[any]any, signed signedResponse, hasNone bool) []entry {
+	if hasNone {
+		return []entry{{1, "none"}, {2, signed.data}, {3, []entry{}}}
+	}
 	if kind == createCeremony {
 		statement := []entry{{"alg", -7}, {"sig", signed.signature}}
 		return []entry{{1, "packed"}, {2, signed.data}, {3, statement}}
@@ -155,9 +175,10 @@ func buildResponse(kind ceremony, members map[any]any, signed signedResponse) []
 	return found
 }
 
-// injectFaults injects the enabled faults into the authenticator data and the signature.
-func (b *Browser) injectFaults(signed *signedResponse) error {
+// alterSigned sets flags in the authenticator data, injects the enabled faults, and signs changed data again.
+func (b *Browser) alterSigned(signed *signedResponse, flags byte) error {
 	faults, data := &b.key.Faults, clone(signed.data)
+	data[32] |= flags
 	if last, isKnown := b.key.last[signed.id]; faults.StaleSignCount && isKnown {
 		binary.BigEndian.PutUint32(data[33:], last)
 	}

@@ -17,9 +17,6 @@ const (
 	getCeremony    ceremony = C.HIDLOG_CLIENT_GET
 )
 
-// clientAbilities are the key's abilities: discoverable credentials, but no user verification.
-const clientAbilities = C.HIDLOG_CLIENT_RESIDENT_KEY
-
 // Maximum lengths in bytes of a request and of a credential's JSON.
 const (
 	requestCapacity    = longestMessage
@@ -43,10 +40,17 @@ type clientCall struct {
 	ceremony          ceremony
 	options, origin   []byte
 	mediation, suffix []byte
+	abilities         C.uint32_t
+	isVerified        bool // whether the response has user verification; set by buildRequest
 }
 
-func newClientCall(kind ceremony, options []byte, origin string) *clientCall {
-	return &clientCall{ceremony: kind, options: options, origin: []byte(origin), mediation: []byte("optional")}
+// newClientCall returns a call. The default of mediation is "optional".
+func newClientCall(kind ceremony, options []byte, origin, mediation string, key AuthenticatorOptions) *clientCall {
+	if mediation == "" {
+		mediation = "optional"
+	}
+	return &clientCall{ceremony: kind, options: options, origin: []byte(origin), mediation: []byte(mediation),
+		abilities: key.abilities()}
 }
 
 // buildRequest checks the options and returns the request for the key: the command byte, then CBOR.
@@ -55,7 +59,8 @@ func (c *clientCall) buildRequest() ([]byte, error) {
 	var report C.struct_hidlog_client_report
 	length := C.hidlog_client_request(C.uint32_t(c.ceremony), firstByte(c.options), C.size_t(len(c.options)),
 		firstByte(c.mediation), C.size_t(len(c.mediation)), firstByte(c.origin), C.size_t(len(c.origin)), firstByte(c.suffix),
-		C.size_t(len(c.suffix)), clientAbilities, &report, firstByte(out), C.size_t(len(out)))
+		C.size_t(len(c.suffix)), c.abilities, &report, firstByte(out), C.size_t(len(out)))
+	c.isVerified = report.is_verified == 1
 	return readResult(length, report, out)
 }
 
@@ -65,7 +70,7 @@ func (c *clientCall) buildCredential(from []byte) ([]byte, error) {
 	var report C.struct_hidlog_client_report
 	length := C.hidlog_client_response(C.uint32_t(c.ceremony), firstByte(c.options), C.size_t(len(c.options)),
 		firstByte(c.mediation), C.size_t(len(c.mediation)), firstByte(c.origin), C.size_t(len(c.origin)), firstByte(c.suffix),
-		C.size_t(len(c.suffix)), clientAbilities, firstByte(from), C.size_t(len(from)), &report, firstByte(out),
+		C.size_t(len(c.suffix)), c.abilities, firstByte(from), C.size_t(len(from)), &report, firstByte(out),
 		C.size_t(len(out)))
 	return readResult(length, report, out)
 }

@@ -153,6 +153,55 @@ func TestRegisterAndSignIn(t *testing.T) {
 	}
 }
 
+// TestAuthenticatorOptions tests flags, attestation and mediation, which are outside the core.
+func TestAuthenticatorOptions(t *testing.T) {
+	key := newKey(t)
+	browser := key.Browser(origin)
+	key.Options = hidlog.AuthenticatorOptions{
+		Verification: hidlog.VerificationVerified, BackupEligible: true, BackedUp: true, NoAttestation: true,
+	}
+	made, err := browser.Create(create)
+	registered := parseCredential(t, made, err)
+	attestation := decodeBase64URL(t, registered.Response.AttestationObject)
+	if !bytes.HasPrefix(attestation, []byte("\xa3\x63fmt\x64none\x67attStmt\xa0\x68authData")) {
+		t.Fatalf("attestation %x", attestation)
+	}
+	// The flags BE and BS are those of the credential.
+	key.Options = hidlog.AuthenticatorOptions{Verification: hidlog.VerificationVerified}
+	browser.Mediation = "conditional"
+	used, err := browser.Get(get)
+	signedIn := parseCredential(t, used, err)
+	for flags, credential := range map[byte]publicKeyCredential{0x5d: registered, 0x1d: signedIn} {
+		if data := decodeBase64URL(t, credential.Response.AuthenticatorData); data[32] != flags {
+			t.Fatalf("expected the flags %02x, got %02x", flags, data[32])
+		}
+	}
+	if !isVerified(t, registered, signedIn) {
+		t.Fatal("the signature over the flags is invalid")
+	}
+	log := key.Recordings()[0].Log
+	for text, count := range map[string]int{"flags UV, BE, BS, and the signature over them": 2, "attestation none": 1} {
+		if found := bytes.Count(log, []byte("\n# outside of the core: "+text+"\n")); found != count {
+			t.Fatalf("expected %d comments %q, got %d", count, text, found)
+		}
+	}
+	for _, test := range []struct {
+		options   hidlog.AuthenticatorOptions
+		mediation string
+		name      string
+	}{
+		{hidlog.AuthenticatorOptions{Verification: hidlog.VerificationFailed}, "", "NotAllowedError"},
+		{hidlog.AuthenticatorOptions{}, "", "NotAllowedError"},
+		{hidlog.AuthenticatorOptions{Verification: hidlog.VerificationVerified}, "now", "TypeError"},
+	} {
+		key.Options, browser.Mediation = test.options, test.mediation
+		options := []byte(`{"challenge": "AA", "rpId": "example.com", "userVerification": "required"}`)
+		if _, err := browser.Get(options); !isDOMError(err, test.name) {
+			t.Fatal(test, err)
+		}
+	}
+}
+
 func TestPresence(t *testing.T) {
 	key := newKey(t)
 	browser := key.Browser(origin)

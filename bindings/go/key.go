@@ -176,6 +176,14 @@ func (a *Authenticator) handleInput(line string, call func() C.int32_t) ([]Packe
 	return sent, nil
 }
 
+// addComment appends a comment to the recording.
+func (a *Authenticator) addComment(text string) {
+	a.mutex.Lock()
+	defer a.mutex.Unlock()
+	recording := &a.recordings[len(a.recordings)-1]
+	recording.Log = append(recording.Log, "# "+text+"\n"...)
+}
+
 // HandlePacket handles a packet from the host, and returns the packets sent in response.
 func (a *Authenticator) HandlePacket(timeMs uint64, packet Packet) ([]Packet, error) {
 	return a.handleInput(fmt.Sprintf("> %d %x", timeMs, packet), func() C.int32_t {

@@ -45,12 +45,15 @@ type SecurityKey struct {
 	Presence []Presence
 	// Faults are the faults to inject.
 	Faults Faults
+	// Options are the properties that browsers report or depend on.
+	Options AuthenticatorOptions
 
 	mutex       sync.Mutex
 	poweredUp   time.Time
 	privateKeys map[CredentialID]*ecdsa.PrivateKey
 	channel     [4]byte
 	last        map[CredentialID]uint32 // signature counter of the previous response
+	backupFlags map[CredentialID]byte   // flags BE and BS of credentials that browsers created
 	calls       []browserCall           // the last calls of browsers
 }
 
@@ -73,6 +76,7 @@ func NewSecurityKey() (*SecurityKey, error) {
 		poweredUp:     time.Now(),
 		privateKeys:   map[CredentialID]*ecdsa.PrivateKey{},
 		last:          map[CredentialID]uint32{},
+		backupFlags:   map[CredentialID]byte{},
 	}, nil
 }
 

@@ -1,6 +1,7 @@
 #!/usr/bin/env bash
 # Tests the Go module as bindings/go/README.md describes: creates a new module with the README's test, and installs the
-# package from a folder that serves as module proxy. Then runs the package's own tests and `go vet`. Downloads nothing.
+# package from a folder that serves as module proxy. Then runs the cases recorded from Chromium, the package's own tests,
+# and `go vet`. Downloads nothing.
 #
 #     tests/clients/go_module.sh PACKAGES FOLDER [arm64]      arm64: also build the tests for arm64 and run them in qemu
 set -euo pipefail
@@ -10,9 +11,7 @@ mkdir -p "$2"
 work=$(cd "$2" && pwd)
 # The README's commands; GONOSUMDB prevents queries to the checksum database.
 export GOCACHE=$work/cache GOPATH=$work/path GOFLAGS="-p=2 -modcacherw" GONOSUMDB=cogtzil.example GOTOOLCHAIN=local CGO_ENABLED=1 GO111MODULE=on
-HIDLOG_PROGRAM=$top/release/hidlog
-HIDLOG_CASES=$top/tests/python
-export HIDLOG_PROGRAM HIDLOG_CASES
+export HIDLOG_PROGRAM=$top/release/hidlog
 cd "$work"
 cp "$packages"/hidlog-go-*.zip .
 file=$(basename hidlog-go-*.zip .zip)
@@ -27,6 +26,9 @@ awk '/^```/ { n++; next } n == 1' "$top/bindings/go/README.md" >sign_in_test.go
 go get "cogtzil.example/hidlog@v${file#hidlog-go-}" 2>/dev/null
 go test -v ./... >"$work/said" 2>&1 || { cat "$work/said" && exit 1; }
 grep -q 'send it to your service: {' "$work/said"
+mkdir -p cases && cp "$top/tests/clients/cases/server.go" cases/main.go
+go build -o "$work/cases" ./cases
+"$top/tests/clients/browser_cases.py" go "$work/cases"
 unformatted=$(gofmt -l "$top/bindings/go")
 [ -z "$unformatted" ] || { echo "gofmt: $unformatted" && exit 1; }
 (cd "$(go list -m -f '{{.Dir}}' cogtzil.example/hidlog)" && go vet . && go test -count=1 ./... | sed 's/^/Go module: /')

@@ -1,7 +1,7 @@
 #!/usr/bin/env bash
 # Tests the Rust crates as bindings/rust/hidlog/README.md describes: creates a new crate with the README's test, and
-# unpacks the packages beside it. Then runs the tests of the crate hidlog, with and without OpenSSL, and clippy and
-# rustfmt if they are installed. Downloads nothing.
+# unpacks the packages beside it. Then runs the cases recorded from Chromium, the tests of the crate hidlog, with and
+# without OpenSSL, and clippy and rustfmt if they are installed. Downloads nothing.
 #
 #     tests/clients/rust_crates.sh PACKAGES FOLDER
 set -euo pipefail
@@ -20,6 +20,9 @@ source install.sh
 awk '/^```/ { n++; next } n == 1' "$top/bindings/rust/hidlog/README.md" >src/lib.rs
 cargo test --quiet --offline -- --nocapture >"$work/said" 2>&1 || { cat "$work/said" && exit 1; }
 grep -q 'send it to your service: {' "$work/said"
+mkdir -p src/bin && cp "$top/tests/clients/cases/server.rs" src/bin/cases.rs
+cargo build --quiet --offline --bin cases
+"$top/tests/clients/browser_cases.py" rust "$CARGO_TARGET_DIR/debug/cases"
 cd "$work/hidlog-${version#hidlog-sys-}"
 for words in "" --no-default-features; do
     # shellcheck disable=SC2086 # no word is no word

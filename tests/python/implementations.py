@@ -6,7 +6,7 @@ import json
 from collections.abc import Callable
 from hashlib import sha256
 from pathlib import Path
-from typing import Any
+from typing import Any, Optional
 
 from chromium import Driver
 
@@ -22,6 +22,13 @@ TABLE = json.loads(Path(__file__).with_name("browser_cases.json").read_text(enco
 CASES: dict[str, Case] = {item["name"]: item for item in TABLE["cases"]}
 # The cases in which the key has features outside the core that Chromium's authenticator also has.
 ALIKE: dict[str, Case] = {item["name"]: item for item in TABLE["alike"]}
+# The results of Chromium's virtual authenticator, and the different results of other implementations, with the reasons.
+CHROMIUM_RESULTS: dict[str, Any] = json.loads(
+    Path(__file__).with_name("browser_cases_chromium.json").read_text(encoding="utf-8")
+)
+DIFFERENCES: list[dict[str, Any]] = json.loads(
+    Path(__file__).with_name("browser_cases_differences.json").read_text(encoding="utf-8")
+)
 # Milliseconds after which Chromium is assumed to wait forever.
 WAIT_MS = 1500
 UV = 0x04
@@ -58,6 +65,25 @@ class ServiceError(Exception):
     def __init__(self, name: str, text: str = ""):
         super().__init__(f"{name}: {text}")
         self.name = name
+
+
+def find_difference(name: str, implementation: str) -> Optional[Json]:
+    """Returns how the result of a case differs from Chromium's, as browser_cases_differences.json has it, or None."""
+    for group in DIFFERENCES:
+        if name in group["results"] and implementation in group.get("implementations", [implementation]):
+            found: Json = group["results"][name]
+            return found
+    return None
+
+
+def get_expected(name: str, implementation: str) -> Json:
+    """Returns the expected result of a case. Chromium's user can't deny a request; the result of a denial is that of
+    WebAuthn (section 5.1.3)."""
+    recorded: Json = CHROMIUM_RESULTS.get(name, {"error": "NotAllowedError"})
+    difference = find_difference(name, implementation)
+    if difference and "seen" in difference and "seen" in recorded:
+        return {"seen": {**recorded["seen"], **difference["seen"]}}
+    return difference or recorded
 
 
 def _fill_options(value: Any, ids: list[str]) -> Any:

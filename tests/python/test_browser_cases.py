@@ -9,7 +9,9 @@ with an installed Chromium, and HIDLOG_RECORD_CASES=FILE records them again. The
     key, presence            options of the key, and what the user does
     then                     "failed": after the earlier registrations, user verification fails
     mediation, wrapped       the call's mediation; options in a member publicKey
-    differs                  why Chromium's authenticator returns a different result
+
+Where an implementation's result is another one, browser_cases_differences.json has its values and the reason: members of
+the result that replace Chromium's, for `implementations` [default: all].
 
 The cases of `alike` are of keys with what Chromium's authenticator has outside the core, and compare that, too.
 """
@@ -20,16 +22,22 @@ import json
 import os
 from collections.abc import Iterator
 from pathlib import Path
-from typing import Any
 
 import pytest
 from chromium import Driver, is_installed, page
-from implementations import ALIKE, CASES, TABLE, run_with_chromium, run_with_package, run_with_page_key
+from implementations import (
+    ALIKE,
+    CASES,
+    CHROMIUM_RESULTS,
+    DIFFERENCES,
+    TABLE,
+    get_expected,
+    run_with_chromium,
+    run_with_package,
+    run_with_page_key,
+)
 
 IS_RECORDING = os.environ.get("HIDLOG_RECORD_CASES")
-HERE = Path(__file__).parent
-CHROMIUM_RESULTS_FILE = HERE / "browser_cases_chromium.json"
-CHROMIUM_RESULTS: dict[str, Any] = {} if IS_RECORDING else json.loads(CHROMIUM_RESULTS_FILE.read_text(encoding="utf-8"))
 
 
 @pytest.fixture(scope="module")
@@ -52,17 +60,19 @@ def is_compared(name: str) -> bool:
 def test_the_table_is_large() -> None:
     assert len(CASES) == len(TABLE["cases"]) >= 190
     assert len(ALIKE) == len(TABLE["alike"]) >= 70
+    assert set(CHROMIUM_RESULTS) == set(filter(is_compared, ALL_CASES))
 
 
 @pytest.mark.parametrize("name", ALL_CASES)
 def test_the_browser(name: str) -> None:
-    ended = run_with_package(ALL_CASES[name])
-    if not is_compared(name):
-        assert ended == {"error": "NotAllowedError"}
-    elif "differs" in ALL_CASES[name]:
-        assert ended != CHROMIUM_RESULTS[name]
-    else:
-        assert ended == CHROMIUM_RESULTS[name]
+    assert run_with_package(ALL_CASES[name]) == get_expected(name, "python")
+
+
+def test_each_difference_is_of_a_case() -> None:
+    for group in DIFFERENCES:
+        assert group["reason"] and not set(group["results"]) - set(ALL_CASES)
+        for name in group["results"]:
+            assert get_expected(name, group.get("implementations", ["python"])[0]) != CHROMIUM_RESULTS[name]
 
 
 def test_chromium_returns_what_is_recorded(driver: Driver) -> None:

@@ -8,15 +8,9 @@ export const ORIGIN = "http://localhost:5000";
 const readJson = (name) => JSON.parse(readFileSync(new URL(`../python/${name}`, import.meta.url), "utf8"));
 const { creation, request, cases } = readJson("browser_cases.json");
 const RECORDED = readJson("browser_cases_chromium.json");
+const DIFFERENCES = readJson("browser_cases_differences.json");
 const RP_ID_HASH = createHash("sha256").update("localhost").digest();
 const HAS_CREDENTIAL = 0x40;
-
-/** Results of the key that differ from Chromium's authenticator. The table has the reasons. */
-const DIFFERENT = {
-    "create, RS256 and ES256": ({ seen }) => ({ seen: { ...seen, response: { ...seen.response, publicKeyAlgorithm: -7 } } }),
-    "create, attachment platform": () => ({ error: "NotAllowedError" }),
-    "get, transports of another kind": () => ({ error: "NotAllowedError" }),
-};
 
 const decode = (text) => Buffer.from(text, "base64url");
 const encode = (bytes) => Buffer.from(bytes).toString("base64url");
@@ -97,12 +91,16 @@ const run = async (test, browser) => {
 };
 
 /**
- * The result that the key must return. Chromium's simulated user cannot deny, so the results of a denial are those of
- * WebAuthn (section 5.1.3).
+ * The result that the key must return: Chromium's, or another one with a reason. Chromium's simulated user cannot deny,
+ * so the results of a denial are those of WebAuthn (section 5.1.3).
  */
-const getExpected = ({ name, presence, differs }) => {
-    assert.equal(Boolean(differs), name in DIFFERENT, name);
-    return presence ? { error: "NotAllowedError" } : DIFFERENT[name]?.(RECORDED[name]) ?? RECORDED[name];
+const getExpected = ({ name }) => {
+    const recorded = RECORDED[name] ?? { error: "NotAllowedError" };
+    const found = DIFFERENCES.find(({ results, implementations = ["npm"] }) =>
+        name in results && implementations.includes("npm"));
+    const different = found?.results[name];
+    return different?.seen && recorded.seen
+        ? { seen: { ...recorded.seen, ...different.seen } } : different ?? recorded;
 };
 
 /**

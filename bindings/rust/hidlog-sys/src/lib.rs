@@ -86,6 +86,9 @@ pub struct hidlog_stats {
 pub const HIDLOG_CLIENT_CREATE: u32 = 0;
 pub const HIDLOG_CLIENT_GET: u32 = 1;
 /// Flags of `enum hidlog_client_ability`.
+pub const HIDLOG_CLIENT_VERIFIES: u32 = 1;
+pub const HIDLOG_CLIENT_VERIFICATION_FAILS: u32 = 2;
+pub const HIDLOG_CLIENT_PLATFORM: u32 = 4;
 pub const HIDLOG_CLIENT_RESIDENT_KEY: u32 = 8;
 pub const HIDLOG_CLIENT_CRED_PROTECT: u32 = 16;
 pub const HIDLOG_CLIENT_LARGE_BLOB: u32 = 32;

@@ -1,6 +1,7 @@
 use crate::base64url;
 use crate::cbor::Item;
 use crate::client::{Ceremony, Client};
+use crate::options::{flag_names, FLAG_UV};
 use crate::private_keys::{sha256, PrivateKey};
 use crate::{Error, Id, SecurityKey};
 use std::collections::HashMap;
@@ -189,14 +190,23 @@ fn read_member(json: &str, name: &str) -> Option<Vec<u8>> {
 pub struct Browser {
     /// The security key.
     pub key: SecurityKey,
+    /// The mediation of the calls [default: optional]. A sign-in with mediation "conditional" uses the account at once.
+    pub mediation: String,
     origin: String,
     counters: HashMap<Id, [u8; 4]>,
+    backup_flags: HashMap<Id, u8>,
 }
 
 impl Browser {
     /// Returns a browser with a key, at an origin such as `https://example.com` or `http://localhost:5000`.
     pub fn new(origin: &str, key: SecurityKey) -> Browser {
-        Browser { key, origin: origin.into(), counters: HashMap::new() }
+        Browser {
+            key,
+            mediation: "optional".into(),
+            origin: origin.into(),
+            counters: HashMap::new(),
+            backup_flags: HashMap::new(),
+        }
     }
 
     /// Registers a credential.
@@ -243,9 +253,10 @@ impl Browser {
     }
 
     fn call(&mut self, ceremony: Ceremony, options: &str, account: usize) -> Result<String, Error> {
-        let origin = self.origin.clone();
-        let client = Client { ceremony, options, origin: &origin };
-        let request = client.build_request()?;
+        let (origin, mediation, abilities) =
+            (self.origin.clone(), self.mediation.clone(), self.key.options.abilities());
+        let client = Client { ceremony, options, mediation: &mediation, origin: &origin, abilities };
+        let (request, is_verified) = client.build_request()?;
         let mut response = self.exchange(&request)?;
         for _ in 0..account {
             if response[0] == 0 {
@@ -253,7 +264,8 @@ impl Browser {
             }
         }
         if response[0] == 0 {
-            response = self.inject_faults(ceremony, &request, &response).ok_or(Error::InvalidResponse)??;
+            let altered = self.alter_response(ceremony, &request, &response, is_verified);
+            response = altered.ok_or(Error::InvalidResponse)??;
         }
         client.build_credential(&response).map_err(|error| self.with_cause(error, response[0]))
     }
@@ -278,8 +290,14 @@ impl Browser {
         }
     }
 
-    /// Injects the enabled faults into a response, and records the response's signature counter.
-    fn inject_faults(&mut self, ceremony: Ceremony, request: &[u8], response: &[u8]) -> Option<Result<Vec<u8>, Error>> {
+    /// Applies the key's options and the enabled faults to a response, and stores the response's signature counter.
+    fn alter_response(
+        &mut self,
+        ceremony: Ceremony,
+        request: &[u8],
+        response: &[u8],
+        is_verified: bool,
+    ) -> Option<Result<Vec<u8>, Error>> {
         let parameters = Item::decode(&request[1..])?;
         let members = Item::decode(&response[1..])?;
         let data = members.get_bytes(&Item::Number(2))?;
@@ -295,13 +313,28 @@ impl Browser {
                 members.get_bytes(&Item::Number(3))?,
             ),
         };
-        Some(self.alter_response(&id, data, hash, signature).map(|(data, signature)| {
+        if ceremony == Ceremony::Create {
+            self.backup_flags.insert(id, self.key.options.backup_flags());
+        }
+        let verified = if is_verified { FLAG_UV } else { 0 };
+        let flags = verified | self.backup_flags.get(&id).copied().unwrap_or(0);
+        if flags != 0 {
+            let names = flag_names(flags);
+            self.key.add_comment(&format!("outside of the core: flags {names}, and the signature over them"));
+        }
+        let has_none = ceremony == Ceremony::Create && self.key.options.no_attestation;
+        if has_none {
+            self.key.add_comment("outside of the core: attestation none");
+        }
+        Some(self.alter_signed(&id, data, hash, signature, flags).map(|(data, signature)| {
             let third = match ceremony {
+                Ceremony::Create if has_none => Item::Map(Vec::new()),
                 Ceremony::Create => Item::from_entries([("alg", Item::Number(-7)), ("sig", Item::Bytes(signature))]),
                 Ceremony::Get => Item::Bytes(signature),
             };
             let entries = (1..=4).filter_map(|key| {
                 let value = match key {
+                    1 if has_none => Some(Item::from_text("none")),
                     2 => Some(Item::Bytes(data.clone())),
                     3 => Some(third.clone()),
                     _ => members.get(&Item::Number(key)).cloned(),
@@ -314,17 +347,19 @@ impl Browser {
         }))
     }
 
-    /// Returns the authenticator data and the signature with the enabled faults. If a fault changes the authenticator
-    /// data, signs again.
-    fn alter_response(
+    /// Returns the authenticator data and the signature with these flags and the enabled faults. Signs changed data
+    /// again.
+    fn alter_signed(
         &mut self,
         id: &Id,
         data: &[u8],
         hash: &[u8],
         signature: &[u8],
+        flags: u8,
     ) -> Result<(Vec<u8>, Vec<u8>), Error> {
         let faults = self.key.faults.clone();
         let mut altered = data.to_vec();
+        *altered.get_mut(32).ok_or(Error::InvalidResponse)? |= flags;
         let counter = altered.get_mut(33..37).ok_or(Error::InvalidResponse)?;
         if let (true, Some(last)) = (faults.stale_sign_count, self.counters.get(id)) {
             counter.copy_from_slice(last);

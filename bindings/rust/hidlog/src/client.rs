@@ -6,7 +6,8 @@ use hidlog_sys as sys;
 
 /// Maximum length of a credential's JSON in bytes.
 const CREDENTIAL_CAPACITY: usize = 16384;
-const MEDIATION: &[u8] = b"optional";
+/// The public suffix of a host: empty for the last label.
+const NO_SUFFIX: [u8; 1] = [0];
 
 /// A method of `navigator.credentials`.
 #[derive(Clone, Copy, PartialEq, Eq)]
@@ -15,11 +16,14 @@ pub(crate) enum Ceremony {
     Get,
 }
 
-/// A call of `navigator.credentials`: the method, the options as JSON, and the page's origin.
+/// A call of `navigator.credentials`: the method, the options as JSON, the mediation, the page's origin, and the key's
+/// abilities.
 pub(crate) struct Client<'a> {
     pub(crate) ceremony: Ceremony,
     pub(crate) options: &'a str,
+    pub(crate) mediation: &'a str,
     pub(crate) origin: &'a str,
+    pub(crate) abilities: u32,
 }
 
 impl Client<'_> {
@@ -30,8 +34,9 @@ impl Client<'_> {
         }
     }
 
-    /// Checks the options, and returns the request for the key: the command byte, then CBOR.
-    pub(crate) fn build_request(&self) -> Result<Vec<u8>, Error> {
+    /// Checks the options, and returns the request for the key: the command byte, then CBOR. Also returns whether the
+    /// response has user verification.
+    pub(crate) fn build_request(&self) -> Result<(Vec<u8>, bool), Error> {
         let mut report = sys::hidlog_client_report::default();
         let mut out = vec![0; LONGEST_MESSAGE];
         // SAFETY: each pointer is valid for the length after it, and `out` and `report` overlap no other argument.
@@ -40,19 +45,20 @@ impl Client<'_> {
                 self.ceremony_code(),
                 self.options.as_ptr(),
                 self.options.len(),
-                MEDIATION.as_ptr(),
-                MEDIATION.len(),
+                self.mediation.as_ptr(),
+                self.mediation.len(),
                 self.origin.as_ptr(),
                 self.origin.len(),
-                MEDIATION.as_ptr(),
+                NO_SUFFIX.as_ptr(),
                 0,
-                sys::HIDLOG_CLIENT_RESIDENT_KEY,
+                self.abilities,
                 &mut report,
                 out.as_mut_ptr(),
                 out.len(),
             )
         };
-        read_output(length, &report, out, "the request is longer than 7609 bytes")
+        let request = read_output(length, &report, out, "the request is longer than 7609 bytes")?;
+        Ok((request, report.is_verified == 1))
     }
 
     /// Returns the credential as JSON. The key's response is a status byte, then CBOR.
@@ -65,13 +71,13 @@ impl Client<'_> {
                 self.ceremony_code(),
                 self.options.as_ptr(),
                 self.options.len(),
-                MEDIATION.as_ptr(),
-                MEDIATION.len(),
+                self.mediation.as_ptr(),
+                self.mediation.len(),
                 self.origin.as_ptr(),
                 self.origin.len(),
-                MEDIATION.as_ptr(),
+                NO_SUFFIX.as_ptr(),
                 0,
-                sys::HIDLOG_CLIENT_RESIDENT_KEY,
+                self.abilities,
                 response.as_ptr(),
                 response.len(),
                 &mut report,

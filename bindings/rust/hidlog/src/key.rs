@@ -288,6 +288,13 @@ impl Authenticator {
         out
     }
 
+    /// Appends a comment to the recording.
+    #[cfg(feature = "openssl")]
+    pub(crate) fn add_comment(&mut self, text: &str) {
+        let log = &mut self.recordings.last_mut().expect("never empty").log;
+        log.extend_from_slice(format!("# {text}\n").as_bytes());
+    }
+
     /// Returns all recordings, oldest first. A new recording begins at each `add`, `remove` and `clear`.
     pub fn recordings(&self) -> &[Recording] {
         &self.recordings

@@ -38,6 +38,8 @@ mod cbor;
 #[cfg(feature = "openssl")]
 mod client;
 #[cfg(feature = "openssl")]
+mod options;
+#[cfg(feature = "openssl")]
 mod private_keys;
 #[cfg(feature = "openssl")]
 mod security_key;
@@ -47,6 +49,8 @@ pub use key::{Authenticator, Credential, Id, Need, Packet, Presence, Recording};
 
 #[cfg(feature = "openssl")]
 pub use browser::{AuthenticationResponse, Browser, CreationOptions, RegistrationResponse, RequestOptions};
+#[cfg(feature = "openssl")]
+pub use options::{AuthenticatorOptions, Verification};
 #[cfg(feature = "openssl")]
 pub use private_keys::{sha256, PrivateKey};
 #[cfg(feature = "openssl")]

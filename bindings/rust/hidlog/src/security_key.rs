@@ -1,6 +1,6 @@
 use crate::private_keys::{random_bytes, PrivateKey};
 use crate::standard::{self, CONTINUATION_DATA, INITIALIZATION_DATA, LONGEST_MESSAGE};
-use crate::{Authenticator, Credential, Error, Id, Need, Packet, Presence, Recording};
+use crate::{Authenticator, AuthenticatorOptions, Credential, Error, Id, Need, Packet, Presence, Recording};
 use std::collections::HashMap;
 use std::time::Instant;
 
@@ -33,6 +33,8 @@ pub struct SecurityKey {
     pub presence: Vec<Presence>,
     /// The faults to inject.
     pub faults: Faults,
+    /// The properties that browsers report or depend on.
+    pub options: AuthenticatorOptions,
     powered_up: Instant,
     private_keys: HashMap<Id, PrivateKey>,
     channel: Option<[u8; 4]>,
@@ -49,6 +51,7 @@ impl SecurityKey {
             authenticator: Authenticator::new(&[])?,
             presence: Vec::new(),
             faults: Faults::default(),
+            options: AuthenticatorOptions::default(),
             powered_up: Instant::now(),
             private_keys: HashMap::new(),
             channel: None,
@@ -107,6 +110,11 @@ impl SecurityKey {
     /// Returns all recordings, oldest first. A new recording begins at each `add`, `remove` and `clear`.
     pub fn recordings(&self) -> &[Recording] {
         self.authenticator.recordings()
+    }
+
+    /// Appends a comment to the recording.
+    pub(crate) fn add_comment(&mut self, text: &str) {
+        self.authenticator.add_comment(text);
     }
 
     fn next_presence(&mut self) -> Presence {

@@ -3,8 +3,8 @@
 #![cfg(feature = "openssl")]
 
 use hidlog::{
-    sha256, AuthenticationResponse, Authenticator, Browser, CreationOptions, Credential, Error, Faults, Need, Presence,
-    PrivateKey, Recording, RequestOptions, SecurityKey,
+    sha256, AuthenticationResponse, Authenticator, AuthenticatorOptions, Browser, CreationOptions, Credential, Error,
+    Faults, Need, Presence, PrivateKey, Recording, RequestOptions, SecurityKey, Verification,
 };
 use std::io::Write;
 use std::process::{Command, Stdio};
@@ -92,6 +92,47 @@ fn exchanges_json() {
     assert!(used.contains(r#""userHandle":"YW5u""#), "{used}");
     assert!(browser.create(&CreationOptions { user_name: "\"\\\u{1}".into(), ..creation_options() }).is_ok());
     check_recordings(browser.key.recordings());
+}
+
+/// Flags, attestation and mediation, which are outside the core.
+#[test]
+fn has_authenticator_options() {
+    let mut browser = new_browser();
+    let verified = AuthenticatorOptions { verification: Verification::Verified, ..AuthenticatorOptions::default() };
+    browser.key.options =
+        AuthenticatorOptions { backup_eligible: true, backed_up: true, no_attestation: true, ..verified.clone() };
+    let options = r#"{"rp":{"id":"example.com","name":"Example"},"challenge":"AA","user":{"id":"YW5u","name":"ann",
+        "displayName":""},"pubKeyCredParams":[{"type":"public-key","alg":-7}],
+        "authenticatorSelection":{"residentKey":"required","userVerification":"required"}}"#;
+    let required = r#"{"challenge":"AA","rpId":"example.com","userVerification":"required"}"#;
+    // {"fmt": "none", "attStmt": {}, "authData": ..}, in base64url
+    let made = browser.create_json(options).unwrap();
+    assert!(made.contains(r#""attestationObject":"o2NmbXRkbm9uZWdhdHRTdG10oGhhdXRoRGF0Y"#), "{made}");
+    assert_eq!(read_flags(&made), 0x5d);
+    // The flags BE and BS are those of the credential.
+    browser.key.options = verified;
+    browser.mediation = "conditional".into();
+    assert_eq!(read_flags(&browser.get_json(required).unwrap()), 0x1d);
+    let log = String::from_utf8(browser.key.recordings()[0].log.clone()).unwrap();
+    let count = |text: &str| log.matches(&format!("\n# outside of the core: {text}\n")).count();
+    assert_eq!((count("flags UV, BE, BS, and the signature over them"), count("attestation none")), (2, 1));
+    browser.key.options.verification = Verification::Failed;
+    assert_eq!(browser.get_json(required).unwrap_err().dom_name(), Some("NotAllowedError"));
+    browser.mediation = "now".into();
+    assert_eq!(browser.get_json(required).unwrap_err().dom_name(), Some("TypeError"));
+    browser.mediation = "optional".into();
+    let used = browser.get(&request_options()).unwrap();
+    assert!(used.authenticator_data[32] == 0x19 && is_verified(&browser, &used));
+    check_recordings(browser.key.recordings());
+}
+
+/// Returns the flags of a credential's JSON. In base64url, the 32 bytes before them and the flags' first two bits have 43
+/// letters.
+fn read_flags(json: &str) -> u8 {
+    const LETTERS: &[u8] = b"ABCDEFGHIJKLMNOPQRSTUVWXYZabcdefghijklmnopqrstuvwxyz0123456789-_";
+    let (_, data) = json.split_once(r#""authenticatorData":""#).unwrap();
+    let bits = |at: usize| LETTERS.iter().position(|letter| *letter == data.as_bytes()[at]).unwrap();
+    (bits(42) << 6 | bits(43)) as u8
 }
 
 #[test]
