@@ -8,7 +8,7 @@ use Rattle.hid_assemble.specs.declared.table.ReplyRow.TheVariants.{CancelsWork, 
 use Rattle.hid_assemble.specs.declared.table.ReplyRow.TheVariants.{InitLength, InitFull, InitNew, InitAgain}
 use Rattle.hid_assemble.specs.declared.table.ReplyRow.TheVariants.{BusyElsewhere, BusyHere, BrokenOff, NoSuchCommand}
 use Rattle.hid_assemble.specs.declared.table.ReplyRow.TheVariants.{BadLength, Short, Long}
-use Rattle.hid_assemble.specs.declared.table.Continuation.TheVariants.{Stray, WrongNumber, Whole}
+use Rattle.hid_assemble.specs.Table.{Stray, WrongNumber, Whole}
 
 row : ℕ → Option Open → Option ℕ → Fields → PacketClass
 unfolding packet_class init_packet_row cont_packet_row

@@ -2,7 +2,7 @@
 use Rattle.std.proofs.{lemmas.Grind.common_steps, Common.length-take}
 use Rattle.std.proofs.Common.{rules, ◌≡◌, ℕ, ◌+◌, ◌≤◌, List, [], length, Option, Some, refl, arith, length-append}
 use Rattle.hid_packet.specs.Packet.{Fields, initialization, continuation, FillsPacket}
-use Rattle.hid_assemble.specs.declared.table.{ReplyRow.ReplyRow, Continuation.Continuation}
+use Rattle.hid_assemble.specs.{declared.table.ReplyRow.ReplyRow, Table.Continuation}
 use Rattle.hid_assemble.specs.Table.{Open, Begins, Continues, cont_packet_row, packet_class}
 use Rattle.hid_assemble.specs.Assembly.{Assembly, IsValidAssembly, OpenIsValid, drop_on, open_after, message_after, assembly_after_class}
 use Rattle.hid_assemble.specs.Assembly.{accepted}

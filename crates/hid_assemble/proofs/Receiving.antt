@@ -8,7 +8,7 @@ use Rattle.hid_packet.specs.Packet.{Fields, fields, channel, is_initialization, 
 use Rattle.hid_packet.specs.Packet.{initialization_data, continuation_data, initialization, continuation}
 use Rattle.hid_packet.specs.Carries.{AreContinuations, IsLeast, Carries, CarriesMessage}
 use Rattle.hid_assemble.specs.declared.table.ReplyRow.TheVariants.{Short, Long}
-use Rattle.hid_assemble.specs.declared.table.Continuation.TheVariants.{Kept, Whole}
+use Rattle.hid_assemble.specs.Table.{Kept, Whole}
 use Rattle.hid_assemble.specs.Table.{Open, PacketClass, Begins, Continues, is_allocated, cont_packet_row, packet_class}
 use Rattle.hid_assemble.proofs.ByCommand.{begin_row, by_command}
 use Rattle.hid_assemble.specs.Assembly.{Assembly, is_overdue, still_open, open_after, message_after, assembly_after_class, accepted}

@@ -4,7 +4,7 @@ use Rattle.std.proofs.{Common.sym, Common.subst, Common.arith, lemmas.Bool.Decid
 use Rattle.hid_packet.specs.Commands.{PING, INIT, CBOR, CANCEL, BROADCAST}
 use Rattle.hid_assemble.specs.{declared.table.ReplyRow.ReplyRow, Assembly.IsOpenMessage}
 use Rattle.hid_assemble.specs.declared.table.ReplyRow.TheVariants.{InitNew, Short, Long}
-use Rattle.hid_assemble.specs.declared.table.Continuation.{Continuation, TheVariants.Kept, TheVariants.Whole}
+use Rattle.hid_assemble.specs.Table.{Continuation, Kept, Whole}
 use Rattle.hid_assemble.specs.Table.{MAX_CHANNEL, is_allocated, is_busy_here, init_packet_row, continuation_kind}
 use Rattle.hid_assemble.proofs.{Comparing.cond_case, ByCommand.init_row, ByCommand.begin_row, ByCommand.by_command}
 use Rattle.hid_packet.specs.Limits.{MAX_MESSAGE_LEN}

@@ -6,7 +6,7 @@ use Rattle.hid_packet.specs.Packet.{Fields, channel_of, command_of, length_of, d
 use Rattle.hid_assemble.specs.Table.{Open, PacketClass, Begins, Continues, MAX_CHANNEL, packet_class}
 use Rattle.hid_assemble.specs.declared.table.ReplyRow.TheVariants.{InitLength, InitNew, InitAgain, BrokenOff, Short}
 use Rattle.hid_assemble.specs.declared.table.ReplyRow.TheVariants.{Long}
-use Rattle.hid_assemble.specs.declared.table.Continuation.TheVariants.{Stray, WrongNumber, Kept, Whole}
+use Rattle.hid_assemble.specs.Table.{Stray, WrongNumber, Kept, Whole}
 use Rattle.hid_packet.specs.Limits.{data_capacity, INIT_PACKET_DATA, MAX_MESSAGE_LEN, MESSAGE_TIMEOUT}
 
 -- A complete message.

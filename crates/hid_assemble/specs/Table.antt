@@ -5,12 +5,11 @@ use Rattle.std.specs.Prelude.{ℕ, ◌+◌, Bool, true, false, not, ◌&&◌, �
 use Rattle.std.specs.Prelude.{Some, None, option_map, if◌then◌else◌}
 use Rattle.hid_packet.specs.Commands.{PING, INIT, CBOR, CANCEL, BROADCAST}
 use Rattle.hid_packet.specs.Packet.{Fields, initialization, continuation}
-use Rattle.hid_assemble.specs.declared.table.{ReplyRow.ReplyRow, Continuation.Continuation}
+use Rattle.hid_assemble.specs.declared.table.ReplyRow.{ReplyRow}
 use Rattle.hid_assemble.specs.declared.table.ReplyRow.TheVariants.{CancelsWork, CancelsNothing, NoSuchChannel}
 use Rattle.hid_assemble.specs.declared.table.ReplyRow.TheVariants.{InitLength, InitFull, InitNew, InitAgain}
 use Rattle.hid_assemble.specs.declared.table.ReplyRow.TheVariants.{BusyElsewhere, BusyHere, BrokenOff, NoSuchCommand}
 use Rattle.hid_assemble.specs.declared.table.ReplyRow.TheVariants.{BadLength, Short, Long}
-use Rattle.hid_assemble.specs.declared.table.Continuation.TheVariants.{Stray, WrongNumber, Kept, Whole}
 use Rattle.hid_packet.specs.Limits.{data_capacity, INIT_PACKET_DATA, MAX_MESSAGE_LEN}
 
 -- An incomplete message: the fields of its initialization packet, its data so far, the number of its continuation
@@ -66,6 +65,15 @@ init_packet_row given current work cid cmd len =
     ∷ (nat_lt MAX_MESSAGE_LEN len || (cmd == CBOR && (len == 0)), BadLength)
     ∷ (nat_le len INIT_PACKET_DATA, Short)
     ∷ []) Long
+
+-- How a continuation packet relates to the incomplete message. Stray: no message is incomplete on its channel.
+-- WrongNumber: it doesn't have the expected sequence number, and the message is dropped. Kept: it is the expected
+-- packet. Whole: it is the expected packet, and completes the message.
+pub data Continuation : Type 0 where
+  Stray : Continuation
+  WrongNumber : Continuation
+  Kept : Continuation
+  Whole : Continuation
 
 -- The kind of a continuation packet, given an incomplete message of `len` bytes on channel `on` with `kept`
 -- continuation packets so far.

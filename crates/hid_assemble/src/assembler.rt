@@ -9,7 +9,7 @@ ghost use Rattle.hid_assemble.specs.Verdicts.{verdict};
 ghost use Rattle.hid_packet.specs.Limits.{CONT_PACKET_DATA, INIT_PACKET_DATA, MAX_STORED_LEN, MAX_MESSAGE_LEN};
 
 use crate::refusal::Refusal;
-use crate::table::{Continuation, ReplyRow, cont_packet_row, init_packet_row};
+use crate::table::{ReplyRow, init_packet_row};
 use crate::verdict::Verdict;
 use hid_packet::{BROADCAST, CONT_PACKET_DATA, INIT_PACKET_DATA, MAX_MESSAGE_LEN, Packet, View};
 use std::marker::Model;
@@ -20,12 +20,12 @@ pub const MESSAGE_TIMEOUT: u64 = 500;
 /// An open message: the fields of its initialization packet, the number of its continuation packets so far, and the
 /// timestamp of its last packet.
 #[derive(Clone, Copy)]
-pub(crate) struct OpenMessage {
-    pub(crate) cid: u32,
-    pub(crate) cmd: u8,
-    pub(crate) len: u16,
-    pub(crate) kept: u8,
-    pub(crate) last: u64,
+struct OpenMessage {
+    cid: u32,
+    cmd: u8,
+    len: u16,
+    kept: u8,
+    last: u64,
 }
 
 /// What the buffer contains.
@@ -279,33 +279,25 @@ impl Assembler {
         let Contents::Open(mut message) = self.contents else {
             return Verdict::Ignored;
         };
-        match cont_packet_row(&message, cid, number) {
-            Continuation::Stray => Verdict::Ignored,
-            Continuation::WrongNumber => {
-                self.contents = Contents::Nothing;
-                refuse(
-                    cid,
-                    Refusal::WrongNumber {
-                        came: number,
-                        due: message.kept,
-                    },
-                )
-            }
-            Continuation::Kept => {
-                put_data(&mut self.buffer, held, part);
-                message.kept += 1;
-                message.last = at;
-                self.contents = Contents::Open(message);
-                Verdict::Kept
-            }
-            Continuation::Whole => {
-                put_data(&mut self.buffer, held, part);
-                self.contents = Contents::Finished(message.len);
-                Verdict::Finished {
-                    cid: message.cid,
-                    cmd: message.cmd,
-                }
-            }
+        if message.cid != cid {
+            return Verdict::Ignored;
+        }
+        if number != message.kept {
+            self.contents = Contents::Nothing;
+            let due = message.kept;
+            return refuse(cid, Refusal::WrongNumber { came: number, due });
+        }
+        put_data(&mut self.buffer, held, part);
+        if held + CONT_PACKET_DATA < usize::from(message.len) {
+            message.kept += 1;
+            message.last = at;
+            self.contents = Contents::Open(message);
+            return Verdict::Kept;
+        }
+        self.contents = Contents::Finished(message.len);
+        Verdict::Finished {
+            cid,
+            cmd: message.cmd,
         }
     }
 

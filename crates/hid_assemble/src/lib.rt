@@ -25,5 +25,5 @@ mod verdict;
 
 pub use assembler::{Assembler, MESSAGE_TIMEOUT};
 pub use refusal::Refusal;
-pub use table::{Continuation, MAX_CHANNEL, ReplyRow};
+pub use table::{MAX_CHANNEL, ReplyRow};
 pub use verdict::Verdict;

@@ -2,9 +2,8 @@ ghost use Rattle.std.specs.Prelude.{◌≡◌};
 ghost use Rattle.hid_assemble.specs.Table as spec;
 ghost use Rattle.hid_assemble.specs.Table.{Begins};
 
-use crate::assembler::OpenMessage;
 use hid_packet::command::{CANCEL, CBOR, INIT, PING};
-use hid_packet::{BROADCAST, CONT_PACKET_DATA, INIT_PACKET_DATA, MAX_MESSAGE_LEN};
+use hid_packet::{BROADCAST, INIT_PACKET_DATA, MAX_MESSAGE_LEN};
 
 /// The highest channel ID that can be allocated.
 pub const MAX_CHANNEL: u32 = 0xffff_fffe;
@@ -58,19 +57,6 @@ impl ReplyRow {
     }
 }
 
-/// How a continuation packet relates to the open message.
-#[derive(Clone, Copy, Debug, PartialEq, Eq)]
-pub enum Continuation {
-    /// No message is open on the packet's channel.
-    Stray,
-    /// The sequence number isn't the expected one: the message is dropped.
-    WrongNumber,
-    /// The expected packet: its data bytes are stored.
-    Kept,
-    /// The expected packet, which completes the message.
-    Whole,
-}
-
 /// Returns the row of the reply table for an initialization packet.
 #[tactic(auto, unfolding(crate::specs::Table::init_packet_row))]
 pub(crate) fn init_packet_row(
@@ -115,21 +101,5 @@ pub(crate) fn init_packet_row(
         ReplyRow::Short
     } else {
         ReplyRow::Long
-    }
-}
-
-/// Returns the kind of a continuation packet, for this open message.
-pub(crate) fn cont_packet_row(message: &OpenMessage, cid: u32, number: u8) -> Continuation
-    ensures { result ≡ spec.continuation_kind message.now.cid message.now.len message.now.kept cid number }
-{
-    let kept = usize::from(message.kept);
-    if message.cid != cid {
-        Continuation::Stray
-    } else if number != message.kept {
-        Continuation::WrongNumber
-    } else if INIT_PACKET_DATA + CONT_PACKET_DATA * (kept + 1) < usize::from(message.len) {
-        Continuation::Kept
-    } else {
-        Continuation::Whole
     }
 }
