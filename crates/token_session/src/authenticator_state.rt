@@ -78,7 +78,11 @@ impl<const C: usize> AuthenticatorState<C> {
         let why = cause_of(turn, event);
         match event {
             Event::Request { cid, message } => {
-                self.meters.count(message, self.core.last_steps());
+                let meters = &mut self.meters;
+                let parameter_bytes = (message.len() as u64).saturating_sub(1);
+                meters.requests = meters.requests.saturating_add(1);
+                meters.bytes = meters.bytes.saturating_add(parameter_bytes);
+                meters.steps = meters.steps.saturating_add(self.core.last_steps());
                 self.send(now, *cid, before, turn, &answer, outbox);
                 why
             }

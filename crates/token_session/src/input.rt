@@ -1,7 +1,3 @@
-ghost use Rattle.std.specs.Prelude.{◌≡◌, Some, min};
-ghost use Rattle.ctap_message.specs.Requests.{steps_of, MAX_STEPS};
-ghost use Rattle.token_session.specs.Meters.{counted};
-
 use authn_core::{NewKey, Presence, Signature};
 use hid_packet::Packet;
 
@@ -49,18 +45,4 @@ pub struct Meters {
     pub bytes: u64,
     /// Number of steps of parsing these requests, at most 2^64-1.
     pub steps: u64,
-}
-
-impl Meters {
-    /// Adds a request, and the number of steps of parsing it.
-    #[tactic(auto, unfolding(crate::specs::Meters::counted))]
-    pub(crate) fn count(&mut self, message: &[u8], steps: u64)
-        requires { steps ≡ min (steps_of message.now) MAX_STEPS }
-        ensures { self.new ≡ counted self.old (Some message.now) }
-    {
-        let read = (message.len() as u64).saturating_sub(1);
-        self.requests = self.requests.saturating_add(1);
-        self.bytes = self.bytes.saturating_add(read);
-        self.steps = self.steps.saturating_add(steps);
-    }
 }

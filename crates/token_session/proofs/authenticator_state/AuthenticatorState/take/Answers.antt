@@ -1,15 +1,27 @@
 use Rattle.std.proofs.Common.{◌≡◌, Some, None, refl, append-nil, arith}
 use Rattle.authn_core.specs.Views.{to_event}
 use Rattle.token_session.specs.{Replies.answer_packets, Machine.response_sends_keepalive, Effects.request_in}
-use Rattle.token_session.{specs.Meters.AreBounded, specs.Meters.counted, proofs.Metering.counted_bounded}
+use Rattle.token_session.{specs.Meters.counted, proofs.Metering.counted_bounded}
 use Rattle.token_session.proofs.Sizes.{core_held, table_held}
 use Rattle.token_session.proofs.authenticator_state.AuthenticatorState.take.Goals as goal
 
+pub returns-in-Request-clause-meters : goal.returns-in-Request-clause-meters
+unfolding counted
+returns-in-Request-clause-meters g c = grind (
+  arith,
+  c.send.ensures.others,
+  c.in-Request.is,
+  c.saturating_sub-parameter_bytes.ensures,
+  c.saturating_add-meters.ensures,
+  c.saturating_add-meters-in-Request.ensures,
+  c.saturating_add-meters-in-Request-2.ensures,
+  c.last_steps.ensures,
+  c.take-turn.ensures.turn,
+)
+
 pub returns-in-Request-clause-bounded : goal.returns-in-Request-clause-bounded
-returns-in-Request-clause-bounded g c =
-    let bounded : AreBounded c.count.new.self = rw c.count.ensures
-    (counted_bounded c.steps_are_bounded.ensures _ _ c.requires.bounded) in
-    rw c.send.ensures.others bounded
+returns-in-Request-clause-bounded g c = rw (returns-in-Request-clause-meters g c)
+    (counted_bounded c.steps_are_bounded.ensures _ _ c.requires.bounded)
 
 pub returns-in-Some-clause-meters : goal.returns-in-Some-clause-meters
 unfolding counted
