@@ -1,7 +1,7 @@
 -- The packets that wait in an outbox, as entries come and go.
 use Rattle.std.proofs.lemmas.{Grind.common_steps, List.Sums.sum_by-append, List.Sums.sum_by-cons}
 use Rattle.std.proofs.Common.{rules, ◌≡◌, ℕ, ◌+◌, ◌*◌, ◌<◌, ◌≤◌, suc, zero, inl, inr, List, [], ◌∷◌, ◌++◌, length}
-use Rattle.std.proofs.Common.{take, drop, get_or, set, sum_by, refl, sym, ◌∙◌, ap, arith, length-append, length-drop}
+use Rattle.std.proofs.Common.{◌-◌, take, drop, get_or, set, sum_by, refl, sym, ◌∙◌, ap, arith, length-append, length-drop}
 use Rattle.std.proofs.Common.{append_assoc, append-nil, length-take-le}
 use Rattle.std.specs.List.{AllByRecursion, refill, remove}
 use Rattle.std.proofs.Math.Seq.{drop-length, take-length}
@@ -143,3 +143,22 @@ no_entry es x1 same lt = grind (arith, common_steps)
 pub first_of : (es ds : List Queued) → ds ≡ es → 1 ≤ length ds → (more : List Queued) × (es ≡ get_or ds 0 Whole ∷ more)
 first_of es [] same some = absurd (omega arith)
 first_of es (d ∷ ds) same some = (ds, sym same)
+
+-- the first entry stays with fewer bytes, or is gone with its last one
+pub held-more : (es more : List Queued) (e f : Queued) (bytes after : List ℕ) → es ≡ e ∷ more → AreEntriesOf es bytes →
+    HasEntryPacket f → length after + entry_len e ≡ length bytes + entry_len f → AreEntriesOf (f ∷ more) after
+held-more es more e f bytes after is held due there = grind (arith, common_steps, sum_by-cons)
+
+pub held-last : (es more : List Queued) (e : Queued) (bytes after : List ℕ) → es ≡ e ∷ more → AreEntriesOf es bytes →
+    length after + entry_len e ≡ length bytes → AreEntriesOf (remove es 0) after
+held-last es more e bytes after is held there = grind (arith, common_steps, sum_by-cons)
+
+-- a packet was taken, and what is left stays queued
+pub queued-pop : (es others : List Queued) (bytes after p : List ℕ) (len : ℕ) → IsQueued es bytes len →
+    queued_packets es bytes ≡ p ∷ queued_packets others after → AreEntriesOf others after →
+    IsQueued others after (len - 1)
+queued-pop es others bytes after p len q is held = record {
+  held = held;
+  counted = omega (arith, q.counted, ap length is);
+  few = omega (arith, q.few);
+}

@@ -38,32 +38,6 @@ impl Model for Outbox {
     ghost invariant = { λ o. IsQueued o.entries.items o.ring o.len };
 }
 
-/// Removes and returns the next packet of the first entry. The entry is removed with its last packet.
-fn take_first(entry: Queued, entries: &mut Entries, ring: &mut RingBuffer) -> Packet
-    requires first { (more : List Queued) × (entries.old.items ≡ entry ∷ more) }
-    requires held { AreEntriesOf entries.old.items ring.old }
-    ensures packets { queued_packets entries.old.items ring.old ≡ result.0 ∷ queued_packets entries.new.items ring.new }
-    ensures held { AreEntriesOf entries.new.items ring.new }
-{
-    match entry {
-        Queued::Whole => {
-            let mut packet = [0; 64];
-            entries.remove(0);
-            ring.take(&mut packet);
-            Packet(packet)
-        }
-        Queued::Part(mut message) => {
-            let packet = message.next_packet(ring);
-            if message.left > 0 {
-                entries[0] = Queued::Part(message);
-                return packet;
-            }
-            entries.remove(0);
-            packet
-        }
-    }
-}
-
 impl Outbox {
     /// Returns an empty outbox.
     pub fn new() -> Self
@@ -145,6 +119,23 @@ impl Iterator for Outbox {
             [entry, ..] => *entry,
         };
         self.len -= 1;
-        Some(take_first(entry, &mut self.entries, &mut self.ring))
+        match entry {
+            Queued::Whole => {
+                let mut packet = [0; 64];
+                self.entries.remove(0);
+                self.ring.take(&mut packet);
+                Some(Packet(packet))
+            }
+            Queued::Part(mut message) => {
+                let packet = message.next_packet(&mut self.ring);
+                // The entry is removed with its last packet.
+                if message.left > 0 {
+                    self.entries[0] = Queued::Part(message);
+                    return Some(packet);
+                }
+                self.entries.remove(0);
+                Some(packet)
+            }
+        }
     }
 }
