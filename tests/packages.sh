@@ -142,6 +142,8 @@ if command -v node >/dev/null; then
     fi
     run_cases npm "$work/npm/node_modules/hidlog/cli.mjs" test_cases_of_file test_log_outputs
     HIDLOG_PROGRAM=$top/release/hidlog node "$top/tests/web/npm_package.mjs" "$work/npm" || fail "the npm package's command or README"
+    "$top/tests/clients/browser_cases.py" npm node "$top/tests/clients/cases/server.mjs" "$work/npm/node_modules/hidlog/node.mjs" ||
+        fail "the npm package's results"
     echo "tests/packages.sh: the npm package is loaded"
 fi
 # The commands and the help must be the same in all packages.

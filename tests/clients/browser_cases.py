@@ -2,10 +2,11 @@
 """Runs the registrations and sign-ins of tests/python/browser_cases.json in a browser of another language, and compares
 the results with the expected ones.
 
-    browser_cases.py LANGUAGE COMMAND ..    LANGUAGE is go or rust, COMMAND its program of tests/clients/cases
+    browser_cases.py LANGUAGE COMMAND ..    LANGUAGE is go or rust, and COMMAND its program of tests/clients/cases; or
+                                            LANGUAGE is npm, and COMMAND cases/server.mjs in node
     browser_cases.py --print LANGUAGE COMMAND ..    prints the results that are not expected, as JSON
 
-For each line on standard input, the program writes one line. Words are separated by tabs:
+For each line on standard input, a program of tests/clients/cases writes one line. Words are separated by tabs:
 
     key OPTION ..                             starts a browser with a new key: done
     create MEDIATION PRESENCE OPTIONS         registers: made JSON, error NAME MESSAGE, or failed MESSAGE
@@ -22,37 +23,110 @@ import subprocess
 import sys
 from pathlib import Path
 from typing import Any
+from uuid import UUID
 
 TOP = Path(__file__).resolve().parents[2]
 sys.path[:0] = [str(TOP / "tests" / "python"), str(TOP / "bindings" / "python" / "src")]
 os.environ.setdefault("HIDLOG_EXAMPLES", str(TOP / "examples"))
 
 import hidlog  # noqa: E402
-from implementations import ALIKE, CASES, Case, Json, ServiceError, get_expected, run_calls  # noqa: E402
+from hidlog.webauthn_json import b64url_decode  # noqa: E402
+from implementations import (  # noqa: E402
+    ALIKE,
+    CASES,
+    Case,
+    Json,
+    ServiceError,
+    get_expected,
+    run_calls,
+    to_devtools_options,
+)
 
 
-class Program:
-    """A program of tests/clients/cases."""
+class Lines:
+    """A process that writes one line for each line."""
 
     def __init__(self, command: list[str]):
         self._process = subprocess.Popen(command, stdin=subprocess.PIPE, stdout=subprocess.PIPE, text=True)
 
+    def send(self, line: str) -> str:
+        """Sends a line, and returns the response."""
+        assert self._process.stdin and self._process.stdout
+        self._process.stdin.write(line + "\n")
+        self._process.stdin.flush()
+        return self._process.stdout.readline().rstrip("\n")
+
+    def close(self) -> int:
+        """Ends the process, and returns its exit status."""
+        self._process.communicate()
+        return self._process.returncode
+
+
+class Program(Lines):
+    """A program of tests/clients/cases."""
+
     def ask(self, *words: str) -> list[str]:
         """Sends a line, and returns the words of the response after the first."""
-        assert self._process.stdin and self._process.stdout
-        self._process.stdin.write("\t".join(words) + "\n")
-        self._process.stdin.flush()
-        kind, *rest = self._process.stdout.readline().rstrip("\n").split("\t")
+        kind, *rest = self.send("\t".join(words)).split("\t")
         if kind == "error":
             raise ServiceError(*rest)
         if kind not in ("done", "made"):
             raise AssertionError(f"{words}: {kind} {rest}")
         return rest
 
-    def close(self) -> int:
-        """Ends the program, and returns its exit status."""
-        self._process.communicate()
-        return self._process.returncode
+    def start(self, key: Json) -> None:
+        """Starts a browser with a new key."""
+        self.ask("key", *list_options(key))
+
+    def call(self, method: str, options: Any, mediation: str, presence: str) -> Any:
+        """Calls create or get."""
+        return json.loads(self.ask(method, mediation, presence, json.dumps(options))[0])
+
+    def fail(self) -> None:
+        """Makes user verification fail."""
+        self.ask("fail")
+
+    def recordings(self) -> list[tuple[bytes, bytes]]:
+        """Returns each recording: the snapshot and the log."""
+        return [(b"", bytes.fromhex(self.ask("recording")[0]))]
+
+
+class BrowserProcess(Lines):
+    """A program with the commands of `hidlog browser`."""
+
+    def ask(self, command: str, parameter: Any, **more: Any) -> Any:
+        """Sends a command, and returns the value."""
+        answer = json.loads(self.send(json.dumps({command: parameter, **more})))
+        if "error" in answer:
+            raise ServiceError(answer["error"], answer["message"])
+        return answer["value"]
+
+    def start(self, key: Json) -> None:
+        """Removes the credentials, and sets the key's options."""
+        self.ask("clearCredentials", None)
+        devtools = to_devtools_options(key)
+        names = ["transport", "hasResidentKey", "hasUserVerification", "isUserVerified"]
+        names += ["defaultBackupEligibility", "defaultBackupState"]
+        outside: Json = {"attestation": "self", "aaguid": str(UUID(int=0)), "algorithms": [-7], "autofill": "selected"}
+        outside.update({name: value for name, value in key.items() if name in outside})
+        extensions = key.get("extensions", [])
+        protocol = devtools.get("ctap2Version", "ctap2")
+        options = {name: devtools[name] for name in names}
+        self.ask("setAuthenticatorOptions", {**options, **outside, "extensions": extensions, "protocol": protocol})
+
+    def call(self, method: str, options: Any, mediation: str, presence: str) -> Any:
+        """Calls create or get."""
+        self.ask("setPresence", presence)
+        return self.ask(method, options, mediation=mediation)
+
+    def fail(self) -> None:
+        """Makes user verification fail."""
+        self.ask("setUserVerified", False)
+
+    def recordings(self) -> list[tuple[bytes, bytes]]:
+        """Returns each recording: the snapshot and the log."""
+        listed = self.ask("getRecordings", None)
+        return [(b64url_decode(one["snapshot"]), one["log"].encode()) for one in listed]
 
 
 def list_options(key: Json) -> list[str]:
@@ -69,33 +143,34 @@ def list_options(key: Json) -> list[str]:
     return [name for name, is_set in known.items() if is_set] + [verification] * (verification != "none")
 
 
-def run_with_program(case: Case, program: Program) -> Json:
-    """Runs a case, checks its recording, and returns the result."""
-    program.ask("key", *list_options(case.get("key", {})))
+def run_case(case: Case, browser: Program | BrowserProcess) -> Json:
+    """Runs a case, checks its recordings, and returns the result."""
+    browser.start(case.get("key", {}))
 
     def call(name: str, options: Any, more: Json) -> Json:
         presence = case.get("presence", "granted") if name == case["call"] else "granted"
         wrapped = {"publicKey": options} if "raw" in case or case.get("wrapped") else options
-        made: Json = json.loads(program.ask(name, more.get("mediation", "optional"), presence, json.dumps(wrapped))[0])
+        made: Json = browser.call(name, wrapped, more.get("mediation", "optional"), presence)
         return made
 
     try:
-        result = run_calls(call, case, lambda: program.ask("fail"))
+        result = run_calls(call, case, browser.fail)
     except AssertionError as error:
         if not isinstance(error.__cause__, ServiceError):
             raise
         result = {"before": {"error": error.__cause__.name}}
-    hidlog.check(bytes.fromhex(program.ask("recording")[0])).raise_for_fault()
+    for snapshot, log in browser.recordings():
+        hidlog.check(log, snapshot).raise_for_fault()
     return result
 
 
 def main(words: list[str]) -> int:
     is_printing = words[:1] == ["--print"]
     language, *command = words[is_printing:]
-    program = Program(command)
+    browser: Program | BrowserProcess = Program(command) if language in ("go", "rust") else BrowserProcess(command)
     cases = {**CASES, **ALIKE}
-    found = {name: run_with_program(case, program) for name, case in cases.items()}
-    assert program.close() == 0
+    found = {name: run_case(case, browser) for name, case in cases.items()}
+    assert browser.close() == 0
     wrong = {name: result for name, result in found.items() if result != get_expected(name, language)}
     if is_printing:
         print(",\n".join(f" {json.dumps(name)}: {json.dumps(result)}" for name, result in wrong.items()))

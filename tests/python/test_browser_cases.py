@@ -11,7 +11,7 @@ with an installed Chromium, and HIDLOG_RECORD_CASES=FILE records them again. The
     mediation, wrapped       the call's mediation; options in a member publicKey
 
 Where an implementation's result is another one, browser_cases_differences.json has its values and the reason: members of
-the result that replace Chromium's, for `implementations` [default: all].
+the result that replace Chromium's, for `implementations` (python, page, npm, go, rust, url) [default: all].
 
 The cases of `alike` are of keys with what Chromium's authenticator has outside the core, and compare that, too.
 """

@@ -53,7 +53,7 @@ SEPARATE_TESTS = [
     "processes.py",
     "faults.py",
 ]
-SEPARATE_TESTS += ["browsers.py", "origins.py", "seen.py"]
+SEPARATE_TESTS += ["browsers.py", "origins.py", "seen.py", "cases.py"]
 
 
 class Files(SimpleHTTPRequestHandler):
