@@ -45,18 +45,17 @@ const run = async () => {
 run().then((json) => done({ json }), (error) => done({ error: error.name, text: error.message }));
 """
 INSTALL_SCRIPT = """
-const [done, options, presence] = [arguments[arguments.length - 1], ...arguments];
-hidlogKey.current()?.uninstall();
-hidlogKey.send("WebAuthn.addVirtualAuthenticator", { options }).then(() => {
-    hidlogKey.current().presence = presence;
-    done(null);
-}, (error) => done(String(error)));
+const [done, options] = [arguments[arguments.length - 1], ...arguments];
+hidlogKey.installedKey()?.uninstall();
+hidlogKey.sendDevToolsCommand("WebAuthn.addVirtualAuthenticator", { options })
+    .then(() => done(""), (error) => done(String(error)));
 """
 FAIL_SCRIPT = """
 const done = arguments[arguments.length - 1];
-hidlogKey.send("WebAuthn.setUserVerified", { isUserVerified: false }).then(done, done);
+hidlogKey.sendDevToolsCommand("WebAuthn.setUserVerified", { isUserVerified: false }).then(done, done);
 """
-REMOVE_SCRIPT = "hidlogKey.current()?.uninstall();"
+PRESENCE_SCRIPT = "hidlogKey.installedKey().presence = arguments[0];"
+REMOVE_SCRIPT = "hidlogKey.installedKey()?.uninstall();"
 
 
 class ServiceError(Exception):
@@ -254,14 +253,17 @@ def _to_result(case: Case, driver: Driver, made: Json) -> Json:
     return run_calls(_make_page_call(driver), case, lambda: driver.devtools("WebAuthn.setUserVerified", **fail))
 
 
-def run_with_page_key(case: Case, driver: Driver) -> Json | str:
-    """Runs a case with the key in a page. If the page's key can't run the case, returns the reason."""
+def run_with_page_key(case: Case, driver: Driver) -> Json:
+    """Runs a case with the key in a page."""
     key = case.get("key", {})
     outside = {name: key[name] for name in ("attestation", "aaguid", "algorithms", "autofill") if name in key}
     options = {**to_devtools_options(key), **outside}
-    refused = driver.run(INSTALL_SCRIPT, options, case.get("presence", "granted"), waits=True)
-    if refused:
-        return str(refused)
-    if case.get("before") and "presence" in case:
-        return "the key in a page would refuse what comes before, too"
-    return run_calls(_make_page_call(driver), case, lambda: driver.run(FAIL_SCRIPT, waits=True))
+    refused = driver.run(INSTALL_SCRIPT, options, waits=True)
+    assert not refused, refused
+    call_page = _make_page_call(driver)
+
+    def call(name: str, options: Any, more: Json) -> Json:
+        driver.run(PRESENCE_SCRIPT, case.get("presence", "granted") if name == case["call"] else "granted")
+        return call_page(name, options, more)
+
+    return run_calls(call, case, lambda: driver.run(FAIL_SCRIPT, waits=True))
