@@ -1,9 +1,10 @@
 -- From the tests that the code makes in turn to reading an item.
-use Rattle.std.proofs.Common.{arith, rules, ◌≡◌, ℕ, ◌<◌, Bool, true, false, List, [], ◌∷◌, ◌++◌, Some, None, Result}
-use Rattle.std.proofs.{Common.Err, Common.refl, lemmas.Bool.leb-false}
-use Rattle.ctap_cbor.specs.{declared.fault.Kind.Kind, declared.item.Item.Item, Head.info, Parts.read}
-use Rattle.ctap_cbor.specs.Faults.{Expected, first_fault_of, first_faults, passed}
-use Rattle.ctap_cbor.specs.Views.{IsDecodedItem, IsDecodedItemRest, expected_of}
+use Rattle.std.proofs.Common.{arith, rules, ◌≡◌, ℕ, ◌<◌, ◌≤◌, suc, Bool, true, false, List, [], ◌∷◌, ◌++◌, Some, None}
+use Rattle.std.proofs.{Common.Ok, Common.Err, Common.length, Common.drop, Common.refl, lemmas.Bool.leb-false}
+use Rattle.ctap_cbor.specs.{declared.fault.Kind.Kind, declared.fault.Kind.TheVariants.KeyOrder, Head.major, Head.info}
+use Rattle.ctap_cbor.specs.Parts.{Part, item_by_major, read}
+use Rattle.ctap_cbor.specs.Faults.{AnItem, Expected, first_fault_of, first_faults, later_faults, item_len, passed}
+use Rattle.ctap_cbor.specs.Views.{expected_of}
 
 first_some : (ts us : List (Bool × Kind)) (kind : Kind) → first_fault_of ts ≡ Some kind → first_fault_of (ts ++ us) ≡ Some kind
 first_some [] us kind e = absurd cc
@@ -34,8 +35,18 @@ pub passed_first : (levels : ℕ) (due : Expected) (first : ℕ) (rest : List �
 unfolding first_faults passed
 passed_first levels due first rest kind e = grind arith
 
-pub found_rest : (levels : ℕ) (is_key : Bool) (first : ℕ) (rest : List ℕ) (r : Result (Item × ℕ) (Kind × ℕ)) →
-    first_fault_of (first_faults levels (expected_of is_key) first) ≡ None → IsDecodedItemRest first rest r →
-    IsDecodedItem (first ∷ rest) r (read levels (expected_of is_key) (first ∷ rest))
+-- the item after a valid initial byte, or its error
+pub found_part : (levels : ℕ) (is_key : Bool) (bytes : List ℕ) (first : ℕ) (rest : List ℕ) (p : Part) (len : ℕ) →
+    bytes ≡ first ∷ rest → first_fault_of (first_faults levels (expected_of is_key) first) ≡ None →
+    (first_fault_of (later_faults AnItem first rest) ≡ None) × (p ≡ item_by_major (major first) first rest)
+    × (len ≡ item_len first rest) × (len ≤ suc (length rest)) →
+    (read levels (expected_of is_key) bytes ≡ Ok (p, drop len bytes)) × (len ≤ length bytes) × (len ≡ passed KeyOrder bytes)
 unfolding read passed
-found_rest levels is_key first rest r e h = grind (arith, first_none)
+found_part levels is_key bytes first rest p len is e h = rw is (grind (arith, first_none))
+
+pub found_error : (levels : ℕ) (is_key : Bool) (bytes : List ℕ) (first : ℕ) (rest : List ℕ) (kind : Kind) (n : ℕ) →
+    bytes ≡ first ∷ rest → first_fault_of (first_faults levels (expected_of is_key) first) ≡ None →
+    (first_fault_of (later_faults AnItem first rest) ≡ Some kind) × (n ≡ passed kind (first ∷ rest)) × (n ≤ suc (length rest)) →
+    (read levels (expected_of is_key) bytes ≡ Err kind) × (n ≡ passed kind bytes) × (n ≤ length bytes)
+unfolding read
+found_error levels is_key bytes first rest kind n is e h = rw is (grind (arith, first_none))

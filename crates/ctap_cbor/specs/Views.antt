@@ -5,10 +5,10 @@ use Rattle.ctap_cbor.specs.declared.{fault.Fault.Fault, fault.Kind.Kind, item.It
 use Rattle.ctap_cbor.specs.declared.fault.Kind.TheVariants.{Truncated, KeyOrder}
 use Rattle.ctap_cbor.specs.declared.item.Item.TheVariants.{Int, Bytes, Text, Array, Map, Bool as Logical, Null}
 use Rattle.std.specs.Prelude.{Bool}
-use Rattle.ctap_cbor.specs.Faults.{Expected, AnItem, AKey, first_fault_of, body_faults, later_faults, item_len, passed}
-use Rattle.ctap_cbor.specs.Head.{major, info, argument, argument_len, least_argument}
+use Rattle.ctap_cbor.specs.Faults.{Expected, AnItem, AKey, first_fault_of, body_faults, passed}
+use Rattle.ctap_cbor.specs.Head.{info, argument, argument_len, least_argument}
 use Rattle.ctap_cbor.specs.Tree as tree
-use Rattle.ctap_cbor.specs.Parts.{Part, One, OpensArray, OpensMap, item_text, item_by_major, IsAllowed}
+use Rattle.ctap_cbor.specs.Parts.{Part, One, OpensArray, OpensMap, item_text, IsAllowed}
 use Rattle.ctap_cbor.specs.Reading.{Reading, rest_of}
 
 -- Converts the code's type `Item` to an item of the definitions.
@@ -51,14 +51,6 @@ abbrev pub IsHeadArgument : ℕ → List ℕ → Result (ℕ × ℕ) (Kind × �
 IsHeadArgument first rest (Ok (n, len)) = (n ≡ argument first rest) × (len ≡ argument_len (info first))
     × (len ≤ length rest) × (least_argument (info first) ≤ n)
 IsHeadArgument first rest (Err (kind, n)) = (first_fault_of (body_faults first rest) ≡ Some kind)
-    × (n ≡ passed kind (first ∷ rest)) × (n ≤ suc (length rest))
-
--- The result of reading the rest of an item after a valid initial byte: the item and its length, or the first error
--- and the number of bytes read.
-abbrev pub IsDecodedItemRest : ℕ → List ℕ → Result (Item × ℕ) (Kind × ℕ) → Type 0
-IsDecodedItemRest first rest (Ok (i, len)) = (first_fault_of (later_faults AnItem first rest) ≡ None)
-    × (to_part i ≡ item_by_major (major first) first rest) × (len ≡ item_len first rest) × (len ≤ suc (length rest))
-IsDecodedItemRest first rest (Err (kind, n)) = (first_fault_of (later_faults AnItem first rest) ≡ Some kind)
     × (n ≡ passed kind (first ∷ rest)) × (n ≤ suc (length rest))
 
 -- The number of steps for finding the end of the input: 1 if the item is truncated.

@@ -5,7 +5,7 @@ ghost use Rattle.std.specs.Str.{is_utf8};
 ghost use Rattle.ctap_cbor.specs.Head.{info, argument_len, argument, least_argument};
 ghost use Rattle.ctap_cbor.specs.Faults.{first_fault_of, first_faults};
 ghost use Rattle.ctap_cbor.specs.Parts.{read};
-ghost use Rattle.ctap_cbor.specs.Views.{IsDecodedItem, IsDecodedItemRest, IsHeadArgument, to_part, expected_of};
+ghost use Rattle.ctap_cbor.specs.Views.{IsDecodedItem, IsHeadArgument, to_part, expected_of};
 
 use crate::fault::Kind;
 use crate::item::Item;
@@ -13,6 +13,7 @@ use byteorder::{BigEndian, ByteOrder};
 
 /// Decodes the item or key at the beginning of the input, and returns it with its length. On failure, returns the error
 /// and the number of bytes that count as read. Doesn't check the order of keys.
+#[tactic(auto, unfolding(crate::specs::Faults::body_faults, crate::specs::Faults::string_len, crate::specs::Faults::item_len, crate::specs::Faults::passed))]
 #[inline(always)]
 pub(crate) fn find<'a>(
     bytes: &'a [u8],
@@ -24,9 +25,36 @@ pub(crate) fn find<'a>(
     let Some((first, rest)) = bytes.split_first() else {
         return Err((Kind::Truncated, 0));
     };
-    match first_fault(*first, levels, is_key) {
-        Some(kind) => Err((kind, 1)),
-        None => decode_item_rest(*first, rest),
+    if let Some(kind) = first_fault(*first, levels, is_key) {
+        return Err((kind, 1));
+    }
+    let major = *first / 32;
+    let (argument, len) = find_argument(*first, rest)?;
+    if major != 2 && major != 3 {
+        let item = match major {
+            0 => Item::Int(i128::from(argument)),
+            1 => Item::Int(-1 - i128::from(argument)),
+            4 => Item::Array(argument),
+            5 => Item::Map(argument),
+            _ => match *first % 32 {
+                20 => Item::Bool(false),
+                21 => Item::Bool(true),
+                _ => Item::Null,
+            },
+        };
+        return Ok((item, 1 + len));
+    }
+    let content = &rest[len..];
+    if (content.len() as u64) < argument {
+        return Err((Kind::Truncated, 1 + rest.len()));
+    }
+    let string = &content[..argument as usize];
+    if major == 2 {
+        return Ok((Item::Bytes(string), 1 + len + string.len()));
+    }
+    match str::from_utf8(string) {
+        Ok(text) => Ok((Item::Text(text), 1 + len + string.len())),
+        Err(_) => Err((Kind::NotUtf8, 1 + len + string.len())),
     }
 }
 
@@ -75,41 +103,4 @@ fn find_argument(first: u8, rest: &[u8]) -> Result<(u64, usize), (Kind, usize)>
         return Err((Kind::NotShortest, 1 + len));
     }
     Ok((argument, len))
-}
-
-/// Decodes the item after a valid initial byte, and returns it with its length, or the error.
-#[tactic(auto, unfolding(crate::specs::Faults::body_faults, crate::specs::Faults::string_len, crate::specs::Faults::item_len, crate::specs::Faults::passed))]
-#[inline(always)]
-fn decode_item_rest<'a>(first: u8, rest: &'a [u8]) -> Result<(Item<'a>, usize), (Kind, usize)>
-    requires { info first < 28 }
-    ensures { IsDecodedItemRest first rest.now result }
-{
-    let major = first / 32;
-    let (argument, len) = find_argument(first, rest)?;
-    if major != 2 && major != 3 {
-        let item = match major {
-            0 => Item::Int(i128::from(argument)),
-            1 => Item::Int(-1 - i128::from(argument)),
-            4 => Item::Array(argument),
-            5 => Item::Map(argument),
-            _ => match first % 32 {
-                20 => Item::Bool(false),
-                21 => Item::Bool(true),
-                _ => Item::Null,
-            },
-        };
-        return Ok((item, 1 + len));
-    }
-    let content = &rest[len..];
-    if (content.len() as u64) < argument {
-        return Err((Kind::Truncated, 1 + rest.len()));
-    }
-    let string = &content[..argument as usize];
-    if major == 2 {
-        return Ok((Item::Bytes(string), 1 + len + string.len()));
-    }
-    match str::from_utf8(string) {
-        Ok(text) => Ok((Item::Text(text), 1 + len + string.len())),
-        Err(_) => Err((Kind::NotUtf8, 1 + len + string.len())),
-    }
 }
