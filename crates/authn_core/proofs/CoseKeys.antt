@@ -1,8 +1,8 @@
 -- A COSE key's bytes are the encoding of its map.
-use Rattle.std.proofs.Common.{◌≡◌, ℕ, ◌<◌, ◌^◌, List, [], ◌∷◌, ◌++◌, length, refl, sym, ◌∙◌, ap, arith, append-nil}
+use Rattle.std.proofs.Common.{◌≡◌, ℕ, List, [], ◌∷◌, length, refl, ap, arith, append-nil}
 use Rattle.std.proofs.Common.{append_assoc}
-use Rattle.ctap_cbor.specs.{Head.AreBytes, Head.head, Tree.Int, Tree.Bytes, Tree.Plain}
-use Rattle.ctap_cbor.specs.Grammar.{IsCanonical, IsEncoding, IsLawful, text}
+use Rattle.ctap_cbor.specs.{Head.AreBytes, Head.head}
+use Rattle.ctap_cbor.specs.Grammar.{IsCanonical, IsLawful, text}
 use Rattle.fido_authdata.specs.CoseKey.{cose_key_bytes}
 use Rattle.authn_core.specs.CoseTree.{cose_key_tree}
 

@@ -4,7 +4,7 @@ use Rattle.std.{proofs.Common.arith, specs.Option.option_or}
 use Rattle.cred_table.specs.{declared.row.Row.Row, Rows.ValidRows, Rows.same_id, Rows.no_two}
 use Rattle.ctap_message.specs.{Asked.RequestParameters, Requests.read_of}
 use Rattle.authn_core.specs.State.{PendingTask, State, Event, Request, PresenceIs, KeyIs, SignatureIs, Cancel, Drop}
-use Rattle.authn_core.specs.State.{Answer, Answered, Waits, TurnResult, status, await_reply}
+use Rattle.authn_core.specs.State.{Answer, Answered, Waits, TurnResult, status}
 use Rattle.authn_core.specs.Turn.{Start, first_state, request_turn, reply_turn, turn}
 use Rattle.authn_core.specs.Marks.{CredentialChange, apply_change, rows_among, TimedEvent, MayFollow, Orderly, core_at}
 use Rattle.authn_core.specs.{Ready.WorkReady, Views.pending_work}
