@@ -23,7 +23,7 @@ from typing import Callable
 TOP = Path(__file__).resolve().parents[1]
 SIGN_IN_COUNT = 1000
 INIT = "> 0 " + "ffffffff8600080001020304050607".ljust(128, "0")
-# The lines of crates/hidlog/data/capacity_64/sign_in.log, all with one timestamp.
+# The lines of crates/hidlog_cli/data/capacity_64/sign_in.log, all with one timestamp.
 MAKE_CREDENTIAL = [
     "> 5 0000000190005b01a5015820" + "11" * 32 + "02a16269646b6578616d706c652e636f6d03a162",
     "> 5 0000000100696441010481a263616c672664747970656a7075626c69632d6b657907a162726bf5",

@@ -24,7 +24,7 @@ for flow in "$work"/*.log; do
     is_same_output "$flow" || { echo "bench/peer.sh: the outputs of both programs differ for $flow" >&2; exit 1; }
 done
 count=0
-for log in crates/hidlog/data/capacity_64/*.log; do
+for log in crates/hidlog_cli/data/capacity_64/*.log; do
     ! is_same_output "$log" || count=$((count + 1))
 done
 echo "same output for each flow, and for $count worked logs"

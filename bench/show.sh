@@ -30,7 +30,7 @@ def request(head, byte):
     return "".join(f"> 0 {packet.hex()}\n" for packet in packets(1, 0x10, message)).encode()
 
 
-worked = b"".join(log.read_bytes() for log in sorted((top / "crates/hidlog/data").glob("*/*.log")))
+worked = b"".join(log.read_bytes() for log in sorted((top / "crates/hidlog_cli/data").glob("*/*.log")))
 (work / "worked").write_bytes(repeated(worked))
 (work / "bytes").write_bytes(repeated(request(0x59, b"\xaa")))
 (work / "controls").write_bytes(repeated(request(0x79, b"\x1b")))

@@ -65,18 +65,18 @@ build_library() {
 # Links the object file of `rt ci` into a static program. If `rt ci` reused the program of an earlier run, rt has
 # kept the linked program without its object file. Then --check compares the program's hash with release/LINKED.
 build_program() {
-    [ -e crates/hidlog/out/hidlog ] || fail "crates/hidlog/out/hidlog is missing: run rt ci first"
-    hash_file crates/hidlog/out/hidlog >"$made/LINKED"
-    if [ ! -e crates/hidlog/out/hidlog.o ]; then
-        [ "$mode" = --check ] || fail "crates/hidlog/out/hidlog.o is missing: run rt ci --anew first"
+    [ -e crates/hidlog_cli/out/hidlog_cli ] || fail "crates/hidlog_cli/out/hidlog_cli is missing: run rt ci first"
+    hash_file crates/hidlog_cli/out/hidlog_cli >"$made/LINKED"
+    if [ ! -e crates/hidlog_cli/out/hidlog_cli.o ]; then
+        [ "$mode" = --check ] || fail "crates/hidlog_cli/out/hidlog_cli.o is missing: run rt ci --anew first"
         cmp -s release/LINKED "$made/LINKED" ||
-            fail "release/LINKED differs from the hash of crates/hidlog/out/hidlog: run packages/build_release.sh"
+            fail "release/LINKED differs from the hash of crates/hidlog_cli/out/hidlog_cli: run packages/build_release.sh"
         echo "same  release/hidlog, by the hash in release/LINKED, since rt kept no object file"
         cp release/hidlog "$made/hidlog"
         return
     fi
     # gcc and Debian's libc.a support a static position-independent program with read-only relocations.
-    gcc -static-pie -Wl,--build-id=none -Wl,-z,relro,-z,now -s -o "$made/hidlog" crates/hidlog/out/hidlog.o \
+    gcc -static-pie -Wl,--build-id=none -Wl,-z,relro,-z,now -s -o "$made/hidlog" crates/hidlog_cli/out/hidlog_cli.o \
         "$kit/c/libos_c.a" "$kit/c/liblibc_c.a"
     [[ $(readelf -dW "$made/hidlog") == *"Flags: NOW PIE"* && $(readelf -lW "$made/hidlog") == *GNU_RELRO* ]] ||
         fail "$made/hidlog is not position-independent with read-only relocations"
@@ -84,8 +84,8 @@ build_program() {
 
 # Prints the hash of the object file. If rt has kept no object file, prints the hash in release/BUILD.
 print_object_hash() {
-    if [ -e crates/hidlog/out/hidlog.o ]; then
-        hash_file crates/hidlog/out/hidlog.o
+    if [ -e crates/hidlog_cli/out/hidlog_cli.o ]; then
+        hash_file crates/hidlog_cli/out/hidlog_cli.o
     else
         sed -n 's/^object: //p' release/BUILD
     fi
@@ -99,7 +99,7 @@ build_shared() {
 
 # Builds the program for aarch64. The program is proved again, since `rt ci` builds no object file for aarch64.
 build_program_for_aarch64() {
-    build hidlog crates/hidlog src/main.rt aarch64-unknown-linux-gnu "$work/hidlog_aarch64.o"
+    build hidlog_cli crates/hidlog_cli src/main.rt aarch64-unknown-linux-gnu "$work/hidlog_aarch64.o"
     packages/arm64/link.sh "$work/hidlog_aarch64.o" "$made/aarch64/hidlog"
 }
 

@@ -30,7 +30,7 @@ paths() {
             print "crates/" name
         }
         END {
-            visit("hidlog")
+            visit("hidlog_cli")
             visit("hidlog_c")
         }' crates.txt | while read -r crate; do
         for part in src specs proofs; do

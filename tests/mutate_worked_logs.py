@@ -1,7 +1,7 @@
 #!/usr/bin/env python3
 """Changes the worked logs, and checks the program's results: tests/mutate_worked_logs.py [PROGRAM].
 
-The logs are those in crates/hidlog/args, which the gate compares, and one that starts with a snapshot. `check` must
+The logs are those in crates/hidlog_cli/args, which the gate compares, and one that starts with a snapshot. `check` must
 count the inputs and packets of each log, and find each packet that is changed, removed or inserted. The output of
 `quiet` must stay the same if `quiet` is applied to it; its replay must send only packets of the log, in order, with the
 same totals. The output of `live` must equal its own replay and, without the lines about needs, the log.
@@ -20,7 +20,7 @@ from typing import Iterator
 
 TOP = Path(__file__).resolve().parents[1]
 PROGRAM = str(Path(sys.argv[1]).resolve() if len(sys.argv) > 1 else TOP / "release/hidlog")
-DATA = TOP / "crates/hidlog/data"
+DATA = TOP / "crates/hidlog_cli/data"
 # Number of files that one call of `check` compares.
 MIN_LINES = 500
 
@@ -122,10 +122,10 @@ def check_changed_logs(work_dir: Path, log: Log, changes: list[tuple[bytes, str]
 
 def read_worked_logs() -> list[Log]:
     """Returns the logs."""
-    names = (TOP / "crates/hidlog/args").read_text(encoding="utf-8").split()[1:]
+    names = (TOP / "crates/hidlog_cli/args").read_text(encoding="utf-8").split()[1:]
     found = sorted(str(path.relative_to(DATA)) for path in DATA.glob("*/*.log"))
     restarted = "restarted/after_restart.log"
-    assert sorted([*names, restarted]) == found, "crates/hidlog/args doesn't name each log of data/"
+    assert sorted([*names, restarted]) == found, "crates/hidlog_cli/args doesn't name each log of data/"
     logs = [Log(name, (DATA / name).read_bytes(), []) for name in names]
     load = ["--load", str(DATA / "restarted/snapshot")]
     return [*logs, Log(restarted, (DATA / restarted).read_bytes(), load)]

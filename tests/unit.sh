@@ -13,7 +13,7 @@ work=$(mktemp -d)
 trap 'rm -rf "$work"' EXIT
 
 libraries=(hid_packet hid_assemble ctap_cbor ctap_message fido_authdata cred_table authn_core token_session session_log
-    session_walk session_show)
+    session_walk session_show hidlog)
 mkdir -p "$work/crates/row_tests/src"
 cp "$top/HANDLES" "$work/"
 for library in "${libraries[@]}"; do

@@ -24,7 +24,7 @@ check_log() {
     ! grep -q "^>" "$log" || grep -q "INIT" "$work/shown" || { echo "$log: its packets are not shown"; exit 1; }
 }
 
-data=crates/hidlog/data
+data=crates/hidlog_cli/data
 for log in "$data"/capacity_64/*.log "$data"/recorded/*.log; do
     check_log "$log"
 done

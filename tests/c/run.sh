@@ -24,7 +24,7 @@ fail() {
 }
 
 # Complete logs of sessions without initial credentials.
-logs=("$top"/examples/*.log "$top"/crates/hidlog/data/capacity_64/*.log)
+logs=("$top"/examples/*.log "$top"/crates/hidlog_cli/data/capacity_64/*.log)
 
 # Replays a log on an in-memory key in each of three ways, and compares the outputs with the program's: compare_replay
 # LOG [WORD ..]

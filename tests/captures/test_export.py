@@ -16,7 +16,7 @@ from hidlog.captures.pcapng_writer import iter_pcapng
 from hidlog_conformance.session_cache import sessions_folder
 
 TOP = Path(__file__).resolve().parents[2]
-FOLDERS = ("examples", "conformance/recorded", "crates/hidlog/data", "tests/captures/data", sessions_folder())
+FOLDERS = ("examples", "conformance/recorded", "crates/hidlog_cli/data", "tests/captures/data", sessions_folder())
 TRUNCATED_LOG = TOP / "examples" / "failing" / "truncated.log"
 LOGS = sorted(path for folder in FOLDERS for path in (TOP / folder).glob("**/*.log") if path != TRUNCATED_LOG)
 

@@ -17,7 +17,7 @@ from pathlib import Path
 from typing import Iterator
 
 TOP = Path(__file__).resolve().parents[2]
-LOGS = ("examples/*.log", "examples/failing/*.log", "crates/hidlog/data/*/*.log")
+LOGS = ("examples/*.log", "examples/failing/*.log", "crates/hidlog_cli/data/*/*.log")
 # The format of key_fuzz.c: the number of inputs of a run, and the byte for each kind of input.
 MAX_INPUTS = 64
 PACKET, RAW, TICK, PRESENCE, KEY, NO_KEY, SIGNATURE, NO_SIGNATURE = 0, 255, 9, 10, 12, 13, 14, 15

@@ -95,7 +95,7 @@ def run(words: list[str | Path], data: bytes = b"", expected: int = 0) -> bytes:
 
 def list_logs(count: int) -> dict[str, bytes]:
     """Returns the logs by name: worked, recorded, examples, and malformed ones of seed 1."""
-    folders = ("crates/hidlog/data", "conformance/recorded", "examples")
+    folders = ("crates/hidlog_cli/data", "conformance/recorded", "examples")
     logs = {
         str(path.relative_to(TOP)): path.read_bytes()
         for name in folders

@@ -7,7 +7,7 @@ import { diagnose } from "./diagnose_in_node.mjs";
 import { resolvePath } from "./session_in_node.mjs";
 
 // Folders of sessions with this project's key that pass `hidlog check`, and of captures and clients' sessions.
-const FOLDERS = ["examples/", "crates/hidlog/data/capacity_64/", "conformance/recorded/", "tests/captures/data/"];
+const FOLDERS = ["examples/", "crates/hidlog_cli/data/capacity_64/", "conformance/recorded/", "tests/captures/data/"];
 // Sessions that began with credentials.
 const SNAPSHOTS = { "examples/service_after_restart.log": "examples/service.snapshot" };
 const SIGN_IN_AGAIN = "examples/sign_in_again.log";

@@ -10,7 +10,7 @@ for (const name of ["show_text.js", "cbor_spans.js", "fields.js"]) {
     vm.runInThisContext(readFileSync(resolvePath(`bindings/web/${name}`), "utf8"));
 }
 const { makeAllFields, PACKET_BYTES } = globalThis.hidlogFields;
-const LOG_FOLDERS = ["examples/", "examples/failing/", "crates/hidlog/data/capacity_64/", "tests/captures/data/"];
+const LOG_FOLDERS = ["examples/", "examples/failing/", "crates/hidlog_cli/data/capacity_64/", "tests/captures/data/"];
 
 const openSession = (name) => {
     const session = readSession(new Uint8Array(readFileSync(resolvePath(name))));

@@ -23,7 +23,7 @@ const runCommand = (file, words, input = "", variables = { HIDLOG_CLI: "wasm" })
 const listLogs = (path) =>
     readdirSync(join(TOP, path)).filter((name) => name.endsWith(".log")).map((name) => join(TOP, path, name));
 const logs = [join(TOP, "examples/registration.log"), ...listLogs("examples/failing"),
-    ...listLogs("crates/hidlog/data/capacity_64").filter((_, place) => place % 3 === 0)];
+    ...listLogs("crates/hidlog_cli/data/capacity_64").filter((_, place) => place % 3 === 0)];
 const calls = logs.flatMap((log) => [["check", log], ["replay", log], ["live", log], ["quiet", log],
     ["show", log], ["show", "--explain", log]]);
 const listFailingLog = (name) => join(TOP, "examples/failing", name);

@@ -16,7 +16,7 @@ for (const name of ["show_text.js", "narrative.js"]) {
 const PROGRAM = process.env.HIDLOG_PROGRAM ?? fileURLToPath(resolvePath("hidlog"));
 const JSDOM = "/usr/share/nodejs/jsdom";
 const LOG_FOLDERS = [
-    "examples/", "examples/failing/", "crates/hidlog/data/capacity_64/", "tests/captures/data/", "tests/web/walks/",
+    "examples/", "examples/failing/", "crates/hidlog_cli/data/capacity_64/", "tests/captures/data/", "tests/web/walks/",
     "tests/web/words/",
 ];
 const names = LOG_FOLDERS.flatMap((folder) => readdirSync(resolvePath(folder)).filter((name) => name.endsWith(".log"))

@@ -1,13 +1,31 @@
 -- Several logs that are compared, one after the other.
-use Rattle.std.proofs.Common.{◌≡◌, ◌∙◌, ℕ, ◌+◌, ◌<◌, false, List, [], ◌∷◌, ◌++◌, length, take, get_or, Option, Ok, Err}
-use Rattle.std.proofs.Common.{OnOk, is_err, refl, sym, ap, subst}
-use Rattle.std.{specs.Borrow.Bor, proofs.lemmas.List.map-append, proofs.lemmas.List.take_more}
+use Rattle.std.proofs.Common.{◌≡◌, ◌∙◌, ℕ, zero, suc, ◌+◌, ◌<◌, false, List, [], ◌∷◌, ◌++◌, length, take, drop, get_or, Option, Ok, Err}
+use Rattle.std.proofs.Common.{OnErr, OnOk, is_err, true, inl, inr, refl, sym, ap, subst}
+use Rattle.std.{specs.Borrow.Bor, proofs.lemmas.List.map-append, proofs.lemmas.List.take_more, proofs.lemmas.List.take-append-drop}
 use Rattle.session_log.specs.Command.{Status}
-use Rattle.hidlog.specs.{CommandLine.to_texts, Model.Model, Several.AreSame, Several.IsSameAt}
+use native.Mathlib.Numerals.{unary_clauses}
+use Rattle.hidlog.specs.{CommandLine.to_texts, Fault.FaultText, Model.Model, Several.AreSame, Several.FailsAt, Several.HasFailure, Several.IsSameAt}
 
 pub on_ok : {P : Type 0} (r : Status) → P → OnOk r P
 on_ok (Ok x) h = h
 on_ok (Err code) h = tt
+
+pub on_err : {P : Type 0} (r : Status) → is_err r ≡ true → OnErr r P → P
+on_err (Ok x) none h = cc
+on_err (Err code) some h = h
+
+-- the texts of one path more
+next_texts : (paths : List (Bor (List ℕ))) (place : ℕ) (d : Bor (List ℕ)) → place < length paths →
+    to_texts (take (place + 1) paths) ≡ to_texts (take place paths) ++ (get_or paths place d).now ∷ []
+next_texts paths place d below =
+    ap to_texts (take_more paths place d below)
+    ∙ map-append (λ (w : Bor (List ℕ)). w.now) (take place paths) (get_or paths place d ∷ [])
+
+-- the texts of some paths, and of the others
+all_texts : (paths : List (Bor (List ℕ))) (place : ℕ) →
+    to_texts paths ≡ to_texts (take place paths) ++ to_texts (drop place paths)
+all_texts paths place =
+    ap to_texts (sym (take-append-drop place paths)) ∙ map-append (λ (w : Bor (List ℕ)). w.now) (take place paths) (drop place paths)
 
 module _ {D I O F : Type 0} (model : Model D I O F) where
   -- one after several others
@@ -27,9 +45,57 @@ module _ {D I O F : Type 0} (model : Model D I O F) where
       AreSame model load files (to_texts (take (place + 1) paths)) (input, after)
   next_same load files files' paths place d (Err code) input between after below same are none is = cc
   next_same load files files' paths place d (Ok x) input between after below same are none is =
-      let names : to_texts (take (place + 1) paths) ≡ to_texts (take place paths) ++ (get_or paths place d).now ∷ [] =
-      ap to_texts (take_more paths place d below) ∙ map-append (λ (w : Bor (List ℕ)). w.now) (take place paths)
-      (get_or paths place d ∷ []) in
-      subst (λ (logs : List (List ℕ)). AreSame model load files logs (input, after)) (sym names)
+      subst (λ (logs : List (List ℕ)). AreSame model load files logs (input, after)) (sym (next_texts paths place d below))
       (one_more_same load files (to_texts (take place paths)) (get_or paths place d).now input between after are
       (subst (λ (f : D). IsSameAt model load f (get_or paths place d).now (between, after)) same is))
+
+  -- a failure stays one where more logs follow
+  pub more_failures : (load : Option (List ℕ)) (files : D) (logs more : List (List ℕ)) (input : I) →
+      HasFailure model load files logs input → HasFailure model load files (logs ++ more) input
+  more_failures load files [] more input fails = elim fails [ ]
+  more_failures load files (log ∷ logs) more input (inl fails) = inl fails
+  more_failures load files (log ∷ logs) more input (inr later) =
+      inr (later.0, later.1, more_failures load files logs more later.0 later.2)
+
+  -- a failure after several that are the same
+  pub first_failure : (load : Option (List ℕ)) (files : D) (logs : List (List ℕ)) (log : List ℕ) (told : FaultText)
+      (input between after : I) → AreSame model load files logs (input, between)
+      → FailsAt model load files log told (between, after) → HasFailure model load files (logs ++ log ∷ []) input
+  first_failure load files [] log told input between after are fails =
+      inl (told, after, subst (λ (i : I). FailsAt model load files log told (i, after)) are fails)
+  first_failure load files (first ∷ logs) log told input between after are fails =
+      inr (are.0, are.1, first_failure load files logs log told are.0 between after are.2 fails)
+
+  -- a failure among the first stays one where the next follows
+  still : (load : Option (List ℕ)) (files : D) (paths : List (Bor (List ℕ))) (place : ℕ) (input : I) →
+      HasFailure model load files (to_texts (take place paths)) input →
+      HasFailure model load files (to_texts (take (suc place) paths)) input
+  still load files [] zero input fails = elim fails [ ]
+  still load files [] (suc n) input fails = elim fails [ ]
+  still load files (path ∷ paths) zero input fails = elim fails [ ]
+  still load files (path ∷ paths) (suc n) input (inl fails) = inl fails
+  still load files (path ∷ paths) (suc n) input (inr later) =
+      inr (later.0, later.1, still load files paths n later.0 later.2)
+
+  pub next_still : (load : Option (List ℕ)) (files : D) (paths : List (Bor (List ℕ))) (place : ℕ) (input : I) →
+      HasFailure model load files (to_texts (take place paths)) input →
+      HasFailure model load files (to_texts (take (place + 1) paths)) input
+  next_still load files paths place input fails = simp unary_clauses (still load files paths place input fails)
+
+  -- the next one fails where none has failed
+  pub next_fails : (load : Option (List ℕ)) (files files' : D) (paths : List (Bor (List ℕ))) (place : ℕ)
+      (d : Bor (List ℕ)) (told : FaultText) (input between after : I) → place < length paths → files' ≡ files
+      → AreSame model load files (to_texts (take place paths)) (input, between)
+      → FailsAt model load files' (get_or paths place d).now told (between, after) →
+      HasFailure model load files (to_texts (take (place + 1) paths)) input
+  next_fails load files files' paths place d told input between after below same are fails =
+      subst (λ (logs : List (List ℕ)). HasFailure model load files logs input) (sym (next_texts paths place d below))
+      (first_failure load files (to_texts (take place paths)) (get_or paths place d).now told input between after are
+      (subst (λ (f : D). FailsAt model load f (get_or paths place d).now told (between, after)) same fails))
+
+  -- a failure among the first is one among all
+  pub all_fail : (load : Option (List ℕ)) (files : D) (paths : List (Bor (List ℕ))) (place : ℕ) (input : I) →
+      HasFailure model load files (to_texts (take place paths)) input → HasFailure model load files (to_texts paths) input
+  all_fail load files paths place input fails =
+      subst (λ (logs : List (List ℕ)). HasFailure model load files logs input) (sym (all_texts paths place))
+      (more_failures load files (to_texts (take place paths)) (to_texts (drop place paths)) input fails)

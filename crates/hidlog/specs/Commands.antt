@@ -1,7 +1,7 @@
 -- The effect of each command on the host: its files, log, output and error output. `old` is the host before the
 -- command, and `new` after it.
-use Rattle.std.specs.Prelude.{◌≡◌, ◌≢◌, ◌⊎◌, ℕ, Bool, true, false, List, [], ◌∷◌, Option, Some, None, Ok, Err}
-use Rattle.std.specs.Prelude.{MatchOption, MatchResult, IsSomeAnd, OnOk, codes}
+use Rattle.std.specs.Prelude.{◌≡◌, ◌≢◌, ◌⊎◌, ◌<◌, ◌-◌, ◌^◌, ℕ, Bool, true, false, List, [], ◌∷◌, Option, Some, None, Ok, Err}
+use Rattle.std.specs.Prelude.{MatchOption, MatchResult, IsSomeAnd, OnOk, OnErr, codes}
 use Rattle.std.specs.Bool.{MatchBool}
 use Rattle.clap.specs.Words.{IsAmong}
 use Rattle.clap.specs.declared.error.kind.ErrorKind.{ErrorKind, TheVariants.OutOfMemory}
@@ -15,8 +15,8 @@ use Rattle.session_show.specs.Shown.{IsLineText, Shows, read_only_world}
 use Rattle.session_show.specs.declared.detail.Detail.{Detail, TheVariants.Explained, TheVariants.Fixed}
 use Rattle.hidlog.specs.CommandLine.{Task, argument_errors, parsed_command_line, explains, named, play, check, show}
 use Rattle.hidlog.specs.declared.args.ShowFormat.{ShowFormat, TheVariants.Lines}
-use Rattle.hidlog.specs.{declared.host.Host.Host, Model.Model, Several.AreSame, Program.writing_failed}
-use Rattle.hidlog.specs.Fault.{RunResult, WritesFault, to_run_result, of_log, reasoned}
+use Rattle.hidlog.specs.{declared.host.Host.Host, Model.Model, Several.AreSame, Several.HasFailure, Program.writing_failed}
+use Rattle.hidlog.specs.Fault.{FaultText, RunResult, WritesFault, to_run_result, of_log, reasoned}
 use Rattle.hidlog.specs.Program.{Ended, IsWrittenTo, IsWhole, WritesMore, FlushesPending, cannot_read_log, is_help, no_memory}
 use Rattle.hidlog.specs.Saved.{FailsToOpen, FailsToSave, OpenSource, Saves}
 
@@ -108,10 +108,18 @@ module _ {D I O F : Type 0} (model : Model D I O F) where
   DoesCommand command load save log explained status old new = (came : RunResult) × (played : Host D I O F)
       × RunsCommand command load save log came old played × Reports explained came status played new
 
-  -- The logs were compared, and the files are not changed. The exit status is 0 only if no log has a difference.
+  -- A report could not be written, or the count of failures of a stream is at its maximum.
+  abbrev pub CannotReport : Host D I O F → Type 0
+  CannotReport host = (0 < model.unput host.output) ⊎ (model.unread host.input ≡ 2 ^ 64 - 1)
+      ⊎ (model.unsaid host.faults ≡ 2 ^ 64 - 1)
+
+  -- The logs were compared, and the files are not changed. The exit status is 0 only if no log has a difference. It is
+  -- another one only if a log fails or a report could not be written, and 2 only if the snapshot cannot be loaded.
   abbrev pub Compares : Option (List ℕ) → (logs : List (List ℕ)) → Status → (old new : Host D I O F) → Type 0
   Compares load logs status old new = (new.files ≡ old.files)
       × OnOk status (AreSame model load old.files logs (old.input, new.input))
+      × OnErr status (HasFailure model load old.files logs old.input ⊎ CannotReport new)
+      × (status ≡ Err 2 → (told : FaultText) × FailsToOpen model.holds model.unreadable old.files load (Err told))
 
   -- The task was carried out. With several logs or `--json`, logs are compared one by one.
   abbrev pub CarriesOut : Task → Detail → (explained : Bool) → Status → (old new : Host D I O F) → Type 0
@@ -168,3 +176,11 @@ module _ {D I O F : Type 0} (model : Model D I O F) where
   Plays words status old new = (ran : Host D I O F) × Answers words status old ran
       × (new ≡ record ran { input = new.input; faults = new.faults })
       × WritesMore model.parsed model.unsaid (ran.faults, new.faults)
+
+  -- The program ran with these arguments on a source with the unread bytes `left` and a target that had accepted the
+  -- bytes `taken`, as `Plays` defines it; or an allocation failed before, and the failure was reported to `faults`.
+  abbrev pub PlaysOver : (left taken : Option (List ℕ)) → (faults : F) → List (List ℕ) → Status → Type 0
+  PlaysOver left taken faults words status =
+      ((old : Host D I O F) × (new : Host D I O F) × (model.left old.input ≡ left) × (model.taken old.output ≡ taken)
+      × (old.faults ≡ faults) × Plays words status old new)
+      ⊎ ((status ≡ Err 2) × ((after : F) × IsWrittenTo model.parsed model.unsaid (faults, after) no_memory))

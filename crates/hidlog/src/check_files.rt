@@ -1,9 +1,11 @@
 //! Checks several logs, one after the other.
-ghost use Rattle.std.specs.Prelude.{◌≡◌, ◌<◌, ◌-◌, ◌^◌, ◌⊎◌, IfErr, OnOk};
+ghost use Rattle.std.specs.Prelude.{◌≡◌, ◌<◌, ◌-◌, ◌^◌, ◌⊎◌, Err, IfErr, OnErr, OnOk};
 ghost use Rattle.hidlog.specs.CommandLine.{to_path, to_texts};
 ghost use Rattle.hidlog.specs.Commands.{Compares};
 ghost use Rattle.hidlog.specs.Model.{CanFail};
-ghost use Rattle.hidlog.specs.Several.{IsSameAt};
+ghost use Rattle.hidlog.specs.Fault.{FaultText, exit_status, to_fault_text};
+ghost use Rattle.hidlog.specs.Saved.{FailsToOpen};
+ghost use Rattle.hidlog.specs.Several.{FailsAt, IsSameAt};
 
 use crate::buffered_output::Output;
 use crate::commands::{new_program_session, open_log};
@@ -120,6 +122,10 @@ impl<D: Files, L: Logs, O: Output, E: Target> Host<D, L, O, E> {
         ensures only { self.new ≡ record self.old { input = self.new.input } }
         ensures same { OnOk result (IsSameAt ⟦<Self as Modeled>⟧.model (to_path options.now.load) self.old.files path.now
             (self.old.input, self.new.input)) }
+        ensures fails { IfErr result (λ fault. FailsAt ⟦<Self as Modeled>⟧.model (to_path options.now.load) self.old.files path.now
+            (to_fault_text fault) (self.old.input, self.new.input)) }
+        ensures snapshot { IfErr result (λ fault. exit_status fault ≡ 2 →
+            FailsToOpen D.holds D.unreadable self.old.files (to_path options.now.load) (Err (to_fault_text fault))) }
     {
         let session = &mut new_program_session();
         let input = &mut self.input;
@@ -147,6 +153,7 @@ impl<D: Files, L: Logs, O: Output, E: Target> Host<D, L, O, E> {
         ensures status { IfErr result (λ code. code ≡ 1) }
         ensures files { self.new.files ≡ self.old.files }
         ensures input { self.new.input ≡ self.old.input }
+        ensures unwritten { OnErr result (0 < O.failed self.new.output) }
     {
         if write_message(&mut self.output, &SameLog { options, text }) {
             return Ok(());
@@ -188,7 +195,9 @@ impl<D: Files, L: Logs, O: Output, E: Target> Host<D, L, O, E> {
         }
         if options.is_json {
             let output = &mut self.output;
-            write_message(output, &ProgramFaultObject { options, fault });
+            if output.failures() == 0 {
+                write_message(output, &ProgramFaultObject { options, fault });
+            }
             if output.failures() > 0 {
                 write_message(&mut self.faults, &EscapedText(WRITING_FAILED));
             }
@@ -203,29 +212,23 @@ impl<D: Files, L: Logs, O: Output, E: Target> Host<D, L, O, E> {
         ensures kept { self.new.files ≡ self.old.files }
         ensures same { OnOk result (IsSameAt ⟦<Self as Modeled>⟧.model (to_path options.now.load) self.old.files path.now
             (self.old.input, self.new.input)) }
+        ensures fails { OnErr result ((0 < O.failed self.new.output)
+            ⊎ ((told : FaultText) × (after : L) × FailsAt ⟦<Self as Modeled>⟧.model (to_path options.now.load) self.old.files path.now
+            told (self.old.input, after))) }
+        ensures snapshot { result ≡ Err 2 → (told : FaultText)
+            × FailsToOpen D.holds D.unreadable self.old.files (to_path options.now.load) (Err told) }
     {
         let mut same = Vec::new(self.alloc);
         match self.compare(options, path, &mut same) {
             Ok(ending) => {
-                let parsed = self.report_equal(options, &same);
+                self.report_equal(options, &same)?;
+                let input = &mut self.input;
                 if options.is_json {
-                    report_note(
-                        &self.files,
-                        options,
-                        &mut self.input,
-                        &ending,
-                        &mut self.output,
-                    );
-                    return parsed;
+                    report_note(&self.files, options, input, &ending, &mut self.output);
+                } else {
+                    report_note(&self.files, options, input, &ending, &mut self.faults);
                 }
-                report_note(
-                    &self.files,
-                    options,
-                    &mut self.input,
-                    &ending,
-                    &mut self.faults,
-                );
-                parsed
+                Ok(())
             }
             Err(fault) => {
                 self.report_failure(options, &fault);

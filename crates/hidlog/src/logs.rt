@@ -86,6 +86,21 @@ impl<I: Read, F: Read> Read for Stream<I, F> {
     }
 }
 
+/// Opens a file that isn't a directory. Returns its length if it can be read a second time.
+pub fn open_file(rt: &HostRuntime, path: &str) -> io::Result<(File, Option<u64>)> {
+    let file = File::open(rt, path)?;
+    let found = file.metadata()?;
+    if found.is_dir() {
+        return Err(Error::from_raw_os_error(EISDIR));
+    }
+    let size = if found.is_file() {
+        Some(found.len())
+    } else {
+        None
+    };
+    Ok((file, size))
+}
+
 /// The system's streams. The contracts state nothing about their content.
 impl OpenSource for Stream<Stdin, File> {
     ghost is_at = { λ _ _. Unit {0} };
@@ -100,16 +115,7 @@ impl OpenSource for Stream<Stdin, File> {
             }
             return Ok((Stream::Standard(rt.stdin()), size));
         };
-        let file = File::open(rt, path)?;
-        let found = file.metadata()?;
-        if found.is_dir() {
-            return Err(Error::from_raw_os_error(EISDIR));
-        }
-        let size = if found.is_file() {
-            Some(found.len())
-        } else {
-            None
-        };
+        let (file, size) = open_file(rt, path)?;
         Ok((Stream::Named(file), size))
     }
 }
@@ -163,8 +169,8 @@ pub struct HostLog<'a, S> {
 }
 
 impl<'a, S: OpenSource> HostLog<'a, S> {
-    /// Returns the log on standard input, or an allocation error. With `is_kept`, the bytes of a short log that can't
-    /// be read a second time are kept. `audience` determines what is shown at a terminal.
+    /// Returns the log on standard input, or an error. With `is_kept`, the bytes of a short log that can't be read a
+    /// second time are kept. `audience` determines what is shown at a terminal.
     pub fn new(
         rt: &'a HostRuntime,
         is_kept: bool,
@@ -174,6 +180,23 @@ impl<'a, S: OpenSource> HostLog<'a, S> {
         ensures { IfOk result (λ log. ⟦<HostLog<'a, S> as Source>⟧.failed log ≡ 0) }
     {
         let (stream, size) = S::open(rt, None)?;
+        HostLog::from_stream(rt, stream, size, is_kept, audience, ahead)
+    }
+
+    /// Returns the log that a stream contains, or an allocation error. `size` is the log's length if it can be read a
+    /// second time. The other parameters are those of `new`.
+    pub fn from_stream(
+        rt: &'a HostRuntime,
+        stream: S,
+        size: Option<u64>,
+        is_kept: bool,
+        audience: ProgressMode,
+        ahead: &'a Cell<Lookahead>,
+    ) -> io::Result<Self>
+        ensures left { IfOk result (λ log. ⟦<HostLog<'a, S> as Source>⟧.left log ≡ S.remaining stream) }
+        ensures open { IfOk result (λ log. ⟦<HostLog<'a, S> as Source>⟧.ended log ≡ false) }
+        ensures counted { IfOk result (λ log. ⟦<HostLog<'a, S> as Source>⟧.failed log ≡ 0) }
+    {
         let keeps = if is_kept { Some(rt.alloc()) } else { None };
         Ok(HostLog {
             rt,

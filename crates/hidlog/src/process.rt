@@ -1,9 +1,9 @@
 //! The arguments and the standard error stream of the program's process.
-ghost use Rattle.std.specs.Prelude.{◌≡◌, ◌<◌, ◌-◌, ◌^◌, ◌⊎◌, ℕ, List, IfErr, OnOk, OnErr};
+ghost use Rattle.std.specs.Prelude.{◌≡◌, ◌<◌, ◌-◌, ◌^◌, ◌⊎◌, ℕ, List, false, IfErr, OnOk, OnErr};
 ghost use Rattle.hidlog.specs.Program.{IsWrittenTo, IsReported, no_memory as no_memory_text, not_text};
 
 use crate::fault::ErrorDetail;
-use session_log::{Target, put_all};
+use session_log::{Failed, Target, put_all};
 use session_show::{Detail, TextBuf, Written, put_chunks};
 use std::env;
 use std::io::ErrorKind;
@@ -19,15 +19,23 @@ pub fn write_error_text<E: Target>(faults: &mut E, text: &[u8])
     let _ = put_all(faults, text);
 }
 
-/// Writes a message to a stream, unless the stream's count of failures is at its maximum. Returns whether the whole
-/// message was written.
-pub fn write_message<E: Target, W: Written>(stream: &mut E, what: &W) -> bool
-    ensures { E.failed stream.old < 2 ^ 64 - 1 → (text : List ℕ) × IsWrittenTo E.taken E.failed (stream.old, stream.new) text }
+/// Writes a message to a stream. After a failure, only the beginning of the message was written.
+pub fn put_message<E: Target, W: Written>(stream: &mut E, what: &W) -> Result<(), Failed>
+    requires { E.failed stream.old < 2 ^ 64 - 1 }
+    ensures written { (text : List ℕ) × IsWrittenTo E.taken E.failed (stream.old, stream.new) text }
+    ensures counted { OnErr result (0 < E.failed stream.new) }
 {
-    if stream.failures() == u64::MAX {
-        return false;
-    }
-    put_chunks(stream, &mut TextBuf::new(Detail::Explained), what).is_ok()
+    put_chunks(stream, &mut TextBuf::new(Detail::Explained), what)
+}
+
+/// Writes a message to a stream, unless a write to the stream failed before. Returns whether the whole message was
+/// written.
+pub fn write_message<E: Target, W: Written>(stream: &mut E, what: &W) -> bool
+    ensures written { E.failed stream.old ≡ 0 → (text : List ℕ) × IsWrittenTo E.taken E.failed (stream.old, stream.new) text }
+    ensures kept { 0 < E.failed stream.old → stream.new ≡ stream.old }
+    ensures unwritten { result ≡ false → 0 < E.failed stream.new }
+{
+    stream.failures() == 0 && put_message(stream, what).is_ok()
 }
 
 /// Writes an error message to standard error. If texts are explained, a line with the details follows.

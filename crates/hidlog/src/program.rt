@@ -19,7 +19,7 @@ use crate::files::Files;
 use crate::host::{Host, Modeled};
 use crate::logs::Logs;
 use crate::notes::CheckEnd;
-use crate::process::{WRITING_FAILED, no_memory, write_error_text, write_message};
+use crate::process::{WRITING_FAILED, no_memory, put_message, write_error_text};
 use crate::report_options::ReportOptions;
 use clap::Error;
 use clap::error::ErrorKind;
@@ -143,7 +143,7 @@ impl<D: Files, L: Logs, O: Output, E: Target> Host<D, L, O, E> {
         };
         if error.use_stderr() {
             // Invisible characters in arguments are escaped.
-            write_message(&mut self.faults, &EscapedText(text.as_bytes()));
+            let _ = put_message(&mut self.faults, &EscapedText(text.as_bytes()));
             return Err(2);
         }
         let answer = put_text(&mut self.output, text.as_bytes());

@@ -1,5 +1,5 @@
-use Rattle.std.proofs.Common.{◌≡◌, false, take}
-use Rattle.hidlog.specs.{CommandLine.to_path, CommandLine.to_texts, Model.Model, Several.AreSame}
+use Rattle.std.proofs.Common.{◌≡◌, ◌⊎◌, ◌<◌, true, false, take}
+use Rattle.hidlog.specs.{CommandLine.to_path, CommandLine.to_texts, Model.Model, Several.AreSame, Several.HasFailure}
 use Rattle.hidlog.proofs.host.Host.check_each.Given as goal
 
 -- what is said of the host
@@ -22,8 +22,11 @@ model g = record {
   unsaid = g.E.Target.failed;
 }
 
--- The files stay, and where none has failed the logs so far are the same.
+-- The files stay. Where none has failed, the logs so far are the same; else one of them failed, or a report could not be
+-- written.
 abbrev pub invariant-loop-path : goal.invariant-loop-path
 invariant-loop-path g l = (l.self.files ≡ l.fn.self.files)
     × (l.has_failed ≡ false → AreSame (model g) (to_path l.fn.wished.load) l.fn.self.files
     (to_texts (take l.path-index l.fn.paths)) (l.fn.self.input, l.self.input))
+    × (l.has_failed ≡ true → HasFailure (model g) (to_path l.fn.wished.load) l.fn.self.files
+    (to_texts (take l.path-index l.fn.paths)) l.fn.self.input ⊎ (0 < g.O.Target.failed l.self.output))

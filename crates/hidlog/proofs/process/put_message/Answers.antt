@@ -1,7 +1,7 @@
 use Rattle.std.proofs.Common.{ℕ, List, [], ◌∷◌, ◌++◌, Option, Result, Ok, Err, inl, inr, refl, rules}
 use Rattle.hidlog.specs.Program.{IsWrittenTo}
 use Rattle.session_show.specs.Written.{Writes}
-use Rattle.hidlog.proofs.process.write_message.Goals as goal
+use Rattle.hidlog.proofs.process.put_message.Goals as goal
 
 -- what a target took of a write is a text, or the front of one
 given : {F A E : Type 0} (taken : F → Option (List ℕ)) (failed : F → ℕ) (target : F × F) (r : Result A E)
@@ -9,6 +9,6 @@ given : {F A E : Type 0} (taken : F → Option (List ℕ)) (failed : F → ℕ) 
 given taken failed target (Ok x) w = (w.0.0, inl (w.0.1, w.1))
 given taken failed target (Err e) w = (w.0.0 ++ 0 ∷ [], inr ((w.0.0, 0 ∷ [], refl, search rules, w.0.1), w.1))
 
-pub returns : goal.returns
-returns g c = λ _. given g.E.Target.taken g.E.Target.failed (c.args.stream.now, c.put_chunks.new.writer)
+pub returns-clause-written : goal.returns-clause-written
+returns-clause-written g c = given g.E.Target.taken g.E.Target.failed (c.args.stream.now, c.put_chunks.new.writer)
     c.put_chunks.result c.put_chunks.ensures
