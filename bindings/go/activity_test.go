@@ -41,10 +41,14 @@ func TestReportSaysWhatBrowsersDid(t *testing.T) {
 	key.Faults.TruncateBy = 4
 	id := credential.ID[:8]
 	want := []string{
-		"registered ann at https://login.example.com: credential " + id + "..",
-		"signed in as ann at https://login.example.com: counter 1, credential " + id + "..",
+		"registered ann at https://login.example.com: user not verified, discoverable, credential " + id + "..",
+		"    options: rp.id example.com, user.id YW5u, residentKey required, challenge AAECAwQF.., excludeCredentials none",
+		"signed in as ann at https://login.example.com: user not verified, counter 1, user handle YW5u, credential " + id + "..",
+		"    options: rpId example.com, challenge AAECAwQF.., allowCredentials none",
 		"refused a sign-in at https://login.example.com: NotAllowedError: the key refused: the user refused",
-		"refused a registration of bob at other.example (https://login.example.com): SecurityError: ",
+		"    options: rpId example.com, challenge AAECAwQF.., allowCredentials none",
+		"refused a registration of bob at https://login.example.com: SecurityError: ",
+		"    options: rp.id other.example, user.id YW5u, residentKey required, challenge AAECAwQF.., excludeCredentials none",
 		"the fault BadSignature is enabled: true",
 		"the fault TruncateBy is enabled: 4",
 	}
