@@ -50,7 +50,7 @@ bundle hidlogKey index.js >"$work/dist/security_key.js"
 # The rules of `judge`, translated from Python, are appended to their runtime.
 rules=(quantity hid_packets ctap_cbor curve sanitize skipped certificates answers init_response sections rules
     requests transactions check_credential_management judged_log judged_parts judged_stored judged_settings judged_u2f
-    judged_statuses judged_answers judged_host judged_errors judged_key judged_report)
+    judged_statuses judged_answers judged_host judged_errors judged_missing judged_key judged_report)
 {
     cat bindings/web/rules/python.js bindings/web/rules/python_calls.js bindings/web/rules/keys.js
     python3 bindings/web/rules/translate.py conformance/hidlog_conformance "${rules[@]}"

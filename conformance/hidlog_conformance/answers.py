@@ -4,6 +4,7 @@ from __future__ import annotations
 
 import hashlib
 from dataclasses import dataclass, field
+from functools import lru_cache
 from typing import Any, Dict, List, Optional, Tuple
 
 from hidlog_conformance import ctap_cbor, curve, keys
@@ -73,8 +74,9 @@ def check(condition: bool, expected: str, actual: Any) -> None:
         raise Mismatch(expected, actual if isinstance(actual, str) else ctap_cbor.to_diagnostic(actual))
 
 
+@lru_cache(maxsize=16)
 def decode_map(data: bytes) -> Dict[Any, Any]:
-    """Returns the map of a successful response."""
+    """Returns the map of a successful response, with a cache; do not modify the result."""
     check(data[:1] == b"\0", "status 00 and a map", f"status {data[:1].hex()}" if data else "an empty message")
     try:
         item = ctap_cbor.decode_cached(data[1:])
@@ -102,18 +104,25 @@ def check_auth_data(auth: bytes, rp: str, words: List[str]) -> None:
     """Checks the RP ID hash and the flags, also against the words of the expectation."""
     check(len(auth) >= 37, "authenticator data of at least 37 bytes", auth)
     expected = hashlib.sha256(rp.encode()).digest()
-    check(auth[:32] == expected, f"the SHA-256 of {rp}, {expected.hex()}", auth[:32])
-    flags = auth[32]
-    if "up" in words:
-        check(bool(flags & UP), "flag UP set", f"flags {flags:02x}")
-    if "no-up" in words:
-        check(not flags & UP, "flag UP not set", f"flags {flags:02x}")
-    if "uv" in words:
-        check(bool(flags & UV), "flag UV set", f"flags {flags:02x}")
-    if "no-uv" in words:
-        check(not flags & UV, "flag UV not set", f"flags {flags:02x}")
-    check(not flags & RESERVED_FLAGS, "reserved flags (bits 1 and 5) not set", f"flags {flags:02x}")
-    check(not flags & BS or bool(flags & BE), "flag BS only with BE", f"flags {flags:02x}")
+    if auth[:32] != expected:
+        check(False, f"the SHA-256 of {rp}, {expected.hex()}", auth[:32])
+    fault = find_flag_fault(auth[32], words)
+    check(not fault, fault, f"flags {auth[32]:02x}")
+
+
+def find_flag_fault(flags: int, words: List[str]) -> str:
+    """Returns which requirement the flags of authenticator data violate, or empty."""
+    if "up" in words and not flags & UP:
+        return "flag UP set"
+    if "no-up" in words and flags & UP:
+        return "flag UP not set"
+    if "uv" in words and not flags & UV:
+        return "flag UV set"
+    if "no-uv" in words and flags & UV:
+        return "flag UV not set"
+    if flags & RESERVED_FLAGS:
+        return "reserved flags (bits 1 and 5) not set"
+    return "flag BS only with BE" if flags & BS and not flags & BE else ""
 
 
 def check_extensions(data: bytes, flags: int, words: List[str]) -> Dict[Any, Any]:
@@ -122,7 +131,8 @@ def check_extensions(data: bytes, flags: int, words: List[str]) -> Dict[Any, Any
     place = words.index("no-extension") + 1 if "no-extension" in words else 0
     if not flags & ED:
         check(not data, "no bytes after the authenticator data, since flag ED is not set", data)
-        check("extension" not in words, "flag ED and an extension output", f"flags {flags:02x}")
+        if "extension" in words:
+            raise Mismatch("flag ED and an extension output", f"flags {flags:02x}")
         return {}
     try:
         found = ctap_cbor.decode(data)
@@ -309,11 +319,12 @@ def check_assertion_response(
     found = [credential for credential in known.values() if credential.id == identity]
     check(bool(found) and found[0].rp == asked[1], "a credential registered for this RP", identity)
     check(not allowed or identity in allowed, "a credential of the allow list", identity)
-    check(expected is None or identity == expected, f"the credential {(expected or b'').hex()}", identity)
+    if expected is not None:
+        check(identity == expected, f"the credential {expected.hex()}", identity)
     counter = int.from_bytes(auth[33:37], "big")
     rises = counter > found[0].counter or counter == found[0].counter == 0
-    if "counter-rises" in words:
-        check(rises and (counter > 0 or "strictly" not in words), f"a counter above {found[0].counter}", str(counter))
+    if "counter-rises" in words and not (rises and (counter > 0 or "strictly" not in words)):
+        raise Mismatch(f"a counter above {found[0].counter}", str(counter))
     found[0].counter = max(counter, found[0].counter)
     check_user_entity(item, words, facts)
     signed = auth + asked[2]

@@ -8,6 +8,10 @@ from typing import Any, Dict, List, Tuple
 MAX_DEPTH = 4
 # The smallest argument that needs the head with this additional information.
 MIN_ARGUMENT = {24: 24, 25: 2**8, 26: 2**16, 27: 2**32}
+# A head that `read_head` reads.
+NO_HEAD = 0xFF
+# Simple values by additional information.
+SIMPLE = {20: False, 21: True, 22: None}
 
 
 class CborError(Exception):
@@ -56,11 +60,11 @@ class Reader:
 
     def take(self, count: int) -> bytes:
         """Returns the next bytes."""
-        if self.place + count > len(self.data):
+        start, end = self.place, self.place + count
+        if end > len(self.data):
             raise CborError(f"bytes are missing at {len(self.data)}")
-        piece = self.data[self.place : self.place + count]
-        self.place += count
-        return piece
+        self.place = end
+        return self.data[start:end]
 
     def read_any_head(self) -> Tuple[int, int, int]:
         """Returns an item's major type, additional information and argument; also accepts heads that are too long."""
@@ -83,24 +87,32 @@ class Reader:
 
     def read(self, level: int = 1) -> Any:
         """Returns the next item."""
-        start = self.place
-        major, info, argument = self.read_head()
-        if major in (4, 5) and level > MAX_DEPTH:
-            raise CborError(f"more than {MAX_DEPTH} levels at {start}")
+        start, data = self.place, self.data
+        head = data[start] if start < len(data) else NO_HEAD
+        major, info = head >> 5, head & 31
+        # The most frequent heads, of one and two bytes, are read here.
+        if info < 24:
+            self.place, argument = start + 1, info
+        elif info == 24 and start + 1 < len(data) and data[start + 1] >= 24:
+            self.place, argument = start + 2, data[start + 1]
+        else:
+            major, info, argument = self.read_head()
         if major == 0:
             return argument
-        if major == 1:
-            return -1 - argument
         if major == 2:
             return self.take(argument)
         if major == 3:
             return self.text(start, argument)
-        if major == 4:
-            return [self.read(level + 1) for _ in range(argument)]
+        if major in (4, 5) and level > MAX_DEPTH:
+            raise CborError(f"more than {MAX_DEPTH} levels at {start}")
         if major == 5:
             return self.map(argument, level)
-        if major == 7 and info in (20, 21, 22):
-            return {20: False, 21: True, 22: None}[info]
+        if major == 4:
+            return [self.read(level + 1) for _ in range(argument)]
+        if major == 1:
+            return -1 - argument
+        if major == 7 and info in SIMPLE:
+            return SIMPLE[info]
         raise CborError(f"a tag, a float or another simple value at {start}")
 
     def text(self, start: int, length: int) -> str:

@@ -66,7 +66,7 @@ class Collector:
         if len(packet) != 64:
             return Message(0, 0, b"", f"a packet of {quantity(len(packet), 'byte')}")
         channel = int.from_bytes(packet[:4], "big")
-        if packet[4] & 0x80:
+        if packet[4] >= 0x80:
             return self.begin(channel, packet)
         part = self.open.get(channel)
         if part is None:
@@ -78,24 +78,21 @@ class Collector:
             )
         part.due += 1
         part.data += packet[5:]
-        return self.take_complete(channel, part)
-
-    def begin(self, channel: int, packet: bytes) -> Optional[Message]:
-        """Processes an initialization packet; CANCEL does not affect an incomplete message."""
-        if packet[4] & 0x7F == CANCEL:
-            return Message(channel, CANCEL, packet[7 : 7 + int.from_bytes(packet[5:7], "big")])
-        broken = self.open.pop(channel, None)
-        part = Part(packet[4] & 0x7F, int.from_bytes(packet[5:7], "big"), packet[7:])
-        if broken and not self.of_host:
-            return Message(channel, part.command, b"", f"a message begins on {channel:08x} within another one")
-        if part.length > LONGEST:
-            return Message(channel, part.command, b"", f"a length of {part.length} on {channel:08x}")
-        self.open[channel] = part
-        return self.take_complete(channel, part)
-
-    def take_complete(self, channel: int, part: Part) -> Optional[Message]:
-        """Returns the message if it is complete, or None."""
         if len(part.data) < part.length:
             return None
         del self.open[channel]
         return Message(channel, part.command, part.data[: part.length], padding=part.data[part.length :])
+
+    def begin(self, channel: int, packet: bytes) -> Optional[Message]:
+        """Processes an initialization packet; CANCEL does not affect an incomplete message."""
+        command, end = packet[4] & 0x7F, 7 + (packet[5] << 8 | packet[6])
+        if command == CANCEL:
+            return Message(channel, CANCEL, packet[7:end])
+        if self.open.pop(channel, None) is not None and not self.of_host:
+            return Message(channel, command, b"", f"a message begins on {channel:08x} within another one")
+        if end <= len(packet):
+            return Message(channel, command, packet[7:end], padding=packet[end:])
+        if end - 7 > LONGEST:
+            return Message(channel, command, b"", f"a length of {end - 7} on {channel:08x}")
+        self.open[channel] = Part(command, end - 7, packet[7:])
+        return None

@@ -140,35 +140,31 @@ class AnswerJudge:
 
     def check_touch_request(self, entry: Entry, transaction: Transaction) -> None:
         """Checks that no touch is requested for a request that must fail first or needs no user presence."""
-        if not transaction.data:
+        request = transaction.data
+        if not request:
             return
-        fault = find_fault(transaction.data)
-        section = rules.COMMANDS.get(transaction.data[0], rules.COMMANDS_OTHER)
+        fault, command = find_fault(request), request[0]
+        section = rules.COMMANDS.get(command, rules.COMMANDS_OTHER)
         actual = "a touch is requested"
         if fault is not None and not fault.should:
             level = SHOULD if fault.section == "8" else MUST
             expected = f"an error, since {fault.expected} is required"
             self.recording.add_finding(entry.line, KEY, fault.section or section, expected, actual, level)
             return
-        asked = decode_parameters(transaction.data) or {}
-        options = asked.get(7 if transaction.data[0] == MAKE else 5, {})
-        wrong = (
-            self.statuses.find_invalid_option(transaction.data[0], asked, options)
-            if transaction.data[0] in (MAKE, GET)
-            else ""
-        )
-        own = self.info.get(4, {})
+        if command not in (MAKE, GET):
+            return
+        asked = decode_parameters(request) or {}
+        options, own = asked.get(7 if command == MAKE else 5, {}), self.info.get(4, {})
+        wrong = self.statuses.find_invalid_option(command, asked, options)
         if wrong:
             self.recording.add_finding(entry.line, KEY, section, f"an error (2b or 2c) for the option {wrong}", actual)
-        elif transaction.data[0] == GET and options.get("up") is False and self.info and not own.get("alwaysUv"):
+        elif command == GET and options.get("up") is False and self.info and not own.get("alwaysUv"):
             if not options.get("uv"):
-                self.recording.add_finding(
-                    entry.line, KEY, section, "a response without a touch, since up is false", actual
-                )
-        elif transaction.data[0] == MAKE and 10 in asked and self.statuses.lacks_enterprise():
-            self.recording.add_finding(
-                entry.line, KEY, section, "an error, since enterprise attestation is not supported", actual
-            )
+                expected = "a response without a touch, since up is false"
+                self.recording.add_finding(entry.line, KEY, section, expected, actual)
+        elif command == MAKE and 10 in asked and self.statuses.lacks_enterprise():
+            expected = "an error, since enterprise attestation is not supported"
+            self.recording.add_finding(entry.line, KEY, section, expected, actual)
 
     def judge(self, entry: Entry, transaction: Transaction, message: hid.Message) -> None:
         """Checks a response."""
@@ -425,7 +421,8 @@ class AnswerJudge:
 
     def follow(self, entry: Entry, transaction: Transaction, data: bytes) -> None:
         """Records the effects of a response."""
-        command, status = transaction.data[0], data[0]
+        request, status = transaction.data, data[0]
+        command = request[0]
         if command == RESET and status == 0:
             self.forgotten.update(list(self.kept.by_id))
             # CTAP 2.0 does not require that a reset deletes U2F credentials.
@@ -440,8 +437,8 @@ class AnswerJudge:
             self.no_display = self.no_display or (isinstance(number, int) and number > 1)
             left = number - 1 if isinstance(number, int) else 0
             flags = auth[32] if isinstance(auth, bytes) and len(auth) > 32 else 0
-            signed = [self.find_signer(decode_parameters(transaction.data) or {}, item)]
-            self.pending = Pending(transaction.data, left, entry.at, transaction.channel, True, signed, flags)
+            signed = [self.find_signer(decode_parameters(request) or {}, item)]
+            self.pending = Pending(request, left, entry.at, transaction.channel, True, signed, flags)
         elif command == NEXT and status == 0 and self.pending is not None:
             self.pending.left, self.pending.at = self.pending.left - 1, entry.at
         elif self.pending is not None and (

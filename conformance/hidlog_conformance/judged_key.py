@@ -10,13 +10,12 @@ from hidlog_conformance.answers import Mismatch
 from hidlog_conformance.init_response import CBOR, is_valid_keepalive, check_init_response
 from hidlog_conformance.judged_answers import AnswerJudge
 from hidlog_conformance.judged_errors import SERVED, ErrorJudge
-from hidlog_conformance.judged_parts import ExtensionMismatch
 from hidlog_conformance.judged_log import KEY, MUST, SHOULD, SILENCE_MS, Recording, make_difference, to_message
+from hidlog_conformance.judged_missing import MESSAGE_TIMEOUT_MS, MissingJudge
+from hidlog_conformance.judged_parts import ExtensionMismatch
 from hidlog_conformance.quantity import quantity
 from hidlog_conformance.transactions import CANCELLED, NO_TIME_OUT, Entry, Transaction
 
-# Milliseconds after which an incomplete message should have timed out.
-MESSAGE_TIMEOUT_MS = 3000
 # The least milliseconds between unplugging a key and its next packet: the debounce interval (USB 2.0, 7.1.7.3).
 MIN_UNPLUGGED_MS = 100
 # The maximum of unfinished transactions, and of unfinished messages of the key, that are tracked; the oldest is
@@ -31,6 +30,7 @@ class KeyJudge:
         self.recording = recording
         self.answers = AnswerJudge(recording)
         self.errors = ErrorJudge(self)
+        self.missing = MissingJudge(self)
         self.guest = hid.Collector()
         self.allocated: Dict[int, int] = {}
         self.capabilities: Dict[int, int] = {}
@@ -50,7 +50,6 @@ class KeyJudge:
         self.cancelled_inside: Set[int] = set()
         # The last packet of each unfinished message of the key, by channel.
         self.parts: Dict[int, Entry] = {}
-        self.missed: Set[int] = set()
         # Channels on which a response may belong to another request than the last one.
         self.unsure: Set[bytes] = set()
         # Whether a power cycle came. Whether the key responded to an INIT of the log, and to another request of it; and
@@ -75,7 +74,8 @@ class KeyJudge:
         cycles = self.recording.power_cycles
         while cycles and cycles[0][0] < entry.line:
             self.power_cycle(cycles.pop(0)[1])
-        self.check_silence(entry.at, entry.line)
+        if self.open or self.parts:
+            self.missing.check_silence(entry.at, entry.line)
         if entry.is_host:
             self.take_input(entry)
         else:
@@ -94,7 +94,8 @@ class KeyJudge:
     def note_channel(self, channel: bytes) -> None:
         """Processes the key's use of a channel. If the log does not have the channel's allocation, it begins within a
         session."""
-        if int.from_bytes(channel, "big") not in (*self.allocated, 0, hid.BROADCAST):
+        number = int.from_bytes(channel, "big")
+        if number not in self.allocated and number not in (0, hid.BROADCAST):
             self.recording.begins_within = True
 
     def power_cycle(self, at: int) -> None:
@@ -135,8 +136,14 @@ class KeyJudge:
 
     def take_sent(self, entry: Entry) -> None:
         """Checks a packet of the key."""
-        self.check_unfinished(entry)
-        if entry.transaction is not None and not entry.transaction.is_unknown and entry.part == "answer":
+        if self.wrong:
+            self.check_unfinished(entry)
+        if (
+            self.unsure
+            and entry.transaction is not None
+            and not entry.transaction.is_unknown
+            and entry.part == "answer"
+        ):
             self.unsure = {channel for channel in self.unsure if channel != entry.packet[:4]}
         self.check_packet(entry)
         if entry.message is not None and entry.message.lines[-1] == entry.line:
@@ -155,26 +162,27 @@ class KeyJudge:
 
     def check_packet(self, entry: Entry) -> None:
         """Checks a packet of the key within its message."""
-        channel = int.from_bytes(entry.packet[:4], "big")
-        message = self.guest.feed(entry.packet)
-        self.parts.pop(channel, None)
+        packet = entry.packet
+        channel, message = int.from_bytes(packet[:4], "big"), self.guest.feed(packet)
+        if self.parts:
+            self.parts.pop(channel, None)
         if message is None:
             self.parts[channel] = entry
             if len(self.parts) > MAX_OPEN:
                 del self.parts[list(self.parts)[0]]
         elif message.problem:
-            if entry.packet[4] < 0x80 and self.is_from_before(channel) and entry.packet[:4] not in self.sent_on:
+            if packet[4] < 0x80 and self.is_from_before(channel) and packet[:4] not in self.sent_on:
                 # It continues a response that began before the log.
                 return
             expected, actual = "the packets of a message in order", message.problem
             self.add_gap(entry.line, rules.PACKETS, expected, actual, MUST, rules.SEQUENCE)
-        elif any(message.padding):
+        elif message.padding != bytes(len(message.padding)):
             self.add_finding(entry.line, rules.PACKETS, "zeros as padding", message.padding.hex(), SHOULD)
         if entry.part == "keepalive":
             self.check_keepalive(entry, message)
         elif entry.part == "error":
             self.errors.check_error(entry, message)
-        elif entry.packet[4] & 0x80:
+        elif packet[4] & 0x80:
             self.check_first_packet(entry)
 
     def close(self, entry: Entry) -> None:
@@ -420,81 +428,9 @@ class KeyJudge:
         else:
             self.answers.judge(entry, transaction, message)
 
-    def check_silence(self, now: int, line: int) -> None:
-        """Finds responses that are missing at a time."""
-        if self.parts:
-            self.check_parts(now, line)
-        for owner in self.open:
-            is_due = owner.whole or owner.length > hid.LONGEST
-            if owner.line in self.missed:
-                continue
-            if is_due and self.is_silent(owner, now, line):
-                self.missed.add(owner.line)
-                self.report_missing(owner)
-            elif not is_due and owner.by is None and now - owner.last >= MESSAGE_TIMEOUT_MS:
-                self.missed.add(owner.line)
-                self.add_finding(
-                    owner.lines[-1], rules.TIMEOUT, "error 05, since the message timed out", "nothing", SHOULD
-                )
-
-    def check_parts(self, now: int, line: int) -> None:
-        """Finds messages of the key that are incomplete at a time."""
-        for channel, entry in list(self.parts.items()):
-            if now - entry.at >= SILENCE_MS and not self.recording.was_unread(line):
-                part = self.guest.open.get(channel)
-                left = part.length - len(part.data) if part is not None else 0
-                expected = f"the other {quantity(left, 'byte')} of the message"
-                if entry.message is None or entry.message.lines[-1] <= entry.line:
-                    self.add_gap(entry.line, rules.PACKETS, expected, "nothing", MUST, rules.SEQUENCE)
-                del self.parts[channel]
-
-    def is_silent(self, owner: Transaction, now: int, line: int) -> bool:
-        """Returns whether a complete message got no response for a while."""
-        if now - owner.last < SILENCE_MS or owner.end == "replaced" or owner.is_unknown:
-            return False
-        if (owner.by is not None and owner.by < line) or self.recording.was_unread(line):
-            return False
-        last = self.last_keepalive.get(owner.line, owner.last)
-        return now - last >= SILENCE_MS
-
-    def report_missing(self, owner: Transaction) -> None:
-        """Adds a finding about a missing response."""
-        section, expected, level = self.missing_response(owner)
-        # If the response comes late, only KEEPALIVEs are missing, since the standard sets no time limit.
-        level = SHOULD if owner.end in ("answered", "refused", "timed out") else level
-        self.add_gap(owner.lines[-1], section, expected, "nothing", level)
-
-    def missing_response(self, owner: Transaction) -> Tuple[str, str, str]:
-        """Returns the section about a missing response, the expected response, and the level."""
-        others = [one for one in self.open if one is not owner and one.line < owner.line]
-        others = [one for one in others if one.channel != owner.channel and one.command != hid.INIT]
-        if owner.channel in (0, hid.BROADCAST) and owner.command != hid.INIT:
-            return rules.CHANNELS, "error 0b", MUST
-        if owner.length > hid.LONGEST:
-            return rules.PACKETS, "error 03", MUST
-        if self.was_cancelled_inside(owner):
-            return rules.CANCEL, "a response, since CANCEL does not abort an incomplete message", MUST
-        if owner.command == hid.INIT:
-            return rules.INIT if owner.length == 8 else rules.PACKETS, "a response to INIT", MUST
-        if owner.command not in SERVED:
-            return rules.ERROR, "error 01", MUST
-        if others:
-            return rules.BUSY, f"error 06, since the transaction of line {others[0].line} is in progress", MUST
-        if self.allocated and owner.channel not in self.allocated:
-            return rules.CHANNELS, "error 0b, or a response", MUST
-        if owner.cancelled is not None:
-            return rules.CANCEL, "status 2d, since CANCEL came", MUST
-        if owner.command in (hid.CBOR, hid.MSG) and owner.length:
-            return rules.KEEPALIVE, "a response, or a KEEPALIVE every 100 ms", SHOULD
-        return rules.OF_COMMAND.get(owner.command, rules.ERROR), "a response", MUST
-
-    def was_cancelled_inside(self, owner: Transaction) -> bool:
-        """Returns whether a CANCEL came between a message's packets."""
-        return owner.line in self.cancelled_inside
-
     def finish(self) -> None:
         """Finds responses that are missing at the end of the log."""
-        self.check_silence(self.recording.walk.now, self.recording.lines + 1)
+        self.missing.check_silence(self.recording.walk.now, self.recording.lines + 1)
         self.check_unfinished(None)
 
     def check_unfinished(self, entry: Optional[Entry]) -> None:

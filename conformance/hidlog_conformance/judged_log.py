@@ -30,6 +30,16 @@ POWER_CYCLE = b"# power cycle"
 TRUNCATED = b"# note: the capture is truncated in its last record"
 # Recorders' notes about missing packets; logs of version 1.0 have "it was passed over".
 LOST = (b"the recorder lost ", b"it was passed over", b"skipped a", b": skipped", b"is left out: ")
+# Words of which each comment that is not ignored has one.
+COMMENTS = (
+    b"nobody read it",
+    b"one client alone",
+    b"# note: ",
+    b"# moment ",
+    b"# imported ",
+    b"# cut to ",
+    POWER_CYCLE,
+)
 _CUT = re.compile(rb"# cut to \d+ bytes: ([<>]) (\d{1,20}) ((?:[0-9a-f]{2}){8,63})")
 
 
@@ -90,26 +100,27 @@ class Recording:
 
     def take(self, number: int, line: bytes, owners: Owners) -> None:
         """Processes a line."""
-        self.lines = number
-        kind = line[:1]
+        kind, walk = line[:1], self.walk
         if kind == b"<":
-            self.begins_within = self.begins_within or not self.walk.packets
-            self.walk.device(number, bytes.fromhex(line[2:].decode()), owners.of(number))
+            if not walk.packets:
+                self.begins_within = True
+            walk.device(number, bytes.fromhex(line[2:].decode()), owners.of(number))
         elif kind == b">":
             moment, _, digits = line[2:].partition(b" ")
             packet = bytes.fromhex(digits.decode())
-            self.begins_within = self.begins_within or (not self.walk.packets and not is_first_init(packet))
-            self.walk.host(number, int(moment), packet, owners.of(number))
+            if not walk.packets and not is_first_init(packet):
+                self.begins_within = True
+            walk.host(number, int(moment), packet, owners.of(number))
         elif kind == b"#":
             self.take_comment(number, line, owners)
             return
         elif kind in (b"t", b"p", b"k", b"s"):
-            self.walk.advance_time(int(line.split(b" ")[1]))
-            self.walk.passed(number, owners.of(number))
+            walk.advance_time(int(line[2:].partition(b" ")[0]))
+            walk.passed(number, owners.ends(number))
         else:
             return
         if self.start is None:
-            self.start = self.walk.now
+            self.start = walk.now
 
     def take_comment(self, number: int, line: bytes, owners: Owners) -> None:
         """Processes a comment: recorders' notes on the log."""
@@ -248,13 +259,16 @@ def judge_parts(parts: Iterable[bytes], walk: Callable[[bytes], bytes]) -> Recor
     for part in (piece for whole in parts for piece in split_at_power_cycles(whole)):
         owners, lines = Owners(walk(walked(part)), number), Lines(part)
         block = lines.block()
+        has_comments = any(word in part for word in COMMENTS)
         while block:
             for line in block:
                 number += 1
-                recording.take(number, line, owners)
-                if line[:1] == b"<" and recording.walk.is_quiet:
-                    check_entries(recording, host, key)
+                if has_comments or line[:1] != b"#":
+                    recording.take(number, line, owners)
+                    if line[:1] == b"<" and recording.walk.is_quiet:
+                        check_entries(recording, host, key)
             block = lines.block()
+    recording.lines = number
     check_entries(recording, host, key)
     key.finish()
     recording.findings.sort(key=lambda found: (found.line, found.side, found.section))

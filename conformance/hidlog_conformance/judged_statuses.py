@@ -51,9 +51,11 @@ class StatusJudge:
 
     def check_status(self, entry: Entry, transaction: Transaction, data: bytes) -> None:
         """Checks that a status does not contradict the log."""
-        command, status = transaction.data[0], data[0]
-        check(status == 0 or len(data) == 1, "only a status", f"{quantity(len(data), 'byte')} with status {status:02x}")
-        fault = find_fault(transaction.data)
+        request, status = transaction.data, data[0]
+        command = request[0]
+        if status != 0 and len(data) != 1:
+            raise Mismatch("only a status", f"{quantity(len(data), 'byte')} with status {status:02x}")
+        fault = find_fault(request)
         if fault is not None:
             if not fault.should:
                 self.check_refusal(command, fault, status)
@@ -83,8 +85,8 @@ class StatusJudge:
 
     def check_user_presence(self, entry: Entry, transaction: Transaction, data: bytes) -> None:
         """Checks that a KEEPALIVE requested a touch before a response that requires user presence."""
-        command, status = transaction.data[0], data[0]
-        asked = decode_parameters(transaction.data) or {}
+        request, status = transaction.data, data[0]
+        command, asked = request[0], decode_parameters(request) or {}
         needs = command in (RESET, SELECTION) and status == 0
         needs = needs or (command == MAKE and status in (0, EXCLUDED))
         needs = needs or (command == PIN and asked.get(2) == USER_TOKEN and status == 0)
@@ -127,25 +129,26 @@ class StatusJudge:
 
     def check_form(self, transaction: Transaction, status: int) -> None:
         """Checks that a valid request is not refused as malformed."""
-        asked = decode_parameters(transaction.data) or {}
-        options = asked.get(7 if transaction.data[0] == MAKE else 5, {})
-        wrong = self.find_invalid_option(transaction.data[0], asked, options)
+        request = transaction.data
+        command, asked = request[0], decode_parameters(request) or {}
+        options = asked.get(7 if command == MAKE else 5, {})
+        wrong = self.find_invalid_option(command, asked, options)
         if wrong:
             taken = status in (0, NO_CREDENTIALS, EXCLUDED)
             check(not taken, f"an error (2b or 2c) for the option {wrong}", f"status {status:02x}")
             return
-        if self.answers.stored.is_refused(asked, status, transaction.data[0] == MAKE, self.answers.info):
+        if self.answers.stored.is_refused(asked, status, command == MAKE, self.answers.info):
             return
-        if status == LIMIT_MS and self.has_long_list(asked.get(5 if transaction.data[0] == MAKE else 3, [])):
-            return
-        strange = list_unknown_parts(transaction.data[0], asked)
-        # PINs, enterprise attestation and unsupported options have specific errors.
-        own = {8, 9, 10} if transaction.data[0] == MAKE else {6, 7}
-        rk_is_open = options.get("rk") and not self.answers.info.get(4, {}).get("rk")
-        if own & set(asked) or rk_is_open or options.get("uv"):
+        if status == LIMIT_MS and self.has_long_list(asked.get(5 if command == MAKE else 3, [])):
             return
         if transaction.length > self.answers.info.get(5, 1024) or status not in MALFORMED_STATUSES:
             return
+        # PINs, enterprise attestation and unsupported options have specific errors.
+        own = {8, 9, 10} if command == MAKE else {6, 7}
+        rk_is_open = options.get("rk") and not self.answers.info.get(4, {}).get("rk")
+        if own & set(asked) or rk_is_open or options.get("uv"):
+            return
+        strange = list_unknown_parts(command, asked)
         self.answers.passed_over = "" if not strange or strange[0].startswith("the option") else strange[0]
         expected = f"a key that ignores {strange[0]}" if strange else "no such error, since the request is valid"
         raise Mismatch(expected, f"status {status:02x}")

@@ -52,8 +52,7 @@ class KeyMaker:
 @lru_cache(maxsize=64)
 def point(x: bytes, y: bytes) -> Any:
     """Returns the P-256 public key with two coordinates."""
-    numbers = int.from_bytes(x, "big"), int.from_bytes(y, "big")
-    return ec.EllipticCurvePublicNumbers(*numbers, ec.SECP256R1()).public_key()
+    return ec.EllipticCurvePublicKey.from_encoded_point(ec.SECP256R1(), b"\4" + x + y)
 
 
 def to_public_key(cose: Any) -> Any:

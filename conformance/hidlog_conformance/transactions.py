@@ -48,19 +48,20 @@ class Part:
     @property
     def received(self) -> int:
         """The number of bytes received."""
-        return min(self.length, 57 + 59 * self.next)
+        return min(self.length, 59 * len(self.parts) - 2)
 
     @property
     def whole(self) -> bool:
         """Whether the message is complete."""
-        return self.received == self.length <= LONGEST
+        return self.length <= LONGEST and self.length <= 59 * len(self.parts) - 2
 
     @property
     def data(self) -> bytes:
         """The data received."""
-        if self.joined is None:
-            self.joined = b"".join(self.parts)[: self.length]
-        return self.joined
+        joined = self.joined
+        if joined is None:
+            self.joined = joined = b"".join(self.parts)[: self.length]
+        return joined
 
     def add(self, piece: bytes, line: int) -> None:
         """Adds a packet."""
@@ -105,7 +106,7 @@ class Transaction(Part):
     @property
     def last(self) -> int:
         """The time of its last packet."""
-        return self.times[len(self.times) - 1]
+        return self.times[-1]
 
     @property
     def is_unknown(self) -> bool:
@@ -175,29 +176,47 @@ class Lines:
         return lines
 
 
+# The values for lines without a transaction, and without ends of transactions. They are not to be modified.
+NOTHING = Owned()
+NO_ENDINGS: List[Ending] = []
+
+
 class Owners:
     """Reads the output of `hidlog_transactions` for a part of a log that begins after line `before`."""
 
     def __init__(self, text: bytes, before: int = 0) -> None:
         self.lines = Lines(text)
         self.before = before
-        self.ready: List[bytes] = []
-        self.place = 0
+        # The rows of a block by line number, and the number of its last row.
+        self.rows: Dict[int, List[bytes]] = {}
+        self.last = 0
+
+    def find_row(self, number: int) -> Optional[List[bytes]]:
+        """Returns the row of a line, or None."""
+        line = number - self.before
+        while line > self.last:
+            block = [row.split(b" ") for row in self.lines.block()]
+            if not block:
+                return None
+            self.rows = {int(row[0]): row for row in block}
+            self.last = int(block[-1][0])
+        return self.rows.get(line)
 
     def of(self, number: int) -> Owned:
-        """Returns the transaction of a line; call it with rising line numbers."""
-        while True:
-            if self.place == len(self.ready):
-                self.ready, self.place = self.lines.block(), 0
-                if not self.ready:
-                    return Owned()
-            parts = self.ready[self.place].split(b" ")
-            line = self.line(parts[0])
-            if line > number:
-                return Owned()
-            self.place += 1
-            if line == number:
-                return Owned(self.line(parts[1]), self.line(parts[2]), [self.ending(word) for word in parts[3:]])
+        """Returns the transaction of a line, not to be modified; call it with rising line numbers."""
+        row = self.find_row(number)
+        if row is None:
+            return NOTHING
+        return Owned(self.line(row[1]), self.line(row[2]), self.endings(row) if len(row) > 3 else NO_ENDINGS)
+
+    def ends(self, number: int) -> List[Ending]:
+        """Returns the transactions that a line ends, not to be modified; call it with rising line numbers."""
+        row = self.find_row(number)
+        return self.endings(row) if row is not None and len(row) > 3 else NO_ENDINGS
+
+    def endings(self, row: List[bytes]) -> List[Ending]:
+        """Reads the words of a row."""
+        return [self.ending(word) for word in row[3:]]
 
     def line(self, digits: bytes) -> int:
         """Returns a line number in the whole log, or 0."""
@@ -243,7 +262,8 @@ class Transactions:
 
     def advance_time(self, at: int) -> None:
         """Advances the clock."""
-        self.now = max(self.now, at)
+        if at > self.now:
+            self.now = at
 
     def host(self, line: int, at: int, packet: bytes, owned: Owned) -> None:
         """Processes a packet of a host."""
@@ -259,7 +279,8 @@ class Transactions:
         else:
             self.go_on(entry, owned)
         self.entries.append(entry)
-        self.take_words(entry, owned.words)
+        if owned.words:
+            self.take_words(entry, owned.words)
 
     def device(self, line: int, packet: bytes, owned: Owned) -> None:
         """Processes a packet of the device."""
@@ -271,14 +292,17 @@ class Transactions:
         if packet[4] < 0x80:
             self.go_on_answering(entry, owned, channel)
         else:
-            self.answering.pop(channel, None)
+            if self.answering:
+                self.answering.pop(channel, None)
             self.answer(entry, channel)
         self.entries.append(entry)
-        self.take_words(entry, owned.words)
+        if owned.words:
+            self.take_words(entry, owned.words)
 
-    def passed(self, line: int, owned: Owned) -> None:
+    def passed(self, line: int, words: List[Ending]) -> None:
         """Processes a tick or a reply."""
-        self.take_words(Entry(line, True, self.now, b""), owned.words)
+        if words:
+            self.take_words(Entry(line, True, self.now, b""), words)
 
     def cancel(self, entry: Entry) -> None:
         """Processes a CANCEL."""
@@ -311,7 +335,7 @@ class Transactions:
     def answer(self, entry: Entry, channel: int) -> None:
         """Processes an initialization packet of the device."""
         packet, owner = entry.packet, entry.transaction
-        command, length = packet[4] & 0x7F, packet[5] << 8 | packet[6]
+        command = packet[4] & 0x7F
         if command == KEEPALIVE:
             entry.part = "keepalive"
             if owner is not None:
@@ -322,6 +346,7 @@ class Transactions:
         if command == ERROR:
             entry.part = "error"
             return
+        length = packet[5] << 8 | packet[6]
         answer = Answer(entry.line, channel, command, length, [packet[7:]], [entry.line], request=owner)
         entry.part, entry.message = "answer", answer
         if answer.received < length:

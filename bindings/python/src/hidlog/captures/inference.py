@@ -90,7 +90,7 @@ class _Replies:
         found, owners = module.Transactions(), module.Owners(logs.transactions(b"".join(lines)).raise_for_fault().text)
         for number, (packet, at, data) in enumerate(self._placed):
             found.advance_time(at)
-            found.passed(2 * number + 1, owners.of(2 * number + 1))
+            found.passed(2 * number + 1, owners.ends(2 * number + 1))
             if data and packet.sent:
                 found.host(2 * number + 2, at, data, owners.of(2 * number + 2))
             elif data:
