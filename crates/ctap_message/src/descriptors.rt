@@ -16,42 +16,15 @@ use ctap_cbor::laws::{
 use ctap_cbor::{Cursor, Item};
 use std::marker::Model;
 
-/// The rest of a list: a cursor at the next entry, and the number of entries that are left.
-#[derive(Drop)]
-pub(crate) struct ListEntry<'a> {
-    cursor: Cursor<'a>,
-    left: u64,
-}
-
-impl<'a> ListEntry<'a> {
-    /// Returns the ID of the next entry of type `public-key`, if any.
-    fn next_id(&mut self) -> Option<&'a [u8]>
-        requires { (ts : Trees) × HasEntriesLeft self.old.cursor self.old.left ts }
-        ensures gives { YieldsId self.old.cursor self.old.left self.new.cursor self.new.left (option_copied result) }
-        ensures fewer { MatchOption result (self.new.left ≡ 0) (λ _. self.new.left < self.old.left) }
-    {
-        cursor_reads_one_tree();
-        canonical_is_accepted();
-        while self.left > 0 {
-            self.left -= 1;
-            let Ok((_, descriptor)) = read_descriptor(&mut self.cursor, 2) else {
-                unreachable!()
-            };
-            let id = descriptor.public_key_id();
-            if id.is_some() {
-                return id;
-            }
-        }
-        None
-    }
-}
-
 /// An iterator over the IDs of a list's entries of type `public-key`, in order. The IDs are borrowed from the message.
 /// Iterating reads the bytes of the list a second time; [`Descriptors::steps`] counts the steps of this second reading.
 /// A list that is absent from the request has no entries.
 #[derive(Drop)]
 pub struct Descriptors<'a> {
-    entry: ListEntry<'a>,
+    /// A cursor at the next entry.
+    cursor: Cursor<'a>,
+    /// The number of entries that haven't been read yet.
+    left: u64,
     given: bool,
 }
 
@@ -61,9 +34,9 @@ impl<'a> Model for Descriptors<'a> {
 
     ghost Value = { DescriptorWalk };
 
-    ghost view = { λ s. record { cursor = s.entry.cursor; count = s.entry.left } };
+    ghost view = { λ s. record { cursor = s.cursor; count = s.left } };
 
-    ghost invariant = { λ s. IsValidWalk (record { cursor = s.entry.cursor; count = s.entry.left }) s.given };
+    ghost invariant = { λ s. IsValidWalk (record { cursor = s.cursor; count = s.left }) s.given };
 }
 
 impl<'a> Descriptors<'a> {
@@ -72,10 +45,8 @@ impl<'a> Descriptors<'a> {
         ensures { IsAtFirst result no_trees }
     {
         Descriptors {
-            entry: ListEntry {
-                cursor: Cursor::new(b""),
-                left: 0,
-            },
+            cursor: Cursor::new(b""),
+            left: 0,
             given: false,
         }
     }
@@ -96,7 +67,8 @@ impl<'a> Descriptors<'a> {
             unreachable!()
         };
         Descriptors {
-            entry: ListEntry { cursor, left },
+            cursor,
+            left,
             given: true,
         }
     }
@@ -113,7 +85,7 @@ impl<'a> Descriptors<'a> {
     pub fn steps(&self) -> u64
         ensures { result ≡ walked_steps self.now }
     {
-        self.entry.cursor.steps()
+        self.cursor.steps()
     }
 }
 
@@ -126,6 +98,18 @@ impl<'a> Iterator for Descriptors<'a> {
 
     fn next(&mut self) -> Option<&'a [u8]> {
         items_are_decoded();
-        self.entry.next_id()
+        cursor_reads_one_tree();
+        canonical_is_accepted();
+        while self.left > 0 {
+            self.left -= 1;
+            let Ok((_, descriptor)) = read_descriptor(&mut self.cursor, 2) else {
+                unreachable!()
+            };
+            let id = descriptor.public_key_id();
+            if id.is_some() {
+                return id;
+            }
+        }
+        None
     }
 }
