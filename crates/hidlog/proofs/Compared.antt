@@ -10,6 +10,10 @@ pub on_ok : {P : Type 0} (r : Status) → P → OnOk r P
 on_ok (Ok x) h = h
 on_ok (Err code) h = tt
 
+pub of_ok : {P : Type 0} (r : Status) → is_err r ≡ false → OnOk r P → P
+of_ok (Ok x) none h = h
+of_ok (Err code) some h = cc
+
 pub on_err : {P : Type 0} (r : Status) → is_err r ≡ true → OnErr r P → P
 on_err (Ok x) none h = cc
 on_err (Err code) some h = h

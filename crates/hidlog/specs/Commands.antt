@@ -113,11 +113,13 @@ module _ {D I O F : Type 0} (model : Model D I O F) where
   CannotReport host = (0 < model.unput host.output) ⊎ (model.unread host.input ≡ 2 ^ 64 - 1)
       ⊎ (model.unsaid host.faults ≡ 2 ^ 64 - 1)
 
-  -- The logs were compared, and the files are not changed. The exit status is 0 only if no log has a difference. It is
-  -- another one only if a log fails or a report could not be written, and 2 only if the snapshot cannot be loaded.
+  -- The logs were compared, and the files are not changed. The exit status is 0 only if no log has a difference and the
+  -- reports were written. It is another one only if a log fails or a report could not be written, and 2 only if the
+  -- snapshot cannot be loaded.
   abbrev pub Compares : Option (List ℕ) → (logs : List (List ℕ)) → Status → (old new : Host D I O F) → Type 0
   Compares load logs status old new = (new.files ≡ old.files)
-      × OnOk status (AreSame model load old.files logs (old.input, new.input))
+      × OnOk status (AreSame model load old.files logs (old.input, new.input)
+      × (model.unput new.output ≡ model.unput old.output))
       × OnErr status (HasFailure model load old.files logs old.input ⊎ CannotReport new)
       × (status ≡ Err 2 → (told : FaultText) × FailsToOpen model.holds model.unreadable old.files load (Err told))
 

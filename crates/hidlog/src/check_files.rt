@@ -147,15 +147,28 @@ impl<D: Files, L: Logs, O: Output, E: Target> Host<D, L, O, E> {
         }
     }
 
-    /// Reports a log without differences. The error is the exit status.
-    fn report_equal(&mut self, options: &ReportOptions<'_>, text: &[u8]) -> Result<(), u8>
-        requires { O.failed self.old.output < 2 ^ 64 - 1 }
+    /// Reports a log without differences, and what may be wrong with it. The error is the exit status.
+    fn report_equal(
+        &mut self,
+        options: &ReportOptions<'_>,
+        ending: &CheckEnd,
+        text: &[u8],
+    ) -> Result<(), u8>
         ensures status { IfErr result (λ code. code ≡ 1) }
         ensures files { self.new.files ≡ self.old.files }
         ensures input { self.new.input ≡ self.old.input }
+        ensures written { OnOk result (O.failed self.new.output ≡ 0) }
         ensures unwritten { OnErr result (0 < O.failed self.new.output) }
     {
+        let input = &mut self.input;
         if write_message(&mut self.output, &SameLog { options, text }) {
+            if options.is_json {
+                report_note(&self.files, options, input, ending, &mut self.output);
+            } else {
+                report_note(&self.files, options, input, ending, &mut self.faults);
+            }
+        }
+        if self.output.failures() == 0 {
             return Ok(());
         }
         write_message(&mut self.faults, &EscapedText(WRITING_FAILED));
@@ -212,6 +225,7 @@ impl<D: Files, L: Logs, O: Output, E: Target> Host<D, L, O, E> {
         ensures kept { self.new.files ≡ self.old.files }
         ensures same { OnOk result (IsSameAt ⟦<Self as Modeled>⟧.model (to_path options.now.load) self.old.files path.now
             (self.old.input, self.new.input)) }
+        ensures written { OnOk result (O.failed self.new.output ≡ 0) }
         ensures fails { OnErr result ((0 < O.failed self.new.output)
             ⊎ ((told : FaultText) × (after : L) × FailsAt ⟦<Self as Modeled>⟧.model (to_path options.now.load) self.old.files path.now
             told (self.old.input, after))) }
@@ -220,16 +234,7 @@ impl<D: Files, L: Logs, O: Output, E: Target> Host<D, L, O, E> {
     {
         let mut same = Vec::new(self.alloc);
         match self.compare(options, path, &mut same) {
-            Ok(ending) => {
-                self.report_equal(options, &same)?;
-                let input = &mut self.input;
-                if options.is_json {
-                    report_note(&self.files, options, input, &ending, &mut self.output);
-                } else {
-                    report_note(&self.files, options, input, &ending, &mut self.faults);
-                }
-                Ok(())
-            }
+            Ok(ending) => self.report_equal(options, &ending, &same),
             Err(fault) => {
                 self.report_failure(options, &fault);
                 Err(fault.status())

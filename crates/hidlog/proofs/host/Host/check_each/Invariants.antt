@@ -22,11 +22,12 @@ model g = record {
   unsaid = g.E.Target.failed;
 }
 
--- The files stay. Where none has failed, the logs so far are the same; else one of them failed, or a report could not be
--- written.
+-- The files stay. Where none has failed, the logs so far are the same, and their reports were written; else one of them
+-- failed, or a report could not be written.
 abbrev pub invariant-loop-path : goal.invariant-loop-path
 invariant-loop-path g l = (l.self.files ≡ l.fn.self.files)
     × (l.has_failed ≡ false → AreSame (model g) (to_path l.fn.wished.load) l.fn.self.files
-    (to_texts (take l.path-index l.fn.paths)) (l.fn.self.input, l.self.input))
+    (to_texts (take l.path-index l.fn.paths)) (l.fn.self.input, l.self.input)
+    × ((g.O.Target.failed l.self.output ≡ g.O.Target.failed l.fn.self.output)))
     × (l.has_failed ≡ true → HasFailure (model g) (to_path l.fn.wished.load) l.fn.self.files
     (to_texts (take l.path-index l.fn.paths)) l.fn.self.input ⊎ (0 < g.O.Target.failed l.self.output))
