@@ -16,7 +16,7 @@ use crate::task::{PendingTask, Task};
 use crate::work::{KeepaliveStatus, Work};
 use arrayvec::ArrayVec;
 use cred_table::{Pending, SnapshotFault, Table, load};
-use ctap_message::{Answer, Request, parse_request};
+use ctap_message::{Answer, parse_request};
 use std::marker::Model;
 
 /// The result of handling an event.
@@ -224,18 +224,7 @@ impl<T: Table<C>, const C: usize> Core<T, C> {
             Event::Request { cid, message } => {
                 let (request, steps) = parse_request(message);
                 self.last_steps = steps;
-                match request {
-                    Err(fault) => {
-                        let status = fault.status().0;
-                        self.refuse_and_clear(Refusal::BadRequest { status }, answer)
-                    }
-                    Ok(Request::Make(make)) => Turn::Waits(self.begin_make(*cid, make)),
-                    Ok(Request::Assert(assert)) => self.begin_assert(*cid, assert, answer),
-                    Ok(Request::Info) => self.get_info(answer),
-                    Ok(Request::Next) => self.next(*cid, answer),
-                    Ok(Request::Reset) => self.begin_reset(*cid, answer),
-                    Ok(Request::Select) => Turn::Waits(self.begin_selection(*cid)),
-                }
+                self.serve(*cid, request, answer)
             }
             Event::Presence(_) | Event::Key(_) | Event::Signature(_) => self.reply(event, answer),
             Event::Cancel => self.refuse_and_clear(Refusal::Cancelled, answer),

@@ -1,9 +1,10 @@
-//! Passes each reply to the command that waits for it, and ends requests or keeps them pending.
+//! Passes each event to the command that handles it.
 
 ghost use Rattle.std.specs.Prelude.{None};
+ghost use Rattle.ctap_message.specs.Shown.{parsed_result, IsFresh, HasLengths};
 ghost use Rattle.authn_core.specs.State.{respond_refusal, await_reply};
 ghost use Rattle.authn_core.specs.Ready.{TaskReady, SignsItsResponse};
-ghost use Rattle.authn_core.specs.Turn.{reply_turn};
+ghost use Rattle.authn_core.specs.Turn.{request_turn, reply_turn};
 ghost use Rattle.authn_core.specs.Views.{TakesTurn, TakesWork, to_event, to_task};
 
 use crate::authenticator::{Core, Turn};
@@ -12,9 +13,36 @@ use crate::refusal::Refusal;
 use crate::task::{PendingTask, Task};
 use crate::work::KeepaliveStatus;
 use cred_table::Table;
-use ctap_message::{Answer, write_status};
+use ctap_message::{Answer, Request, RequestFault, write_status};
 
 impl<T: Table<C>, const C: usize> Core<T, C> {
+    /// Begins the command of a request.
+    pub(crate) fn serve(
+        &mut self,
+        cid: u32,
+        read: Result<Request<'_>, RequestFault>,
+        answer: &mut Answer,
+    ) -> Turn
+        requires fresh { IsFresh read }
+        requires lens { HasLengths read }
+        ensures { TakesTurn self.old self.new result answer.new.items
+            (request_turn self.old.core.setup self.old.core.state.rows
+            self.old.core.state.pending self.old.latest cid (parsed_result read.entry)) }
+    {
+        match read {
+            Err(fault) => {
+                let status = fault.status().0;
+                self.refuse_and_clear(Refusal::BadRequest { status }, answer)
+            }
+            Ok(Request::Make(make)) => Turn::Waits(self.begin_make(cid, make)),
+            Ok(Request::Assert(assert)) => self.begin_assert(cid, assert, answer),
+            Ok(Request::Info) => self.get_info(answer),
+            Ok(Request::Next) => self.next(cid, answer),
+            Ok(Request::Reset) => self.begin_reset(cid, answer),
+            Ok(Request::Select) => Turn::Waits(self.begin_selection(cid)),
+        }
+    }
+
     /// Ends the request with the status of an error.
     pub(crate) fn refuse(&mut self, why: Refusal, answer: &mut Answer) -> Turn
         ensures { TakesTurn self.old self.new result answer.new.items
