@@ -150,8 +150,9 @@ def check_extensions(data: bytes, flags: int, words: List[str]) -> Dict[Any, Any
     return dict(found)
 
 
+@lru_cache(maxsize=256)
 def read_cose_key(data: bytes) -> Tuple[Dict[int, Any], bytes]:
-    """Returns the COSE key of authenticator data, and the bytes after it."""
+    """Returns the COSE key of authenticator data, and the bytes after it, with a cache; do not modify the result."""
     try:
         reader = ctap_cbor.Reader(data)
         key = reader.read()

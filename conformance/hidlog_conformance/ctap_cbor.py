@@ -89,20 +89,23 @@ class Reader:
         """Returns the next item."""
         start, data = self.place, self.data
         head = data[start] if start < len(data) else NO_HEAD
-        major, info = head >> 5, head & 31
         # The most frequent heads, of one and two bytes, are read here.
+        if head < 24:
+            self.place = start + 1
+            return head
+        major, info = head >> 5, head & 31
         if info < 24:
             self.place, argument = start + 1, info
         elif info == 24 and start + 1 < len(data) and data[start + 1] >= 24:
             self.place, argument = start + 2, data[start + 1]
         else:
             major, info, argument = self.read_head()
-        if major == 0:
-            return argument
-        if major == 2:
-            return self.take(argument)
         if major == 3:
             return self.text(start, argument)
+        if major == 2:
+            return self.take(argument)
+        if major == 0:
+            return argument
         if major in (4, 5) and level > MAX_DEPTH:
             raise CborError(f"more than {MAX_DEPTH} levels at {start}")
         if major == 5:
@@ -148,7 +151,7 @@ def decode(data: bytes) -> Any:
     return item
 
 
-@lru_cache(maxsize=16)
+@lru_cache(maxsize=256)
 def decode_cached(data: bytes) -> Any:
     """Decodes with a cache; do not modify the result."""
     return decode(data)

@@ -17,6 +17,7 @@ from hidlog_conformance.judged_parts import (
     Pins,
     UncertainMismatch,
     check_extension_outputs,
+    find_signer,
     read_credential_id,
 )
 from hidlog_conformance.judged_settings import BIO, CONFIG, SettingsJudge
@@ -312,7 +313,7 @@ class AnswerJudge:
         asked = answers.decode_parameters(request)
         item = answers.decode_map(data)
         words = self.list_words(asked, item, follows)
-        identity = self.find_signer(asked, item)
+        identity = find_signer(asked, item)
         kept = self.kept.get(identity)
         if identity in self.forgotten:
             self.recording.add_finding(
@@ -366,13 +367,6 @@ class AnswerJudge:
             raise ExtensionMismatch(
                 "12.1", f"no assertion by a credential of level {level} without user verification", "an assertion"
             )
-
-    def find_signer(self, asked: Dict[Any, Any], item: Dict[Any, Any]) -> bytes:
-        """Returns the ID of the credential that signed."""
-        if isinstance(item.get(1), dict) and isinstance(item[1].get("id"), bytes):
-            return bytes(item[1]["id"])
-        listed = asked.get(3, [])
-        return bytes(listed[0]["id"]) if len(listed) == 1 else b""
 
     def list_words(self, asked: Dict[Any, Any], item: Dict[Any, Any], follows: bool) -> List[str]:
         """Returns the expectations of an assertion, as words of a session file."""
@@ -437,7 +431,7 @@ class AnswerJudge:
             self.no_display = self.no_display or (isinstance(number, int) and number > 1)
             left = number - 1 if isinstance(number, int) else 0
             flags = auth[32] if isinstance(auth, bytes) and len(auth) > 32 else 0
-            signed = [self.find_signer(decode_parameters(request) or {}, item)]
+            signed = [find_signer(decode_parameters(request) or {}, item)]
             self.pending = Pending(request, left, entry.at, transaction.channel, True, signed, flags)
         elif command == NEXT and status == 0 and self.pending is not None:
             self.pending.left, self.pending.at = self.pending.left - 1, entry.at

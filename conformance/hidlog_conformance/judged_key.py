@@ -71,9 +71,8 @@ class KeyJudge:
 
     def take(self, entry: Entry) -> None:
         """Checks a packet of either side."""
-        cycles = self.recording.power_cycles
-        while cycles and cycles[0][0] < entry.line:
-            self.power_cycle(cycles.pop(0)[1])
+        while self.recording.power_cycles and self.recording.power_cycles[0][0] < entry.line:
+            self.power_cycle(self.recording.power_cycles.pop(0)[1])
         if self.open or self.parts:
             self.missing.check_silence(entry.at, entry.line)
         if entry.is_host:

@@ -15,7 +15,7 @@ from hidlog_conformance import rules
 from hidlog_conformance.answers import Mismatch
 from hidlog_conformance.hid_packets import Message
 from hidlog_conformance.sections import SECTIONS
-from hidlog_conformance.transactions import Answer, Lines, Owners, Part, Transaction, Transactions
+from hidlog_conformance.transactions import Answer, Entry, Lines, Owners, Part, Transaction, Transactions
 
 if TYPE_CHECKING:
     from hidlog_conformance.judged_host import HostJudge
@@ -247,37 +247,78 @@ def judge(log: bytes, walk: Callable[[bytes], bytes]) -> Recording:
     return judge_parts([log], walk)
 
 
-def judge_parts(parts: Iterable[bytes], walk: Callable[[bytes], bytes]) -> Recording:
-    """Checks a log in parts, between which no transaction is open."""
-    # Imported here, since these modules import this one.
-    from hidlog_conformance.judged_host import HostJudge
-    from hidlog_conformance.judged_key import KeyJudge
-
-    recording = Recording()
-    host, key = HostJudge(recording), KeyJudge(recording)
-    number = 0
+def judge_parts(
+    parts: Iterable[bytes],
+    walk: Callable[[bytes], bytes],
+    prepare: Optional[Callable[[List[Entry]], None]] = None,
+) -> Recording:
+    """Checks a log in parts, between which no transaction is open. `prepare` is called with packets some time before
+    they are checked."""
+    judged = LogJudge(prepare)
     for part in (piece for whole in parts for piece in split_at_power_cycles(whole)):
-        owners, lines = Owners(walk(walked(part)), number), Lines(part)
-        block = lines.block()
+        judged.take_part(part, Owners(walk(walked(part)), judged.recording.lines))
+    return judged.finish()
+
+
+class LogJudge:
+    """Checks the packets of a log, once no later line can belong to them."""
+
+    def __init__(self, prepare: Optional[Callable[[List[Entry]], None]] = None) -> None:
+        # Imported here, since these modules import this one.
+        from hidlog_conformance.judged_host import HostJudge
+        from hidlog_conformance.judged_key import KeyJudge
+
+        self.recording = Recording()
+        self.host, self.key = HostJudge(self.recording), KeyJudge(self.recording)
+        self.prepare = prepare
+        # Packets that are checked after the next ones are passed to `prepare`.
+        self.waiting: List[Entry] = []
+
+    def take_part(self, part: bytes, owners: Owners) -> None:
+        """Processes the next lines."""
+        recording, number, lines = self.recording, self.recording.lines, Lines(part)
         has_comments = any(word in part for word in COMMENTS)
+        block = lines.block()
         while block:
-            for line in block:
-                number += 1
-                if has_comments or line[:1] != b"#":
-                    recording.take(number, line, owners)
-                    if line[:1] == b"<" and recording.walk.is_quiet:
-                        check_entries(recording, host, key)
+            for number, line in enumerate(block, number + 1):
+                if line[:1] == b"#":
+                    if not has_comments:
+                        continue
+                    # The comment may change how later packets are checked.
+                    self.check_settled()
+                recording.take(number, line, owners)
+                if line[:1] == b"<" and recording.walk.is_quiet:
+                    recording.walk.settled = len(recording.walk.entries)
+            self.advance()
             block = lines.block()
-    recording.lines = number
-    check_entries(recording, host, key)
-    key.finish()
-    recording.findings.sort(key=lambda found: (found.line, found.side, found.section))
-    return recording
+        recording.lines = number
+
+    def advance(self) -> None:
+        """Passes the new packets to `prepare`, and checks those before them."""
+        settled = self.recording.walk.take_settled()
+        if self.prepare is not None:
+            self.prepare(settled)
+        check_entries(self.waiting, self.host, self.key)
+        self.waiting = settled
+
+    def check_settled(self) -> None:
+        """Checks all packets to which no later line can belong."""
+        check_entries(self.waiting, self.host, self.key)
+        check_entries(self.recording.walk.take_settled(), self.host, self.key)
+        self.waiting = []
+
+    def finish(self) -> Recording:
+        """Checks the other packets, and returns the recording with its findings in order."""
+        check_entries(self.waiting, self.host, self.key)
+        check_entries(self.recording.walk.take_entries(), self.host, self.key)
+        self.key.finish()
+        self.recording.findings.sort(key=lambda found: (found.line, found.side, found.section))
+        return self.recording
 
 
-def check_entries(recording: Recording, host: "HostJudge", key: "KeyJudge") -> None:
-    """Checks the packets of finished transactions, and drops them."""
-    for entry in recording.walk.take_entries():
+def check_entries(entries: List[Entry], host: "HostJudge", key: "KeyJudge") -> None:
+    """Checks the packets of finished transactions."""
+    for entry in entries:
         host.take(entry)
         key.take(entry)
 

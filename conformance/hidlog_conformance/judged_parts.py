@@ -109,6 +109,14 @@ def read_credential_id(data: bytes) -> bytes:
     return auth[55 : 55 + int.from_bytes(auth[53:55], "big")]
 
 
+def find_signer(asked: Dict[Any, Any], item: Dict[Any, Any]) -> bytes:
+    """Returns the ID of the credential that signed an assertion; empty if unknown."""
+    if isinstance(item.get(1), dict) and isinstance(item[1].get("id"), bytes):
+        return bytes(item[1]["id"])
+    listed = asked.get(3, [])
+    return bytes(listed[0]["id"]) if len(listed) == 1 else b""
+
+
 class ExtensionMismatch(Mismatch):
     """A violation of a section other than the command's, for example an extension's."""
 

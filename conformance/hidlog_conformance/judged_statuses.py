@@ -7,7 +7,14 @@ from typing import TYPE_CHECKING, Any, Dict, List
 from hidlog_conformance import rules
 from hidlog_conformance.answers import GET, INFO, MAKE, NEXT, RESET, SELECTION, UP, Mismatch, check
 from hidlog_conformance.judged_log import KEY, SHOULD
-from hidlog_conformance.judged_parts import OTHERWISE, USER_TOKEN, ExtensionMismatch, KnownCredential, UncertainMismatch
+from hidlog_conformance.judged_parts import (
+    OTHERWISE,
+    USER_TOKEN,
+    ExtensionMismatch,
+    KnownCredential,
+    UncertainMismatch,
+    find_signer,
+)
 from hidlog_conformance.quantity import quantity
 from hidlog_conformance.requests import (
     FORM,
@@ -235,7 +242,7 @@ class StatusJudge:
         status = data[0]
         asked = decode_parameters(transaction.data) or {}
         mine = self.list_candidates(asked)
-        used = self.answers.find_signer(asked, decode_parameters(data) or {}) if status == 0 else b""
+        used = find_signer(asked, decode_parameters(data) or {}) if status == 0 else b""
         if used in self.answers.forgotten:
             raise ExtensionMismatch("6.6", "no credential from before the reset", used.hex())
         if mine and self.answers.facts.protection < 2 and status == NO_CREDENTIALS:

@@ -94,7 +94,7 @@ class LiveJudge:
             self.owners.take_line(self.seen, line)
             self.recording.take(self.seen, line, self.owners)
             if line[:1] == b"<" and self.recording.walk.is_quiet:
-                check_entries(self.recording, self.host, self.key)
+                check_entries(self.recording.walk.take_entries(), self.host, self.key)
 
     @property
     def violation(self) -> Optional[Finding]:

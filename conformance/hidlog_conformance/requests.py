@@ -156,7 +156,7 @@ MEMBERS: Dict[int, Dict[int, Member]] = {
 }
 
 
-@lru_cache(maxsize=16)
+@lru_cache(maxsize=256)
 def decode_parameters(request: bytes) -> Optional[Dict[Any, Any]]:
     """Returns the parameters of a request, not to be modified; None if they are invalid."""
     try:
@@ -166,7 +166,7 @@ def decode_parameters(request: bytes) -> Optional[Dict[Any, Any]]:
     return dict(item) if isinstance(item, dict) else None
 
 
-@lru_cache(maxsize=16)
+@lru_cache(maxsize=256)
 def find_fault(request: bytes) -> Optional[Fault]:
     """Returns the first error in a request, or None."""
     command = request[0]

@@ -204,10 +204,12 @@ class Owners:
 
     def of(self, number: int) -> Owned:
         """Returns the transaction of a line, not to be modified; call it with rising line numbers."""
-        row = self.find_row(number)
+        row, before = self.find_row(number), self.before
         if row is None:
             return NOTHING
-        return Owned(self.line(row[1]), self.line(row[2]), self.endings(row) if len(row) > 3 else NO_ENDINGS)
+        transaction, message = int(row[1]), int(row[2])
+        words = self.endings(row) if len(row) > 3 else NO_ENDINGS
+        return Owned(transaction and transaction + before, message and message + before, words)
 
     def ends(self, number: int) -> List[Ending]:
         """Returns the transactions that a line ends, not to be modified; call it with rising line numbers."""
@@ -237,6 +239,8 @@ class Transactions:
 
     def __init__(self) -> None:
         self.entries: List[Entry] = []
+        # The number of entries up to the last packet of the device after which `is_quiet` was true.
+        self.settled = 0
         self.now = 0
         # The number of packets of each side, and of transactions.
         self.packets = self.answers = self.count = 0
@@ -257,7 +261,12 @@ class Transactions:
 
     def take_entries(self) -> List[Entry]:
         """Returns the entries, and clears the list."""
-        entries, self.entries = self.entries, []
+        entries, self.entries, self.settled = self.entries, [], 0
+        return entries
+
+    def take_settled(self) -> List[Entry]:
+        """Returns the entries to which no later line can belong, and removes them."""
+        entries, self.entries, self.settled = self.entries[: self.settled], self.entries[self.settled :], 0
         return entries
 
     def advance_time(self, at: int) -> None:

@@ -20,7 +20,7 @@ from test_export import LOGS
 import hidlog
 import hidlog.judge
 from hidlog import quiet_parts
-from hidlog.captures import read
+from hidlog.captures import conformance, read
 from hidlog.judge import judge
 from hidlog.webauthn_json import b64url_encode
 
@@ -311,6 +311,57 @@ def record_sign_ins(count: int) -> bytes:
             browser.get({"challenge": challenge, "allowCredentials": [{"type": "public-key", "id": made["id"]}]})
             browser.get({"challenge": challenge})
         return bytes(key.log)
+
+
+def break_signature(log: bytes, number: int) -> bytes:
+    """Changes a signature of a recording, in the key's packets too."""
+    digits = re.findall(rb"^s \d+ ([0-9a-f]+)$", log, re.M)[number][16:24]
+    return log.replace(digits, digits[::-1])
+
+
+@pytest.fixture
+def verified_here(monkeypatch: pytest.MonkeyPatch) -> list[bytes]:
+    """The ES256 signatures that this process verifies. The key of an unknown credential has no algorithm."""
+    found: list[bytes] = []
+    keys = conformance.load_module("keys")
+    verify = keys.verify
+
+    def verify_here(cose: dict[int, Any], signed: bytes, signature: bytes) -> Any:
+        found.extend([signature] if cose[3] == -7 else [])
+        return verify(cose, signed, signature)
+
+    monkeypatch.setattr(keys, "verify", verify_here)
+    return found
+
+
+@pytest.mark.parametrize("broken", [(), (0,), (5, 40)], ids=str)
+@pytest.mark.parametrize("ending", ["it runs", "it is killed", "it does not start"])
+def test_signatures_are_verified_ahead(
+    monkeypatch: pytest.MonkeyPatch, verified_here: list[bytes], broken: tuple[int, ...], ending: str
+) -> None:
+    """The command's second process finds the same invalid signatures; those that it does not verify are verified
+    here."""
+    pytest.importorskip("cryptography")
+    ahead, log = conformance.load_module("verify_ahead"), record_sign_ins(20)
+    for number in broken:
+        log = break_signature(log, number)
+    expected = judge(log)
+    assert sum(finding.level == "must" for finding in expected) == len(broken)
+    verified_here.clear()
+    monkeypatch.setattr(ahead, "FEW", 1)
+    monkeypatch.setattr(conformance.load_module("transactions"), "BLOCK", 1 << 14)  # several batches
+    if ending == "it does not start":
+        monkeypatch.setattr(sys, "executable", str(TOP / "none"))
+    with ahead.AheadVerifier() as verifier:
+
+        def prepare(entries: list[Any]) -> None:
+            verifier.prepare(entries)
+            if ending == "it is killed" and verifier.count > 20 and verifier.process is not None:
+                verifier.process.process.kill()
+
+        assert hidlog.judge._check_recording([log], prepare).findings == expected
+    assert verifier.count == 60 and verifier.process is None
+    assert (not verified_here) == (ending == "it runs")
 
 
 def count_lines_executed(log: bytes) -> int:

@@ -9,8 +9,9 @@ The rules are those of the conformance tests, whose modules are part of the pack
 from __future__ import annotations
 
 import argparse
+import gc
 import sys
-from collections.abc import Iterable, Iterator
+from collections.abc import Callable, Iterable, Iterator
 from io import BytesIO
 from itertools import chain
 from typing import Any, NamedTuple
@@ -35,6 +36,8 @@ _LINE_FORMATS = (
 # Prefixes of the lines of a session log.
 _LINE_STARTS = (b"> ", b"< ", b"t ", b"p ", b"k ", b"s ", b"#", b"=")
 _SHOWN, _FRONT = 60, 1 << 20
+# The number of new objects after which garbage is collected; those of some hundred transactions take 2 MB.
+_COLLECTED_OBJECTS = 20_000
 
 
 class CheckedSession(NamedTuple):
@@ -52,10 +55,24 @@ def judge(log: bytes) -> list[Any]:
     return list(_check_recording(pieces).findings)
 
 
-def _check_recording(pieces: Iterable[bytes]) -> Any:
-    """Checks a log, which is passed in pieces of any length."""
+def _check_recording(pieces: Iterable[bytes], prepare: Callable[[list[Any]], None] | None = None) -> Any:
+    """Checks a log, which is passed in pieces of any length. `prepare` is called with packets some time before they are
+    checked."""
     module = conformance.load_module("judged_log")
-    return module.judge_parts(iter_quiet_parts(pieces), lambda part: logs.transactions(part).raise_for_fault().text)
+    parts = iter_quiet_parts(pieces)
+    return module.judge_parts(parts, lambda part: logs.transactions(part).raise_for_fault().text, prepare)
+
+
+def _check_long_recording(pieces: Iterable[bytes]) -> Any:
+    """Checks a log as `_check_recording` does. If it is long, a second process verifies its signatures, and garbage is
+    collected less often."""
+    thresholds = gc.get_threshold()
+    gc.set_threshold(_COLLECTED_OBJECTS, *thresholds[1:])
+    try:
+        with conformance.load_module("verify_ahead").AheadVerifier() as verifier:
+            return _check_recording(pieces, verifier.prepare)
+    finally:
+        gc.set_threshold(*thresholds)
 
 
 def main(args: list[str]) -> int:
@@ -99,7 +116,7 @@ def _check_file(file: str) -> list[CheckedSession]:
         for stream in capture.streams:
             title = name if len(capture.streams) == 1 else f"{name}: {stream.name}"
             log = iter_log(stream, capture.form, capture.notes)
-            sessions.append(CheckedSession(title, _check_recording(log)))
+            sessions.append(CheckedSession(title, _check_long_recording(log)))
     if not any(session.recording.walk.packets for session in sessions):
         raise LogError("the recording has no packets")
     return sessions
@@ -150,7 +167,7 @@ def _describe_line(line: bytes) -> str:
 def _check_log(pieces: Iterable[bytes]) -> Any:
     """Checks a session log. For an invalid line, the error names the expected forms of a line."""
     try:
-        return _check_recording(pieces)
+        return _check_long_recording(pieces)
     except InvalidLineError as error:
         if not str(error).endswith(": not a log line"):
             raise

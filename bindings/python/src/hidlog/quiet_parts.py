@@ -3,12 +3,15 @@ time."""
 
 from __future__ import annotations
 
+import re
 from collections.abc import Iterable, Iterator
 
 from . import logs
 from .captures import conformance
 from .errors import LogError
 
+# A row of `hidlog_transactions` that begins a transaction, or that ends some: the line's number, and the words.
+_EVENT = re.compile(rb"^(\d+) (?:\1 \d+(.*)|\d+ \d+( .+))$", re.MULTILINE)
 # Minimum length of a part. A part is longer if no line is found at which to split.
 _PART_BYTES = 1 << 18
 
@@ -65,27 +68,32 @@ def _list_owners(text: bytes, lines_before: int) -> bytes:
 def _find_quiet_end(text: bytes, lines_before: int) -> int:
     """Returns the length of the lines up to the last line after which no transaction is open, or up to the last power
     cycle."""
-    owners, lines = _list_owners(text, lines_before), text.split(b"\n")
-    power_cycle = conformance.load_module("judged_log").POWER_CYCLE
-    if power_cycle in lines[1:]:
-        count = len(lines) - 1 - lines[::-1].index(power_cycle)
-    else:
-        count = _find_last_quiet(owners)
-    return sum(len(line) + 1 for line in lines[:count])
+    owners = _list_owners(text, lines_before)
+    power_cycle = text.rfind(b"\n%s\n" % conformance.load_module("judged_log").POWER_CYCLE)
+    if power_cycle >= 0:
+        return power_cycle + 1
+    count, end = _find_last_quiet(owners), len(text)
+    for _ in range(text.count(b"\n") - count):
+        end = text.rfind(b"\n", 0, end - 1) + 1
+    return end
 
 
 def _find_last_quiet(owners: bytes) -> int:
     """Returns the number of lines up to the last one after which no transaction is open."""
-    open_lines: set[int] = set()
-    last = 0
-    for row in owners.split(b"\n")[:-1]:
-        number, transaction, _, *words = row.split(b" ")
-        if transaction == number:
-            open_lines.add(int(number))
-        # The last packet of a response ends the transaction.
-        for word in words:
-            if word[:1] != b"l":
-                open_lines.discard(int(word[1:].split(b":")[0]))
+    open_lines: set[bytes] = set()
+    # The end of the rows up to the last one after which no transaction is open.
+    end = 0
+    for row in _EVENT.finditer(owners):
+        number, words, other_words = row.groups()
         if not open_lines:
-            last = int(number)
-    return last
+            end = row.start()
+        if words is not None:
+            open_lines.add(number)
+        # The last packet of a response ends the transaction.
+        for word in (words or other_words or b"").split():
+            if word[:1] != b"l":
+                open_lines.discard(word[1:].partition(b":")[0])
+    if not open_lines:
+        end = len(owners)
+    rows = owners[owners.rfind(b"\n", 0, max(end - 1, 0)) + 1 : end]
+    return int(rows.partition(b" ")[0]) if end else 0
