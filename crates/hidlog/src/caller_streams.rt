@@ -36,7 +36,7 @@ impl<S: Source> Read for CallerStream<S> {
     }
 }
 
-/// The caller's source can't be opened a second time. Files are those of the system.
+/// Files are those of the system. The caller's source is open from the start, and can't be opened again.
 impl<S: Source + Drop> OpenSource for CallerStream<S> {
     ghost is_at = { λ _ _. Unit {0} };
 

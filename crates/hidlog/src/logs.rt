@@ -151,6 +151,10 @@ pub struct HostLog<'a, S> {
     /// The path of the opened file, if any.
     path: Option<String>,
     stream: S,
+    /// Standard input, while a file is open.
+    standard: Option<S>,
+    /// The length of standard input, if it can be read a second time.
+    standard_size: Option<u64>,
     /// The error of the failed read, if any.
     failure: Option<Error>,
     /// Whether the note that the program waits for input is shown at a terminal.
@@ -202,6 +206,8 @@ impl<'a, S: OpenSource> HostLog<'a, S> {
             rt,
             path: None,
             stream,
+            standard: None,
+            standard_size: size,
             failure: None,
             is_told: audience.is_told,
             is_awaited: audience.is_told,
@@ -266,16 +272,26 @@ impl<S: OpenSource> Logs for HostLog<'_, S> {
     ghost unopenable = { λ _ _. Unit {0} };
 
     fn open(&mut self, path: Option<&str>) -> io::Result<()> {
-        let (stream, size) = S::open(self.rt, path)?;
         let alloc = self.rt.alloc();
-        let path = match path {
-            Some(path) => Some(String::from_str(alloc, path)?),
-            None => None,
-        };
-        self.recent = RecentBytes::new(alloc)?;
+        let recent = RecentBytes::new(alloc)?;
+        let mut size = self.standard_size;
+        if let Some(path) = path {
+            let (stream, file_size) = S::open(self.rt, Some(path))?;
+            let name = String::from_str(alloc, path)?;
+            let before = mem::replace(&mut self.stream, stream);
+            if self.path.is_none() {
+                self.standard = Some(before);
+            }
+            self.path = Some(name);
+            size = file_size;
+        } else {
+            self.path = None;
+            if let Some(stream) = self.standard.take() {
+                self.stream = stream;
+            }
+        }
+        self.recent = recent;
         self.is_awaited = self.is_told && path.is_none();
-        self.path = path;
-        self.stream = stream;
         self.failure = None;
         self.seen = SourceStats::new(self.seen.progress.is_shown, size, self.keeps);
         self.ahead.set(Lookahead::Nothing);
