@@ -1,6 +1,6 @@
 #!/usr/bin/env python3
 """Runs the registrations and sign-ins of tests/python/browser_cases.json by URL, with `hidlog webdriver`, and compares the
-results with the expected ones. Checks the recordings.
+results with the expected ones. Checks the recordings. All authenticators are of one document.
 
     tests/webdriver/cases.py           exits with 3 if chromedriver is missing
 """
@@ -39,8 +39,9 @@ class Session:
         options = {"args": ["--headless=new", "--no-sandbox", "--disable-dev-shm-usage"]}
         wanted = {"capabilities": {"alwaysMatch": {"goog:chromeOptions": options}}}
         self._url = f"{url}/session/{call('POST', f'{url}/session', wanted)[1]['sessionId']}"
-        self._page, self._key = page, ""
+        self._key = ""
         self._post("/timeouts", {"script": 300_000})
+        self._post("/url", {"url": page})
 
     def _post(self, path: str, given: Any) -> Any:
         status, value = call("POST", self._url + path, given)
@@ -51,8 +52,7 @@ class Session:
         call("DELETE", self._url)
 
     def start(self, key: Json) -> None:
-        """Loads the page, and adds an authenticator."""
-        self._post("/url", {"url": self._page})
+        """Adds an authenticator."""
         devtools = to_devtools_options(key)
         extensions = key.get("extensions", [])
         protocol = "ctap2_1" if extensions else "ctap2"

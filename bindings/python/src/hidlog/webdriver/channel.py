@@ -36,9 +36,12 @@ def _encode_bytes(data: bytes) -> str:
 
 
 def _make_page_script() -> str:
-    """Returns the key and the page's functions as a script that does nothing in documents without the channel."""
+    """Returns the key and the page's functions as a script that does nothing in documents without the channel. If the
+    script runs again in a document, it keeps the key's library: each one needs a WebAssembly memory, of which Chromium
+    can't allocate many."""
     condition = f"globalThis.{BINDING} && !globalThis.hidlogPage && /^https?:/.test(globalThis.origin)"
-    return f"(function library() {{ if ({condition}) {{\n{read_script()}\nhidlogPage.library = library;\n}} }})();"
+    script = f"globalThis.hidlogKey ??= library.key;\n{read_script()}\nlibrary.key = hidlogKey;"
+    return f"(function library() {{ if ({condition}) {{\n{script}\nhidlogPage.library = library;\n}} }})();"
 
 
 class Channel:
