@@ -85,15 +85,36 @@ def test_the_report_says_who_registered_and_what_was_refused(pytester: pytest.Py
     result.stdout.fnmatch_lines(
         [
             "*- security key -*",
-            "registered alice at http://localhost:5000: credential *",
-            "signed in as alice at http://localhost:5000: credential *",
+            "registered alice at http://localhost:5000: user not verified, discoverable, credential *",
+            "    options: user.id AQ, residentKey required, challenge AAECAwQF.., excludeCredentials none",
+            "signed in as alice at http://localhost:5000: user not verified, user handle AQ, credential *",
             "refused a sign-in at http://localhost:5000: NotAllowedError: user verification failed",
+            "    options: userVerification required, challenge AAECAwQF.., allowCredentials none",
             "the fault stale_sign_count is on: True",
             "fault: the authenticator data is altered",
             "registrations: 1",
         ]
     )
     assert ": 0\n" not in result.stdout.str(), "a total that is 0"
+
+
+INVALID_OPTIONS_SUITE = """
+import hidlog
+
+def test_rp_id(security_key):
+    options = {"challenge": "AA", "rp": {"id": "localhost:5000", "name": "A"}, "user": {"id": 1, "name": "a"},
+               "excludeCredentials": [{"id": "B" * 12}, None]}
+    security_key.browser("http://localhost:5000").create(options)
+"""
+
+
+def test_the_report_has_the_options(pytester: pytest.Pytester) -> None:
+    pytester.makepyfile(test_suite=INVALID_OPTIONS_SUITE)
+    result = pytester.runpytest_subprocess()
+    result.assert_outcomes(failed=1)
+    options = "    options: rp.id localhost:5000, user.id 1, challenge AA, excludeCredentials BBBBBBBB.. *"
+    result.stdout.fnmatch_lines(["test_suite.py:*Error", "refused a registration of a at *", options])
+    assert "webauthn_client.py" not in result.stdout.str(), "a frame of the package"
 
 
 PHASES_SUITE = """

@@ -37,6 +37,8 @@ from .webauthn_json import b64url_decode, b64url_encode
 if TYPE_CHECKING:
     from .key import SecurityKey
 
+# A failed test shows the line that called the browser, and not these functions (pytest --full-trace does).
+__tracebackhide__ = True
 Json = dict[str, Any]
 # The account that signs in: an index in the list of accounts, a user name, a credential ID, or a function of the list.
 Account = Union[int, str, bytes, Callable[[list[Credential]], Any]]

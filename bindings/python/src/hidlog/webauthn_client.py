@@ -29,6 +29,8 @@ from .webauthn_errors import (
     describe_status,
 )
 
+# A failed test shows the line that called the browser, and not these functions (pytest --full-trace does).
+__tracebackhide__ = True
 Json = dict[str, Any]
 # Values of enum hidlog_client_ceremony.
 _CEREMONIES = {"create": 0, "get": 1}
