@@ -126,8 +126,10 @@ def _format_options(ceremony: str, inner: Any) -> str:
 
 
 def _format_details(ceremony: str, result: Mapping[str, Any], kinds: Mapping[str, str]) -> str:
-    """Returns what a service sees of a credential: flags, counter, user handle, and the beginning of the ID. `kinds` has
-    "discoverable" or "not discoverable" for each credential of the key, by ID."""
+    """Returns what a service sees of a credential: flags, counter, user handle, and the beginning of the ID.
+
+    `kinds` has "discoverable" or "not discoverable" for each credential of the key, by ID.
+    """
     data = b64url_decode(result["response"]["authenticatorData"])
     found = [] if data[32] & _UV else ["user not verified"]
     found += [name for bit, name in _FLAGS.items() if data[32] & bit]
