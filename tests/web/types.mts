@@ -24,5 +24,10 @@ export const suite = async (publicKey: PublicKeyCredentialCreationOptions): Prom
     await sendDevToolsCommand("WebAuthn.clearCredentials", { authenticatorId: made.id });
     hidlogKey.installedKey()?.uninstall();
     key.choose(0).catch(() => {});
+    key.reportOnFailure({ onTestFailed: (report) => report() });
+    key.reportOnFailure({ after: () => {}, passed: false });
+    // @ts-expect-error not the context of a test
+    key.reportOnFailure({ passed: false });
+    console.error(key.report().length);
     return installedKey()?.getCredentials() ?? [];
 };

@@ -25,6 +25,10 @@ export type PresenceOutcome = "granted" | "denied" | "timeout" | "click" | "none
 export type Presence =
     PresenceOutcome | ((question: string, signal: Signal) => PresenceOutcome | Promise<PresenceOutcome>);
 
+/** The context of a test of Vitest, or of node 20.12 or later: the argument of the test, or of beforeEach's function. */
+export type TestContext =
+    { onTestFailed(report: () => void): unknown } | { after(report: () => void): unknown; readonly passed: boolean };
+
 /** A credential. Bytes are base64url. */
 export interface Credential {
     credentialId: string;
@@ -198,6 +202,13 @@ export class SecurityKey {
     /** All recordings; with storage also those of earlier pages and other tabs. Storage keeps the newest megabyte. */
     recordings(): Recording[];
     state(): State;
+    /**
+     * The last registrations and sign-ins, each with its options and the credential or the reason of the error, and the
+     * faults that are enabled or took effect. Empty if there are none.
+     */
+    report(): string;
+    /** Prints the report of what the page does from now on, if the test fails. */
+    reportOnFailure(context: TestContext): void;
 
     create(options: CreationOptions): Promise<PublicKey>;
     get(options: RequestOptions): Promise<PublicKey>;

@@ -8,7 +8,7 @@ export const MAX_ID_BYTES = 1023;
 const MAX_SENT_IDS = 64;
 // Flags of the authenticator data (WebAuthn Level 3, section 6.1).
 const FLAGS = { UV: 0x04, BE: 0x08, BS: 0x10 };
-export const { UV } = FLAGS;
+export const { UV, BE, BS } = FLAGS;
 
 /** @typedef {{ eligibility: boolean, state: boolean }} Backup the flags BE and BS */
 

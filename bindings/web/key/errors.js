@@ -13,6 +13,12 @@ export const makeNotAllowed = (why) => makeDomError(
         + "See: https://www.w3.org/TR/webauthn-2/#sctn-privacy-considerations-client.",
 );
 
+/**
+ * Returns the reason in the message of a NotAllowedError, or another message unchanged.
+ * @param {string} message
+ */
+export const shortenMessage = (message) => /^The operation either .*? \((.*)\)\. See: [^ ]*$/s.exec(message)?.[1] ?? message;
+
 /** @param {string} text */
 export const makeNotSupported = (text) => makeDomError("NotSupportedError", text);
 

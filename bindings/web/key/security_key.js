@@ -1,28 +1,26 @@
 // A security key in a page, with the registrations and sign-ins of navigator.credentials and the methods of a virtual
 // authenticator. The key is the verified core. Each session is recorded as a log that replays exactly.
+import { Activity, onTestFailed } from "./activity.js";
 import { AuthenticatorOptions, AUTHENTICATOR_OPTION_NAMES, pickAuthenticatorOptions } from "./abilities.js";
 import { readOrigin } from "./allowed_origins.js";
 import { makeCredential } from "./page_credentials.js";
 import { Authenticator, CtapError } from "./authenticator.js";
-import { equalBytes } from "./bytes.js";
 import { Ceremony } from "./ceremony.js";
 import { checkType, checkMembers, checkName, renameOptions, warnRenamed } from "./argument_checks.js";
 import { checkAccountSelector, Selections } from "./account_selection.js";
-import { createClock } from "./clock.js";
 import { Departures } from "./departures.js";
 import { Credentials } from "./credentials.js";
 import { makeDomError } from "./errors.js";
 import { Faults } from "./faults.js";
 import { checkPolicy } from "./frames.js";
+import { KeyState } from "./key_state.js";
 import { readCreation, readRequest } from "./options.js";
 import { CredentialMetadata } from "./credential_metadata.js";
 import { throwIfAborted, raceWithSignal, getWebCrypto } from "./platform.js";
 import { PrivateKeys } from "./private_keys.js";
 import { Requests } from "./pending_request.js";
 import { SignIn } from "./sign_in.js";
-import { encodeSnapshot } from "./snapshots.js";
-import { checkState, exportState, readRows, readTimeMs } from "./state.js";
-import { checkStorage, Store } from "./store.js";
+import { checkState, readRows } from "./state.js";
 import { User } from "./user_presence.js";
 
 const OPTION_NAMES = ["presence", "delay", "account", "clock", "state", "storage", "origin", "crypto", "allowedOrigins",
@@ -31,33 +29,23 @@ const EVENT_TYPES = ["credentialAdded", "credentialAsserted", "credentialDeleted
 // Names before version 0.3.
 const RENAMED_OPTIONS = { store: "storage", allowOrigins: "allowedOrigins" };
 
-/** @typedef {import("./wasm_key.js").Row} Row */
 /**
  * @typedef {import("./authenticator.js").PageRequest & { leave: () => Promise<void> }} Turn a request of the page
  */
 
 export class SecurityKey extends EventTarget {
     #authenticatorOptions;
-    /** @type {Authenticator | null} */
-    #authenticator = null;
     /** @type {any} */
     #account;
     #selections = new Selections();
-    #clock;
+    #activity = new Activity();
     #credentials;
-    #faults;
-    /** @type {import("./recordings.js").StoredRecordings | null} */
-    #kept = null;
     #origin;
     #metadata = new CredentialMetadata();
     #privateKeys;
     #requests = new Requests();
-    /** @type {Row[]} */
-    #initialRows = [];
-    #store;
-    #time = { timeMs: 0 };
+    #state;
     #user;
-    #records;
 
     static {
         for (const name of AUTHENTICATOR_OPTION_NAMES) {
@@ -80,62 +68,19 @@ export class SecurityKey extends EventTarget {
         checkMembers("option", named, OPTION_NAMES);
         const { presence = "granted", delay = 0, account = 0, record = true, clock, state, storage, crypto } = named;
         checkType("record", record, typeof record === "boolean", "true or false");
-        this.#records = record;
         checkType("clock", clock, ["undefined", "function"].includes(typeof clock), "a function of milliseconds");
         this.#user = new User({ presence, delay });
         this.account = account;
         this.#authenticatorOptions = new AuthenticatorOptions(pickAuthenticatorOptions(named));
         this.#origin = named.origin;
         this.#privateKeys = new PrivateKeys(crypto ? () => crypto : getWebCrypto);
-        this.#faults = new Faults((bytes) => this.#privateKeys.hash(bytes));
+        const faults = new Faults((bytes) => this.#privateKeys.hash(bytes));
         this.#credentials = new Credentials(this.#privateKeys, this.#metadata);
-        if (storage !== undefined) {
-            checkStorage(storage);
-        }
-        this.#store = new Store(storage);
-        this.#restore(state);
-        this.#clock = createClock(clock, this.#time.timeMs, this.#time);
-        this.faults = this.#faults.settings();
+        this.#state = new KeyState(this.#credentials, { clock, state, storage, records: record },
+            (start, keyClock) => new Authenticator(this.#privateKeys, faults, keyClock, start));
+        this.faults = faults.settings();
         // The object is frozen, so setting an unknown property, such as a typo, throws.
         Object.freeze(this);
-    }
-
-    /**
-     * Starts with the state in storage, or otherwise with `state`.
-     * @param {any} state
-     */
-    #restore(state) {
-        if (state !== undefined) {
-            checkState(state);
-        }
-        const stored = this.#store.readChanges();
-        const start = stored ?? state;
-        if (start) {
-            this.#initialRows = readRows(start, this.#credentials);
-            this.#time.timeMs = readTimeMs(start);
-            this.#kept = stored?.recordings ?? null;
-        }
-    }
-
-    /**
-     * The verified key, created on first use.
-     * @returns {Authenticator}
-     */
-    get #key() {
-        if (!this.#authenticator) {
-            const start = { snapshot: this.#snapshot, kept: this.#kept, records: this.#records };
-            this.#authenticator = new Authenticator(this.#privateKeys, this.#faults, this.#clock, start);
-            this.#kept = null;
-        }
-        return this.#authenticator;
-    }
-
-    get #rows() {
-        return this.#authenticator ? this.#key.session.core.rows() : this.#initialRows;
-    }
-
-    get #snapshot() {
-        return this.#authenticator ? this.#key.session.snapshot() : encodeSnapshot(this.#initialRows);
     }
 
     get presence() {
@@ -175,69 +120,43 @@ export class SecurityKey extends EventTarget {
 
     /** All recordings, each with its initial snapshot, for `hidlog check --load`. */
     recordings() {
-        return this.#key.recordings.list();
+        return this.#state.authenticator.recordings.list();
     }
 
     /** The state of the key as JSON: the credentials with private keys and signature counters, and the time. */
     state() {
-        return exportState(this.#time.timeMs, this.#rows, this.#credentials);
+        return this.#state.export();
     }
 
-    /** Reads the state that another tab has stored. */
-    #refresh() {
-        const stored = this.#store.readChanges();
-        if (stored) {
-            this.#time.timeMs = Math.max(this.#time.timeMs, readTimeMs(stored));
-            this.#take(readRows(stored, this.#credentials), stored.recordings);
-        }
+    // The report of a failed test.
+
+    /**
+     * Describes the last registrations and sign-ins of the page, each with its options and the credential or the reason
+     * of the error, and the faults that are enabled or took effect. Empty if there are none.
+     */
+    report() {
+        return this.#report(0);
+    }
+
+    /** @param {number} from the number of calls to skip */
+    #report(from) {
+        const credentials = this.#state.rows.map((row) => this.#credentials.fromRow(row));
+        const logs = this.recordings().map(({ log }) => log);
+        return this.#activity.describe({ credentials, faults: this.faults, logs }, from);
     }
 
     /**
-     * Continues with other credentials, and with the recording that resulted in these credentials, if any.
-     * @param {Row[]} rows @param {import("./recordings.js").StoredRecordings} [recordings]
+     * Prints what the page did during a test, if the test fails.
+     * @param {any} context the context of a test of Vitest or node: the argument of the test, or of beforeEach
      */
-    #take(rows, recordings) {
-        const snapshot = encodeSnapshot(rows);
-        if (recordings && this.#records) {
-            this.#key.take(recordings, snapshot);
-        } else if (!equalBytes(snapshot, this.#snapshot)) {
-            this.#key.begin(snapshot);
-        }
-    }
-
-    /** Stores the state and the recordings. */
-    async #write() {
-        const kept = () => ({ state: this.state(), recordings: this.#key.recordings.kept(this.#snapshot) });
-        if (await this.#store.write(kept)) {
-            this.#key.recordings.wasKept();
-        }
-    }
-
-    /** Locks the storage and reads it. Returns a function that writes to it and unlocks it. */
-    async #lock() {
-        const unlock = await this.#store.lock();
-        const release = async () => {
-            try {
-                await this.#write();
-            } finally {
-                unlock();
+    reportOnFailure(context) {
+        const from = this.#activity.count;
+        onTestFailed(context, () => {
+            const report = this.#report(from);
+            if (report) {
+                console.error(`the security key:\n${report}`);
             }
-        };
-        try {
-            this.#refresh();
-            return release;
-        } catch (error) {
-            unlock();
-            throw error;
-        }
-    }
-
-    /** Stores recordings that are not stored yet. */
-    async #storeRecordings() {
-        this.#authenticator?.recordings.bound(() => this.#snapshot);
-        if (this.#store.isPresent && this.#authenticator?.recordings.isAhead) {
-            await (await this.#lock())();
-        }
+        });
     }
 
     // Registrations and sign-ins.
@@ -247,6 +166,11 @@ export class SecurityKey extends EventTarget {
      * @param {any} options
      */
     async create(options) {
+        return this.#activity.observe("create", this.#origin, options, () => this.#create(options));
+    }
+
+    /** @param {any} options */
+    async #create(options) {
         const { publicKey, signal, mediation } = readCreation(options);
         throwIfAborted(signal);
         const ceremony = this.#begin("create", publicKey, mediation);
@@ -265,6 +189,11 @@ export class SecurityKey extends EventTarget {
      * @param {any} options
      */
     async get(options) {
+        return this.#activity.observe("get", this.#origin, options, () => this.#get(options));
+    }
+
+    /** @param {any} options */
+    async #get(options) {
         const { publicKey, signal, mediation } = readRequest(options);
         throwIfAborted(signal);
         const ceremony = this.#begin("get", publicKey, mediation);
@@ -328,7 +257,7 @@ export class SecurityKey extends EventTarget {
                 turn.departures.made(id);
             },
             enter: async () => {
-                release = await this.#lock();
+                release = await this.#state.lock();
                 if (signal.aborted) {
                     await turn.leave();
                 }
@@ -340,11 +269,11 @@ export class SecurityKey extends EventTarget {
             },
         };
         try {
-            this.#refresh();
+            this.#state.refresh();
             return await run(turn);
         } finally {
             await turn.leave();
-            await this.#storeRecordings();
+            await this.#state.storeRecordings();
         }
     }
 
@@ -354,7 +283,7 @@ export class SecurityKey extends EventTarget {
      */
     async #exchange(ceremony, bytes, turn) {
         try {
-            return await this.#key.request(bytes, turn);
+            return await this.#state.authenticator.request(bytes, turn);
         } catch (error) {
             throw error instanceof CtapError ? ceremony.makeError(error) : error;
         }
@@ -385,28 +314,15 @@ export class SecurityKey extends EventTarget {
     /** Aborts a pending request, and releases the storage. */
     close() {
         this.#requests.end(makeDomError("AbortError", "The key was uninstalled."));
-        this.#store.close();
+        this.#state.close();
     }
 
     // The commands of a virtual authenticator.
 
     /** @param {string} credentialId */
     #find(credentialId) {
-        const rows = this.#rows;
+        const rows = this.#state.rows;
         return this.#credentials.fromRow(rows[this.#credentials.indexOf(rows, credentialId)]);
-    }
-
-    /**
-     * Changes the credentials while no request is in progress.
-     * @param {(rows: Row[]) => Row[] | Promise<Row[]>} change
-     */
-    async #change(change) {
-        const release = await this.#lock();
-        try {
-            this.#take(await change(this.#rows));
-        } finally {
-            await release();
-        }
     }
 
     /**
@@ -418,14 +334,14 @@ export class SecurityKey extends EventTarget {
         checkType("isResidentCredential", isResident, !isResident || this.#authenticatorOptions.get("hasResidentKey"),
             "false: the key does not support discoverable credentials (hasResidentKey is false)");
         const row = await this.#credentials.create(credential, this.#authenticatorOptions);
-        await this.#change((rows) => this.#credentials.with(rows, row));
+        await this.#state.change((rows) => this.#credentials.with(rows, row));
         return this.#credentials.fromRow(row);
     }
 
     /** The credentials, newest last. */
     async getCredentials() {
-        this.#refresh();
-        return this.#rows.map((row) => this.#credentials.fromRow(row));
+        this.#state.refresh();
+        return this.#state.rows.map((row) => this.#credentials.fromRow(row));
     }
 
     /**
@@ -434,23 +350,23 @@ export class SecurityKey extends EventTarget {
      */
     async restore(state) {
         checkState(state);
-        await this.#change(() => readRows(state, this.#credentials));
+        await this.#state.change(() => readRows(state, this.#credentials));
     }
 
     /** @param {string} credentialId */
     async getCredential(credentialId) {
-        this.#refresh();
+        this.#state.refresh();
         return this.#find(credentialId);
     }
 
     /** @param {string} credentialId */
     async removeCredential(credentialId) {
-        await this.#change((rows) => this.#credentials.without(rows, credentialId));
+        await this.#state.change((rows) => this.#credentials.without(rows, credentialId));
         this.#dispatch("credentialDeleted", { credentialId });
     }
 
     async removeAllCredentials() {
-        await this.#change(() => []);
+        await this.#state.change(() => []);
     }
 
     async clearCredentials() {
@@ -459,7 +375,7 @@ export class SecurityKey extends EventTarget {
 
     /** @param {string} credentialId @param {any} properties */
     async setCredentialProperties(credentialId, properties) {
-        await this.#change((rows) => this.#credentials.update(rows, credentialId, properties));
+        await this.#state.change((rows) => this.#credentials.update(rows, credentialId, properties));
         this.#dispatchFor("credentialUpdated", credentialId);
     }
 

@@ -1,0 +1,152 @@
+// Tests the report of a failed test: with node's test runner, and with a context as Vitest's.
+import assert from "node:assert/strict";
+import { execFile } from "node:child_process";
+import { mkdtempSync, rmSync, writeFileSync } from "node:fs";
+import { tmpdir } from "node:os";
+import { join } from "node:path";
+import { test } from "node:test";
+import { SecurityKey } from "../../bindings/web/dist/security_key.mjs";
+
+const MODULE = new URL("../../bindings/web/dist/security_key.mjs", import.meta.url);
+const ORIGIN = "https://login.example.com";
+const CREATE = {
+    challenge: Uint8Array.of(0, 1, 2, 3, 4, 5, 6), rp: { id: "example.com", name: "A" },
+    user: { id: new TextEncoder().encode("ann").buffer, name: "ann", displayName: "Ann" },
+    pubKeyCredParams: [{ type: "public-key", alg: -7 }], authenticatorSelection: { residentKey: "required" },
+};
+const GET = { challenge: new Uint8Array(3), rpId: "example.com" };
+const GET_OPTIONS = "    options: rpId example.com, challenge AAAA, allowCredentials none";
+
+/** A key with a registration of ann, and the shown part of the credential's ID. */
+const register = async (options = {}) => {
+    const key = new SecurityKey({ origin: ORIGIN, ...options });
+    const { id } = await key.create({ publicKey: CREATE });
+    return { key, id: `credential ${id.slice(0, 8)}..` };
+};
+
+const splitReport = (key) => key.report().split("\n");
+
+test("who registered and signed in, and what was refused and why", async () => {
+    const { key, id } = await register();
+    await key.get({ publicKey: GET });
+    key.presence = "denied";
+    await assert.rejects(key.get({ publicKey: GET }), { name: "NotAllowedError" });
+    const foreign = { ...CREATE, rp: { id: "other.example", name: "B" }, user: { ...CREATE.user, name: "bob" } };
+    await assert.rejects(key.create({ publicKey: foreign }), { name: "SecurityError" });
+    const created = "user.id YW5u, residentKey required, challenge AAECAwQF.., excludeCredentials none";
+    assert.deepEqual(splitReport(key), [
+        `registered ann at ${ORIGIN}: user not verified, discoverable, ${id}`,
+        `    options: rp.id example.com, ${created}`,
+        `signed in as ann at ${ORIGIN}: user not verified, counter 1, user handle YW5u, ${id}`,
+        GET_OPTIONS,
+        `refused a sign-in at ${ORIGIN}: NotAllowedError: the authenticator returned 0x27 OPERATION_DENIED: the user refused`,
+        GET_OPTIONS,
+        `refused a registration of bob at ${ORIGIN}: SecurityError: The relying party ID is not a registrable domain`
+            + " suffix of, nor equal to the current domain.",
+        `    options: rp.id other.example, ${created}`,
+    ]);
+});
+
+test("flags, lists, and credentials that are gone", async () => {
+    const key = new SecurityKey({ origin: ORIGIN, hasUserVerification: true, isUserVerified: true,
+        defaultBackupEligibility: true, defaultBackupState: true });
+    const { id, rawId } = await key.create({ publicKey: { ...CREATE, authenticatorSelection: { userVerification: "required" } } });
+    await key.get({ publicKey: { ...GET, allowCredentials: [{ type: "public-key", id: rawId }], timeout: 5000 } });
+    const lines = splitReport(key);
+    const credential = `credential ${id.slice(0, 8)}..`;
+    const flags = "user verified, backup eligible, backed up";
+    assert.equal(lines[0], `registered ann at ${ORIGIN}: ${flags}, not discoverable, ${credential}`);
+    assert.match(lines[1], /, userVerification required, challenge /);
+    assert.equal(lines[2], `signed in as ann at ${ORIGIN}: ${flags}, counter 1, no user handle, ${credential}`);
+    assert.equal(lines[3], `    options: rpId example.com, timeout 5000, challenge AAAA, allowCredentials ${id.slice(0, 8)}..`);
+    await key.removeCredential(id);
+    assert.match(splitReport(key)[0], /, no longer on the key, /);
+    assert.match(splitReport(key)[2], /^signed in as a user without a name /);
+});
+
+test("faults that are enabled, and those that took effect", async () => {
+    const { key } = await register();
+    key.faults.status = "OTHER";
+    await assert.rejects(key.get({ publicKey: GET }));
+    await assert.rejects(key.get({ publicKey: GET }));
+    key.faults.clear();
+    key.faults.badSignature = true;
+    assert.deepEqual(splitReport(key).slice(-2),
+        ["the fault badSignature is enabled: true", "fault: the answer is status 0x7f OTHER (2 times)"]);
+    key.faults.status = 0x7f;
+    assert.equal(splitReport(key).at(-3), "the fault status is enabled: 0x7f OTHER");
+});
+
+test("invalid options, and no counter that is 0", async () => {
+    const key = new SecurityKey({ origin: ORIGIN });
+    assert.equal(key.report(), "");
+    await assert.rejects(key.create({ publicKey: { rp: 3, excludeCredentials: 5 } }), TypeError);
+    await assert.rejects(key.get(), TypeError);
+    assert.match(key.report(), /^refused a registration at .*: TypeError: .*\n {4}options: excludeCredentials none\n/);
+    assert.equal(splitReport(key).length, 4);
+    await key.create({ publicKey: CREATE });
+    assert.doesNotMatch(key.report(), /counter/);
+});
+
+test("the last 40 calls", async () => {
+    const { key } = await register();
+    for (let number = 0; number < 45; number += 1) {
+        await key.get({ publicKey: GET });
+    }
+    const lines = splitReport(key);
+    assert.equal(lines.length, 80);
+    assert.match(lines[0], /, counter 6, /);
+});
+
+/** Runs a function while console.error collects. */
+const collectErrors = (run) => {
+    const { error } = console;
+    const lines = [];
+    console.error = (line) => lines.push(line);
+    try {
+        run();
+    } finally {
+        console.error = error;
+    }
+    return lines;
+};
+
+test("as Vitest calls it: what the page did since reportOnFailure", async () => {
+    const { key } = await register();
+    const failing = [];
+    key.reportOnFailure({ onTestFailed: (report) => failing.push(report) });
+    assert.deepEqual(collectErrors(failing[0]), []);
+    await key.get({ publicKey: GET });
+    const [printed] = collectErrors(failing[0]);
+    assert.match(printed, /^the security key:\nsigned in as ann at .*\n {4}options: .*$/);
+    assert.throws(() => key.reportOnFailure({}), /^TypeError: context .*Vitest/);
+    assert.throws(() => key.reportOnFailure(), TypeError);
+});
+
+const FAILING = `
+import { beforeEach, test } from "node:test";
+import { install } from "${MODULE}";
+const key = install({ origin: "${ORIGIN}" });
+beforeEach((context) => key.reportOnFailure(context));
+const create = { challenge: new Uint8Array(3), rp: { name: "A" }, pubKeyCredParams: [{ type: "public-key", alg: -7 }] };
+const user = (name) => ({ id: new Uint8Array(1), name, displayName: name });
+test("passes", () => navigator.credentials.create({ publicKey: { ...create, user: user("ann") } }));
+test("fails", async () => {
+    await navigator.credentials.create({ publicKey: { ...create, user: user("bob") } });
+    throw new Error("the service is wrong");
+});
+`;
+
+test("in node's test runner, only of the test that fails", async () => {
+    const folder = mkdtempSync(join(tmpdir(), "report"));
+    writeFileSync(join(folder, "failing.test.mjs"), FAILING);
+    const env = { ...process.env };
+    delete env.NODE_TEST_CONTEXT;
+    const output = await new Promise((done) => {
+        execFile(process.execPath, ["--test", folder], { env }, (_, stdout, stderr) => done(stdout + stderr));
+    });
+    rmSync(folder, { recursive: true });
+    assert.equal(output.split("the security key:").length, 2, output);
+    assert.match(output, new RegExp(`registered bob at ${ORIGIN}: `));
+    assert.doesNotMatch(output, /registered ann/);
+});
