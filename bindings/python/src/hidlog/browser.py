@@ -14,7 +14,7 @@ import time
 from collections.abc import Callable, Mapping
 from typing import TYPE_CHECKING, Any, NamedTuple, Optional, Protocol, Union
 
-from . import cbor, suggestions
+from . import cbor, signals, suggestions
 from .client import Client
 from .credentials import Credential
 from .departures import Departures, adapt_options
@@ -134,6 +134,19 @@ class Browser:
         return await _run_in_thread(
             signal, lambda either: self.get(options, account, mediation=mediation, signal=either)
         )
+
+    def signal_unknown_credential(self, options: Mapping[str, Any]) -> None:
+        """Removes a credential that the service does not know, as PublicKeyCredential.signalUnknownCredential does."""
+        signals.signal_unknown_credential(self._key, self.origin, options)
+
+    def signal_all_accepted_credentials(self, options: Mapping[str, Any]) -> None:
+        """Removes the user's other discoverable credentials, as PublicKeyCredential.signalAllAcceptedCredentials
+        does."""
+        signals.signal_all_accepted_credentials(self._key, self.origin, options)
+
+    def signal_current_user_details(self, options: Mapping[str, Any]) -> None:
+        """Renames the user, as PublicKeyCredential.signalCurrentUserDetails does. Display names are not stored."""
+        signals.signal_current_user_details(self._key, self.origin, options)
 
     def select_account(self, account: Account = 0) -> None:
         """Selects the account for the pending sign-in with mediation "conditional", or for the next one."""
