@@ -34,6 +34,7 @@ mod rows;
 mod save_snapshot;
 mod slot;
 mod table;
+mod truncate;
 
 pub use chained::Chained;
 pub use copy::copy_without;
@@ -46,6 +47,7 @@ pub use row::Row;
 pub use rows::Rows;
 pub use save_snapshot::{save, save_into};
 pub use table::Table;
+pub use truncate::cut_name;
 
 /// The table that the authenticator uses.
 pub type Store<const C: usize> = Chained<C>;

@@ -1,13 +1,11 @@
 //! User names.
 
 ghost use Rattle.std.specs.Prelude.{◌≡◌, ◌≤◌, nat_le, if◌then◌else◌, Some, None, length};
-ghost use Rattle.cred_table.specs.Names.{IsCut, cut};
+ghost use Rattle.cred_table.specs.Names.{cut};
 
+use crate::truncate::cut_name;
 use arrayvec::ArrayString;
 use std::marker::Model;
-
-/// Maximum length of a name in bytes.
-const MAX_NAME_LEN: usize = 64;
 
 /// A user name as stored in a row: at most 64 bytes of UTF-8. Two names are equal if their texts are.
 #[derive(Clone, Debug, Default, Drop)]
@@ -34,13 +32,12 @@ impl Name {
         }
     }
 
-    /// Creates a name from a text, truncated to at most 64 bytes, at a character boundary.
+    /// Creates a name from a text, truncated to 64 bytes at a character boundary.
     pub fn cut(whole: &str) -> Self
-        ensures cut { IsCut whole.now result }
-        ensures only { result ≡ cut whole.now }
+        ensures { result ≡ cut whole.now }
     {
         let mut text = ArrayString::new();
-        text.push_str(&whole[..whole.floor_char_boundary(MAX_NAME_LEN)]);
+        text.push_str(cut_name(whole));
         Name { text }
     }
 
