@@ -118,7 +118,7 @@ static int read_snapshot(const char *path, struct bytes *snapshot) {
     free(sums_path);
     if (sums != NULL) {
         fclose(sums);
-        print_error("cannot read snapshot\n  this program cannot verify the checksum file SNAPSHOT.hidlog-sum: remove that file",
+        print_error("cannot read snapshot\n  SNAPSHOT.hidlog-sum exists, but this program cannot verify checksums: remove that file",
                     EXIT_FAILED);
         return 0;
     }

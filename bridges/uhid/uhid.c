@@ -393,8 +393,9 @@ static bool start_recording(const char *path) {
     static uint8_t snapshot[MAX_SNAPSHOT];
     size_t len = snapshot_write(&state.vkey.key, snapshot);
     hidlog_key_destroy(&state.vkey.key);
-    if (hidlog_key_init(&state.vkey.key, aaguid, 0, snapshot, len) != 0) {
-        fprintf(stderr, "hidlog-uhid: cannot create the key: the state file has invalid credentials\n");
+    int error = hidlog_key_init(&state.vkey.key, aaguid, 0, snapshot, len);
+    if (error != 0) {
+        fprintf(stderr, "hidlog-uhid: cannot initialize the key with the credentials of the state file: error %d\n", error);
         return false;
     }
     return path == NULL || begin_recording(path, snapshot, len);

@@ -27,6 +27,7 @@ has_kernel() {
     [ -n "$image" ] && [ -r "$image" ] && compgen -G "$modules/uhid.ko*" >/dev/null
 }
 
+# Finds a kernel with uhid, or downloads one, and sets image and modules. Skips the test if there is none.
 find_kernel() {
     local package
     if [ -n "${HIDLOG_KERNEL-}" ]; then

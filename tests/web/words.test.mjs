@@ -177,9 +177,9 @@ test("ends are described correctly for every cause", () => {
 // ---- the page
 
 const noJsdom = { skip: !existsSync(JSDOM) && "node-jsdom is missing" };
-const isItemLine = (line) => /^(request|answer) /.test(line);
+const isMessageLine = (line) => /^(request|answer) /.test(line);
 // The line of a request or response may have only the code and the name, if the CBOR members have own lines.
-const shortenLines = (lines) => lines.map((line) => (isItemLine(line)
+const shortenLines = (lines) => lines.map((line) => (isMessageLine(line)
     ? line.split(" ").slice(0, 2).join(" ") + (/ {2}\w+$/.exec(line)?.[0] ?? "") : line));
 
 /** The page, ready for a log. */

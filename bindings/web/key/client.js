@@ -14,7 +14,7 @@ const MAX_OUTPUT_BYTES = 16384;
 export const MAX_BUFFER_BYTES = 1536;
 const MAX_TEXT_BYTES = 2048;
 const MAX_TEXT_UNITS = Math.floor(MAX_TEXT_BYTES / 3);
-// Only public suffixes of one label are known.
+// The public suffix of the origin's host, which the client checks RP IDs with. If empty, it is the host's last label.
 const PUBLIC_SUFFIX = new Uint8Array(0);
 
 /** @typedef {"create" | "get"} CeremonyName */

@@ -13,7 +13,7 @@ export const getWebCrypto = () => {
     if (!globalThis.crypto?.subtle) {
         const why = globalThis.isSecureContext === false
             ? "this page is not served over https or http://localhost"
-            : "use the option crypto of install, in node with webcrypto of node:crypto";
+            : "pass the option crypto to install; in Node.js, webcrypto from node:crypto";
         throw new Error(`hidlogKey: crypto.subtle is missing (${why}); ${PLATFORM_ERROR}`);
     }
     return globalThis.crypto;
