@@ -28,8 +28,8 @@ for log in crates/hidlog_cli/data/capacity_64/*.log; do
     ! is_same_output "$log" || count=$((count + 1))
 done
 echo "same output for each flow, and for $count worked logs"
-# Columns: the flow; hidlog; the C program with a scalar SHA-256, and hidlog's ratio to it; the C program with the SHA-256
-# that OpenSSL selects, and hidlog's ratio to it.
+# Columns: the flow; hidlog; the C program with a scalar SHA-256, and hidlog's ratio to it; the C program with the
+# SHA-256 that OpenSSL selects, and hidlog's ratio to it.
 paste <(python3 bench/flows.py "$program") <(OPENSSL_ia32cap=0:0 python3 bench/flows.py "$work/peer") \
     <(python3 bench/flows.py "$work/peer") |
     awk '{ printf "%-12s %8d  %8d %6.2f  %8d %6.2f\n", $1, $2, $4, $2 / $4, $6, $2 / $6 }'

@@ -395,7 +395,7 @@ static bool start_recording(const char *path) {
     hidlog_key_destroy(&state.vkey.key);
     int error = hidlog_key_init(&state.vkey.key, aaguid, 0, snapshot, len);
     if (error != 0) {
-        fprintf(stderr, "hidlog-uhid: cannot initialize the key with the credentials of the state file: error %d\n", error);
+        fprintf(stderr, "hidlog-uhid: cannot initialize the key with the state file's credentials: error %d\n", error);
         return false;
     }
     return path == NULL || begin_recording(path, snapshot, len);
