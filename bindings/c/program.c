@@ -118,7 +118,8 @@ static int read_snapshot(const char *path, struct bytes *snapshot) {
     free(sums_path);
     if (sums != NULL) {
         fclose(sums);
-        print_error("cannot read snapshot\n  SNAPSHOT.hidlog-sum exists, but this program cannot verify checksums: remove that file",
+        print_error("cannot read snapshot\n"
+                    "  SNAPSHOT.hidlog-sum exists, but this program cannot verify checksums: remove that file",
                     EXIT_FAILED);
         return 0;
     }
