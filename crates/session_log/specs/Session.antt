@@ -29,7 +29,7 @@ machine = replay_world session_semantics
 abbrev pub history : Start → LineSemantics (List Timed)
 history start = replay_world (history_course start)
 
--- As `history_course`, with packets that are defined without an authenticator's state.
+-- As `history_course`, with packets whose definition uses only the start and the inputs, not an authenticator's state.
 abbrev pub exchange_histories : Start → InputSemantics (List Timed)
 exchange_histories start = record {
   turned = λ h x. x ∷ h;
@@ -37,7 +37,7 @@ exchange_histories start = record {
   counts = λ h. meters_of start (received start h);
 }
 
--- Replaying a log on a history, with packets that are defined without an authenticator's state.
+-- Replaying a log on a history, with packets whose definition uses only the start and the inputs.
 abbrev pub exchange_history : Start → LineSemantics (List Timed)
 exchange_history start = replay_world (exchange_histories start)
 

@@ -169,8 +169,8 @@ impl<const C: usize> Session<C> {
             → IsStateAfter self.new start (record { at = at; input = input } ∷ h) }
         ensures sent { (start : Start) (h : List OneInput) → IsStateAfter self.old start h
             → outbox.new ≡ sent_now start h (record { at = at; input = input }) }
-        // If the start of the history is valid, exactly those packets are sent that are defined without an
-        // authenticator's state.
+        // If `start` is valid, the packets are exactly those that `packets_sent_now` gives. Its definition uses only the
+        // start and the inputs, not the state of an authenticator.
         ensures follows { (start : Start) (h : List OneInput) → IsStateAfterValidStart self.old start h
             → IsStateAfterValidStart self.new start (record { at = at; input = input } ∷ h) }
         ensures told { (start : Start) (h : List OneInput) → IsStateAfterValidStart self.old start h
