@@ -21,7 +21,7 @@ for folder in ("self_tests", "others", "mutants"):
 
 import generated  # noqa: E402
 import interrupted  # noqa: E402
-import kept_device  # noqa: E402
+import persistent_device  # noqa: E402
 import odd_clients  # noqa: E402
 import odd_devices  # noqa: E402
 import reports  # noqa: E402
@@ -31,7 +31,7 @@ import ways  # noqa: E402
 
 TESTS = {
     **ways.TESTS,
-    **kept_device.TESTS,
+    **persistent_device.TESTS,
     **odd_devices.TESTS,
     **odd_clients.TESTS,
     **walks.TESTS,

@@ -134,7 +134,7 @@ expect_usage_error "the command does not fail and print 'never said' on the whol
 expect_usage_error "the command is missing after the log" examples/sign_in.log
 expect_usage_error "nothing.log: No such file or directory" nothing.log release/hidlog check
 expect_usage_error "no_such_program cannot be started: No such file" examples/sign_in.log no_such_program
-expect_usage_error "the log comes before the command" release/hidlog check examples/sign_in.log
+expect_usage_error "the log must come before the command" release/hidlog check examples/sign_in.log
 expect_usage_error "the command also fails on an empty log, with 'hidlog: cannot read log'" examples/sign_in.log \
     release/hidlog check nothing.log
 expect_usage_error "the following arguments are required: LOG"

@@ -26,7 +26,7 @@
         none: "the user denied or did not respond",
     };
     /** @type {Record<number, string>} */
-    const ERROR_TEXTS = {
+    const CTAPHID_ERROR_TEXTS = {
         0x01: "unsupported command", 0x03: "invalid length", 0x04: "wrong sequence number", 0x05: "message timeout",
         0x06: "the key was busy", 0x0b: "invalid channel",
     };
@@ -74,7 +74,7 @@
     const describeEnd = (transaction) => {
         const { answer, end, code, by } = transaction;
         if (code !== null) {
-            return ERROR_TEXTS[code] ?? `error ${toHexByte(code)}`;
+            return CTAPHID_ERROR_TEXTS[code] ?? `error ${toHexByte(code)}`;
         }
         if (answer) {
             const status = answer.command === CBOR && answer.length ? answer.byteAt(0) : 0;

@@ -20,13 +20,13 @@
             `\\u{${/** @type {number} */ (character.codePointAt(0)).toString(16)}}`);
 
     /**
-     * Whether a line is the head of a request or response.
+     * Whether a line is the first one of a request or response.
      * @param {string} line
      */
-    const isItem = (line) => /^(request|answer) /.test(line);
+    const isFirstLine = (line) => /^(request|answer) /.test(line);
 
     /**
-     * The head of a request or response without the CBOR item: the code and the name.
+     * The first line of a request or response without its CBOR item: only the code and the name remain.
      * @param {string} line
      */
     const shortenItem = (line) => line.split(" ").slice(0, 2).join(" ") + (LAST_WORD.exec(line)?.[0] ?? "");
@@ -170,7 +170,7 @@
         name(message) {
             const first = this.rest(message.lines[0]);
             if (message.command === COMMAND_CBOR && message.isWhole) {
-                const item = this.words(/** @type {Viewer.Line} */ (message.lines.at(-1))).below.find(isItem) ?? "CBOR";
+                const item = this.words(/** @type {Viewer.Line} */ (message.lines.at(-1))).below.find(isFirstLine) ?? "CBOR";
                 return LAST_WORD.exec(item)?.[1] ?? item.split(" ").slice(0, 2).join(" ");
             }
             return (COMMANDS_WITH_NAMES.includes(message.command) && LAST_WORD.exec(first)?.[1]) || first.split(" ")[0];
@@ -230,7 +230,7 @@
             const missing = isWhole ? "" : `, incomplete: ${received} of ${length} bytes`;
             const below = lines.flatMap((line) => this.words(line).below);
             const hasMembers = below.some((line) => line.startsWith("  "));
-            const shortened = below.map((line) => (hasMembers && isItem(line) ? shortenItem(line) : line));
+            const shortened = below.map((line) => (hasMembers && isFirstLine(line) ? shortenItem(line) : line));
             return [`${this.rest(lines[0])}${packets}${missing}`, ...shortened];
         }
 

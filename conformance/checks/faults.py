@@ -24,7 +24,7 @@ sys.path[:0] = [os.path.join(HERE, "faults"), os.path.join(HERE, "mutants")]
 from hidlog_conformance import keys  # noqa: E402
 from answer_faults import CBOR_FAULTS  # noqa: E402
 from faulty import Fault, FaultyDevice  # noqa: E402
-from run_mutant import MUTANTS, STATEFUL, run_kept_mutant, run_mutant, walk_mutant  # noqa: E402
+from run_mutant import MUTANTS, STATEFUL, run_persistent_mutant, run_mutant, walk_mutant  # noqa: E402
 from hidlog_conformance.devices import LiveDevice  # noqa: E402
 from hidlog_conformance.device_info import DeviceInfo  # noqa: E402
 from hidlog_conformance.outcome import Outcome  # noqa: E402
@@ -112,7 +112,7 @@ def main(arguments: List[str]) -> int:
     for name in MUTANTS:
         # A filter and a mutant may have the same name.
         other = name if name not in names else f"{name}_of_reference"
-        kept = functools.partial(run_kept_mutant, name)
+        kept = functools.partial(run_persistent_mutant, name)
         names[other] = kept if options.kept else functools.partial(run_mutant, name, whole=options.whole)
     names.update({name: functools.partial(walk_mutant, name) for name in STATEFUL})
     if options.kept:

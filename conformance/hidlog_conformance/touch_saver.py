@@ -110,7 +110,7 @@ class TouchSaver:
         return True
 
     def reset(self, session: Session) -> str:
-        """Resets the device; returns the reason of a failure, or empty."""
+        """Resets the device. Returns the reason for a failure, or an empty string."""
         print(f"resetting the device for {session.name}", file=sys.stderr)
         self.pool.made = {}
         reason = prepare(self.device, any(map(sends_reset, session.steps)))

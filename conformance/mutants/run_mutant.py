@@ -24,7 +24,7 @@ from hidlog_conformance.outcome import Outcome
 from hidlog_conformance.play_order import order_sessions
 from hidlog_conformance.quantity import quantity
 from hidlog_conformance.reference.device import ReferenceDevice
-from hidlog_conformance.reference.kept_key import KeptKey
+from hidlog_conformance.reference.persistent_key import PersistentKey
 from hidlog_conformance.results import Results
 from hidlog_conformance.run import all_sessions, parse_options, play_all, play_one
 from hidlog_conformance.walk import walk
@@ -90,13 +90,13 @@ def run_mutant(name: str, whole: bool = False) -> Tuple[bool, str]:
     return good, f"{word}  {text}" + (f"\n        failed cases by rule: {violated or 'none'}" if whole else "")
 
 
-def run_kept_mutant(name: str) -> Tuple[bool, str]:
+def run_persistent_mutant(name: str) -> Tuple[bool, str]:
     """Runs one mutant as a key that keeps its state, with combined cases and tours; returns whether a case detects it,
     and a report."""
     fault = MUTANTS[name]
     text = f"{name} ({fault.section}): {fault.description}"
     options = parse_options(["--device", "reference", "--touch", "--reset"])
-    device, results = KeptKey(fault.change, **vars(fault.traits)), FirstFailure(fault.section)
+    device, results = PersistentKey(fault.change, **vars(fault.traits)), FirstFailure(fault.section)
     try:
         with contextlib.redirect_stderr(io.StringIO()):
             device_info = DeviceInfo.ask(device, True)

@@ -1,5 +1,5 @@
 #!/usr/bin/env python3
-"""python_key.py with a file for its credentials: kept_key.py FILE
+"""python_key.py with a file for its credentials: persistent_key.py FILE
 
 Loads the file at the start, and saves it at the end of input, which is the loss of power.
 """

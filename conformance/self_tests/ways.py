@@ -102,7 +102,7 @@ def test_pipe() -> None:
 def test_power_cycles() -> None:
     """Runs power cycles over a pipe: the command is restarted with its credentials."""
     with tempfile.TemporaryDirectory() as room:
-        command = f"{sys.executable} {os.path.join(HERE, 'others', 'kept_key.py')} {room}/state"
+        command = f"{sys.executable} {os.path.join(HERE, 'others', 'persistent_key.py')} {room}/state"
         words = ["--device", command, "--touch-line", "touch", "--only", "power/c"]
         text = get_output([*words, "--persistent"])
         print(f"by a pipe, power/c*: {text.splitlines()[-1]}")

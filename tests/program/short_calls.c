@@ -1,6 +1,6 @@
 /*
- * A library for LD_PRELOAD that halves the size of each read, write, send and recv of more than one byte, since the
- * system may transfer fewer bytes than requested.
+ * A library for LD_PRELOAD that causes short reads and writes: it halves the size of each read, write, send and recv of
+ * more than one byte.
  */
 #define _GNU_SOURCE
 #include <sys/socket.h>

@@ -18,14 +18,14 @@ const names = FOLDERS.flatMap((folder) => readdirSync(resolvePath(folder)).filte
 
 const readLines = (name) => readFileSync(resolvePath(name), "utf8").trimEnd().split("\n");
 const encode = (lines) => new TextEncoder().encode(`${lines.join("\n")}\n`);
-const describe = ({ side, line, title, why }) => `${side}, line ${line}: ${title} ${why.join(" ")}`;
+const describeVerdict = ({ side, line, title, why }) => `${side}, line ${line}: ${title} ${why.join(" ")}`;
 
 test("no conforming recording is blamed on the key", async () => {
     assert.ok(names.length >= 70, `${names.length} logs`);
     for (const name of names) {
         const snapshot = SNAPSHOTS[name] ? readBytes(SNAPSHOTS[name]) : undefined;
         const verdict = await diagnose(readBytes(name), snapshot);
-        assert.notEqual(verdict.side, "key", `${name}: ${describe(verdict)}`);
+        assert.notEqual(verdict.side, "key", `${name}: ${describeVerdict(verdict)}`);
     }
 });
 
@@ -46,7 +46,7 @@ test("a log that is cut after any line is not blamed on the key", async () => {
         const lines = readLines(name);
         for (let count = 1; count < lines.length; count += 1) {
             const verdict = await diagnose(encode(lines.slice(0, count)));
-            assert.notEqual(verdict.side, "key", `${name}, ${count} lines: ${describe(verdict)}`);
+            assert.notEqual(verdict.side, "key", `${name}, ${count} lines: ${describeVerdict(verdict)}`);
         }
     }
 });
@@ -57,7 +57,7 @@ test("a log that begins at any message is not blamed on the key", async () => {
         for (let from = 1; from < lines.length; from += 1) {
             if (/^> \d+ [0-9a-f]{8}[89a-f]/.test(lines[from])) {
                 const verdict = await diagnose(encode(lines.slice(from)));
-                assert.notEqual(verdict.side, "key", `${name} from line ${from + 1}: ${describe(verdict)}`);
+                assert.notEqual(verdict.side, "key", `${name} from line ${from + 1}: ${describeVerdict(verdict)}`);
             }
         }
     }
@@ -71,7 +71,7 @@ test("a log without one packet of a longer request lacks it, and neither host no
         for (const place of places) {
             const verdict = await diagnose(encode([...lines.slice(0, place), ...lines.slice(place + 1)]));
             assert.deepEqual([verdict.side, verdict.title], ["capture", "lacks packets of the host"],
-                `${name} without line ${place + 1}: ${describe(verdict)}`);
+                `${name} without line ${place + 1}: ${describeVerdict(verdict)}`);
         }
     }
 });
@@ -84,7 +84,7 @@ const EARLY = [
 
 test("another key that responds too early is blamed itself", async () => {
     const verdict = await diagnose(encode(EARLY));
-    assert.deepEqual([verdict.side, verdict.line], ["key", 4], describe(verdict));
+    assert.deepEqual([verdict.side, verdict.line], ["key", 4], describeVerdict(verdict));
 });
 
 test("a log says which response it ends before", async () => {
@@ -92,6 +92,6 @@ test("a log says which response it ends before", async () => {
     const make = lines.findIndex((text) => /^> \d+ [0-9a-f]{8}90[0-9a-f]{4}01/.test(text));
     const end = lines.findIndex((text, at) => at > make && /^< [0-9a-f]{8}90/.test(text));
     const verdict = await diagnose(encode(lines.slice(0, end)));
-    assert.ok(describe(verdict).includes(`before the response to the Registration of line ${make + 1}.`)
-        || describe(verdict).includes("ends before the key has responded"), describe(verdict));
+    assert.ok(describeVerdict(verdict).includes(`before the response to the Registration of line ${make + 1}.`)
+        || describeVerdict(verdict).includes("ends before the key has responded"), describeVerdict(verdict));
 });

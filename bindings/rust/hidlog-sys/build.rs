@@ -55,10 +55,14 @@ fn compile_portable() -> PathBuf {
     out
 }
 
+/// What to do if a compiler is missing or fails.
+const COMPILERS_HINT: &str = "set CC to a C11 compiler and AR to an archiver";
+
 /// Runs a command, and fails the build if the command fails.
 fn run(command: &mut Command) {
     match command.status() {
         Ok(status) if status.success() => {}
-        result => panic!("hidlog-sys: {command:?} failed: {result:?}; set CC to a C11 compiler and AR to an archiver"),
+        Ok(status) => panic!("hidlog-sys: {command:?} failed with {status}; {COMPILERS_HINT}"),
+        Err(error) => panic!("hidlog-sys: cannot run {command:?}: {error}; {COMPILERS_HINT}"),
     }
 }

@@ -306,7 +306,7 @@ def main(words: Optional[list[str]] = None) -> int:
     except OSError as error:
         first, reason = args.command[0], error.strerror
         is_of_start = error.filename == first
-        text = f"{first} cannot be started: {reason} (the log comes before the command)" if is_of_start else reason
+        text = f"{first} cannot be started: {reason} (the log must come before the command)" if is_of_start else reason
         print_message(f"hidlog shrink: {text}")
     except ValueError as error:
         print_message(f"hidlog shrink: {error}")

@@ -93,7 +93,7 @@ def _to_plain_mapping(value: Any, name: str) -> Json:
         made: Json = _to_plain(_check_mapping(value, name))
         return made
     except RecursionError:
-        raise ArgumentError(f"{name}: a cycle, or nested too deeply") from None
+        raise ArgumentError(f"{name} contains a cycle, or is nested too deeply") from None
 
 
 def _to_plain(value: Any) -> Any:

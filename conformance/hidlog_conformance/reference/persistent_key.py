@@ -9,7 +9,7 @@ from hidlog_conformance.reference.traits import DeviceTraits
 from hidlog_conformance.reference.u2f import RECENT
 
 
-class KeptKey(ReferenceDevice):
+class PersistentKey(ReferenceDevice):
     """The reference authenticator, whose state only authenticatorReset clears."""
 
     lasting = True

@@ -15,7 +15,7 @@ from hidlog_conformance.outcome import Outcome
 from hidlog_conformance.pin_user import PinUser
 from hidlog_conformance.reference.authenticator import Authenticator
 from hidlog_conformance.reference.device import Change
-from hidlog_conformance.reference.kept_key import KeptKey
+from hidlog_conformance.reference.persistent_key import PersistentKey
 from hidlog_conformance.reference.pin import INVALID_PARAMETER, RETRIES, RequestError
 from hidlog_conformance.reference.requests import Types
 from hidlog_conformance.results import Results
@@ -24,10 +24,10 @@ from hidlog_conformance.touch_plan import DeviceState
 from trying import check_detected
 
 
-def run_cases(words: List[str], change: Optional[Change] = None, **traits: Any) -> Tuple[Dict[str, str], KeptKey, int]:
+def run_cases(words: List[str], change: Optional[Change] = None, **traits: Any) -> Tuple[Dict[str, str], PersistentKey, int]:
     """Runs cases; returns their outcomes, the key, and the number of touches that was announced."""
     options = run.parse_options(["--device", "reference", "--touch", *words])
-    device, written = KeptKey(change, **traits), io.StringIO()
+    device, written = PersistentKey(change, **traits), io.StringIO()
     with redirect_stderr(written):
         device_info = run.ask_device(device, options)
         if options.pin:
@@ -137,7 +137,7 @@ def test_reset_with_pin() -> None:
 
 def test_wrong_pin() -> None:
     """A wrong PIN ends the run at once, and takes one retry."""
-    device = KeptKey(pin="123456")
+    device = PersistentKey(pin="123456")
     for words, reason in (
         ("--pin 654321", "status 31"),
         ("--pin 123456 --reset", "--reset"),
