@@ -35,7 +35,8 @@
      * The job for a log that is too long to explain. It fails with an error.
      * @returns {Viewer.TextJob}
      */
-    const makeTooLongJob = () => ({ outcome: Promise.reject(new Error("the log is too long to explain")), end: () => {} });
+    const makeTooLongJob = () =>
+        ({ outcome: Promise.reject(new Error("the log is too long to explain")), end: () => {} });
 
     /**
      * The core's explanations of lines. A log of up to `atOnce` bytes is explained at once. For a longer log, first
@@ -170,7 +171,8 @@
         name(message) {
             const first = this.rest(message.lines[0]);
             if (message.command === COMMAND_CBOR && message.isWhole) {
-                const item = this.words(/** @type {Viewer.Line} */ (message.lines.at(-1))).below.find(isFirstLine) ?? "CBOR";
+                const last = /** @type {Viewer.Line} */ (message.lines.at(-1));
+                const item = this.words(last).below.find(isFirstLine) ?? "CBOR";
                 return LAST_WORD.exec(item)?.[1] ?? item.split(" ").slice(0, 2).join(" ");
             }
             return (COMMANDS_WITH_NAMES.includes(message.command) && LAST_WORD.exec(first)?.[1]) || first.split(" ")[0];

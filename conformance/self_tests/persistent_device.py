@@ -24,7 +24,9 @@ from hidlog_conformance.touch_plan import DeviceState
 from trying import check_detected
 
 
-def run_cases(words: List[str], change: Optional[Change] = None, **traits: Any) -> Tuple[Dict[str, str], PersistentKey, int]:
+def run_cases(
+    words: List[str], change: Optional[Change] = None, **traits: Any
+) -> Tuple[Dict[str, str], PersistentKey, int]:
     """Runs cases; returns their outcomes, the key, and the number of touches that was announced."""
     options = run.parse_options(["--device", "reference", "--touch", *words])
     device, written = PersistentKey(change, **traits), io.StringIO()
