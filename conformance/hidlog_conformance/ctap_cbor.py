@@ -8,6 +8,8 @@ from typing import Any, Dict, List, Tuple
 MAX_DEPTH = 4
 # The smallest argument that needs the head with this additional information.
 MIN_ARGUMENT = {24: 24, 25: 2**8, 26: 2**16, 27: 2**32}
+# The types of keys of maps.
+KEY_TYPES = (int, bytes, str)
 # A head that `read_head` reads.
 NO_HEAD = 0xFF
 # Simple values by additional information.
@@ -133,7 +135,7 @@ class Reader:
             start = self.place
             key = self.read(level + 1)
             written = self.data[start : self.place]
-            if not isinstance(key, (int, bytes, str)) or isinstance(key, bool):
+            if not isinstance(key, KEY_TYPES) or isinstance(key, bool):
                 raise CborError(f"a key that is not an integer, byte string or text at {start}")
             if number and written <= before:
                 raise CborError(f"a key out of order or repeated at {start}")

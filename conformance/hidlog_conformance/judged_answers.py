@@ -73,6 +73,10 @@ class AnswerJudge:
         # The time of the last power cycle.
         self.powered: Optional[int] = None
         self.passed_over = ""
+        # The request and getInfo for which `find_touch_fault` was called last, and the result.
+        self.touch_request: bytes = b""
+        self.touch_info: Dict[Any, Any] = self.info
+        self.touch_fault: Optional[Tuple[str, str, str]] = None
 
     def power_cycle(self, at: int) -> None:
         """Resets the state that a power cycle clears."""
@@ -142,30 +146,32 @@ class AnswerJudge:
     def check_touch_request(self, entry: Entry, transaction: Transaction) -> None:
         """Checks that no touch is requested for a request that must fail first or needs no user presence."""
         request = transaction.data
-        if not request:
-            return
+        if request is not self.touch_request or self.info is not self.touch_info:
+            self.touch_request, self.touch_info = request, self.info
+            self.touch_fault = self.find_touch_fault(request) if request else None
+        if self.touch_fault is not None:
+            section, expected, level = self.touch_fault
+            self.recording.add_finding(entry.line, KEY, section, expected, "a touch is requested", level)
+
+    def find_touch_fault(self, request: bytes) -> Optional[Tuple[str, str, str]]:
+        """Returns why no touch may be requested for a request, if so: the section, the expected response, the level."""
         fault, command = find_fault(request), request[0]
         section = rules.COMMANDS.get(command, rules.COMMANDS_OTHER)
-        actual = "a touch is requested"
         if fault is not None and not fault.should:
             level = SHOULD if fault.section == "8" else MUST
-            expected = f"an error, since {fault.expected} is required"
-            self.recording.add_finding(entry.line, KEY, fault.section or section, expected, actual, level)
-            return
+            return fault.section or section, f"an error, since {fault.expected} is required", level
         if command not in (MAKE, GET):
-            return
+            return None
         asked = decode_parameters(request) or {}
         options, own = asked.get(7 if command == MAKE else 5, {}), self.info.get(4, {})
         wrong = self.statuses.find_invalid_option(command, asked, options)
         if wrong:
-            self.recording.add_finding(entry.line, KEY, section, f"an error (2b or 2c) for the option {wrong}", actual)
-        elif command == GET and options.get("up") is False and self.info and not own.get("alwaysUv"):
-            if not options.get("uv"):
-                expected = "a response without a touch, since up is false"
-                self.recording.add_finding(entry.line, KEY, section, expected, actual)
-        elif command == MAKE and 10 in asked and self.statuses.lacks_enterprise():
-            expected = "an error, since enterprise attestation is not supported"
-            self.recording.add_finding(entry.line, KEY, section, expected, actual)
+            return section, f"an error (2b or 2c) for the option {wrong}", MUST
+        if command == GET and options.get("up") is False and self.info and not own.get("alwaysUv"):
+            return (section, "a response without a touch, since up is false", MUST) if not options.get("uv") else None
+        if command == MAKE and 10 in asked and self.statuses.lacks_enterprise():
+            return section, "an error, since enterprise attestation is not supported", MUST
+        return None
 
     def judge(self, entry: Entry, transaction: Transaction, message: hid.Message) -> None:
         """Checks a response."""

@@ -419,7 +419,7 @@ def test_a_part_is_checked_before_the_rest_is_read() -> None:
     """For a log of any length, only a part is held in memory at a time."""
     log, read = record_sign_ins(20), itertools.count()
     pieces = (log for _ in zip(range(1000), read))
-    assert len(next(quiet_parts.iter_quiet_parts(pieces))) < 2 * quiet_parts._PART_BYTES
+    assert len(next(iter(quiet_parts.QuietParts(pieces)))) < 2 * quiet_parts._PART_BYTES
     assert next(read) < 100
 
 

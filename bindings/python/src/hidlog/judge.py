@@ -16,7 +16,6 @@ from io import BytesIO
 from itertools import chain
 from typing import Any, NamedTuple
 
-from . import logs
 from .captures import conformance
 from .captures.pcap import is_capture
 from .captures.reader import Capture, read_capture
@@ -26,7 +25,7 @@ from .captures.log_writer import iter_log
 from .entry_point import STATUS_FAILED
 from .errors import HidlogError, LogError, check_bytes
 from .files import display_name, read_pieces
-from .quiet_parts import InvalidLineError, iter_quiet_parts
+from .quiet_parts import InvalidLineError, QuietParts
 
 _DESCRIPTION = """Check recorded sessions, or captures, against CTAP 2.1. Reports each violation with its line, section,
 and expected and actual behavior. Exit status: 1 on a MUST violation, 2 on invalid arguments or input."""
@@ -59,8 +58,8 @@ def _check_recording(pieces: Iterable[bytes], prepare: Callable[[list[Any]], Non
     """Checks a log, which is passed in pieces of any length. `prepare` is called with packets some time before they are
     checked."""
     module = conformance.load_module("judged_log")
-    parts = iter_quiet_parts(pieces)
-    return module.judge_parts(parts, lambda part: logs.transactions(part).raise_for_fault().text, prepare)
+    parts = QuietParts(pieces)
+    return module.judge_parts(parts, parts.list_owners, prepare)
 
 
 def _check_long_recording(pieces: Iterable[bytes]) -> Any:

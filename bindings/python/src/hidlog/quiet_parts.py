@@ -30,27 +30,39 @@ class InvalidLineError(LogError):
         return type(self), (str(self), self.line)
 
 
-def iter_quiet_parts(pieces: Iterable[bytes]) -> Iterator[bytes]:
-    """Yields a log, read in any pieces, in parts of whole lines, between which no transaction is open.
+class QuietParts:
+    """A log, read in any pieces, in parts of whole lines, between which no transaction is open.
 
-    Raises InvalidLineError at an invalid line."""
-    held: list[bytes] = []
-    size, limit, before = 0, _PART_BYTES, 0
-    for piece in pieces:
-        held.append(piece)
-        size += len(piece)
-        if size < limit:
-            continue
+    Iterating raises InvalidLineError at an invalid line."""
+
+    def __init__(self, pieces: Iterable[bytes]):
+        self._pieces = pieces
+        # The last part, and to which transaction each of its lines belongs.
+        self._part, self._owners = b"", b""
+
+    def __iter__(self) -> Iterator[bytes]:
+        held: list[bytes] = []
+        size, limit, before = 0, _PART_BYTES, 0
+        for piece in self._pieces:
+            held.append(piece)
+            size += len(piece)
+            if size < limit:
+                continue
+            text = b"".join(held)
+            end, owners = _find_quiet_end(text[: text.rfind(b"\n") + 1], before)
+            if end:
+                self._part, self._owners = text[:end], owners
+                yield self._part
+                before += text.count(b"\n", 0, end)
+            size, held = size - end, [text[end:]]
+            limit = size + max(_PART_BYTES, size)
         text = b"".join(held)
-        end = _find_quiet_end(text[: text.rfind(b"\n") + 1], before)
-        if end:
-            yield text[:end]
-            before += text.count(b"\n", 0, end)
-        size, held = size - end, [text[end:]]
-        limit = size + max(_PART_BYTES, size)
-    text = b"".join(held)
-    _list_owners(text, before)
-    yield text
+        self._part, self._owners = text, _list_owners(text, before)
+        yield text
+
+    def list_owners(self, text: bytes) -> bytes:
+        """Returns to which transaction each line belongs, of the last part or of a piece of it."""
+        return self._owners if text is self._part else _list_owners(text, 0)
 
 
 def _list_owners(text: bytes, lines_before: int) -> bytes:
@@ -65,23 +77,23 @@ def _list_owners(text: bytes, lines_before: int) -> bytes:
     return result.text
 
 
-def _find_quiet_end(text: bytes, lines_before: int) -> int:
+def _find_quiet_end(text: bytes, lines_before: int) -> tuple[int, bytes]:
     """Returns the length of the lines up to the last line after which no transaction is open, or up to the last power
-    cycle."""
+    cycle; and to which transaction each of these lines belongs."""
     owners = _list_owners(text, lines_before)
     power_cycle = text.rfind(b"\n%s\n" % conformance.load_module("judged_log").POWER_CYCLE)
     if power_cycle >= 0:
-        return power_cycle + 1
-    count, end = _find_last_quiet(owners), len(text)
+        return power_cycle + 1, _list_owners(text[: power_cycle + 1], lines_before)
+    rows = owners[: _find_last_quiet(owners)]
+    count, end = int(rows[rows.rfind(b"\n", 0, -1) + 1 :].partition(b" ")[0] or 0), len(text)
     for _ in range(text.count(b"\n") - count):
         end = text.rfind(b"\n", 0, end - 1) + 1
-    return end
+    return end, rows
 
 
 def _find_last_quiet(owners: bytes) -> int:
-    """Returns the number of lines up to the last one after which no transaction is open."""
+    """Returns the length of the rows up to the last one after which no transaction is open."""
     open_lines: set[bytes] = set()
-    # The end of the rows up to the last one after which no transaction is open.
     end = 0
     for row in _EVENT.finditer(owners):
         number, words, other_words = row.groups()
@@ -93,7 +105,4 @@ def _find_last_quiet(owners: bytes) -> int:
         for word in (words or other_words or b"").split():
             if word[:1] != b"l":
                 open_lines.discard(word[1:].partition(b":")[0])
-    if not open_lines:
-        end = len(owners)
-    rows = owners[owners.rfind(b"\n", 0, max(end - 1, 0)) + 1 : end]
-    return int(rows.partition(b" ")[0]) if end else 0
+    return end if open_lines else len(owners)
