@@ -1,20 +1,16 @@
 """Verifies the signatures of a long log in a second process, some time before the rules need the results.
 
-    python3 -m hidlog_conformance.verify_ahead      verifies signatures from standard input
-
-An input line is a batch: for each signature the coordinates of the P-256 key, the signed bytes and the signature, in
-hexadecimal digits. The output line has a digit for each signature: 1 if it verifies. Only speed depends on this module:
-a signature without a result is verified when the rules need it.
+A line of the process's input is a batch: for each signature the coordinates of the P-256 key, the signed bytes and the
+signature, in hexadecimal digits. The output line has a digit for each signature: 1 if it verifies. Only speed depends on
+this module: a signature without a result is verified when the rules need it.
 """
 
 from __future__ import annotations
 
-import os
 import signal
 import subprocess
 import sys
 from collections import deque
-from pathlib import Path
 from typing import Any, Deque, Dict, List, Optional, Tuple
 
 from hidlog_conformance import keys
@@ -28,6 +24,8 @@ from hidlog_conformance.transactions import Entry
 # The coordinates of a public key on P-256, the signed bytes, and the signature.
 Job = Tuple[bytes, bytes, bytes, bytes]
 ES256 = -7
+# The program of the process, whose arguments are this process's paths of modules. Python's option -I adds no others.
+PROGRAM = "import sys; sys.path[:] = sys.argv[1:]; from hidlog_conformance import verify_ahead; verify_ahead.main()"
 # The number of signatures after which the process starts, and of batches that may be in the process.
 FEW, MAX_BATCHES = 64, 4
 
@@ -44,14 +42,11 @@ class Process:
     """The second process. Raises OSError or ValueError if it does not run any more."""
 
     def __init__(self) -> None:
-        folder = str(Path(__file__).resolve().parents[1])
-        paths = os.pathsep.join(path for path in (folder, os.environ.get("PYTHONPATH", "")) if path)
         self.process = subprocess.Popen(
-            [sys.executable or "python3", "-m", "hidlog_conformance.verify_ahead"],
+            [sys.executable or "python3", "-I", "-c", PROGRAM, *sys.path],
             stdin=subprocess.PIPE,
             stdout=subprocess.PIPE,
             stderr=subprocess.DEVNULL,
-            env={**os.environ, "PYTHONPATH": paths},
         )
 
     def send(self, jobs: List[Job]) -> None:
@@ -174,7 +169,3 @@ def main() -> None:
     for line in sys.stdin.buffer:
         sys.stdout.write(verify_batch(line))
         sys.stdout.flush()
-
-
-if __name__ == "__main__":
-    main()
