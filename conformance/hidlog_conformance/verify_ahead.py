@@ -99,7 +99,8 @@ class AheadVerifier:
 
     def prepare(self, entries: List[Entry]) -> None:
         """Begins to verify the signatures of packets."""
-        jobs = [job for job in map(self.read_job, entries) if job is not None]
+        ended = [entry for entry in entries if entry.message is not None and entry.message.lines[-1] == entry.line]
+        jobs = [job for job in map(self.read_job, ended) if job is not None]
         self.count += len(jobs)
         if self.has_failed or self.count < FEW or not jobs:
             return
@@ -136,9 +137,9 @@ class AheadVerifier:
         return self.results.get(job)
 
     def read_job(self, entry: Entry) -> Optional[Job]:
-        """Returns the signature of the response that a packet completes, if the log shows its public key."""
+        """Returns the signature of the message that a packet ends, if the log shows its public key."""
         message, transaction = entry.message, entry.transaction
-        if message is None or transaction is None or message.lines[-1] != entry.line or not message.whole:
+        if message is None or transaction is None or not message.whole:
             return None
         request, data = transaction.data, message.data
         if transaction.command != CBOR or data[:1] != b"\0" or request[:1] not in (b"\1", b"\2"):
