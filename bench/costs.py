@@ -11,7 +11,8 @@
     stored    characters that the thousandth sign-in of the key for pages writes to a storage, by those of the first
     growth    bytes of memory for each byte that the input is longer, by tracemalloc
     memory    bytes of a key in C; and of a key in Python, its library's memory included, by tracemalloc
-    calls     Python function calls of a report of Locust's worker, for each user whose key did not change
+    calls     Python function calls of a report of Locust's worker, for each user whose key did not change; and of
+              `judge`, for each sign-in
 
 The limits are in LIMITS; a flow's is 3 % over its last measurement, but a registration's at most 1.6 of bench/peer's,
 and a sign-in's 1.4. Exit status: 1 if a cost is over its limit, 3 if something is missing: valgrind for flows, nodejs for
@@ -56,6 +57,7 @@ LIMITS = {
     "memory C key": 42000,
     "memory Python key": 100000,
     "calls idle user": 4,
+    "calls judged sign-in": 790,
 }
 # Each number of sign-ins, recordings or credentials is twice the previous one, so that constant costs cancel out.
 SIGN_IN_COUNTS = (100, 200, 400)
@@ -279,8 +281,15 @@ def memory() -> Iterator[tuple[str, float]]:
 
 
 def report_calls() -> Iterator[tuple[str, float]]:
-    """Yields the number of function calls of a report of Locust's worker for each user whose key did not change."""
+    """Yields the number of function calls of a report of Locust's worker for each user whose key did not change, and of
+    `judge` for each sign-in."""
     yield "calls idle user", float(run(PYTHON, "-W", "ignore", "-c", REPORT).stdout)
+    with tempfile.TemporaryDirectory() as folder:
+        counts = []
+        for sign_ins in SIGN_IN_COUNTS[1:]:
+            make_session(folder, sign_ins)
+            counts.append(calls("judge", f"{folder}/{sign_ins}.log"))
+    yield "calls judged sign-in", (counts[1] - counts[0]) / (SIGN_IN_COUNTS[2] - SIGN_IN_COUNTS[1])
 
 
 def find_missing(kinds: list[str]) -> str | None:

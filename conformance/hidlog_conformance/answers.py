@@ -294,6 +294,14 @@ def check_user_entity(item: Dict[Any, Any], words: List[str], facts: DeviceFacts
         check(5 not in item, "no numberOfCredentials", item)
 
 
+def check_counter(credential: Credential, counter: int, words: List[str]) -> None:
+    """Checks that the signature counter rises, and keeps it."""
+    rises = counter > credential.counter or counter == credential.counter == 0
+    if "counter-rises" in words and not (rises and (counter > 0 or "strictly" not in words)):
+        raise Mismatch(f"a counter above {credential.counter}", str(counter))
+    credential.counter = max(counter, credential.counter)
+
+
 def check_assertion_response(
     data: bytes,
     request: bytes,
@@ -322,11 +330,7 @@ def check_assertion_response(
     check(not allowed or identity in allowed, "a credential of the allow list", identity)
     if expected is not None:
         check(identity == expected, f"the credential {expected.hex()}", identity)
-    counter = int.from_bytes(auth[33:37], "big")
-    rises = counter > found[0].counter or counter == found[0].counter == 0
-    if "counter-rises" in words and not (rises and (counter > 0 or "strictly" not in words)):
-        raise Mismatch(f"a counter above {found[0].counter}", str(counter))
-    found[0].counter = max(counter, found[0].counter)
+    check_counter(found[0], int.from_bytes(auth[33:37], "big"), words)
     check_user_entity(item, words, facts)
     signed = auth + asked[2]
     check_signature_nonce_reuse(found[0].cose, signed, signature, facts)

@@ -21,6 +21,7 @@ MIN_UNPLUGGED_MS = 100
 # The maximum of unfinished transactions, and of unfinished messages of the key, that are tracked; the oldest is
 # dropped. A device has one at a time.
 MAX_OPEN = 64
+ZEROS = bytes(64)
 
 
 class KeyJudge:
@@ -162,20 +163,17 @@ class KeyJudge:
     def check_packet(self, entry: Entry) -> None:
         """Checks a packet of the key within its message."""
         packet = entry.packet
-        channel, message = int.from_bytes(packet[:4], "big"), self.guest.feed(packet)
-        if self.parts:
-            self.parts.pop(channel, None)
-        if message is None:
-            self.parts[channel] = entry
-            if len(self.parts) > MAX_OPEN:
-                del self.parts[list(self.parts)[0]]
-        elif message.problem:
+        message = self.guest.feed(packet)
+        if self.parts or message is None:
+            self.keep_part(entry, message is None)
+        if message is not None and message.problem:
+            channel = int.from_bytes(packet[:4], "big")
             if packet[4] < 0x80 and self.is_from_before(channel) and packet[:4] not in self.sent_on:
                 # It continues a response that began before the log.
                 return
             expected, actual = "the packets of a message in order", message.problem
             self.add_gap(entry.line, rules.PACKETS, expected, actual, MUST, rules.SEQUENCE)
-        elif message.padding != bytes(len(message.padding)):
+        elif message is not None and message.padding != ZEROS[: len(message.padding)]:
             self.add_finding(entry.line, rules.PACKETS, "zeros as padding", message.padding.hex(), SHOULD)
         if entry.part == "keepalive":
             self.check_keepalive(entry, message)
@@ -184,10 +182,24 @@ class KeyJudge:
         elif packet[4] & 0x80:
             self.check_first_packet(entry)
 
+    def keep_part(self, entry: Entry, is_unfinished: bool) -> None:
+        """Records the last packet of the channel's unfinished message, or that the message ended."""
+        channel = int.from_bytes(entry.packet[:4], "big")
+        self.parts.pop(channel, None)
+        if is_unfinished:
+            self.parts[channel] = entry
+            if len(self.parts) > MAX_OPEN:
+                del self.parts[list(self.parts)[0]]
+
     def close(self, entry: Entry) -> None:
         """Removes transactions that ended before a packet of the key or with it. Those that a new message of the host
         ended stay, since the key may not have received that message."""
-        self.open = [one for one in self.open if one.by is None or one.by > entry.line or self.is_replaced(one)]
+        for one in self.open:
+            if one.by is not None and one.by <= entry.line and not self.is_replaced(one):
+                self.open = [
+                    other for other in self.open if other.by is None or other.by > entry.line or self.is_replaced(other)
+                ]
+                break
         ended = entry.transaction
         if ended is not None and ended.by == entry.line:
             self.last_keepalive.pop(ended.line, None)
@@ -223,7 +235,8 @@ class KeyJudge:
                 expected = "a KEEPALIVE of a pending request"
                 self.add_gap(entry.line, section, expected, "no request is pending on this channel")
         elif entry.transaction.command == hid.CBOR:
-            self.check_cancelled_on(entry, entry.transaction)
+            if entry.transaction.cancelled is not None:
+                self.check_cancelled_on(entry, entry.transaction)
             if data == b"\2" and not self.recording.is_cut(entry.transaction):
                 self.answers.check_touch_request(entry, entry.transaction)
 
@@ -316,9 +329,8 @@ class KeyJudge:
         elif last is not None and last.packet[4] == 0x80 | hid.CANCEL:
             self.add_gap(entry.line, rules.CANCEL, "no response to CANCEL", name)
         elif last is not None and last.part == "stray":
-            self.add_gap(
-                entry.line, rules.SEQUENCE, "no response to a continuation packet outside any transaction", name
-            )
+            expected = "no response to a continuation packet outside any transaction"
+            self.add_gap(entry.line, rules.SEQUENCE, expected, name)
         elif last is None and any(element.command == command and element.whole for element in self.open):
             actual = f"{name} on {entry.packet[:4].hex()}"
             self.add_gap(entry.line, rules.CHANNELS, "a response on the channel that asked", actual)

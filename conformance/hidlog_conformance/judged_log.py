@@ -116,7 +116,9 @@ class Recording:
             return
         elif kind in (b"t", b"p", b"k", b"s"):
             walk.advance_time(int(line[2:].partition(b" ")[0]))
-            walk.passed(number, owners.ends(number))
+            words = owners.ends(number)
+            if words:
+                walk.passed(number, words)
         else:
             return
         if self.start is None:
@@ -277,6 +279,7 @@ class LogJudge:
     def take_part(self, part: bytes, owners: Owners) -> None:
         """Processes the next lines."""
         recording, number, lines = self.recording, self.recording.lines, Lines(part)
+        walk = recording.walk
         has_comments = any(word in part for word in COMMENTS)
         block = lines.block()
         while block:
@@ -287,8 +290,8 @@ class LogJudge:
                     # The comment may change how later packets are checked.
                     self.check_settled()
                 recording.take(number, line, owners)
-                if line[:1] == b"<" and recording.walk.is_quiet:
-                    recording.walk.settled = len(recording.walk.entries)
+                if line[:1] == b"<" and not walk.open and not walk.answering:
+                    walk.settled = len(walk.entries)
             self.advance()
             block = lines.block()
         recording.lines = number

@@ -31,7 +31,7 @@ class MissingJudge:
         if self.key.parts:
             self.check_parts(now, line)
         for owner in self.key.open:
-            elapsed = now - owner.last
+            elapsed = now - owner.times[-1]
             if elapsed < SILENCE_MS or owner.line in self.missed:
                 continue
             is_due = owner.whole or owner.length > hid.LONGEST

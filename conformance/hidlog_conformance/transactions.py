@@ -310,8 +310,7 @@ class Transactions:
 
     def passed(self, line: int, words: List[Ending]) -> None:
         """Processes a tick or a reply."""
-        if words:
-            self.take_words(Entry(line, True, self.now, b""), words)
+        self.take_words(Entry(line, True, self.now, b""), words)
 
     def cancel(self, entry: Entry) -> None:
         """Processes a CANCEL."""
