@@ -33,12 +33,13 @@ def test_the_recordings_of_a_failed_test(pytester: pytest.Pytester) -> None:
         [
             "*CtapError 0x27 OPERATION_DENIED: the user refused",
             "*- security key -*",
+            "transactions of the key (hidlog show --summary):",
             "*authenticatorGetInfo *CTAP2_OK 00*",
             "recorded in kept/test_suite.test_bad.log",
-            "the failed call reached line * of kept/test_suite.test_bad.log",
+            "the key's last response ends at line * of the recording kept/test_suite.test_bad.log",
             "*- security key 2 -*",
             "*authenticatorSelection *CTAP2_ERR_OPERATION_DENIED 27*",
-            "the failed call reached line * of kept/test_suite.test_bad.key2.log",
+            "the key's last response ends at line * of the recording kept/test_suite.test_bad.key2.log",
         ]
     )
     assert b"# the key of the failed test\n" in Path("kept", names[2]).read_bytes()
@@ -53,49 +54,109 @@ def test_without_the_option_nothing_is_kept(pytester: pytest.Pytester) -> None:
     result.assert_outcomes(passed=1, failed=1)
     assert not list(Path().glob("**/*.log"))
     assert "recorded in" not in result.stdout.str()
-    result.stdout.fnmatch_lines(["*authenticatorSelection *", "the failed call reached line * of the log"])
+    ends = ["*authenticatorSelection *", "the key's last response ends at line * of the recording"]
+    result.stdout.fnmatch_lines(ends)
 
 
 CALLS_SUITE = """
-from hidlog import NotAllowedError
+from hidlog import Client, NotAllowedError, SecurityError
 
 CHALLENGE = {"challenge": "AAECAwQFBgcICQoLDA0ODw"}
 USER = {"id": "AQ", "name": "alice", "displayName": "Alice"}
+CREATE = {
+    **CHALLENGE, "rp": {"name": "A"}, "user": USER, "pubKeyCredParams": [{"type": "public-key", "alg": -7}],
+    "authenticatorSelection": {"residentKey": "required"}, "excludeCredentials": [],
+}
+
+def refused(error, call, options):
+    try:
+        call(options)
+    except error:
+        pass
 
 def test_calls(security_key):
     browser = security_key.browser("http://localhost:5000")
-    browser.create({
-        **CHALLENGE, "rp": {"name": "A"}, "user": USER, "pubKeyCredParams": [{"type": "public-key", "alg": -7}],
-        "authenticatorSelection": {"residentKey": "required"},
-    })
-    security_key.faults.stale_sign_count = True
+    browser.create(CREATE)
     browser.get(CHALLENGE)
-    security_key.verification = "failed"
-    try:
-        browser.get({**CHALLENGE, "userVerification": "required"})
-    except NotAllowedError:
-        assert security_key.credentials[0].sign_count == 5
+    security_key.faults.stale_sign_count = True
+    security_key.faults.wrong_rp_id = "other.example"
+    browser.get(CHALLENGE)
+    security_key.faults.status = 0x27
+    Client(security_key).transact(0x10, b"\\x04")
+    security_key.faults.status = None
+    security_key.presence = "denied"
+    refused(NotAllowedError, browser.get, {**CHALLENGE, "userVerification": "preferred"})
+    refused(SecurityError, browser.create, {**CREATE, "rp": {"name": "A", "id": "other.example"}})
+    assert security_key.credentials[0].sign_count == 5
 """
 
 
-def test_the_report_says_who_registered_and_what_was_refused(pytester: pytest.Pytester) -> None:
+def test_the_report_says_what_the_key_made_and_who_refused(pytester: pytest.Pytester) -> None:
     pytester.makepyfile(test_suite=CALLS_SUITE)
     result = pytester.runpytest_subprocess()
     result.assert_outcomes(failed=1)
+    site = "localhost:5000"
+    selection = "residentKey required, userVerification absent (preferred)"
     result.stdout.fnmatch_lines(
         [
             "*- security key -*",
-            "registered alice at http://localhost:5000: user not verified, discoverable, credential *",
-            "    options: user.id AQ, residentKey required, challenge AAECAwQF.., excludeCredentials none",
-            "signed in as alice at http://localhost:5000: user not verified, user handle AQ, credential *",
-            "refused a sign-in at http://localhost:5000: NotAllowedError: user verification failed",
-            "    options: userVerification required, challenge AAECAwQF.., allowCredentials none",
-            "the fault stale_sign_count is on: True",
-            "fault: the authenticator data is altered",
+            f"created a credential for alice at http://{site}: user not verified, counter 0, discoverable, credential *",
+            f"    options: rp.id absent, user.id AQ, {selection}, challenge AAECAwQF.., excludeCredentials empty",
+            f"signed an assertion for alice at http://{site}: user not verified, counter 1, user handle AQ, credential *",
+            "    options: rpId absent, userVerification absent (preferred), challenge *, allowCredentials absent",
+            f"signed an assertion for alice at http://{site}: user not verified, counter 1, user handle AQ, credential *",
+            "    options: *",
+            "    fault: the RP ID hash is that of 'other.example'",
+            "    fault: the signature counter is 1, not 2",
+            "fault: the answer is status 0x27",
+            f"the key refused to sign an assertion at http://{site}: NotAllowedError: *: the user refused",
+            "    options: rpId absent, userVerification preferred, challenge *",
+            f"the browser refused to create a credential for alice at http://{site}: SecurityError: *",
+            f"    options: rp.id other.example, user.id AQ, {selection}, challenge *",
+            "fault stale_sign_count is enabled",
+            "fault wrong_rp_id is enabled: other.example",
+            "transactions of the key (hidlog show --summary):",
             "registrations: 1",
-        ]
+            "the key's last response ends at line * of the recording",
+        ],
+        consecutive=False,
     )
     assert ": 0\n" not in result.stdout.str(), "a total that is 0"
+
+
+GONE_SUITE = """
+OPTIONS = {
+    "challenge": "AAAA", "rp": {"name": "A"}, "pubKeyCredParams": [{"type": "public-key", "alg": -7}],
+    "authenticatorSelection": {"requireResidentKey": True},
+}
+
+def test_gone(security_key):
+    browser = security_key.browser("http://localhost:5000")
+    for name in ("alice", "alice", "bob"):
+        user = {"id": "AQ" if name == "alice" else "Ag", "name": name, "displayName": name}
+        browser.create({**OPTIONS, "user": user})
+    security_key.credentials.remove(security_key.credentials[1].id)
+    raise RuntimeError
+
+def test_without_calls(security_key):
+    security_key.add_comment("no packet")
+    raise RuntimeError
+"""
+
+
+def test_the_report_says_why_a_credential_is_gone(pytester: pytest.Pytester) -> None:
+    pytester.makepyfile(test_suite=GONE_SUITE)
+    result = pytester.runpytest_subprocess()
+    result.assert_outcomes(failed=2)
+    result.stdout.fnmatch_lines(
+        [
+            "created * alice *no longer on the key (replaced by a later credential for the same user ID), credential *",
+            "    options: * residentKey absent (required), requireResidentKey True, * excludeCredentials absent",
+            "created * alice *, counter 0, discoverable, credential *",
+            "created * bob *, counter 0, no longer on the key, credential *",
+        ]
+    )
+    assert result.stdout.str().count("the key's last response") == 1
 
 
 INVALID_OPTIONS_SUITE = """
@@ -112,8 +173,12 @@ def test_the_report_has_the_options(pytester: pytest.Pytester) -> None:
     pytester.makepyfile(test_suite=INVALID_OPTIONS_SUITE)
     result = pytester.runpytest_subprocess()
     result.assert_outcomes(failed=1)
-    options = "    options: rp.id localhost:5000, user.id 1, challenge AA, excludeCredentials BBBBBBBB.. *"
-    result.stdout.fnmatch_lines(["test_suite.py:*Error", "refused a registration of a at *", options])
+    selection = "residentKey absent (discouraged), userVerification absent (preferred)"
+    options = (
+        f"    options: rp.id localhost:5000, user.id 1, {selection}, challenge AA, excludeCredentials BBBBBBBB.. None"
+    )
+    refused = "the browser refused to create a credential for a at *"
+    result.stdout.fnmatch_lines(["test_suite.py:*Error", refused, options])
     assert "webauthn_client.py" not in result.stdout.str(), "a frame of the package"
 
 
@@ -147,7 +212,9 @@ def test_set_up_and_teardown_keep_their_recordings(pytester: pytest.Pytester) ->
         "test_suite.test_set_up.log",
         "test_suite.test_teardown.log",
     ]
-    result.stdout.fnmatch_lines(["the failed setup reached line *", "the failed teardown reached line *"])
+    result.stdout.fnmatch_lines(
+        [f"* of the recording kept/test_suite.test_{when}.log" for when in ("set_up", "teardown")]
+    )
     for name in Path("kept").iterdir():
         assert b"\n> " in name.read_bytes()
 

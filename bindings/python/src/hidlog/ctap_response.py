@@ -11,14 +11,14 @@ class Change(NamedTuple):
     """A change to the next response with authenticator data.
 
     original, data   the core's authenticator data, and what replaces it.
-    is_fault         whether a fault changed it.
+    faults           what faults changed.
     statement        format and members of the attestation of a registration, if not the core's.
     signature        the signature of a sign-in, if not the core's.
     """
 
     original: bytes
     data: bytes
-    is_fault: bool
+    faults: list[str]
     statement: Optional[tuple[str, dict[str, Any]]] = None
     signature: Optional[bytes] = None
 

@@ -13,7 +13,7 @@ from __future__ import annotations
 from hashlib import sha256
 from typing import Any
 
-from .errors import ArgumentTypeError, check_int, encode_utf8, status_code
+from .errors import ArgumentTypeError, check_int, describe, encode_utf8, status_code
 from .suggestions import make_unknown_name_error
 
 _FAULTS_OFF: dict[str, Any] = {
@@ -75,17 +75,20 @@ class Faults:
             encode_utf8("wrong_rp_id", value)
         object.__setattr__(self, name, value)
 
-    def alter_data(self, credential: bytes, data: bytes) -> bytes:
-        """Returns authenticator data with the faults applied."""
-        altered = data
+    def alter_data(self, credential: bytes, data: bytes) -> tuple[bytes, list[str]]:
+        """Returns authenticator data with the faults applied, and a description of each change."""
+        altered, done = data, []
         if self.wrong_rp_id is not None:
             altered = sha256(self.wrong_rp_id.encode()).digest() + altered[32:]
-        sign_count = int.from_bytes(data[33:37], "big")
-        if self.stale_sign_count and sign_count:
-            sign_count = self._sign_counts.get(credential, sign_count - 1)
+            done.append(f"the RP ID hash is that of {describe(self.wrong_rp_id)}")
+        raised = sign_count = int.from_bytes(data[33:37], "big")
+        if self.stale_sign_count and raised:
+            sign_count = self._sign_counts.get(credential, raised - 1)
+        if sign_count != raised:
             altered = altered[:33] + sign_count.to_bytes(4, "big") + altered[37:]
+            done.append(f"the signature counter is {sign_count}, not {raised}")
         self._sign_counts[credential] = sign_count
-        return altered
+        return altered, done
 
     def alter_response(self, data: bytes) -> tuple[bytes, list[str]]:
         """Returns a response with the faults applied, and a description of each change."""

@@ -122,17 +122,25 @@ def _summarize(log: bytes) -> str:
     return shown.stdout.decode(errors="replace").rstrip("\n")
 
 
-def _make_section(item: pytest.Item, key: SecurityKey, number: int, when: str) -> str:
-    """Returns the report's section for a key: the summary, and the path of the recording."""
+def _find_end(log: bytes) -> int:
+    """Returns the line of the last packet that the key sent, or 0."""
+    place = log.rfind(b"\n< ") + 1
+    return log.count(b"\n", 0, place) + 1 if place else 0
+
+
+def _make_section(item: pytest.Item, key: SecurityKey, number: int) -> str:
+    """Returns the report's section for a key: the calls, the summary of transactions, and the path of the recording."""
     from .activity import drop_zeros
 
-    folder, lines = item.config.getoption("--security-key-log"), key.log.count(b"\n")
-    cause = key.cause()
-    parts = [key.activity.describe(key), drop_zeros(_summarize(key.log))]
+    folder, end = item.config.getoption("--security-key-log"), _find_end(key.log)
+    cause, summary = key.cause(), drop_zeros(_summarize(key.log))
+    parts = [key.activity.describe(key)]
+    parts += ["transactions of the key (hidlog show --summary):", summary] if summary else []
     parts.append(f"the key refused its last request: {cause}" if cause else "")
     paths = _save_recordings(item, key, number, folder) if folder else []
     parts += [f"recorded in {path}" for path in paths]
-    parts.append(f"the failed {when} reached line {lines} of {paths[-1] if paths else 'the log'}")
+    named = f"the recording {paths[-1]}" if paths else "the recording"
+    parts.append(f"the key's last response ends at line {end} of {named}" if end else "")
     return "\n".join(filter(None, parts))
 
 
@@ -155,7 +163,7 @@ def _add_sections(item: pytest.Item, report: pytest.TestReport) -> None:
     for number, key in enumerate(_list_keys(item), 1):
         title = "security key" + (f" {number}" if number > 1 else "")
         try:
-            text = _make_section(item, key, number, str(report.when))
+            text = _make_section(item, key, number)
         except Exception as error:  # the report must not be lost
             text = f"the recording was not saved: {type(error).__name__}: {error}"
         report.sections.append((title, text))

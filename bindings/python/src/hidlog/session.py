@@ -391,14 +391,14 @@ class Session(AuthenticatorSettings):
         changed, comments = self._departures.alter(need.credential, original)
         for text in comments:
             self.add_comment(f"outside of the core: {text}")
-        data = self.faults.alter_data(need.credential, changed)
+        data, faults = self.faults.alter_data(need.credential, changed)
         signed, is_bad = data + client_hash, self.faults.bad_signature
         if is_bad:
             private = private_keys.make_private_key(self._random_bytes)
-            self.add_comment("fault: signed with a different private key")
+            self._add_effect("signed with a different private key")
         completed = self._departures.complete(need.credential, signed, is_bad, self._random_bytes)
         is_same = data == original and not any(completed)
-        self._change = None if is_same else Change(original, data, data != changed, *completed)
+        self._change = None if is_same else Change(original, data, faults, *completed)
         return "s", private_keys.sign(private, signed)
 
     def _play(self, kind: Any, *fields: Field) -> None:
@@ -456,15 +456,21 @@ class Session(AuthenticatorSettings):
     def altered(self, data: bytes) -> bytes:
         """Returns a response with the features outside the core and the active faults applied. Each fault is recorded
         as a comment."""
-        change, done = self._change, []
+        change = self._change
+        done: list[str] = []
         if change and change.original in data:
             data, self._change = change.apply(data), None
-            done += ["the authenticator data is altered"] if change.is_fault else []
+            done += change.faults
         data, more = self.faults.alter_response(data)
         done += more
         for text in done:
-            self.add_comment(f"fault: {text}")
+            self._add_effect(text)
         return data
+
+    def _add_effect(self, text: str) -> None:
+        """Adds what a fault changed to the log, and to the report of a failed test."""
+        self.add_comment(f"fault: {text}")
+        self.activity.add_effect(text)
 
     def _add_exchange_comment(self, line: bytes) -> None:
         """Adds a comment line to the log."""
