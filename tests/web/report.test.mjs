@@ -15,7 +15,8 @@ const CREATE = {
     pubKeyCredParams: [{ type: "public-key", alg: -7 }], authenticatorSelection: { residentKey: "required" },
 };
 const GET = { challenge: new Uint8Array(3), rpId: "example.com" };
-const GET_OPTIONS = "    options: rpId example.com, challenge AAAA, allowCredentials none";
+const GET_OPTIONS = "    options: rpId example.com, userVerification absent (preferred), challenge AAAA,"
+    + " allowCredentials absent";
 
 /** A key with a registration of ann, and the shown part of the credential's ID. */
 const register = async (options = {}) => {
@@ -26,23 +27,25 @@ const register = async (options = {}) => {
 
 const splitReport = (key) => key.report().split("\n");
 
-test("who registered and signed in, and what was refused and why", async () => {
+test("what the key made, and who refused what and why", async () => {
     const { key, id } = await register();
     await key.get({ publicKey: GET });
     key.presence = "denied";
     await assert.rejects(key.get({ publicKey: GET }), { name: "NotAllowedError" });
     const foreign = { ...CREATE, rp: { id: "other.example", name: "B" }, user: { ...CREATE.user, name: "bob" } };
     await assert.rejects(key.create({ publicKey: foreign }), { name: "SecurityError" });
-    const created = "user.id YW5u, residentKey required, challenge AAECAwQF.., excludeCredentials none";
+    const created = "user.id YW5u, residentKey required, userVerification absent (preferred), challenge AAECAwQF..,"
+        + " excludeCredentials absent";
     assert.deepEqual(splitReport(key), [
-        `registered ann at ${ORIGIN}: user not verified, discoverable, ${id}`,
+        `created a credential for ann at ${ORIGIN}: user not verified, counter 0, discoverable, ${id}`,
         `    options: rp.id example.com, ${created}`,
-        `signed in as ann at ${ORIGIN}: user not verified, counter 1, user handle YW5u, ${id}`,
+        `signed an assertion for ann at ${ORIGIN}: user not verified, counter 1, user handle YW5u, ${id}`,
         GET_OPTIONS,
-        `refused a sign-in at ${ORIGIN}: NotAllowedError: the authenticator returned 0x27 OPERATION_DENIED: the user refused`,
+        `the key refused to sign an assertion at ${ORIGIN}: NotAllowedError: the authenticator returned 0x27`
+            + " OPERATION_DENIED: the user refused",
         GET_OPTIONS,
-        `refused a registration of bob at ${ORIGIN}: SecurityError: The relying party ID is not a registrable domain`
-            + " suffix of, nor equal to the current domain.",
+        `the browser refused to create a credential for bob at ${ORIGIN}: SecurityError: The relying party ID is not a`
+            + " registrable domain suffix of, nor equal to the current domain.",
         `    options: rp.id other.example, ${created}`,
     ]);
 });
@@ -55,13 +58,35 @@ test("flags, lists, and credentials that are gone", async () => {
     const lines = splitReport(key);
     const credential = `credential ${id.slice(0, 8)}..`;
     const flags = "user verified, backup eligible, backed up";
-    assert.equal(lines[0], `registered ann at ${ORIGIN}: ${flags}, not discoverable, ${credential}`);
+    assert.equal(lines[0], `created a credential for ann at ${ORIGIN}: ${flags}, counter 0, not discoverable, ${credential}`);
     assert.match(lines[1], /, userVerification required, challenge /);
-    assert.equal(lines[2], `signed in as ann at ${ORIGIN}: ${flags}, counter 1, no user handle, ${credential}`);
-    assert.equal(lines[3], `    options: rpId example.com, timeout 5000, challenge AAAA, allowCredentials ${id.slice(0, 8)}..`);
+    assert.equal(lines[2], `signed an assertion for ann at ${ORIGIN}: ${flags}, counter 1, no user handle, ${credential}`);
+    assert.equal(lines[3], "    options: rpId example.com, userVerification absent (preferred), timeout 5000,"
+        + ` challenge AAAA, allowCredentials ${id.slice(0, 8)}..`);
     await key.removeCredential(id);
     assert.match(splitReport(key)[0], /, no longer on the key, /);
-    assert.match(splitReport(key)[2], /^signed in as a user without a name /);
+    assert.match(splitReport(key)[2], /^signed an assertion for ann /);
+});
+
+test("a credential that was replaced, and empty lists", async () => {
+    const { key } = await register();
+    await key.create({ publicKey: {
+        ...CREATE, authenticatorSelection: { requireResidentKey: true }, attestation: "direct", excludeCredentials: [],
+    } });
+    const bob = { id: Uint8Array.of(1), name: "bob", displayName: "Bob" };
+    await key.create({ publicKey: { ...CREATE, user: bob } });
+    const lines = splitReport(key);
+    assert.match(lines[0], /, no longer on the key \(replaced by a later credential for the same user ID\), /);
+    assert.match(lines[2], /, discoverable, /);
+    assert.match(lines[3], /, residentKey absent \(required\), requireResidentKey true, .*, attestation direct, /);
+    assert.match(lines[3], /, excludeCredentials empty$/);
+    assert.match(lines[4], /, discoverable, /);
+});
+
+test("a call that the page aborted", async () => {
+    const key = new SecurityKey({ origin: ORIGIN });
+    await assert.rejects(key.get({ publicKey: GET, signal: AbortSignal.abort() }), { name: "AbortError" });
+    assert.match(key.report(), /^failed to sign an assertion at .*: AbortError: /);
 });
 
 test("faults that are enabled, and those that took effect", async () => {
@@ -72,20 +97,32 @@ test("faults that are enabled, and those that took effect", async () => {
     key.faults.clear();
     key.faults.badSignature = true;
     assert.deepEqual(splitReport(key).slice(-2),
-        ["the fault badSignature is enabled: true", "fault: the answer is status 0x7f OTHER (2 times)"]);
+        ["fault: the answer is status 0x7f OTHER (2 times)", "fault badSignature is enabled"]);
     key.faults.status = 0x7f;
-    assert.equal(splitReport(key).at(-3), "the fault status is enabled: 0x7f OTHER");
+    assert.equal(splitReport(key).at(-2), "fault status is enabled: 0x7f OTHER");
 });
 
-test("invalid options, and no counter that is 0", async () => {
+test("what the faults changed in the authenticator data and the signature", async () => {
+    const { key } = await register();
+    await key.get({ publicKey: GET });
+    Object.assign(key.faults, { staleSignCount: true, badSignature: true, wrongRpId: "other.example" });
+    await key.get({ publicKey: GET });
+    assert.deepEqual(splitReport(key).slice(-6), [
+        "fault: signed with a different private key", 'fault: the RP ID hash is that of "other.example"',
+        "fault: the signature counter is 1, not 2", "fault badSignature is enabled", "fault staleSignCount is enabled",
+        "fault wrongRpId is enabled: other.example",
+    ]);
+});
+
+test("invalid options", async () => {
     const key = new SecurityKey({ origin: ORIGIN });
     assert.equal(key.report(), "");
     await assert.rejects(key.create({ publicKey: { rp: 3, excludeCredentials: 5 } }), TypeError);
     await assert.rejects(key.get(), TypeError);
-    assert.match(key.report(), /^refused a registration at .*: TypeError: .*\n {4}options: excludeCredentials none\n/);
-    assert.equal(splitReport(key).length, 4);
-    await key.create({ publicKey: CREATE });
-    assert.doesNotMatch(key.report(), /counter/);
+    const lines = splitReport(key);
+    assert.match(lines[0], /^the browser refused to create a credential at .*: TypeError: /);
+    assert.match(lines[1], /^ {4}options: rp.id absent, .*, challenge absent, excludeCredentials 5$/);
+    assert.equal(lines.length, 4);
 });
 
 test("the last 40 calls", async () => {
@@ -118,7 +155,7 @@ test("as Vitest calls it: what the page did since reportOnFailure", async () => 
     assert.deepEqual(collectErrors(failing[0]), []);
     await key.get({ publicKey: GET });
     const [printed] = collectErrors(failing[0]);
-    assert.match(printed, /^the security key:\nsigned in as ann at .*\n {4}options: .*$/);
+    assert.match(printed, /^the security key:\nsigned an assertion for ann at .*\n {4}options: .*$/);
     assert.throws(() => key.reportOnFailure({}), /^TypeError: context .*Vitest/);
     assert.throws(() => key.reportOnFailure(), TypeError);
 });
@@ -147,6 +184,6 @@ test("in node's test runner, only of the test that fails", async () => {
     });
     rmSync(folder, { recursive: true });
     assert.equal(output.split("the security key:").length, 2, output);
-    assert.match(output, new RegExp(`registered bob at ${ORIGIN}: `));
-    assert.doesNotMatch(output, /registered ann/);
+    assert.match(output, new RegExp(`created a credential for bob at ${ORIGIN}: `));
+    assert.doesNotMatch(output, /credential for ann/);
 });

@@ -1,28 +1,33 @@
-// Describes how a page used a key, for the report of a failed test: registrations and sign-ins with their options,
-// refused requests with the reasons, and faults.
+// Describes how a page used a key, for the report of a failed test: created credentials, signed assertions, refused
+// calls with the reasons, and faults.
 import { getPageOrigin } from "./allowed_origins.js";
 import { checkType } from "./argument_checks.js";
-import { decodeBase64url, isBuffer, toBase64url } from "./bytes.js";
+import { decodeBase64url, isBuffer, toBase64url, toHex } from "./bytes.js";
 import { BE, BS, UV } from "./credential_metadata.js";
-import { shortenMessage } from "./errors.js";
+import { isOfKey, shortenMessage } from "./errors.js";
 import { formatStatus } from "./statuses.js";
 
 // Number of calls that are kept: the last ones.
 const MAX_CALLS = 40;
 const BACKUP_FLAGS = { "backup eligible": BE, "backed up": BS };
+const RP_ID_HASH_BYTES = 32;
 const FLAGS_OFFSET = 32;
 const SIGN_COUNT_OFFSET = 33;
 // Number of characters of IDs and challenges.
 const SHOWN_CHARACTERS = 8;
-const CALLS = { create: "registration", get: "sign-in" };
-const LISTS = { create: "excludeCredentials", get: "allowCredentials" };
+const MADE = { create: "created a credential", get: "signed an assertion" };
+const REFUSED = { create: "create a credential", get: "sign an assertion" };
 // The options that decide the result of a call, as paths.
+const SELECTION = "authenticatorSelection.";
 const OPTIONS = {
     create: ["rp.id", "user.id", "authenticatorSelection.residentKey", "authenticatorSelection.requireResidentKey",
         "authenticatorSelection.userVerification", "authenticatorSelection.authenticatorAttachment", "attestation",
-        "timeout", "challenge"],
-    get: ["rpId", "userVerification", "timeout", "challenge"],
+        "timeout", "challenge", "excludeCredentials"],
+    get: ["rpId", "userVerification", "timeout", "challenge", "allowCredentials"],
 };
+const LISTS = ["excludeCredentials", "allowCredentials"];
+// Options that are left out if the page did not pass them.
+const RARE = ["requireResidentKey", "authenticatorAttachment", "attestation", "timeout"];
 const FAULT_LINE = /^# fault: (.*)$/gm;
 
 /** @typedef {{ name: "create" | "get", origin: string, options: any, credential?: any, error?: any }} Call */
@@ -31,65 +36,117 @@ const FAULT_LINE = /^# fault: (.*)$/gm;
 /** @param {string} text */
 const shorten = (text) => (text.length > SHOWN_CHARACTERS ? `${text.slice(0, SHOWN_CHARACTERS)}..` : text);
 
-/** @param {any} value @returns {string} */
-const describeValue = (value) => {
-    if (!isBuffer(value)) {
-        return String(value);
-    }
-    const view = ArrayBuffer.isView(value) ? value : new Uint8Array(value);
-    return shorten(toBase64url(new Uint8Array(view.buffer, view.byteOffset, view.byteLength)));
+/** @param {ArrayBuffer | ArrayBufferView} buffer */
+const encodeBuffer = (buffer) => {
+    const view = ArrayBuffer.isView(buffer) ? buffer : new Uint8Array(buffer);
+    return toBase64url(new Uint8Array(view.buffer, view.byteOffset, view.byteLength));
 };
+
+/** @param {any} value @returns {string} */
+const describeValue = (value) => (isBuffer(value) ? shorten(encodeBuffer(value)) : String(value)) || "empty";
 
 /** @param {any} options @param {string} path names with dots */
 const find = (options, path) => path.split(".").reduce((value, name) => value?.[name], options);
+
+/** @param {string} path @param {any} publicKey */
+const describeOption = (path, publicKey) => {
+    const value = find(publicKey, path);
+    if (value === undefined) {
+        // The defaults of WebAuthn Level 3, sections 5.4.4 and 5.5.
+        if (path.endsWith("residentKey")) {
+            return `absent (${publicKey?.authenticatorSelection?.requireResidentKey ? "required" : "discouraged"})`;
+        }
+        return path.endsWith("userVerification") ? "absent (preferred)" : "absent";
+    }
+    if (LISTS.includes(path) && typeof value?.[Symbol.iterator] === "function") {
+        return Array.from(value, (/** @type {any} */ item) => describeValue(item?.id)).join(" ") || "empty";
+    }
+    return describeValue(value);
+};
 
 /**
  * The options that decide the result of a call, as the page passed them.
  * @param {Call} call
  */
-const describeOptions = ({ name, options }) => {
-    const publicKey = options?.publicKey;
-    const found = OPTIONS[name].filter((path) => find(publicKey, path) !== undefined).map((path) =>
-        `${path.replace("authenticatorSelection.", "")} ${describeValue(find(publicKey, path))}`);
-    const listed = Array.from(publicKey?.[LISTS[name]] ?? [], (/** @type {any} */ item) => describeValue(item?.id));
-    return [...found, `${LISTS[name]} ${listed.join(" ") || "none"}`].join(", ");
+const describeOptions = ({ name, options }) => OPTIONS[name]
+    .map((path) => ({ path, label: path.replace(SELECTION, "") }))
+    .filter(({ path, label }) => find(options?.publicKey, path) !== undefined || !RARE.includes(label))
+    .map(({ path, label }) => `${label} ${describeOption(path, options?.publicKey)}`).join(", ");
+
+/**
+ * The RP ID hash and the user ID of a new credential that is discoverable, otherwise null.
+ * @param {Call} call
+ */
+const getAccount = ({ options, credential }) => {
+    const { residentKey, requireResidentKey } = find(options, "publicKey.authenticatorSelection") ?? {};
+    const userId = find(options, "publicKey.user.id");
+    const isDiscoverable = ["required", "preferred"].includes(residentKey ?? (requireResidentKey ? "required" : ""));
+    if (!isDiscoverable || !isBuffer(userId)) {
+        return null;
+    }
+    const data = decodeBase64url(credential.toJSON().response.authenticatorData);
+    return `${toHex(data.subarray(0, RP_ID_HASH_BYTES))} ${encodeBuffer(userId)}`;
+};
+
+/**
+ * Why the key no longer has the credential that a call created.
+ * @param {Call} call @param {Call[]} calls
+ */
+const explainMissing = (call, calls) => {
+    const account = getAccount(call);
+    const isReplaced = account !== null && calls.slice(calls.indexOf(call) + 1).some((other) =>
+        other.name === "create" && other.credential && getAccount(other) === account);
+    return `no longer on the key${isReplaced ? " (replaced by a later credential for the same user ID)" : ""}`;
 };
 
 /**
  * What a service sees of a credential: flags, counter, user handle, and the beginning of the ID.
- * @param {"create" | "get"} name @param {any} json @param {Credential | undefined} held
+ * @param {Call} call @param {Call[]} calls @param {Credential | undefined} held
  */
-const describeCredential = (name, { id, response }, held) => {
+const describeCredential = (call, calls, held) => {
+    const { id, response } = call.credential.toJSON();
     const data = decodeBase64url(response.authenticatorData);
     const flags = data[FLAGS_OFFSET];
-    const signCount = new DataView(data.buffer).getUint32(SIGN_COUNT_OFFSET);
-    const stored = held ? `${held.isResidentCredential ? "" : "not "}discoverable` : "no longer on the key";
     const handle = response.userHandle ? `user handle ${shorten(response.userHandle)}` : "no user handle";
+    const getStored = () =>
+        (held ? `${held.isResidentCredential ? "" : "not "}discoverable` : explainMissing(call, calls));
     return [
         flags & UV ? "user verified" : "user not verified",
         ...Object.entries(BACKUP_FLAGS).filter(([, bit]) => flags & bit).map(([text]) => text),
-        ...(signCount ? [`counter ${signCount}`] : []),
-        name === "create" ? stored : handle,
+        `counter ${new DataView(data.buffer).getUint32(SIGN_COUNT_OFFSET)}`,
+        call.name === "create" ? getStored() : handle,
         `credential ${shorten(id)}`,
     ].join(", ");
 };
 
 /**
- * Describes a call in one line.
- * @param {Call} call @param {Credential[]} credentials of the key
+ * Who refused a call, or "failed" if the error is not that of a browser.
+ * @param {any} error
  */
-const describeCall = (call, credentials) => {
+const describeRefusal = (error) => {
+    if (isOfKey(error)) {
+        return "the key refused";
+    }
+    const isOfBrowser = error instanceof DOMException || error instanceof TypeError || error instanceof RangeError;
+    return isOfBrowser && error.name !== "AbortError" ? "the browser refused" : "failed";
+};
+
+/**
+ * Describes a call in one line.
+ * @param {Call} call @param {Call[]} calls @param {Credential[]} credentials of the key
+ */
+const describeCall = (call, calls, credentials) => {
     const { name, origin, options, credential, error } = call;
     const user = find(options, "publicKey.user.name");
     if (!credential) {
-        const what = `${CALLS[name]}${user ? ` of ${user}` : ""}`;
-        return `refused a ${what} at ${origin}: ${error?.name}: ${shortenMessage(String(error?.message))}`;
+        const what = `${describeRefusal(error)} to ${REFUSED[name]}${user ? ` for ${user}` : ""}`;
+        return `${what} at ${origin}: ${error?.name}: ${shortenMessage(String(error?.message))}`;
     }
-    const json = credential.toJSON();
-    const held = credentials.find(({ credentialId }) => credentialId === json.id);
-    const who = user || held?.userName || "a user without a name";
-    const what = name === "create" ? "registered" : "signed in as";
-    return `${what} ${who} at ${origin}: ${describeCredential(name, json, held)}`;
+    const { id } = credential;
+    const held = credentials.find(({ credentialId }) => credentialId === id);
+    const creation = calls.find((other) => other.name === "create" && other.credential?.id === id);
+    const who = user || held?.userName || find(creation, "options.publicKey.user.name") || "a user without a name";
+    return `${MADE[name]} for ${who} at ${origin}: ${describeCredential(call, calls, held)}`;
 };
 
 /**
@@ -149,16 +206,17 @@ export class Activity {
     }
 
     /**
-     * Describes the last calls, and the faults that are enabled or took effect, one per line. Empty if there are none.
+     * Describes the last calls, and the faults that took effect or are enabled, one per line. Empty if there are none.
      * @param {{ credentials: Credential[], faults: object, logs: string[] }} key @param {number} [from] calls to skip
      */
     describe({ credentials, faults, logs }, from = 0) {
-        const calls = this.#calls.slice(Math.max(0, this.#calls.length - (this.count - from)));
+        const shown = this.#calls.slice(Math.max(0, this.#calls.length - (this.count - from)));
         return [
-            ...calls.flatMap((call) => [describeCall(call, credentials), `    options: ${describeOptions(call)}`]),
-            ...Object.entries(faults).filter(([, value]) => value).map(([name, value]) =>
-                `the fault ${name} is enabled: ${name === "status" ? formatStatus(value) : value}`),
+            ...shown.flatMap((call) =>
+                [describeCall(call, this.#calls, credentials), `    options: ${describeOptions(call)}`]),
             ...describeEffects(logs),
+            ...Object.entries(faults).filter(([, value]) => value).map(([name, value]) => `fault ${name} is enabled`
+                + (value === true ? "" : `: ${name === "status" ? formatStatus(value) : value}`)),
         ].join("\n");
     }
 }

@@ -1,5 +1,5 @@
 // Sends CTAP2 requests over CTAPHID to the verified core, provides what the core needs, and returns the responses.
-import { concatBytes, equalBytes, toHex } from "./bytes.js";
+import { concatBytes, toHex } from "./bytes.js";
 import { changeResponse } from "./ctap_response.js";
 import { Collector } from "./packets.js";
 import { throwIfAborted, clearInterval, sleepUnlessAborted, setInterval, raceWithSignal } from "./platform.js";
@@ -204,14 +204,14 @@ export class Authenticator {
         const original = toSign.slice(0, -HASH_BYTES);
         const { data: changed, comments } = await departures.alter(id, original, isVerified);
         comments.forEach((text) => this.session.recording.addComment(`outside of the core: ${text}`));
-        const data = await this.faults.alterData(id, changed);
+        const { data, texts } = await this.faults.alterData(id, changed);
         const signed = concatBytes(data, toSign.subarray(-HASH_BYTES));
         const { badSignature } = this.faults;
         if (badSignature) {
-            this.session.recording.addComment("fault injected: signed with a different private key");
+            this.session.recording.addComment("fault: signed with a different private key");
         }
         const own = await departures.complete(id, signed, badSignature);
-        this.#change = { original, data, isFault: !equalBytes(changed, data), ...own };
+        this.#change = { original, data, faults: texts, ...own };
         return badSignature ? this.privateKeys.signWithNewKey(signed) : this.privateKeys.sign(privateKey, signed);
     }
 
@@ -224,9 +224,7 @@ export class Authenticator {
         if (changed === response) {
             return response;
         }
-        if (this.#change?.isFault) {
-            this.session.recording.addComment("fault: the authenticator data is altered");
-        }
+        this.#change?.faults.forEach((text) => this.session.recording.addComment(`fault: ${text}`));
         this.#change = null;
         return changed;
     }

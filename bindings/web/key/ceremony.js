@@ -3,7 +3,7 @@
 import { ES256 } from "./algorithms.js";
 import { equalBytes, fromHex, toBase64url } from "./bytes.js";
 import { ClientCall, MAX_BUFFER_BYTES } from "./client.js";
-import { makeNotAllowed } from "./errors.js";
+import { makeNotAllowed, markAsOfKey } from "./errors.js";
 import { encodeClientData, makeCrossOriginMembers } from "./frames.js";
 import { renameCredentials, dropListInputs } from "./key_extensions.js";
 
@@ -182,8 +182,9 @@ export class Ceremony {
         try {
             this.#call.response(Uint8Array.of(status));
         } catch (error) {
-            return /** @type {Error} */ (error).name === "NotAllowedError" ? makeNotAllowed(message) : error;
+            const { name } = /** @type {Error} */ (error);
+            return markAsOfKey(name === "NotAllowedError" ? makeNotAllowed(message) : /** @type {Error} */ (error));
         }
-        return new Error(message);
+        return markAsOfKey(new Error(message));
     }
 }

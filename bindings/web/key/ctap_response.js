@@ -38,7 +38,7 @@ export const encodeMap = (members) => concatBytes(encodeHead(MAP, members.length
  * @typedef {object} Change
  * @property {Uint8Array} original the authenticator data of the core
  * @property {Uint8Array} data what replaces it
- * @property {boolean} isFault whether a fault changed it
+ * @property {string[]} faults what faults changed
  * @property {{ format: string, members: Uint8Array }} [statement] the attestation of a registration, encoded
  * @property {Uint8Array} [signature] the signature of a sign-in
  */

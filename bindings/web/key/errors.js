@@ -13,6 +13,24 @@ export const makeNotAllowed = (why) => makeDomError(
         + "See: https://www.w3.org/TR/webauthn-2/#sctn-privacy-considerations-client.",
 );
 
+/** @type {WeakSet<object>} errors for a status of the key */
+const errorsOfKey = new WeakSet();
+
+/**
+ * Marks an error as that for a status of the key, and returns it.
+ * @template {object} T @param {T} error
+ */
+export const markAsOfKey = (error) => {
+    errorsOfKey.add(error);
+    return error;
+};
+
+/**
+ * Returns whether the key, and not the browser, refused the request.
+ * @param {any} error
+ */
+export const isOfKey = (error) => errorsOfKey.has(error);
+
 /**
  * Returns the reason in the message of a NotAllowedError, or another message unchanged.
  * @param {string} message

@@ -104,25 +104,28 @@ export class Faults {
     }
 
     /**
-     * Applies the faults to authenticator data.
+     * Returns authenticator data with the faults applied, and a text for each change.
      * @param {Uint8Array} id @param {Uint8Array} data
      */
     async alterData(id, data) {
         const altered = data.slice();
-        if (this.values.wrongRpId !== null) {
-            altered.set(await this.hash(encodeUtf8(this.values.wrongRpId)));
+        const { wrongRpId } = this.values;
+        const texts = [];
+        if (wrongRpId !== null) {
+            altered.set(await this.hash(encodeUtf8(wrongRpId)));
+            texts.push(`the RP ID hash is that of ${JSON.stringify(wrongRpId)}`);
         }
-        this.#setSignCount(toHex(id), new DataView(altered.buffer));
-        return altered;
+        texts.push(...this.#setSignCount(toHex(id), new DataView(altered.buffer)));
+        return { data: altered, texts };
     }
 
     /** @param {string} id the credential ID in hex @param {DataView} view */
     #setSignCount(id, view) {
         const raised = view.getUint32(SIGN_COUNT_OFFSET);
-        if (this.values.staleSignCount && raised > 0) {
-            view.setUint32(SIGN_COUNT_OFFSET, this.#signCounts.get(id) ?? raised - 1);
-        }
-        this.#signCounts.set(id, view.getUint32(SIGN_COUNT_OFFSET));
+        const sent = this.values.staleSignCount && raised > 0 ? this.#signCounts.get(id) ?? raised - 1 : raised;
+        view.setUint32(SIGN_COUNT_OFFSET, sent);
+        this.#signCounts.set(id, sent);
+        return sent === raised ? [] : [`the signature counter is ${sent}, not ${raised}`];
     }
 
     /**
