@@ -19,13 +19,15 @@ const (
 	flagBackedUp       = 0x10
 )
 
-// browserCall is a call of Create or Get, and its result.
+// browserCall is a call of Create or Get, and its result. faults are the changes that faults made.
 type browserCall struct {
-	kind       ceremony
-	origin     string
-	options    []byte
-	credential []byte
-	err        error
+	kind         ceremony
+	origin       string
+	options      []byte
+	credential   []byte
+	err          error
+	isKeyRefusal bool
+	faults       []string
 }
 
 // TestingT is the part of *testing.T that ReportOnFailure uses.
@@ -47,25 +49,40 @@ func (k *SecurityKey) ReportOnFailure(t TestingT) {
 	})
 }
 
-// Report describes the last calls of the key's browsers, for the output of a failed test: who registered and signed in,
-// what was refused and why, each with the options, and then the faults that are enabled. It is empty if there were no
-// calls and no fault is enabled.
+// Report describes the last calls of the key's browsers, for the output of a failed test: created credentials, signed
+// assertions, and who refused what and why, each with the options and the faults that took effect, and then the faults
+// that are enabled. It is empty if there were no calls and no fault is enabled.
 func (k *SecurityKey) Report() string {
 	held := map[string]Credential{}
 	for _, credential := range k.Credentials() {
 		held[base64.RawURLEncoding.EncodeToString(credential.ID[:])] = credential
 	}
 	lines := []string{}
-	for _, call := range k.calls {
-		lines = append(lines, call.describe(held), "    options: "+describeOptions(call.kind, call.parseOptions()))
+	for i, call := range k.calls {
+		lines = append(lines, k.describeCall(i, held), "    options: "+describeOptions(call.kind, call.parseOptions()))
+		for _, text := range call.faults {
+			lines = append(lines, "    fault: "+text)
+		}
 	}
 	faults := reflect.ValueOf(k.Faults)
 	for i := 0; i < faults.NumField(); i++ {
-		if value := faults.Field(i); !value.IsZero() {
-			lines = append(lines, fmt.Sprintf("the fault %s is enabled: %v", faults.Type().Field(i).Name, value))
+		value, line := faults.Field(i), fmt.Sprintf("fault %s is enabled", faults.Type().Field(i).Name)
+		if value.IsZero() {
+			continue
 		}
+		if status, is := value.Interface().(byte); is {
+			line += ": " + formatStatus(status)
+		} else if value.Kind() != reflect.Bool {
+			line += fmt.Sprintf(": %v", value)
+		}
+		lines = append(lines, line)
 	}
 	return strings.Join(lines, "\n")
+}
+
+// formatStatus returns a status with its name.
+func formatStatus(status byte) string {
+	return strings.TrimSpace(fmt.Sprintf("0x%02X %s", status, statusNames[Status(status)]))
 }
 
 // addCall remembers a call for the report.
@@ -88,36 +105,102 @@ func (c browserCall) parseOptions() map[string]any {
 	return options
 }
 
-// findOption returns the value of a member of nested objects, or nil. path has the names of the members, with dots.
-func findOption(options map[string]any, path string) any {
+// findOption returns the value of a member of nested objects, and whether it is present. path has the names of the
+// members, with dots.
+func findOption(options map[string]any, path string) (any, bool) {
 	var value any = options
+	isPresent := true
 	for _, name := range strings.Split(path, ".") {
 		object, _ := value.(map[string]any)
-		value = object[name]
+		value, isPresent = object[name]
 	}
-	return value
+	return value, isPresent
 }
 
-// describe returns one line about the result of a call. held has the key's credentials by ID in base64url.
-func (c browserCall) describe(held map[string]Credential) string {
-	user, _ := findOption(c.parseOptions(), "user.name").(string)
+// findText returns an option that is a text, or an empty string.
+func findText(options map[string]any, path string) string {
+	value, _ := findOption(options, path)
+	text, _ := value.(string)
+	return text
+}
+
+// describeCall returns one line about the result of a call. held has the key's credentials by ID in base64url.
+func (k *SecurityKey) describeCall(index int, held map[string]Credential) string {
+	c := k.calls[index]
+	user := findText(c.parseOptions(), "user.name")
 	if c.err != nil {
-		what := map[ceremony]string{createCeremony: "registration", getCeremony: "sign-in"}[c.kind]
+		what := map[ceremony]string{createCeremony: "create a credential", getCeremony: "sign an assertion"}[c.kind]
 		if user != "" {
-			what += " of " + user
+			what += " for " + user
 		}
-		return fmt.Sprintf("refused a %s at %s: %v", what, c.origin, c.err)
+		return fmt.Sprintf("%s to %s at %s: %v", c.describeRefusal(), what, c.origin, c.err)
 	}
-	var made credentialJSON
-	_ = json.Unmarshal(c.credential, &made)
+	made := c.parseCredential()
 	if user == "" {
 		user = held[made.ID].UserName
+	}
+	for _, other := range k.calls {
+		if user == "" && other.kind == createCeremony && other.parseCredential().ID == made.ID {
+			user = findText(other.parseOptions(), "user.name")
+		}
 	}
 	if user == "" {
 		user = "a user without a name"
 	}
-	what := map[ceremony]string{createCeremony: "registered", getCeremony: "signed in as"}[c.kind]
-	return fmt.Sprintf("%s %s at %s: %s", what, user, c.origin, strings.Join(made.describe(c.kind, held), ", "))
+	details := made.describeFlags()
+	credential, isHeld := held[made.ID]
+	switch {
+	case c.kind == getCeremony && made.Response.UserHandle == "":
+		details = append(details, "no user handle")
+	case c.kind == getCeremony:
+		details = append(details, "user handle "+shorten(made.Response.UserHandle))
+	case !isHeld:
+		details = append(details, k.explainMissing(index))
+	case credential.Discoverable:
+		details = append(details, "discoverable")
+	default:
+		details = append(details, "not discoverable")
+	}
+	what := map[ceremony]string{createCeremony: "created a credential", getCeremony: "signed an assertion"}[c.kind]
+	details = append(details, "credential "+shorten(made.ID))
+	return fmt.Sprintf("%s for %s at %s: %s", what, user, c.origin, strings.Join(details, ", "))
+}
+
+// describeRefusal returns who refused a call, or "failed" if the error is not that of a browser.
+func (c browserCall) describeRefusal() string {
+	_, isDOMError := c.err.(*DOMError)
+	switch {
+	case c.isKeyRefusal:
+		return "the key refused"
+	case isDOMError:
+		return "the browser refused"
+	default:
+		return "failed"
+	}
+}
+
+// account returns the RP ID hash and the user ID of a new credential that is discoverable, otherwise an empty string.
+func (c browserCall) account() string {
+	options := c.parseOptions()
+	isRequired, _ := findOption(options, "authenticatorSelection.requireResidentKey")
+	kind := findText(options, "authenticatorSelection.residentKey")
+	data := c.parseCredential().authenticatorData()
+	isDiscoverable := kind == "required" || kind == "preferred" || kind == "" && isRequired == true
+	if c.kind != createCeremony || len(data) < 37 || !isDiscoverable {
+		return ""
+	}
+	return string(data[:32]) + findText(options, "user.id")
+}
+
+// explainMissing returns why the key no longer has the credential that a call created.
+func (k *SecurityKey) explainMissing(index int) string {
+	account := k.calls[index].account()
+	for _, later := range k.calls[index+1:] {
+		if account != "" && later.account() == account {
+			return "no longer on the key (replaced by a later credential for the same user ID)"
+		}
+	}
+	return "no longer on the key"
 }
 
 // credentialJSON has the members of a credential's JSON that the report shows.
@@ -126,78 +209,103 @@ type credentialJSON struct {
 	Response struct{ AuthenticatorData, UserHandle string }
 }
 
-// describe returns what a service sees of a credential: flags, counter, user handle, and the beginning of the ID.
-func (c credentialJSON) describe(kind ceremony, held map[string]Credential) []string {
+// parseCredential returns the credential of a call. That of a failed call is empty.
+func (c browserCall) parseCredential() credentialJSON {
+	var made credentialJSON
+	_ = json.Unmarshal(c.credential, &made)
+	return made
+}
+
+// authenticatorData returns the decoded authenticator data.
+func (c credentialJSON) authenticatorData() []byte {
+	data, _ := base64.RawURLEncoding.DecodeString(c.Response.AuthenticatorData)
+	return data
+}
+
+// describeFlags returns the flags and the signature counter.
+func (c credentialJSON) describeFlags() []string {
+	data := c.authenticatorData()
+	if len(data) < 37 {
+		return nil
+	}
 	details := []string{}
-	if data, err := base64.RawURLEncoding.DecodeString(c.Response.AuthenticatorData); err == nil && len(data) >= 37 {
-		if data[32]&flagUserVerified == 0 {
-			details = append(details, "user not verified")
-		}
-		for _, flag := range []struct {
-			bit  byte
-			name string
-		}{{flagUserVerified, "user verified"}, {flagBackupEligible, "backup eligible"}, {flagBackedUp, "backed up"}} {
-			if data[32]&flag.bit != 0 {
-				details = append(details, flag.name)
-			}
-		}
-		if counter := binary.BigEndian.Uint32(data[33:]); counter > 0 {
-			details = append(details, fmt.Sprintf("counter %d", counter))
+	if data[32]&flagUserVerified == 0 {
+		details = append(details, "user not verified")
+	}
+	for _, flag := range []struct {
+		bit  byte
+		name string
+	}{{flagUserVerified, "user verified"}, {flagBackupEligible, "backup eligible"}, {flagBackedUp, "backed up"}} {
+		if data[32]&flag.bit != 0 {
+			details = append(details, flag.name)
 		}
 	}
-	credential, isHeld := held[c.ID]
-	switch {
-	case kind == getCeremony && c.Response.UserHandle == "":
-		details = append(details, "no user handle")
-	case kind == getCeremony:
-		details = append(details, "user handle "+shorten(c.Response.UserHandle))
-	case !isHeld:
-		details = append(details, "no longer on the key")
-	case credential.Discoverable:
-		details = append(details, "discoverable")
-	default:
-		details = append(details, "not discoverable")
-	}
-	return append(details, "credential "+shorten(c.ID))
+	return append(details, fmt.Sprintf("counter %d", binary.BigEndian.Uint32(data[33:])))
 }
 
 // reportedOptions are the options that decide the result of a call, as paths.
 var reportedOptions = map[ceremony][]string{
 	createCeremony: {"rp.id", "user.id", "authenticatorSelection.residentKey", "authenticatorSelection.requireResidentKey",
 		"authenticatorSelection.userVerification", "authenticatorSelection.authenticatorAttachment", "attestation", "timeout",
-		"challenge"},
-	getCeremony: {"rpId", "userVerification", "timeout", "challenge"},
+		"challenge", "excludeCredentials"},
+	getCeremony: {"rpId", "userVerification", "timeout", "challenge", "allowCredentials"},
 }
+
+// rareOptions are left out of the report if the page did not pass them.
+var rareOptions = map[string]bool{"requireResidentKey": true, "authenticatorAttachment": true, "attestation": true, "timeout": true}
 
 // describeOptions returns the options that decide the result of a call, as the page passed them.
 func describeOptions(kind ceremony, options map[string]any) string {
 	found := []string{}
 	for _, path := range reportedOptions[kind] {
-		value := findOption(options, path)
-		if value == nil {
-			continue
+		name := strings.TrimPrefix(path, "authenticatorSelection.")
+		value, isPresent := findOption(options, path)
+		if isPresent {
+			found = append(found, name+" "+describeOption(path, value))
+		} else if !rareOptions[name] {
+			found = append(found, name+" "+describeAbsent(name, options))
 		}
-		shown, isText := value.(string)
-		switch {
-		case !isText:
-			text, _ := json.Marshal(value)
-			shown = string(text)
-		case path == "user.id" || path == "challenge":
-			shown = shorten(shown)
+	}
+	return strings.Join(found, ", ")
+}
+
+// describeAbsent returns "absent", with the default of WebAuthn Level 3, sections 5.4.4 and 5.5, if any.
+func describeAbsent(name string, options map[string]any) string {
+	isRequired, _ := findOption(options, "authenticatorSelection.requireResidentKey")
+	switch {
+	case name == "residentKey" && isRequired == true:
+		return "absent (required)"
+	case name == "residentKey":
+		return "absent (discouraged)"
+	case name == "userVerification":
+		return "absent (preferred)"
+	default:
+		return "absent"
+	}
+}
+
+// describeOption returns the value of an option.
+func describeOption(path string, value any) string {
+	listed, isList := value.([]any)
+	text, isText := value.(string)
+	switch {
+	case isText && text == "" || isList && len(listed) == 0:
+		return "empty"
+	case isText && (path == "user.id" || path == "challenge"):
+		return shorten(text)
+	case isText:
+		return text
+	case isList && (path == "excludeCredentials" || path == "allowCredentials"):
+		ids := []string{}
+		for _, item := range listed {
+			descriptor, _ := item.(map[string]any)
+			ids = append(ids, shorten(findText(descriptor, "id")))
 		}
-		found = append(found, strings.TrimPrefix(path, "authenticatorSelection.")+" "+shown)
+		return strings.Join(ids, " ")
+	default:
+		shown, _ := json.Marshal(value)
+		return string(shown)
 	}
-	name := map[ceremony]string{createCeremony: "excludeCredentials", getCeremony: "allowCredentials"}[kind]
-	listed, _ := options[name].([]any)
-	for _, item := range listed {
-		descriptor, _ := item.(map[string]any)
-		id, _ := descriptor["id"].(string)
-		name += " " + shorten(id)
-	}
-	if len(listed) == 0 {
-		name += " none"
-	}
-	return strings.Join(append(found, name), ", ")
 }
 
 // shorten returns the first letters of bytes in base64url.

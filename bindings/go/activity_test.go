@@ -37,20 +37,36 @@ func TestReportSaysWhatBrowsersDid(t *testing.T) {
 	if _, err := browser.Create([]byte(foreign)); err == nil {
 		t.Fatal("expected an error, since the RP ID is of another domain")
 	}
+	key.Presence = nil
 	key.Faults.BadSignature = true
+	key.Faults.StaleSignCount = true
+	if _, err := browser.Get(get); err != nil {
+		t.Fatal(err)
+	}
+	key.Faults.Status = 0x27
 	key.Faults.TruncateBy = 4
 	id := credential.ID[:8]
+	site := "https://login.example.com"
+	selection := "residentKey required, userVerification absent (preferred), challenge AAECAwQF.., excludeCredentials absent"
+	sent := "    options: rpId example.com, userVerification absent (preferred), challenge AAECAwQF.., allowCredentials absent"
+	signed := "signed an assertion for ann at " + site + ": user not verified, counter 1, user handle YW5u, credential " + id + ".."
 	want := []string{
-		"registered ann at https://login.example.com: user not verified, discoverable, credential " + id + "..",
-		"    options: rp.id example.com, user.id YW5u, residentKey required, challenge AAECAwQF.., excludeCredentials none",
-		"signed in as ann at https://login.example.com: user not verified, counter 1, user handle YW5u, credential " + id + "..",
-		"    options: rpId example.com, challenge AAECAwQF.., allowCredentials none",
-		"refused a sign-in at https://login.example.com: NotAllowedError: the key refused: the user refused",
-		"    options: rpId example.com, challenge AAECAwQF.., allowCredentials none",
-		"refused a registration of bob at https://login.example.com: SecurityError: ",
-		"    options: rp.id other.example, user.id YW5u, residentKey required, challenge AAECAwQF.., excludeCredentials none",
-		"the fault BadSignature is enabled: true",
-		"the fault TruncateBy is enabled: 4",
+		"created a credential for ann at " + site + ": user not verified, counter 0, discoverable, credential " + id + "..",
+		"    options: rp.id example.com, user.id YW5u, " + selection,
+		signed,
+		sent,
+		"the key refused to sign an assertion at " + site + ": NotAllowedError: the key refused: the user refused",
+		sent,
+		"the browser refused to create a credential for bob at " + site + ": SecurityError: ",
+		"    options: rp.id other.example, user.id YW5u, " + selection,
+		signed,
+		sent,
+		"    fault: the signature counter is 1, not 2",
+		"    fault: signed with a different private key",
+		"fault Status is enabled: 0x27 OPERATION_DENIED",
+		"fault BadSignature is enabled",
+		"fault StaleSignCount is enabled",
+		"fault TruncateBy is enabled: 4",
 	}
 	got := strings.Split(key.Report(), "\n")
 	if len(got) != len(want) {
@@ -60,6 +76,25 @@ func TestReportSaysWhatBrowsersDid(t *testing.T) {
 		if !strings.HasPrefix(got[place], line) {
 			t.Errorf("expected %q, got %q", line, got[place])
 		}
+	}
+}
+
+func TestReportSaysWhyCredentialIsGone(t *testing.T) {
+	key := newKey(t)
+	browser := key.Browser(origin)
+	empty := strings.Replace(string(create), "{", `{"excludeCredentials": [], `, 1)
+	for _, options := range []string{empty, string(create)} {
+		if _, err := browser.Create([]byte(options)); err != nil {
+			t.Fatal(err)
+		}
+	}
+	why := ", no longer on the key (replaced by a later credential for the same user ID), credential "
+	got := strings.Split(key.Report(), "\n")
+	if !strings.Contains(got[0], why) || !strings.HasSuffix(got[1], ", excludeCredentials empty") {
+		t.Errorf("expected %q and an empty list, got %q", why, got[:2])
+	}
+	if !strings.Contains(got[2], ", discoverable, credential ") {
+		t.Errorf("expected a discoverable credential, got %q", got[2])
 	}
 }
 
@@ -73,7 +108,7 @@ func TestReportIsLoggedOnlyIfTheTestFails(t *testing.T) {
 	for _, at := range failing.atEnd {
 		at()
 	}
-	if len(failing.logged) != 1 || !strings.HasPrefix(failing.logged[0], "the security key:\nregistered ann at ") {
+	if len(failing.logged) != 1 || !strings.HasPrefix(failing.logged[0], "the security key:\ncreated a credential for ann at ") {
 		t.Errorf("expected one report, got %q", failing.logged)
 	}
 }

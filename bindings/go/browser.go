@@ -6,6 +6,7 @@ import (
 	"crypto/rand"
 	"crypto/sha256"
 	"encoding/binary"
+	"fmt"
 )
 
 // Browser is a simulated browser at an origin, with a security key. It registers and signs in as navigator.credentials
@@ -44,33 +45,37 @@ func (b *Browser) Get(optionsJSON []byte) ([]byte, error) {
 
 // call makes a call, and adds it to the key's report.
 func (b *Browser) call(kind ceremony, options []byte) ([]byte, error) {
-	credential, err := b.perform(kind, options)
-	b.key.addCall(browserCall{kind, b.origin, clone(options), credential, err})
-	return credential, err
+	call := browserCall{kind: kind, origin: b.origin, options: clone(options)}
+	call.credential, call.err = b.perform(&call)
+	b.key.addCall(call)
+	return call.credential, call.err
 }
 
-// perform makes a call.
-func (b *Browser) perform(kind ceremony, options []byte) ([]byte, error) {
-	c := newClientCall(kind, options, b.origin, b.Mediation, b.key.Options)
+// perform makes a call, and adds details for the report to it.
+func (b *Browser) perform(call *browserCall) ([]byte, error) {
+	c := newClientCall(call.kind, call.options, b.origin, b.Mediation, b.key.Options)
 	request, err := c.buildRequest()
 	if err != nil {
 		return nil, err
 	}
 	response, err := b.exchange(request)
-	for account := 0; err == nil && response[0] == 0 && kind == getCeremony && account < b.Account; account++ {
+	for account := 0; err == nil && response[0] == 0 && call.kind == getCeremony && account < b.Account; account++ {
 		response, err = b.exchange([]byte{getNextAssertion})
 	}
 	if err != nil {
 		return nil, err
 	}
 	if response[0] == 0 {
-		if response, err = b.alterResponse(c, request, response); err != nil {
+		if response, call.faults, err = b.alterResponse(c, request, response); err != nil {
 			return nil, err
 		}
+	} else if b.key.Faults.Status != 0 {
+		call.faults = []string{"the answer is status " + formatStatus(b.key.Faults.Status)}
 	}
 	credential, err := c.buildCredential(response)
 	if refused, is := err.(*DOMError); is && response[0] != 0 {
 		refused.Message += b.key.causeSuffix()
+		call.isKeyRefusal = true
 	}
 	return credential, err
 }
@@ -90,24 +95,25 @@ func (b *Browser) exchange(request []byte) ([]byte, error) {
 	return append([]byte{0}, data...), nil
 }
 
-// signedResponse is the authenticator data and the signature of a response, the ID of the credential that signed, and
-// the clientDataHash of the request.
+// signedResponse is the authenticator data and the signature of a response, the ID of the credential that signed, the
+// clientDataHash of the request, and what faults changed.
 type signedResponse struct {
 	id              CredentialID
 	data, signature []byte
 	clientDataHash  []byte
+	faults          []string
 }
 
 // alterResponse applies the key's options and the enabled faults to a response, and stores the response's signature
-// counter.
-func (b *Browser) alterResponse(c *clientCall, request, response []byte) ([]byte, error) {
+// counter. It returns the response, and what faults changed.
+func (b *Browser) alterResponse(c *clientCall, request, response []byte) ([]byte, []string, error) {
 	parameters, err := decodeMembers(request[1:])
 	if err != nil {
-		return nil, err
+		return nil, nil, err
 	}
 	members, err := decodeMembers(response[1:])
 	if err != nil {
-		return nil, err
+		return nil, nil, err
 	}
 	var signed signedResponse
 	signed.data, _ = members[2].([]byte)
@@ -116,7 +122,7 @@ func (b *Browser) alterResponse(c *clientCall, request, response []byte) ([]byte
 		signed.signature, _ = statement["sig"].([]byte)
 		signed.clientDataHash, _ = parameters[1].([]byte)
 		if len(signed.data) < 164 {
-			return nil, errCBOR
+			return nil, nil, errCBOR
 		}
 		signed.id = *(*CredentialID)(signed.data[55:87])
 		b.key.backupFlags[signed.id] = b.key.Options.backupFlags()
@@ -126,7 +132,7 @@ func (b *Browser) alterResponse(c *clientCall, request, response []byte) ([]byte
 		signed.signature, _ = members[3].([]byte)
 		signed.clientDataHash, _ = parameters[2].([]byte)
 		if len(id) != 32 || len(signed.data) < 37 {
-			return nil, errCBOR
+			return nil, nil, errCBOR
 		}
 		signed.id = *(*CredentialID)(id)
 	}
@@ -135,7 +141,7 @@ func (b *Browser) alterResponse(c *clientCall, request, response []byte) ([]byte
 		flags |= flagUserVerified
 	}
 	if err := b.alterSigned(&signed, flags); err != nil {
-		return nil, err
+		return nil, nil, err
 	}
 	if flags != 0 {
 		b.key.addComment("outside of the core: flags " + flagNames(flags) + ", and the signature over them")
@@ -144,7 +150,7 @@ func (b *Browser) alterResponse(c *clientCall, request, response []byte) ([]byte
 	if hasNone {
 		b.key.addComment("outside of the core: attestation none")
 	}
-	return append([]byte{0}, encode(buildResponse(c.ceremony, members, signed, hasNone))...), nil
+	return append([]byte{0}, encode(buildResponse(c.ceremony, members, signed, hasNone))...), signed.faults, nil
 }
 
 // decodeMembers decodes bytes that must be exactly one CBOR map.
@@ -180,12 +186,15 @@ func (b *Browser) alterSigned(signed *signedResponse, flags byte) error {
 	faults, data := &b.key.Faults, clone(signed.data)
 	data[32] |= flags
 	if last, isKnown := b.key.last[signed.id]; faults.StaleSignCount && isKnown {
+		raised := binary.BigEndian.Uint32(data[33:])
+		signed.faults = append(signed.faults, fmt.Sprintf("the signature counter is %d, not %d", last, raised))
 		binary.BigEndian.PutUint32(data[33:], last)
 	}
 	b.key.last[signed.id] = binary.BigEndian.Uint32(data[33:])
 	if faults.WrongRPID != "" {
 		other := sha256.Sum256([]byte(faults.WrongRPID))
 		copy(data, other[:])
+		signed.faults = append(signed.faults, fmt.Sprintf("the RP ID hash is that of %q", faults.WrongRPID))
 	}
 	privateKey := b.key.PrivateKey(signed.id)
 	if faults.BadSignature {
@@ -193,6 +202,7 @@ func (b *Browser) alterSigned(signed *signedResponse, flags byte) error {
 		if privateKey, err = ecdsa.GenerateKey(elliptic.P256(), rand.Reader); err != nil {
 			return err
 		}
+		signed.faults = append(signed.faults, "signed with a different private key")
 	}
 	if faults.BadSignature || string(data) != string(signed.data) {
 		var err error
@@ -202,6 +212,7 @@ func (b *Browser) alterSigned(signed *signedResponse, flags byte) error {
 	}
 	if faults.TruncateBy > 0 {
 		data = data[:max(0, len(data)-faults.TruncateBy)]
+		signed.faults = append(signed.faults, fmt.Sprintf("the authenticator data is cut to %d bytes", len(data)))
 	}
 	signed.data = data
 	return nil
