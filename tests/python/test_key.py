@@ -238,7 +238,7 @@ def test_faults(make: Make) -> None:
     assert key.log.count(b"\n< 00000001bb000101") >= keepalives + 30
     with pytest.raises(hidlog.ArgumentError, match="unknown fault 'speed'; expected one of status, delay"):
         key.faults.speed = 1
-    assert key.log.count(b"\n# fault: ") == 1 + 3 + 1 + 1 + 1 + 1
+    assert key.log.count(b"\n# fault: ") == 1 + 3 + 1 + 2 + 1 + 1
 
 
 def test_replay_of(make: Make) -> None:

@@ -54,7 +54,10 @@ def test_without_the_option_nothing_is_kept(pytester: pytest.Pytester) -> None:
     result.assert_outcomes(passed=1, failed=1)
     assert not list(Path().glob("**/*.log"))
     assert "recorded in" not in result.stdout.str()
-    ends = ["*authenticatorSelection *", "the key's last response ends at line * of the recording"]
+    ends = [
+        "*authenticatorSelection *",
+        "the key's last response ends at line * of the recording (--security-key-log DIR saves it)",
+    ]
     result.stdout.fnmatch_lines(ends)
 
 
@@ -117,7 +120,7 @@ def test_the_report_says_what_the_key_made_and_who_refused(pytester: pytest.Pyte
             "fault wrong_rp_id is enabled: other.example",
             "transactions of the key (hidlog show --summary):",
             "registrations: 1",
-            "the key's last response ends at line * of the recording",
+            "the key's last response ends at line * of the recording (--security-key-log DIR saves it)",
         ],
         consecutive=False,
     )

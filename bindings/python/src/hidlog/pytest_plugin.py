@@ -139,7 +139,7 @@ def _make_section(item: pytest.Item, key: SecurityKey, number: int) -> str:
     parts.append(f"the key refused its last request: {cause}" if cause else "")
     paths = _save_recordings(item, key, number, folder) if folder else []
     parts += [f"recorded in {path}" for path in paths]
-    named = f"the recording {paths[-1]}" if paths else "the recording"
+    named = f"the recording {paths[-1]}" if paths else "the recording (--security-key-log DIR saves it)"
     parts.append(f"the key's last response ends at line {end} of {named}" if end else "")
     return "\n".join(filter(None, parts))
 
