@@ -44,8 +44,8 @@ class Place:
         if how == "error=ENOMEM" and self.call == "brk":
             how = "retval=0"  # brk returns no error: if memory is short, it returns the old end of the heap
         inject = f"inject={self.call}:{how}:when={self.number}"
-        # The calls of openat show which file was closed.
-        trace = f"trace=openat,{self.call}"
+        # The other calls show which file is concerned, and whether it gets another name.
+        trace = f"trace=openat,rename,unlink,{self.call}"
         # With --seccomp-bpf, strace is many times as fast, but can't send signals.
         fast = [] if self.fault == "KILL" else ["--seccomp-bpf"]
         return ["strace", "-f", *fast, "-qq", "-o", str(log), "-e", trace, "-e", inject]
@@ -70,17 +70,29 @@ def was_injected(log: Path, place: Place) -> bool:
     return _CALL.findall(text).count(place.call) >= place.number if is_kill else "(INJECTED)" in text
 
 
+def is_renamed(path: str, calls: Iterable[str]) -> bool:
+    """Returns whether the file at the path takes another name before it is removed or replaced."""
+    for call in calls:
+        if f'"{path}"' in call and " = -1 " not in call and re.search(r"rename|unlink|O_CREAT", call):
+            return "rename" in call
+    return False
+
+
 def was_recoverable(log: Path) -> bool:
-    """Returns whether the failed call was a read, or concerned a temporary file beside the saved file, so that the
-    saved file is unchanged."""
+    """Returns whether the failed call was a read, or concerned a temporary file beside the saved file that was not
+    renamed to it, so that the saved file is unchanged."""
     opened: dict[str, str] = {}
-    for line in log.read_text(encoding="utf-8", errors="replace").splitlines():
+    lines = log.read_text(encoding="utf-8", errors="replace").splitlines()
+    for place, line in enumerate(lines):
         if found := re.search(r"openat\(.*, (\".*\", \S+?)(?:, 0\d+)?\) = (\d+)$", line):
             opened[found[2]] = found[1]
         if "(INJECTED)" in line:
             number = re.search(r"\((\d+)", line)
-            about = line if '"/' in line or number is None else opened.get(number[1], "")
-            return ".hidlog-copy" in about or "O_RDONLY" in about
+            if '"/' in line or number is None:  # the call has a path: it opens, renames or removes a file
+                return ".hidlog-copy" in line or "O_RDONLY" in line
+            about = opened.get(number[1], "")
+            copy = re.search(r'"([^"]*\.hidlog-copy[^"]*)"', about)
+            return "O_RDONLY" in about or copy is not None and not is_renamed(copy[1], lines[place + 1 :])
     return False
 
 
