@@ -105,8 +105,8 @@ func (c browserCall) parseOptions() map[string]any {
 	return options
 }
 
-// findOption returns the value of a member of nested objects, and whether it is present. path has the names of the
-// members, with dots.
+// findOption returns the value of a member of nested objects, and whether it is present. path is the names of the
+// members, separated by dots.
 func findOption(options map[string]any, path string) (any, bool) {
 	var value any = options
 	isPresent := true

@@ -39,14 +39,14 @@ def check_release(processor: str, name: str) -> Path:
     for path in (TOP / "prebuilt" / processor / name, TOP / FILES[processor][name]):
         if path.is_file():
             return path
-    raise SystemExit(f"python: {name} not found in prebuilt/{processor} or at {FILES[processor][name]}")
+    raise SystemExit(f"bindings/python: {name} not found in prebuilt/{processor} or at {FILES[processor][name]}")
 
 
 def read_build_info() -> Path:
     """Returns the path of the file with the version and the sources of the release."""
     found = [place for place in (TOP / "prebuilt" / "BUILD", TOP.parents[1] / "release" / "BUILD") if place.is_file()]
     if not found:
-        raise SystemExit("python: BUILD not found in prebuilt or ../../release")
+        raise SystemExit("bindings/python: BUILD not found in prebuilt or ../../release")
     return found[0]
 
 
@@ -55,7 +55,7 @@ def list_corpus_files() -> list[Path]:
     for folder in (TOP / "prebuilt" / CORPUS, TOP.parents[1] / "conformance" / CORPUS):
         if folder.is_dir():
             return sorted(folder.glob("*.py"))
-    raise SystemExit(f"python: {CORPUS} not found in prebuilt or ../../conformance")
+    raise SystemExit(f"bindings/python: {CORPUS} not found in prebuilt or ../../conformance")
 
 
 def read_page_script() -> Path:
@@ -63,7 +63,7 @@ def read_page_script() -> Path:
     for path in (TOP / "prebuilt" / PAGE_SCRIPT, TOP.parent / "web" / "dist" / PAGE_SCRIPT):
         if path.is_file():
             return path
-    raise SystemExit(f"python: {PAGE_SCRIPT} not found in prebuilt or ../web/dist")
+    raise SystemExit(f"bindings/python: {PAGE_SCRIPT} not found in prebuilt or ../web/dist")
 
 
 def find_dissector() -> Path:
@@ -71,7 +71,7 @@ def find_dissector() -> Path:
     for path in (TOP / "prebuilt" / DISSECTOR, TOP.parents[1] / "dissector" / DISSECTOR):
         if path.is_file():
             return path
-    raise SystemExit(f"python: {DISSECTOR} not found in prebuilt or ../../dissector")
+    raise SystemExit(f"bindings/python: {DISSECTOR} not found in prebuilt or ../../dissector")
 
 
 def version() -> str:

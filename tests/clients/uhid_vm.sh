@@ -119,8 +119,8 @@ create_ssh_key() {
 }
 
 # Writes pam-u2f's authfile for root, with the ID of one credential and the public key of another, and a PAM service
-# that uses the authfile: write_pam_file ID_OF KEY_OF
-write_pam_file() {
+# that uses the authfile: write_pam_files ID_OF KEY_OF
+write_pam_files() {
     printf 'root:%s,%s,es256,+presence\n' "$(head -1 "$1.public")" \
         "$(grep -v -- ---- "$2.pem" | base64 -d | tail -c 64 | base64 -w 0)" >authfile
     printf 'auth required pam_u2f.so authfile=/root/authfile origin=relying.example appid=relying.example\n' \
@@ -143,7 +143,7 @@ touch_key() {
     echo y >&4
 }
 
-# Runs a command that needs a touch: run_with_touch COMMAND ..
+# Runs a command that needs a touch, and touches the key when it waits: run_with_touch COMMAND ..
 run_with_touch() {
     "$@" &
     first=$!
@@ -280,9 +280,9 @@ run_all() {
     expect_failure "ssh-keygen -t ed25519-sk" "not supported" ssh-keygen -q -t ed25519-sk -N '' -f other
     expect_failure "ssh-keygen -O resident" "not supported" ssh-keygen -q -t ecdsa-sk -O resident -N '' -f other
     if has_pamtester; then
-        write_pam_file alice alice
+        write_pam_files alice alice
         expect_success "pam_u2f.so signs in" pamtester hidlog root authenticate
-        write_pam_file alice bob
+        write_pam_files alice bob
         expect_failure "pam_u2f.so with another public key" "Authentication failure" pamtester hidlog root authenticate
         expect_success "pamu2fcfg registers, or refuses an attestation without a certificate, as before 1.3" configure_pam
     fi

@@ -1,4 +1,4 @@
-// Tests the fields of the page's detail and their bytes. Some expected values are written by hand from
+// Tests the fields that the page shows for a message, and which bytes belong to each field. Some expected values are written by hand from
 // examples/registration.log. For all logs, the bytes are compared with the digits in the core's explanations.
 import assert from "node:assert/strict";
 import { readdirSync, readFileSync } from "node:fs";

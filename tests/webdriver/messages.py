@@ -99,8 +99,8 @@ def make_credential(rp_id: str, pkcs8: bytes, **more: Any) -> dict[str, Any]:
     return {**made, "userHandle": to_base64url(b"ann"), "signCount": 7, "privateKey": to_base64url(pkcs8), **more}
 
 
-def make_authenticator_data(rp_id: str) -> bytes:
-    """Returns authenticator data for a relying party, with the hash of its ID."""
+def make_data_to_sign(rp_id: str) -> bytes:
+    """Returns the data that an assertion for this RP ID signs: authenticator data, and a client data hash of zeros."""
     return sha256(rp_id.encode()).digest() + b"\x01" + bytes(4) + bytes(32)
 
 
@@ -118,19 +118,19 @@ def test_no_foreign_keys(rig: Fixture) -> None:
         "id": 3,
         "name": "sign",
         "point": to_base64(point),
-        "data": to_base64(make_authenticator_data("bank.example")),
+        "data": to_base64(make_data_to_sign("bank.example")),
     }
     rig.expect_error(rig.evil, sign)
-    rig.expect_error(rig.evil, {**sign, "data": to_base64(make_authenticator_data("evil.example"))})
-    rig.expect_error(rig.bank, {**sign, "data": to_base64(make_authenticator_data("evil.example"))})
+    rig.expect_error(rig.evil, {**sign, "data": to_base64(make_data_to_sign("evil.example"))})
+    rig.expect_error(rig.bank, {**sign, "data": to_base64(make_data_to_sign("evil.example"))})
     rig.expect_error(
         rig.bank, {**sign, "data": to_base64(b"anything else that must be signed, such as another protocol's text")}
     )
-    rig.expect_error(rig.bank, {**sign, "data": to_base64(make_authenticator_data("bank.example")[:40])})
+    rig.expect_error(rig.bank, {**sign, "data": to_base64(make_data_to_sign("bank.example")[:40])})
     reply = rig.send(rig.bank, sign)
     raw = base64.b64decode(reply[1]["signature"])
     signature = encode_dss_signature(int.from_bytes(raw[:32], "big"), int.from_bytes(raw[32:], "big"))
-    rig.private.public_key().verify(signature, make_authenticator_data("bank.example"), ec.ECDSA(hashes.SHA256()))
+    rig.private.public_key().verify(signature, make_data_to_sign("bank.example"), ec.ECDSA(hashes.SHA256()))
     sub = Document("t", 3, "3", "https://login.bank.example:8443")
     assert len(rig.send(sub, {"id": 4, "name": "begin"})[1]["credentials"]) == 1, "a host below the RP ID's"
     for origin in (
@@ -174,10 +174,10 @@ def test_no_foreign_changes(rig: Fixture) -> None:
         "id": 3,
         "name": "sign",
         "point": to_base64(made),
-        "data": to_base64(make_authenticator_data("evil.example")),
+        "data": to_base64(make_data_to_sign("evil.example")),
     }
     rig.expect_error(rig.bank, sign)
-    rig.expect_error(rig.evil, {**sign, "data": to_base64(make_authenticator_data("bank.example"))})
+    rig.expect_error(rig.evil, {**sign, "data": to_base64(make_data_to_sign("bank.example"))})
     assert rig.send(rig.evil, sign)[1]["signature"]
     assert not rig.send(rig.evil, {**end, "credentials": [mine]})[2]
     assert [credential["rpId"] for credential in rig.key.credentials] == ["bank.example", "evil.example"]
@@ -257,8 +257,8 @@ MEMBER_VALUES: list[Any] = [
 ]
 MEMBER_VALUES += [
     to_base64(bytes(64)),
-    to_base64(make_authenticator_data("bank.example")),
-    to_base64(make_authenticator_data("evil.example")),
+    to_base64(make_data_to_sign("bank.example")),
+    to_base64(make_data_to_sign("evil.example")),
     "bank.example",
 ]
 MEMBER_VALUES += [to_base64url(b"the bank's credential"), "https://bank.example", "evil.example", "d"]
