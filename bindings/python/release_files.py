@@ -84,7 +84,7 @@ def detect_processor() -> str:
     """Returns the processor of the wheel, or PORTABLE if the library has to be compiled."""
     named = os.environ.get("HIDLOG_PROCESSOR")
     if named and named not in (*FILES, WINDOWS, PORTABLE):
-        raise SystemExit(f"python: HIDLOG_PROCESSOR is {named}; it must be {', '.join(FILES)}, {WINDOWS} or {PORTABLE}")
+        raise SystemExit(f"bindings/python: HIDLOG_PROCESSOR is {named}; it must be {', '.join(FILES)}, {WINDOWS} or {PORTABLE}")
     is_linux = platform.system() == "Linux"
     return named or (platform.machine() if is_linux and platform.machine() in FILES else PORTABLE)
 
@@ -104,7 +104,7 @@ def find_portable_sources(folder: Path) -> Path:
             return path
     script = TOP.parent / "c" / "sources.sh"
     if not script.is_file() or shutil.which("wasm2c") is None:
-        raise SystemExit("python: the portable library's sources are missing: install wabt, or build from the sdist")
+        raise SystemExit("bindings/python: the portable library's sources are missing: install wabt, or build from the sdist")
     subprocess.run([str(script), str(folder / PORTABLE)], check=True)
     return folder / PORTABLE
 
@@ -116,7 +116,7 @@ def find_compiler(processor: str) -> str:
     for name in names:
         if shutil.which(name.split()[0]):
             return name
-    raise SystemExit(f"python: a C compiler is missing (tried {', '.join(names)}): install one, or set CC")
+    raise SystemExit(f"bindings/python: a C compiler is missing (tried {', '.join(names)}): install one, or set CC")
 
 
 def compile_library(processor: str, folder: Path) -> Path:
@@ -142,7 +142,7 @@ def link_library(archive: Path, folder: Path) -> Path:
     own = ["ld"] if platform.machine() == "aarch64" else []
     linker = next((command for command in ("ld.lld", "aarch64-linux-gnu-ld", *own) if shutil.which(command)), None)
     if linker is None:
-        raise SystemExit("python: a linker for aarch64 is missing: install lld, or binutils-aarch64-linux-gnu")
+        raise SystemExit("bindings/python: a linker for aarch64 is missing: install lld, or binutils-aarch64-linux-gnu")
     words = ["-m", "aarch64linux", "-shared", "-soname", LIBRARY, "-z", "relro", "-z", "now", "--strip-all"]
     library = folder / LIBRARY
     subprocess.run([linker, *words, "-o", library, "--whole-archive", archive], check=True)

@@ -1,5 +1,6 @@
-// Tests the fields that the page shows for a message, and which bytes belong to each field. Some expected values are written by hand from
-// examples/registration.log. For all logs, the bytes are compared with the digits in the core's explanations.
+// Tests the fields that the page shows for a message, and which bytes belong to each field. Some expected values are
+// written by hand from examples/registration.log. For all logs, the bytes are compared with the digits in the core's
+// explanations.
 import assert from "node:assert/strict";
 import { readdirSync, readFileSync } from "node:fs";
 import { test } from "node:test";
