@@ -84,7 +84,8 @@ def detect_processor() -> str:
     """Returns the processor of the wheel, or PORTABLE if the library has to be compiled."""
     named = os.environ.get("HIDLOG_PROCESSOR")
     if named and named not in (*FILES, WINDOWS, PORTABLE):
-        raise SystemExit(f"bindings/python: HIDLOG_PROCESSOR is {named}; it must be {', '.join(FILES)}, {WINDOWS} or {PORTABLE}")
+        allowed = f"{', '.join(FILES)}, {WINDOWS} or {PORTABLE}"
+        raise SystemExit(f"bindings/python: HIDLOG_PROCESSOR is {named}; it must be {allowed}")
     is_linux = platform.system() == "Linux"
     return named or (platform.machine() if is_linux and platform.machine() in FILES else PORTABLE)
 
@@ -104,7 +105,8 @@ def find_portable_sources(folder: Path) -> Path:
             return path
     script = TOP.parent / "c" / "sources.sh"
     if not script.is_file() or shutil.which("wasm2c") is None:
-        raise SystemExit("bindings/python: the portable library's sources are missing: install wabt, or build from the sdist")
+        reason = "the portable library's sources are missing: install wabt, or build from the sdist"
+        raise SystemExit(f"bindings/python: {reason}")
     subprocess.run([str(script), str(folder / PORTABLE)], check=True)
     return folder / PORTABLE
 
