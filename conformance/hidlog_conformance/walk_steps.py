@@ -244,7 +244,7 @@ class Steps:
         }
         if self.device_info.options.get("rk") and self.happens(0.6):
             asked[7] = {"rk": True}
-            # `count_credential` counts the credential.
+            # `count_credential` increments `made` later.
             self.users[self.made + 1] = user
             self.rps[self.made + 1] = rp
         return MAKE + encode(asked)

@@ -121,7 +121,7 @@ static void write_packets(struct hidlog_key *key, int32_t queued) {
     uint8_t packet[64];
     for (; queued > 0; queued--) {
         if (hidlog_key_queued_packets(key) != queued || hidlog_key_read_packet(key, packet) != queued - 1) {
-            fail("hidlog_key_queued_packets returned another number than the input's call");
+            fail("hidlog_key_queued_packets or hidlog_key_read_packet returned a wrong number of queued packets");
         }
         fputs("< ", stdout);
         for (int i = 0; i < 64; i++) {

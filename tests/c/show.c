@@ -53,7 +53,7 @@ int main(int count, char **words)
     for (;;) {
         uint8_t *out = show(log, size, form, out_cap, &result);
         if (known > result.written || memcmp(before, out, known)) {
-            fprintf(stderr, "show: with capacity %zu: the output is not a prefix of the complete output\n", out_cap);
+            fprintf(stderr, "show: the output with the previous capacity is not a prefix of that with %zu\n", out_cap);
             return 2;
         }
         free(before);

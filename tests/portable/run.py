@@ -284,7 +284,7 @@ def test_size(sources: Path) -> None:
 
 
 def test_syntax(sources: Path) -> None:
-    """The library has no warning of clang for systems that nothing here runs, except about padding and C89."""
+    """clang reports no warnings, except about padding and C89, for systems whose programs cannot run here."""
     words = ["clang", "-std=c11", "-ffreestanding", "-fsyntax-only", "-Weverything", "-Werror"]
     words += ["-Wno-padded", "-Wno-declaration-after-statement", "-isystem", str(HERE / "headers")]
     for target in CHECKED_TARGETS:

@@ -69,7 +69,8 @@ export class SignIn {
             return ceremony;
         }
         if (!left.length) {
-            throw makeNotAllowed("each credential's protection policy (credProtect) requires user verification or its ID");
+            const needed = isListed ? "user verification" : "user verification, or its ID in allowCredentials";
+            throw makeNotAllowed(`each credential's protection policy (credProtect) requires ${needed}`);
         }
         return ceremony.withCredentials(left);
     }

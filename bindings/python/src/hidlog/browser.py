@@ -212,8 +212,8 @@ class Browser:
         if len(left) == len(listed):
             return started
         if not left:
-            text = "each credential's protection policy (credProtect) requires user verification or its ID"
-            raise NotAllowedError(text)
+            needed = "user verification" if is_listed else "user verification, or its ID in allowCredentials"
+            raise NotAllowedError(f"each credential's protection policy (credProtect) requires {needed}")
         return self._begin_with(options, left, signal)
 
     def _begin_with(self, options: Any, core_ids: list[bytes], signal: Signal | None) -> _PendingCall:
