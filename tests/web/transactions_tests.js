@@ -21,9 +21,16 @@ const openSessions = async (Worker) => {
     await waitUntil(() => /^sessions\.log: \d+ lines/.test(readNotice()) && getElement("story").textContent, "the lines");
     // The rows are shown first, and their explanations later.
     await waitUntil(() => listTexts().some((text) => text.includes("Registration: done at example.com")), "the first words");
-    getElement("scroller").scrollTop = getElement("scroller").scrollHeight;
     const isLastRow = (row) => row?.getAttribute("aria-posinset") === row?.getAttribute("aria-setsize");
-    await waitUntil(() => isLastRow(listRows().at(-1)) && !listTexts().join().includes("…"), "the words of the last lines");
+    const showsLastWords = () => {
+        if (isLastRow(listRows().at(-1))) {
+            return !listTexts().join().includes("…");
+        }
+        // Scrolls again, since the rows may move while the page around them changes.
+        getElement("scroller").scrollTop = getElement("scroller").scrollHeight;
+        return false;
+    };
+    await waitUntil(showsLastWords, "the words of the last lines");
     const signIn = "Sign-in: done at example.com  ·  authenticatorGetAssertion → CTAP2_OK";
     expect(listTexts().at(-1).includes(signIn), listTexts().at(-1));
     await waitUntil(() => /registrations: done/.test(getElement("story").textContent), "the story");
