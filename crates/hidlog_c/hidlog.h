@@ -74,17 +74,17 @@ void hidlog_show(const uint8_t *log, size_t log_len, uint32_t explain, uint8_t *
 /* Writes which transaction each line belongs to, by the rules of docs/use/EXPLAINED.md: one line of space-separated
  * decimal numbers for each packet, tick and reply. They are the line number, the first line of its transaction (or 0),
  * and the first line of the message this packet belongs to (or 0, as for a CANCEL, a packet out of sequence and a
- * reply). A word follows for each thing this line shows about earlier lines:
+ * reply). A word follows for each fact that this line shows about earlier lines:
  *
  *     l12     line 12 is a late packet: it belongs to no transaction and no message
  *     s12:46  the transaction from line 12 ends with a response of status 46
- *     a12     .. with a response without a status
- *     c12     .. with an incomplete response: no further packet of it follows
- *     e12:6   .. with an ERROR of code 6
- *     d12:17  .. dropped by the CANCEL or INIT of line 17
- *     r12:17  .. replaced by the message from line 17, on its channel
- *     f12     .. is no longer tracked: too many are open
- *     u12     .. has an unknown end: the log does not tell whether it was answered
+ *     a12     it ends with a response without a status
+ *     c12     it ends with an incomplete response: no further packet of it follows
+ *     e12:6   it ends with an ERROR of code 6
+ *     d12:17  it is dropped by the CANCEL or INIT of line 17
+ *     r12:17  it is replaced by the message from line 17, on its channel
+ *     f12     it is no longer tracked: too many transactions are open
+ *     u12     its end is unknown: the log does not show whether it got a response
  *
  * A transaction without such a word is open at the log's end, or its response is incomplete there. The text has about a
  * sixth of the log's length. Errors are those of hidlog_show. */
@@ -188,7 +188,7 @@ enum hidlog_cause_code {
     HIDLOG_CAUSE_INIT_LENGTH = 2,      /* an INIT with `first` data bytes, not 8 */
     HIDLOG_CAUSE_MESSAGE_LENGTH = 3,   /* a message of command `first` has the invalid length `second` */
     HIDLOG_CAUSE_WRONG_NUMBER = 4,     /* sequence number `first`, expected `second` */
-    HIDLOG_CAUSE_BROKEN_OFF = 5,       /* a message began; packet `first` of another was expected on its channel */
+    HIDLOG_CAUSE_BROKEN_OFF = 5,       /* a message began while packet `first` of another was expected on its channel */
     HIDLOG_CAUSE_TIMED_OUT = 6,        /* the message's last packet came at `first`; it is `second` now */
     HIDLOG_CAUSE_BUSY_ELSEWHERE = 7,   /* channel `first` has an incomplete message or a pending request */
     HIDLOG_CAUSE_BUSY_HERE = 8,        /* a request is pending on this channel */
@@ -257,9 +257,9 @@ int32_t hidlog_key_credential_count(struct hidlog_key *key);
 /* Stores the credential at this index, from 0. Returns 0, or HIDLOG_KEY_ERR_INVALID_ARGUMENT if there is none. */
 int32_t hidlog_key_get_credential(struct hidlog_key *key, size_t index, struct hidlog_credential *credential);
 
-/* These change the credentials, if no packet is queued and nothing is needed (otherwise HIDLOG_KEY_ERR_PACKETS_QUEUED
- * or HIDLOG_KEY_ERR_BUSY). Each also power-cycles the key at `now_ms`: its channels, an incomplete message, pending
- * assertions and statistics are lost, so a client starts with INIT again. They return 0.
+/* The next three functions change the credentials, if no packet is queued and nothing is needed (otherwise
+ * HIDLOG_KEY_ERR_PACKETS_QUEUED or HIDLOG_KEY_ERR_BUSY). Each also power-cycles the key at `now_ms`: its channels, an
+ * incomplete message, pending assertions and statistics are lost, so a client starts with INIT again. They return 0.
  *
  * hidlog_key_add_credential appends a credential, and removes an earlier one with the same ID. Bytes after user_id_len
  * and user_name_len are ignored. HIDLOG_KEY_ERR_INVALID_ARGUMENT: a length over 64, a name that is not UTF-8, or a
@@ -293,9 +293,9 @@ struct hidlog_stats {
 /* Stores the statistics. Returns 0. */
 int32_t hidlog_key_get_stats(struct hidlog_key *key, struct hidlog_stats *stats);
 
-/* Plays log lines, each with its newline, and writes what hidlog_live writes for them, without the totals line: a
- * recording as it happens. 18,000 bytes are enough for one line. The result is stored in *result, with line numbers
- * counted from 1 in these lines; on an error, the lines before the bad one were played. On HIDLOG_ERR_BUFFER_TOO_SMALL
+/* Plays log lines, each with its newline, and writes what hidlog_live writes for them, without the totals line. This
+ * records a session as it runs. 18,000 bytes are enough for one line. The result is stored in *result, with line
+ * numbers counted from 1 in these lines. On an error, the lines before it were played. On HIDLOG_ERR_BUFFER_TOO_SMALL,
  * the last line was played, and its text is truncated. Returns the result's status, 0 or 1. */
 int32_t hidlog_key_replay_lines(struct hidlog_key *key, const uint8_t *log, size_t log_len, uint8_t *out,
                                 size_t out_cap, struct hidlog_result *result);
@@ -341,7 +341,7 @@ enum hidlog_client_error {
 
 struct hidlog_client_report {
     uint32_t timeout_ms;  /* timeout of the options */
-    uint32_t is_verified; /* 1 if the response has user verification: sign the authenticator data with UV set */
+    uint32_t is_verified; /* 1 if the user is verified: set the UV flag in the authenticator data before signing it */
     uint32_t member_len;
     uint32_t reason_len;
 };

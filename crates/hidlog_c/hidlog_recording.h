@@ -1,9 +1,10 @@
 /* Records a key's session as it runs: a log of every input and packet, for `hidlog check` and `hidlog show --explain`.
- * It needs only the C standard library.
+ * This header needs only hidlog.h and the C standard library.
  *
- * Each function makes the hidlog.h call of the same name and, if it succeeds, writes its line to the open stream `log`
- * and flushes it. It returns the call's result, or HIDLOG_ERR_NOT_RECORDED, with errno set, if the call succeeded but
- * its line could not be written. Read each packet with hidlog_record_read_packet before the next input.
+ * Each function with a key, such as hidlog_record_tick, calls its counterpart in hidlog.h, such as hidlog_key_tick. If
+ * the call succeeds, the function writes its line to the open stream `log` and flushes the stream. It returns the
+ * call's result, or HIDLOG_ERR_NOT_RECORDED, with errno set, if the call succeeded but its line could not be written.
+ * Read each packet with hidlog_record_read_packet before the next input.
  *
  * `hidlog check` replays a key whose AAGUID is zeros and that powers up at 0. If the key starts with credentials, keep
  * their snapshot with the recording, for `hidlog check --load`. */
@@ -17,14 +18,14 @@
 
 enum { HIDLOG_ERR_NOT_RECORDED = -32 };
 
-/* Writes bytes in hex. */
+/* Writes bytes in hexadecimal. */
 static inline void hidlog_record_hex(FILE *log, const uint8_t *bytes, size_t len) {
     for (size_t i = 0; i < len; i++) {
         fprintf(log, "%02x", bytes[i]);
     }
 }
 
-/* Ends a line. Returns `result`, the result of its call, or HIDLOG_ERR_NOT_RECORDED. */
+/* Ends a line and flushes the log. Returns `result`, or HIDLOG_ERR_NOT_RECORDED if the line could not be written. */
 static inline int32_t hidlog_record_finish_line(FILE *log, int32_t result) {
     fputc('\n', log);
     return fflush(log) == 0 && !ferror(log) ? result : HIDLOG_ERR_NOT_RECORDED;

@@ -17,7 +17,7 @@ use Rattle.authn_core.specs.State.{Answered, Waits, Ignored, Nothing}
 use Rattle.authn_core.specs.Exchanges.{Exchange, PendingRequest, begin_pending_request, rows_after, pending_request}
 use Rattle.authn_core.specs.Assertions.{assertion_for, may_continue_series, latest_series}
 
--- Only a status.
+-- A response that consists of this status byte alone.
 abbrev pub status_response : ℕ → Answer
 status_response code = Answered (code ∷ [])
 
@@ -25,7 +25,7 @@ status_response code = Answered (code ∷ [])
 abbrev pub presence_needed : Answer
 presence_needed = Waits 2
 
--- Pending, processing.
+-- KEEPALIVE status 1: processing (CTAP 2.1, section 11.2.9.1.7).
 abbrev pub still_processing : Answer
 still_processing = Waits 1
 
@@ -52,7 +52,7 @@ abbrev pub is_full : (capacity : ℕ) → List Row → (rp user : List ℕ) (dis
 is_full capacity rows rp user discoverable =
     nat_le capacity (length rows) && not (list_any (replaces_credential rp user discoverable) rows)
 
--- The user consented.
+-- Whether the user consented.
 abbrev pub is_granted : Presence → Bool
 is_granted Granted = true
 is_granted reply = false
@@ -80,7 +80,7 @@ attestation_answer aaguid rp key (Some sig) =
 
 -- ---- authenticatorGetAssertion and authenticatorGetNextAssertion (sections 6.2.2 and 6.3)
 
--- The signature counter.
+-- The signature counter of the row, or 0 for None.
 abbrev pub sign_count : Option Row → ℕ
 sign_count None = 0
 sign_count (Some r) = r.counter
@@ -92,12 +92,12 @@ begin_assertion_answer rows none waits (Some a) =
     if nat_le 4294967295 (sign_count (find_row a.id rows)) then status_response 0x15  -- LIMIT_EXCEEDED
     else waits
 
--- The user handle, if the credential is discoverable.
+-- The user handle of the row, if the credential is discoverable.
 abbrev pub user_handle : Option Row → Option (List ℕ)
 user_handle None = None
 user_handle (Some r) = if r.discoverable then Some r.user.items else None
 
--- The response to an assertion's signature. The counter was incremented before.
+-- The response to an assertion's signature. The signature counter was already incremented.
 abbrev pub assertion_signature_answer : List Row → Option AssertState → Option (List ℕ) → Answer
 assertion_signature_answer rows None sig = Ignored
 assertion_signature_answer rows (Some a) None = status_response 0x7f  -- OTHER
@@ -105,7 +105,7 @@ assertion_signature_answer rows (Some a) (Some sig) =
     let row = find_row a.id rows in
     Answered (assertion_answer a.id (assertion_bytes a.rp a.presence (sign_count row)) sig (user_handle row) a.number)
 
--- ---- what is answered
+-- ---- answers to events
 
 -- The answer to a request.
 abbrev pub request_answer : Start → List Exchange → (now cid : ℕ) → Result RequestParameters ℕ → Answer
@@ -125,7 +125,7 @@ request_answer start past now cid (Ok GetNextAssertion) =
     (assertion_for start past GetNextAssertion)
     else status_response 0x30  -- NOT_ALLOWED
 
--- The answer to a reply for the pending request, after its earlier replies `took`, newest first. A reply that isn't
+-- The answer to a reply for the pending request. `took` are its earlier replies, newest first. A reply that isn't
 -- needed is ignored.
 abbrev pub reply_answer : Start → List Row → Option AssertState → RequestParameters → (took : List Event) → (reply : Event) → Answer
 reply_answer start rows a Reset [] (PresenceIs reply) = consent_answer reply
@@ -161,12 +161,12 @@ answer_to start past now reply = pending_reply_answer start past (pending_reques
 
 -- ---- changes of the credentials
 
--- The credential ID.
+-- The ID of the credential that signs the assertion, if any.
 abbrev pub assertion_id : Option AssertState → Option (List ℕ)
 assertion_id None = None
 assertion_id (Some a) = Some a.id
 
--- The credential that this request creates when signed (CTAP 2.1, section 6.1.2).
+-- The credential that this request creates when it is signed, if any (CTAP 2.1, section 6.1.2).
 abbrev pub new_credential : RequestParameters → (took : List Event) → Option Row
 new_credential (MakeCredential hash rp_id user_id user_name discoverable exclude) (KeyIs (Some key) ∷ took) = Some (record {
   rp = sha256 rp_id;
@@ -180,7 +180,7 @@ new_credential (MakeCredential hash rp_id user_id user_name discoverable exclude
 })
 new_credential asked took = None
 
--- The credential that an event creates.
+-- The credential that an event creates, if any.
 abbrev pub created_credential : Option PendingRequest → Event → Option Row
 created_credential (Some u) (SignatureIs (Some sig)) = new_credential u.asked u.took
 created_credential u event = None
@@ -206,7 +206,7 @@ abbrev pub resets_credentials : Option PendingRequest → Event → Bool
 resets_credentials None event = false
 resets_credentials (Some u) event = is_reset_granted u.asked event
 
--- The event's request, or else the pending one.
+-- The request that the event begins, or else the pending request.
 abbrev pub request_of_event : List Exchange → Event → Option PendingRequest
 request_of_event past (Request cid bytes) = begin_pending_request cid 0 past (read_of bytes)
 request_of_event past event = pending_request past

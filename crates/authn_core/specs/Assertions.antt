@@ -9,14 +9,14 @@ use Rattle.sha2.specs.Sha256.{sha256}
 use Rattle.authn_core.specs.{Exchanges.Exchange, Exchanges.rows_after, Turn.Start}
 use Rattle.authn_core.specs.State.{AssertState, Event, Request, SignatureIs, Answer, Answered, Waits, Ignored}
 
--- The IDs of the applicable credentials: the first ID of the RP in the allow list, or else all discoverable ones,
--- newest first (CTAP 2.1, section 6.2.2).
+-- The IDs of the applicable credentials: the first ID in the allow list that belongs to the RP or, without an allow
+-- list, those of all its discoverable credentials, newest first (CTAP 2.1, section 6.2.2).
 abbrev pub applicable_ids : List Row → (rp : List ℕ) → (given : Bool) → (allow : List (List ℕ)) → List (List ℕ)
 applicable_ids rows rp given allow =
     if given then take 1 (filter (λ id. list_any (λ r. bytes_eq r.rp rp && bytes_eq r.id id) rows) allow)
     else map (λ r. r.id) (reverse (filter (λ r. r.discoverable && bytes_eq r.rp rp) rows))
 
--- The numberOfCredentials, if any (CTAP 2.1, section 6.2.2).
+-- The value of numberOfCredentials, if any (CTAP 2.1, section 6.2.2).
 abbrev pub number_of_applicable : (given : Bool) → ℕ → Option ℕ
 number_of_applicable given n = if given then None else if nat_le n 1 then None else Some n
 

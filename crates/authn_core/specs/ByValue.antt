@@ -1,4 +1,4 @@
--- The results of the module `by_value` as answers of the definitions.
+-- The results of the module `by_value` as answers of the specification.
 use Rattle.std.specs.Prelude.{◌≡◌, ℕ, max}
 use Rattle.authn_core.specs.State.{Event, Answer, Answered, Waits, Ignored, Nothing}
 use Rattle.authn_core.specs.Turn.{CoreContents, core_answer}
@@ -6,13 +6,13 @@ use Rattle.authn_core.specs.Views.{IsTurn}
 use Rattle.authn_core.specs.declared.by_value.Turn.{Turn}
 use Rattle.authn_core.specs.declared.by_value.Turn.TheVariants as turns
 
--- Converts the code's `Turn` to an answer of the definitions.
+-- Converts the code's `Turn` to an `Answer`.
 abbrev pub valued_answer : Turn → Answer
 valued_answer (turns.Answer response) = Answered response.items
 valued_answer (turns.Waits status) = Waits status
 valued_answer turns.Ignored = Ignored
 
--- The answer, with that to a dropped request replaced by `Ignored`, because neither has a response.
+-- Replaces the answer to a dropped request by `Ignored`: neither has a response.
 abbrev pub without_drops : Answer → Answer
 without_drops Nothing = Ignored
 without_drops answer = answer

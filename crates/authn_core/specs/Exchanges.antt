@@ -25,7 +25,7 @@ pub record PendingRequest : Type 0 where
   pub status : ℕ
   pub before : List Exchange
 
--- A valid request.
+-- The pending request that a valid request begins, or None for an invalid request.
 abbrev pub begin_pending_request : (cid status : ℕ) → List Exchange → Result RequestParameters ℕ → Option PendingRequest
 begin_pending_request cid status past (Ok asked) =
     Some (record { cid = cid; asked = asked; took = []; status = status; before = past })
@@ -40,7 +40,7 @@ pending_after reply (Waits status) past older =
 pending_after event Ignored past older = older
 pending_after event answer past older = None
 
--- The pending request.
+-- The pending request after a history, if any.
 unfoldable pub pending_request : List Exchange → Option PendingRequest
 pending_request [] = None
 pending_request (x ∷ past) = pending_after x.event x.answer past (pending_request past)

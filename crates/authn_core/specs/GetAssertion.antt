@@ -11,7 +11,7 @@ use Rattle.authn_core.specs.declared.refusal.Refusal.TheVariants as because
 use Rattle.authn_core.specs.Refusals.{presence_refusal}
 use Rattle.authn_core.specs.State.{AssertState, AwaitAssertPresence, TurnResult, respond, respond_refusal, await_reply, await_signature}
 
--- The credential of the RP with the first ID in the list that belongs to one.
+-- The credential of the RP whose ID comes first in the list.
 abbrev pub find_allowed : (rp : List ℕ) → List Row → List (List ℕ) → Option Row
 find_allowed rp rows [] = None
 find_allowed rp rows (id ∷ others) = option_or (find (is_named rp id) rows) (find_allowed rp rows others)
@@ -58,7 +58,7 @@ assertion_after_signature rows pending now a counter (Some sig) =
     respond rows (with_time now pending)
     (assertion_answer a.id (assertion_bytes a.rp a.presence counter) sig (user_handle_in (find (has_id a.id) rows)) a.number)
 
--- ---- the next one
+-- ---- authenticatorGetNextAssertion
 
 -- The time limit for getNextAssertion after a response, in milliseconds (CTAP 2.1, section 6.3).
 abbrev pub NEXT_LIMIT : ℕ

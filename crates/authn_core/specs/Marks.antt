@@ -40,11 +40,11 @@ is_kept later r = not (list_any (λ m. m.resets) later) && not (list_any (λ m. 
 abbrev pub with_increments : List CredentialChange → Row → Row
 with_increments later r = record r { counter = r.counter + length (filter (λ m. is_incremented m.raises r) later) }
 
--- The row, unless it was removed.
+-- The row with the later increments, or no row if a later change removes or replaces it.
 abbrev pub row_if_kept : List CredentialChange → Row → List Row
 row_if_kept later r = if is_kept later r then with_increments later r ∷ [] else []
 
--- The credentials after a history of changes, newest first, and the later changes `later`.
+-- The credentials after a history of changes (newest first) and after the later changes `later`.
 unfoldable pub rows_among : List Row → List CredentialChange → List CredentialChange → List Row
 rows_among start later [] = flat_map (row_if_kept later) start
 rows_among start later (m ∷ past) =

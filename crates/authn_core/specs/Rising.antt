@@ -5,7 +5,7 @@ use Rattle.std.specs.Str.{bytes_eq}
 use Rattle.cred_table.specs.Rows.{counter_of}
 use Rattle.authn_core.specs.{Marks.SignedAssertion, State.State, Views.needs, Views.sign}
 
--- Whether both are signed by the same credential.
+-- Whether the same credential signs both assertions.
 abbrev pub is_same_credential : SignedAssertion → SignedAssertion → Bool
 is_same_credential a b = bytes_eq a.id b.id && a.making == b.making
 

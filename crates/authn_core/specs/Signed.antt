@@ -13,7 +13,7 @@ use Rattle.authn_core.specs.{Marks.TimedEvent, Marks.created_by_event, Views.Nee
 use Rattle.authn_core.specs.State.{MakeState, AssertState, Task, AwaitMakePresence, AwaitKeyPair, AwaitMakeSignature, AwaitAssertPresence, AwaitAssertSignature}
 use Rattle.authn_core.specs.State.{PendingTask, State, Event, Request, PresenceIs, KeyIs, SignatureIs, Answer, Answered}
 
--- ---- what came
+-- ---- the newest request
 
 -- The newest request, unless it is invalid; getNextAssertion doesn't count. Also, whether the user consented since
 -- then, and the keys that the caller supplied.
@@ -22,20 +22,20 @@ pub record LatestRequests : Type 0 where
   pub granted : Bool
   pub keys : List NewKey
 
--- After a request.
+-- The value of `LatestRequests` after a request.
 abbrev pub with_request : LatestRequests → Result RequestParameters ℕ → LatestRequests
 with_request h (Err code) = record h { asked = None; granted = false }
 with_request h (Ok GetNextAssertion) = h
 with_request h (Ok asked) = record h { asked = Some asked; granted = false }
 
--- After an event.
+-- The value of `LatestRequests` after an event.
 abbrev pub with_event : Event → LatestRequests → LatestRequests
 with_event (Request cid bytes) h = with_request h (read_of bytes)
 with_event (PresenceIs Granted) h = record h { granted = true }
 with_event (KeyIs (Some key)) h = record h { keys = key ∷ h.keys }
 with_event e h = h
 
--- After a history, newest first.
+-- The value of `LatestRequests` after a history of events, newest first.
 unfoldable pub requests_of : List TimedEvent → LatestRequests
 requests_of [] = record { asked = None; granted = false; keys = [] }
 requests_of (x ∷ past) = with_event x.event (requests_of past)

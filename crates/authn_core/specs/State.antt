@@ -103,7 +103,7 @@ await_reply rows pending cid task =
       why = None;
     }
 
--- Nothing changes.
+-- The result of an ignored event: nothing changes.
 abbrev pub ignore_event : State → TurnResult
 ignore_event s = record { state = s; answer = Ignored; why = None }
 

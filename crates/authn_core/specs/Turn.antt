@@ -60,7 +60,7 @@ pub record CoreState : Type 0 where
   pub setup : Setup
   pub state : State
 
--- The start: AAGUID, time in milliseconds, capacity, and credentials in order of creation.
+-- The start of an authenticator: AAGUID, time in milliseconds, capacity, and credentials in order of creation.
 pub record Start : Type 0 where
   pub aaguid : List ℕ
   pub moment : ℕ

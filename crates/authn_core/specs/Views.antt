@@ -1,4 +1,4 @@
--- Conversions of the code's values to those of the definitions.
+-- Conversions of the code's values to those of the specification.
 use Rattle.std.specs.Prelude.{◌≡◌, ℕ, max, min, List, Bool, true, false, Option, Some, None}
 use Rattle.authn_core.specs.declared.authenticator.Turn.{Turn}
 use Rattle.authn_core.specs.declared.authenticator.Turn.TheVariants as turns
@@ -26,15 +26,15 @@ abbrev pub status_number : KeepaliveStatus → ℕ
 status_number Processing = 1
 status_number PresenceNeeded = 2
 
--- Converts the code's state of a registration to that of the definitions.
+-- Converts the code's state of a registration to `MakeState`.
 abbrev pub to_make_state : MakingKept → MakeState
 to_make_state m = record { hash = m.hash; rp = m.rp; user = m.user.items; name = m.name; discoverable = m.discoverable }
 
--- Converts the code's assertion to that of the definitions.
+-- Converts the code's state of an assertion to `AssertState`.
 abbrev pub to_assert_state : AssertingKept → AssertState
 to_assert_state a = record { hash = a.hash; rp = a.rp; id = a.id; presence = a.presence; number = a.number }
 
--- Converts the code's task to that of the definitions.
+-- Converts the code's task to `Task`.
 abbrev pub to_task : TaskKept → Task
 to_task kept.AwaitResetPresence = AwaitResetPresence
 to_task kept.AwaitSelectionPresence = AwaitSelectionPresence
@@ -44,7 +44,7 @@ to_task (kept.AwaitMakeSignature m k signed) = AwaitMakeSignature (to_make_state
 to_task (kept.AwaitAssertPresence a) = AwaitAssertPresence (to_assert_state a)
 to_task (kept.AwaitAssertSignature a counter signed) = AwaitAssertSignature (to_assert_state a) counter signed.items
 
--- Converts the code's pending task, with its channel, to that of the definitions.
+-- Converts the code's pending task, with its channel, to `PendingTask`.
 abbrev pub to_pending_task : ChannelTaskKept → PendingTask
 to_pending_task w = record { cid = w.cid; task = to_task w.task }
 
@@ -52,11 +52,11 @@ to_pending_task w = record { cid = w.cid; task = to_task w.task }
 abbrev pub pending_work : PendingTask → Work
 pending_work work = record { cid = work.cid; status = status work.task }
 
--- Converts the code's pending request to that of the definitions: its channel and KEEPALIVE status.
+-- Converts the code's pending request to `Work`: its channel and KEEPALIVE status.
 abbrev pub to_work : WaitingWork → Work
 to_work w = record { cid = w.cid; status = status_number w.status }
 
--- Converts the code's `Turn`, with the bytes of the response, to an answer of the definitions.
+-- Converts the code's `Turn`, with the bytes of the response, to an `Answer`.
 abbrev pub to_answer : Turn → List ℕ → Answer
 to_answer turns.Answer bytes = Answered bytes
 to_answer (turns.Refuses why) bytes = Answered bytes
@@ -69,7 +69,7 @@ abbrev pub refusal_of : Turn → Option Refusal
 refusal_of (turns.Refuses why) = Some why
 refusal_of turn = None
 
--- Converts the code's event to an event of the definitions.
+-- Converts the code's event to `Event`.
 abbrev pub to_event : Happening → Event
 to_event (happening.Request cid message) = Request cid message.now
 to_event (happening.Presence reply) = PresenceIs reply
@@ -137,7 +137,7 @@ abbrev pub needs : Option PendingTask → Needed
 needs None = nothing
 needs (Some work) = task_needs work.task
 
--- Converts what the code needs to the type of the definitions.
+-- Converts what the code needs from the caller to `Needed`.
 abbrev pub to_needed : Need → Needed
 to_needed need.None = nothing
 to_needed need.Presence = presence
@@ -154,7 +154,7 @@ abbrev pub is_key : Needed → Bool
 is_key key = true
 is_key n = false
 
--- A signature is needed.
+-- Whether a signature is needed.
 abbrev pub is_sign : Needed → Bool
 is_sign (sign id signed) = true
 is_sign n = false

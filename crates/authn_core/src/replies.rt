@@ -75,7 +75,7 @@ impl Signature {
         })
     }
 
-    /// Its bytes.
+    /// Returns the bytes of the signature.
     pub fn bytes(&self) -> &[u8]
         ensures value { result.now ≡ self.now }
         ensures len { length result.now ≤ 72 }

@@ -5,7 +5,7 @@ use Rattle.ctap_cbor.specs.{Tree.Int, Tree.Bytes, Tree.Flag, Head.head, Reading.
 use Rattle.ctap_cbor.specs.Parts.{Part, One, OpensArray}
 use Rattle.cred_table.specs.declared.row.Row.{Row}
 use Rattle.cred_table.specs.Snapshots.{IsHash, IsUserHandle, IsName, IsRow, version}
-use Rattle.cred_table.specs.Parsing.{Reads, ReadsMember, member_text, name_text, members_of, row_text, header_text}
+use Rattle.cred_table.specs.Parsing.{Reads, ReadsMember, member_text, name_text, member_count, row_text, header_text}
 
 -- ---- any values, read part by part
 
@@ -65,28 +65,28 @@ abbrev pub beyond_head : Bool → Row → List ℕ → List ℕ
 beyond_head named row rest = member_text 1 (bytes_part row.rp) ++ beyond_rp named row rest
 
 row_front : (named : Bool) (row : Row) (rest : List ℕ) →
-    row_text named row ++ rest ≡ head 5 (members_of named) ++ beyond_head named row rest
+    row_text named row ++ rest ≡ head 5 (member_count named) ++ beyond_head named row rest
 row_front named row rest = search (rules, arith, append_assoc)
 
 abbrev pub RowStands : Bool → Reading → Reading → (Bool → Row → List ℕ → List ℕ) → Type 0
 RowStands named start here tail = Stands (IsRow named) (row_text named) start here (tail named)
 
 begun : {named : Bool} {a : Reading} →
-    RowStands named a a (λ named row rest. head 5 (members_of named) ++ beyond_head named row rest)
+    RowStands named a a (λ named row rest. head 5 (member_count named) ++ beyond_head named row rest)
 begun {named} = record { stands = λ row rest is e. e ∙ row_front named row rest }
 
 -- the head, by the number of members
 abbrev pub HeadRead : ℕ → Reading → Reading → Option (Unit {0}) → Type 0
 HeadRead n a b r = Reads {V = Unit {0}} (λ _. ⊤) (λ _. head 5 n) a b r
 
-pub head_then : {named : Bool} {n : ℕ} {a b : Reading} → n ≡ members_of named → HeadRead n a b (Some tt) →
+pub head_then : {named : Bool} {n : ℕ} {a b : Reading} → n ≡ member_count named → HeadRead n a b (Some tt) →
     RowStands named a b beyond_head
-head_then {named} e r = next {W = Unit {0}} (λ _. ⊤) (λ _. head 5 (members_of named)) (λ _. tt) (beyond_head named)
+head_then {named} e r = next {W = Unit {0}} (λ _. ⊤) (λ _. head 5 (member_count named)) (λ _. tt) (beyond_head named)
     (λ v is. tt) begun (rw e at r)
 
-pub no_head : {named : Bool} {n : ℕ} {a b : Reading} → n ≡ members_of named → HeadRead n a b None →
+pub no_head : {named : Bool} {n : ℕ} {a b : Reading} → n ≡ member_count named → HeadRead n a b None →
     Reads (IsRow named) (row_text named) a b None
-no_head {named} e r = missed {W = Unit {0}} (λ _. ⊤) (λ _. head 5 (members_of named)) (λ _. tt) (beyond_head named)
+no_head {named} e r = missed {W = Unit {0}} (λ _. ⊤) (λ _. head 5 (member_count named)) (λ _. tt) (beyond_head named)
     (λ v is. tt) begun (rw e at r)
 
 pub rp_then : {named : Bool} {start a b : Reading} {w : List ℕ} → RowStands named start a beyond_head →
@@ -157,7 +157,7 @@ pub no_name : {named : Bool} {start a b : Reading} → RowStands named start a b
 no_name {named} s r = grind arith
 
 -- all parts were read, and made into a row
-pub row_read : {named : Bool} {n : ℕ} {c0 c1 c2 c3 c4 c5 c6 c7 c8 c9 : Reading} (row : Row) → n ≡ members_of named →
+pub row_read : {named : Bool} {n : ℕ} {c0 c1 c2 c3 c4 c5 c6 c7 c8 c9 : Reading} (row : Row) → n ≡ member_count named →
     HeadRead n c0 c1 (Some tt) → ReadsMember IsHash bytes_part 1 c1 c2 (Some row.rp) →
     ReadsMember IsHash bytes_part 2 c2 c3 (Some row.id) →
     ReadsMember IsHash bytes_part 3 c3 c4 (Some row.x) → ReadsMember IsHash bytes_part 4 c4 c5 (Some row.y) →
@@ -171,8 +171,8 @@ row_read {named} {n} {c0} {c1} {c2} {c3} {c4} {c5} {c6} {c7} {c8} {c9} row e h r
     (counter_then (flag_then (user_then (y_then (x_then (id_then (rp_then (head_then e h) rp) id) x) y) user) flag)
     counter) name in
     let T = λ (k : ℕ) (p : Part) (r : List ℕ). member_text k p ++ r in
-    let spelled : rest_of c0 ≡ head 5 (members_of named) ++ beyond_head named row (rest_of c9) =
-    h.took.1 ∙ ap (λ k. head 5 k ++ rest_of c1) e ∙ ap (λ r. head 5 (members_of named) ++ r)
+    let spelled : rest_of c0 ≡ head 5 (member_count named) ++ beyond_head named row (rest_of c9) =
+    h.took.1 ∙ ap (λ k. head 5 k ++ rest_of c1) e ∙ ap (λ r. head 5 (member_count named) ++ r)
     (rp.took.1 ∙ ap (T 1 (bytes_part row.rp)) (id.took.1
     ∙ ap (T 2 (bytes_part row.id)) (x.took.1 ∙ ap (T 3 (bytes_part row.x)) (y.took.1 ∙ ap (T 4 (bytes_part row.y))
     (user.took.1 ∙ ap (T 5 (bytes_part row.user.items)) (flag.took.1

@@ -13,11 +13,11 @@ slots_by_age chains = chain (links Newer chains.slots) chains.oldest
 abbrev pub free_slots : {C : ℕ} → Chains C → List ℕ
 free_slots chains = chain (links Next chains.slots) chains.free
 
--- The first slot of an ID chain, of which there are 32.
+-- The first slot of an ID chain. A table has 32 ID chains.
 abbrev pub head : {C : ℕ} → ℕ → Chains C → Option ℕ
 head b chains = slice_index_or chains.heads b None
 
--- The slots of an ID chain, of which there are 32.
+-- The slots of an ID chain. A table has 32 ID chains.
 abbrev pub id_slots : {C : ℕ} → ℕ → Chains C → List ℕ
 id_slots b chains = chain (links Next chains.slots) (head b chains)
 

@@ -37,7 +37,7 @@ abbrev pub map_in : ℕ → Part → Option (Unit {0})
 map_in count (OpensMap n) = if nat_eq n count then Some tt else None
 map_in count _ = None
 
--- This integer.
+-- Accepts this integer.
 abbrev pub key_in : ℕ → Part → Option (Unit {0})
 key_in key (One (Int (pos n))) = if nat_eq n key then Some tt else None
 key_in key _ = None
@@ -52,12 +52,12 @@ abbrev pub handle_in : Part → Option (List ℕ)
 handle_in (One (Bytes s)) = if nat_le (length s) 64 then Some s else None
 handle_in _ = None
 
--- A Boolean.
+-- The value of a Boolean, or None for other items.
 abbrev pub flag_in : Part → Option Bool
 flag_in (One (Flag b)) = Some b
 flag_in _ = None
 
--- An integer below 2^32.
+-- The value of an integer below 2^32, or None.
 abbrev pub counter_in : Part → Option ℕ
 counter_in (One (Int (pos n))) = if nat_lt n (2 ^ 32) then Some n else None
 counter_in _ = None
@@ -93,8 +93,8 @@ name_text true s = member_text 8 (One (Text s))
 name_text false s = []
 
 -- The number of members in the map of a row.
-abbrev pub members_of : (named : Bool) → ℕ
-members_of named = if named then 8 else 7
+abbrev pub member_count : (named : Bool) → ℕ
+member_count named = if named then 8 else 7
 
 -- The encoding of a row.
 abbrev pub row_text : (named : Bool) → Row → List ℕ

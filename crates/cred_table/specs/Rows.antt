@@ -65,7 +65,7 @@ discoverable_rows rp rows = reverse (filter (is_listed rp) rows)
 abbrev pub ids : List Row → List (List ℕ)
 ids rows = map (λ row. row.id) rows
 
--- The signature counter of the row, or 0 without a row.
+-- The signature counter of the row, or 0 for None.
 abbrev pub counter_in : Option Row → ℕ
 counter_in None = 0
 counter_in (Some row) = row.counter

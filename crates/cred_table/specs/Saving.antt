@@ -3,7 +3,7 @@ use Rattle.std.specs.Prelude.{◌≡◌, ℕ, ◌+◌, ◌*◌, ◌<◌, ◌≤�
 use Rattle.ctap_cbor.specs.{declared.sink.Sink.Sink, Writing.Appends}
 use Rattle.cred_table.specs.{declared.row.Row.Row, Snapshots.IsSnapshot}
 
--- The sink appended exactly these bytes, and at most `most` of them.
+-- The sink appended exactly these bytes, and they are at most `most` bytes.
 abbrev pub AppendsUpTo : Sink → Sink → List ℕ → (most : ℕ) → Type 0
 AppendsUpTo old new bytes most = (len : ℕ) × (len ≤ most) × Appends old new bytes len
 

@@ -81,13 +81,12 @@ with_link Next to slot = record slot { next = to }
 with_link Newer to slot = record slot { newer = to }
 with_link Older to slot = record slot { older = to }
 
--- The slots after the slot `before`, if any, was linked to `next`.
+-- All slots, after the slot `before`, if any, is linked to `next`.
 abbrev pub relinked : ChainKind → (before next : Option ℕ) → List Slot → List Slot
 relinked along None next slots = slots
 relinked along (Some p) next slots = slice_set slots p (with_link along next (slot_at slots p))
 
--- The first slot of a chain after the slot `before` was linked to `next`. Without a slot before it, `next` becomes the
--- first slot.
+-- The first slot of a chain, after the slot `before` is linked to `next`. Without a slot `before`, it is `next`.
 abbrev pub first_link : (before next : Option ℕ) → Option ℕ → Option ℕ
 first_link None next at = next
 first_link (Some p) next at = at

@@ -61,7 +61,7 @@ pub record IsRow (named : Bool) (row : Row) : Type 0 where
   pub counter : row.counter < 2 ^ 32
   pub name : IsName named row.name
 
--- ---- the whole
+-- ---- whole snapshots
 
 -- The version number of snapshots with or without user names.
 abbrev pub version : (named : Bool) → ℕ

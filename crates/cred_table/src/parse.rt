@@ -7,7 +7,7 @@ ghost use Rattle.ctap_cbor.specs.Grammar.{scalar_text};
 ghost use Rattle.ctap_cbor.specs.Parts.{One, OpensArray, item_text};
 ghost use Rattle.cred_table.specs.Snapshots.{IsHash, IsUserHandle, IsName, IsRow, version};
 ghost use Rattle.ctap_cbor.specs.Views.{to_part};
-ghost use Rattle.cred_table.specs.Parsing.{Reads, ReadsPart, ReadsMember, member_text, map_in, key_in, and_then, hash_in, handle_in, flag_in, counter_in, name_in, count_in, has_names_in, name_text, header_text, row_text, members_of};
+ghost use Rattle.cred_table.specs.Parsing.{Reads, ReadsPart, ReadsMember, member_text, map_in, key_in, and_then, hash_in, handle_in, flag_in, counter_in, name_in, count_in, has_names_in, name_text, header_text, row_text, member_count};
 
 use crate::name::Name;
 use crate::row::Row;
@@ -75,7 +75,7 @@ fn check_key(item: Option<Item>, key: u8) -> Option<()>
 }
 
 /// Returns the content of an item that is a byte string of 32 bytes.
-fn check_hash(item: Option<Item>) -> Option<[u8; 32]>
+fn hash_of_item(item: Option<Item>) -> Option<[u8; 32]>
     ensures { result ≡ and_then hash_in (option_map to_part item.entry) }
 {
     match item {
@@ -98,8 +98,8 @@ fn handle_of(item: Option<Item>) -> Option<ArrayVec<u8, 64>>
     }
 }
 
-/// Checks for a Boolean.
-fn check_flag(item: Option<Item>) -> Option<bool>
+/// Returns the value of an item that is a Boolean.
+fn flag_of_item(item: Option<Item>) -> Option<bool>
     ensures { result ≡ and_then flag_in (option_map to_part item.entry) }
 {
     match item {
@@ -109,7 +109,7 @@ fn check_flag(item: Option<Item>) -> Option<bool>
 }
 
 /// Returns the value of an item that is an integer from 0 to 2^32-1.
-fn check_counter(item: Option<Item>) -> Option<u32>
+fn counter_of_item(item: Option<Item>) -> Option<u32>
     ensures { result ≡ and_then counter_in (option_map to_part item.entry) }
 {
     match item {
@@ -119,7 +119,7 @@ fn check_counter(item: Option<Item>) -> Option<u32>
 }
 
 /// Returns the content of an item that is a text string of at most 64 bytes.
-fn check_name(item: Option<Item>) -> Option<Name>
+fn name_of_item(item: Option<Item>) -> Option<Name>
     ensures { result ≡ and_then name_in (option_map to_part item.entry) }
 {
     match item {
@@ -129,7 +129,7 @@ fn check_name(item: Option<Item>) -> Option<Name>
 }
 
 /// Returns the number of items of an item that is an array.
-fn check_count(item: Option<Item>) -> Option<u64>
+fn count_of_item(item: Option<Item>) -> Option<u64>
     ensures { result ≡ and_then count_in (option_map to_part item.entry) }
 {
     match item {
@@ -139,7 +139,7 @@ fn check_count(item: Option<Item>) -> Option<u64>
 }
 
 /// Returns whether the rows of a version have user names, from an item that is a known version.
-fn check_version(item: Option<Item>) -> Option<bool>
+fn version_of_item(item: Option<Item>) -> Option<bool>
     ensures { result ≡ and_then has_names_in (option_map to_part item.entry) }
 {
     match item {
@@ -153,7 +153,7 @@ fn check_version(item: Option<Item>) -> Option<bool>
 fn read_hash(cursor: &mut Cursor, key: u8) -> Option<[u8; 32]>
     ensures { ReadsMember IsHash (λ s. One (Bytes s)) key cursor.old cursor.new result }
 {
-    check_hash(read_member(cursor, 4, key))
+    hash_of_item(read_member(cursor, 4, key))
 }
 
 /// Reads a member that is a byte string of at most 64 bytes.
@@ -167,14 +167,14 @@ fn read_handle(cursor: &mut Cursor, key: u8) -> Option<ArrayVec<u8, 64>>
 fn read_flag(cursor: &mut Cursor, key: u8) -> Option<bool>
     ensures { ReadsMember (λ _. ⊤) (λ b. One (Flag b)) key cursor.old cursor.new result }
 {
-    check_flag(read_member(cursor, 4, key))
+    flag_of_item(read_member(cursor, 4, key))
 }
 
 /// Reads a member that is an integer from 0 to 2^32-1.
 fn read_counter(cursor: &mut Cursor, key: u8) -> Option<u32>
     ensures { ReadsMember (λ n. n < 2 ^ 32) (λ n. One (Int (pos n))) key cursor.old cursor.new result }
 {
-    check_counter(read_member(cursor, 4, key))
+    counter_of_item(read_member(cursor, 4, key))
 }
 
 /// Reads the user name of a row. Returns an empty name if the version has no user names.
@@ -184,21 +184,21 @@ fn read_name(cursor: &mut Cursor, named: bool) -> Option<Name>
     if !named {
         return Some(Name::default());
     }
-    check_name(read_member(cursor, 4, 8))
+    name_of_item(read_member(cursor, 4, 8))
 }
 
 /// Reads the version of a snapshot. Returns whether the rows have user names.
 fn read_version(cursor: &mut Cursor) -> Option<bool>
     ensures { ReadsMember (λ _. ⊤) (λ named. One (Int (pos (version named)))) 1 cursor.old cursor.new result }
 {
-    check_version(read_member(cursor, 2, 1))
+    version_of_item(read_member(cursor, 2, 1))
 }
 
 /// Reads the head of the array of entries. Returns the number of entries.
 fn read_count(cursor: &mut Cursor) -> Option<u64>
     ensures { ReadsMember (λ n. n < 2 ^ 64) OpensArray 2 cursor.old cursor.new result }
 {
-    check_count(read_member(cursor, 2, 2))
+    count_of_item(read_member(cursor, 2, 2))
 }
 
 /// Reads the beginning of a snapshot. Returns whether its rows have user names, and the number of entries.
@@ -238,7 +238,7 @@ pub(crate) fn read_row(cursor: &mut Cursor, named: bool) -> Option<Row>
 
 /// Returns the number of members of a row.
 fn row_member_count(named: bool) -> u64
-    ensures { result ≡ members_of named }
+    ensures { result ≡ member_count named }
 {
     if named { 8 } else { 7 }
 }

@@ -64,7 +64,7 @@ impl<const C: usize> Pending<C> {
         Some(self.ids.remove(0))
     }
 
-    /// If an assertion is pending, the time limit for the next request begins at time `at`, in milliseconds.
+    /// Sets the time in milliseconds at which the time limit for the next request begins, if an assertion is pending.
     pub fn stamp(&mut self, at: u64)
         ensures { self.new ≡ with_time at self.old }
     {

@@ -150,7 +150,7 @@ pub(crate) fn bucket(id: &[u8]) -> usize
 pub(crate) struct ChainWalk<'a> {
     pub(crate) slots: &'a [Slot],
     pub(crate) along: ChainKind,
-    /// The index of the slot that comes next.
+    /// The index of the next slot.
     pub(crate) at: Link,
 }
 

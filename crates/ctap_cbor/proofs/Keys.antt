@@ -5,7 +5,7 @@ use Rattle.std.specs.Prelude.{not}
 use Rattle.ctap_cbor.specs.declared.fault.Kind.{Kind, TheVariants.KeyOrder}
 use Rattle.ctap_cbor.specs.{Head.AreBytes, Faults.fault_steps, Views.end_steps_of, Parts.Part, Parts.One, Parts.read}
 use Rattle.ctap_cbor.specs.Faults.{Expected, AKey, is_above, first_fault_of, first_faults, body_faults, fault, item_len, passed}
-use Rattle.ctap_cbor.specs.Reading.{Reading, rest_of, advance, log_comparison, HasItemError, GivesKey}
+use Rattle.ctap_cbor.specs.Reading.{Reading, rest_of, advance, comparison_steps, HasItemError, GivesKey}
 use Rattle.ctap_cbor.proofs.Items.{Reads, read_sound, read_again, read_fault, fault_read, front_is}
 use Rattle.ctap_cbor.proofs.Taking.{InOrder, in_order_steps, rest_beyond, read_len}
 
@@ -60,19 +60,19 @@ key_out last bytes i tail e below = grind (arith, key_fault_is, key_first, order
 -- ---- the calls
 
 part_key : (old new : Reading) (last : Option (List ℕ)) (rest : List ℕ) (i : Part) (n m : ℕ) → rest ≡ rest_of old →
-    Reads 0 (AKey None) rest i (drop n rest) → n ≤ length rest → m ≡ log_comparison last n → new ≡ advance old n (n + m) →
+    Reads 0 (AKey None) rest i (drop n rest) → n ≤ length rest → m ≡ comparison_steps last n → new ≡ advance old n (n + m) →
     is_above (AKey last) (take n rest) ≡ true → GivesKey last old new i (take n rest)
 part_key old new last rest i n m e h le cost moved above = grind (arith, front_is, read_len, rest_beyond)
 
 pub key_taken : (old new : Reading) (last : Option (List ℕ)) (rest : List ℕ) (i : Part) (n m : ℕ) → rest ≡ rest_of old →
     AreBytes rest → (read 0 (AKey None) rest ≡ Ok (i, drop n rest)) × (n ≤ length rest) × (n ≡ passed KeyOrder rest) →
-    m ≡ log_comparison last n → new ≡ advance old n (n + m) → is_above (AKey last) (take n rest) ≡ true →
+    m ≡ comparison_steps last n → new ≡ advance old n (n + m) → is_above (AKey last) (take n rest) ≡ true →
     GivesKey last old new i (take n rest)
 key_taken old new last rest i n m e fits h cost moved above = grind (arith, part_key, read_sound)
 
 pub key_below : (old new : Reading) (last : Option (List ℕ)) (at : ℕ) (rest : List ℕ) (i : Part) (n m : ℕ) →
     rest ≡ rest_of old → (read 0 (AKey None) rest ≡ Ok (i, drop n rest)) × (n ≤ length rest)
-    × (n ≡ passed KeyOrder rest) → m ≡ log_comparison last n → new ≡ advance old n (n + m) →
+    × (n ≡ passed KeyOrder rest) → m ≡ comparison_steps last n → new ≡ advance old n (n + m) →
     is_above (AKey last) (take n rest) ≡ false → at ≡ old.place → HasItemError 0 (AKey last) old new at KeyOrder
 unfolding fault_steps
 key_below old new last at rest i n m e h cost moved below place = grind (arith, key_out)

@@ -9,7 +9,7 @@ use Rattle.ctap_cbor.specs.Grammar.{text, texts, pair_texts, scalar_text, IsKey,
 use Rattle.ctap_cbor.specs.Faults.{AKey, first_faults, fault}
 use Rattle.ctap_cbor.specs.{Parts.OpensArray, Parts.OpensMap, Outcome.later_in_pairs, Outcome.later_key}
 use Rattle.ctap_cbor.specs.Outcome.{InArray, AtKey, AtValue, open_encodings, last_key, later_keys, later_in_all, later_in_map}
-use Rattle.ctap_cbor.specs.Reading.{Reading, rest_of, advance, log_comparison, TakesItem, TakesKey, Passes, Fails}
+use Rattle.ctap_cbor.specs.Reading.{Reading, rest_of, advance, comparison_steps, TakesItem, TakesKey, Passes, Fails}
 use Rattle.ctap_cbor.specs.Reading.{PassesAll, FailsInArray, PassesPairs, FailsAtKey, FailsAtValue}
 
 abbrev pub at : List ℕ → ℕ → ℕ → Reading
@@ -59,11 +59,11 @@ later_pushed no_pairs k v = omega arith
 later_pushed (pair j u ps) k v = omega (arith, (pushed_pair None ps k v).later)
 
 -- a map has a last key unless it is empty
-compared_some : (x : List ℕ) (ps : Pairs) (n : ℕ) → log_comparison (last_key (Some x) ps) n ≡ n
+compared_some : (x : List ℕ) (ps : Pairs) (n : ℕ) → comparison_steps (last_key (Some x) ps) n ≡ n
 compared_some x no_pairs n = refl
 compared_some x (pair k v ps) n = compared_some (text k) ps n
 
-compared_is : (ps : Pairs) (k : Tree) → log_comparison (last_key None ps) (length (text k)) ≡ later_key ps k
+compared_is : (ps : Pairs) (k : Tree) → comparison_steps (last_key None ps) (length (text k)) ≡ later_key ps k
 compared_is no_pairs k = refl
 compared_is (pair j u ps) k = compared_some (text j) ps (length (text k))
 
@@ -127,8 +127,8 @@ pairs_more levels n ps u last a b c d s h t k =
     let len : length (pair_texts (push_pair ps (Plain s) u)) ≡ length (pair_texts ps) +
     (length (scalar_text s) + length (text u)) =
     omega (arith, ap length p.spelled, length-append (pair_texts ps) (scalar_text s ++ text u), length-append (scalar_text s) (text u)) in
-    let one : log_comparison last (length (scalar_text s)) ≡ later_key ps (Plain s) =
-    ap (λ x. log_comparison x (length (scalar_text s))) h.last_is ∙ compared_is ps (Plain s) in
+    let one : comparison_steps last (length (scalar_text s)) ≡ later_key ps (Plain s) =
+    ap (λ x. comparison_steps x (length (scalar_text s))) h.last_is ∙ compared_is ps (Plain s) in
     record {
       rises = p.rises h.rises t.suits.1 (subst (λ x. IsAbove x (scalar_text s)) h.last_is t.suits.2);
       lawful = p.lawful h.lawful t.suits.0 k.lawful;
@@ -171,8 +171,8 @@ value_halts levels n a b c at kind t h =
     let len : length (head 5 n ++ (pair_texts ps ++ scalar_text s) ++ open_encodings hh.os) ≡ length (head 5 n) + length
     (pair_texts ps) + length (scalar_text s) + length (open_encodings hh.os) =
     omega (arith, length-append (head 5 n ++ (pair_texts ps ++ scalar_text s)) (open_encodings hh.os), length-append (head 5 n) (pair_texts ps ++ scalar_text s), length-append (pair_texts ps) (scalar_text s)) in
-    let one : log_comparison h.last (length (scalar_text s)) ≡ later_key ps (Plain s) =
-    ap (λ x. log_comparison x (length (scalar_text s))) h.passes.last_is ∙ compared_is ps (Plain s) in
+    let one : comparison_steps h.last (length (scalar_text s)) ≡ later_key ps (Plain s) =
+    ap (λ x. comparison_steps x (length (scalar_text s))) h.passes.last_is ∙ compared_is ps (Plain s) in
     record {
       os = AtValue n ps (Plain s) ∷ hh.os;
       tail = hh.tail;

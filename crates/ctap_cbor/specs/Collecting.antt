@@ -5,14 +5,14 @@ use Rattle.ctap_cbor.specs.Tree.{Scalar, Tree, Plain, Array, Map, Trees, no_tree
 use Rattle.ctap_cbor.specs.Parts.{Part, One}
 use Rattle.ctap_cbor.specs.Reading.{Reading, Passes, PassesAll, PassesPairs}
 
--- The effect of collecting the pairs of this item on the collector, from `before` to `after`. `taken` is whether the
--- item is a map all of whose pairs were accepted. Another item leaves the collector unchanged.
+-- The effect of collecting the pairs of this item on the collector, from `before` to `after`. `taken` is true if the
+-- item is a map and all its pairs were accepted. An item of another type leaves the collector unchanged.
 abbrev pub InMap : {M : Type 0} → (M → Bool → Pairs → Type 0) → Bool → M → M → Tree → Type 0
 InMap H taken before after (Map ps) = H before true no_pairs → H after taken ps
 InMap H taken before after _ = (taken ≡ false) × (after ≡ before)
 
--- The effect of collecting the entries of this item on the collector, from `before` to `after`. `taken` is whether the
--- item is an array all of whose entries were accepted. Another item leaves the collector unchanged.
+-- The effect of collecting the entries of this item on the collector, from `before` to `after`. `taken` is true if the
+-- item is an array and all its entries were accepted. An item of another type leaves the collector unchanged.
 abbrev pub InArray : {M : Type 0} → (M → Bool → Trees → Type 0) → Bool → M → M → Tree → Type 0
 InArray H taken before after (Array ts) = H before true no_trees → H after taken ts
 InArray H taken before after _ = (taken ≡ false) × (after ≡ before)

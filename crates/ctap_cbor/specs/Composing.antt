@@ -12,7 +12,7 @@ then {a = a} {x = x} {y = y} {m = m} {n = n} p q = record {
   keeps = q.keeps ∙ ap (drop n) p.keeps ∙ drop-drop n m _;
 }
 
--- nothing
+-- Without a call, no bytes are appended.
 pub done : {a : Sink} → Appends a a [] 0
 done {a = a} = record {
   grows = sym (append-nil (contents a));

@@ -78,7 +78,7 @@ abbrev pub later_faults : Expected → ℕ → List ℕ → List (Bool × Kind)
 later_faults due first rest = body_faults first rest ++
     (not (is_above due (take (item_len first rest) (first ∷ rest))), KeyOrder) ∷ []
 
--- All errors of an item, each with its condition, in order.
+-- All errors that an item can have, each with its condition, in the order of checking.
 abbrev pub faults : ℕ → Expected → ℕ → List ℕ → List (Bool × Kind)
 faults levels due first rest = first_faults levels due first ++ later_faults due first rest
 

@@ -39,7 +39,7 @@ IsOpen levels (AtValue total done key) = (total < 2 ^ 64) × (count_pairs done <
     × AreLawfulPairs done × (depth_pairs done ≤ levels) × IsKey key × IsLawful key
     × IsAbove (last_key None done) (text key)
 
--- The array or map may contain the others: an array or map can't be a map key.
+-- The first array or map may contain those in the list. An array or map can't be a map key.
 abbrev pub CanHold : Enclosing → List Enclosing → Type 0
 CanHold (AtKey total done) (o ∷ os) = ⊥
 CanHold _ _ = Unit {0}

@@ -1,5 +1,5 @@
--- A function that parses a whole item with its content (RFC 8949, section 3). It returns the tree, or the place and the
--- cause of an error. A law states that the result agrees with Outcome.antt.
+-- A function that parses a whole item with its content (RFC 8949, section 3). It returns the tree, or the position and
+-- the kind of an error. A law states that the result agrees with Outcome.antt.
 use Rattle.std.proofs.Common.{ℕ, zero, suc, List, [], ◌∷◌, Option, Some, None, Result, Ok, Err}
 use Rattle.ctap_cbor.specs.{declared.fault.Kind.Kind, Grammar.scalar_text, Faults.AnItem, Faults.AKey}
 use Rattle.ctap_cbor.specs.Tree.{Null, Tree, Plain, Array, Map, Trees, no_trees, tree, Pairs, no_pairs, pair}

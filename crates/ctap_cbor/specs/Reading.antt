@@ -50,16 +50,16 @@ pub record HasItemError (levels : ℕ) (due : Expected) (old new : Reading) (at 
   pub moved : new ≡ advance old (passed kind (rest_of old)) (fault_steps kind (rest_of old))
 
 -- The number of steps of comparing a key of length `n` with the previous key, if any.
-abbrev pub log_comparison : Option (List ℕ) → ℕ → ℕ
-log_comparison None n = 0
-log_comparison (Some before) n = n
+abbrev pub comparison_steps : Option (List ℕ) → ℕ → ℕ
+comparison_steps None n = 0
+comparison_steps (Some before) n = n
 
 -- The cursor reads a map key.
 pub record TakesKey (last : Option (List ℕ)) (old new : Reading) (s : Scalar) : Type 0 where
   pub suits : IsAllowed 0 (AKey last) (One s)
   pub spelled : rest_of old ≡ scalar_text s ++ rest_of new
   pub moved : new ≡ advance old (length (scalar_text s))
-      (length (scalar_text s) + log_comparison last (length (scalar_text s)))
+      (length (scalar_text s) + comparison_steps last (length (scalar_text s)))
 
 -- The cursor reads a map key, and returns its encoding.
 pub record GivesKey (last : Option (List ℕ)) (old new : Reading) (part : Part) (bytes : List ℕ) : Type 0 where

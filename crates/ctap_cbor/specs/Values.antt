@@ -47,6 +47,6 @@ to_pairs vs = pairs (map to_tree_pair vs)
 abbrev pub IsScalarOf : Part → Tree → Type 0
 IsScalarOf part t = (s : Scalar) → part ≡ One s → Fits s → t ≡ Plain s
 
--- The error satisfies `p`, or it is `Memory` at position 0.
+-- `p` holds, or the error is `Memory` at position 0.
 abbrev pub UnlessMemory : Fault → Type 0 → Type 0
 UnlessMemory f p = (f.kind ≢ Memory → p) × (f.kind ≡ Memory → f.at ≡ 0)

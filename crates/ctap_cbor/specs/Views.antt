@@ -1,4 +1,4 @@
--- Borrowed items as values of the definitions, without their addresses in memory.
+-- Borrowed items as values of the specification, without their addresses in memory.
 use Rattle.std.specs.Prelude.{suc, true, false, None, Some, ◌≡◌, ℕ, List, ◌∷◌}
 use Rattle.std.specs.Prelude.{◌++◌, drop, Result, Ok, Err, IsOkAnd, ◌≤◌, length}
 use Rattle.ctap_cbor.specs.declared.{fault.Fault.Fault, fault.Kind.Kind, item.Item.Item}
@@ -11,7 +11,7 @@ use Rattle.ctap_cbor.specs.Tree as tree
 use Rattle.ctap_cbor.specs.Parts.{Part, One, OpensArray, OpensMap, item_text, IsAllowed}
 use Rattle.ctap_cbor.specs.Reading.{Reading, rest_of}
 
--- Converts the code's type `Item` to an item of the definitions.
+-- Converts the code's type `Item` to `Part`.
 abbrev pub to_part : Item → Part
 to_part (Int i) = One (tree.Int i)
 to_part (Bytes s) = One (tree.Bytes s.now)
@@ -53,7 +53,7 @@ IsHeadArgument first rest (Ok (n, len)) = (n ≡ argument first rest) × (len �
 IsHeadArgument first rest (Err (kind, n)) = (first_fault_of (body_faults first rest) ≡ Some kind)
     × (n ≡ passed kind (first ∷ rest)) × (n ≤ suc (length rest))
 
--- The number of steps for finding the end of the input: 1 if the item is truncated.
+-- The number of steps for finding the end of the input: 1 if the item is truncated, or else 0.
 abbrev pub end_steps_of : Kind → ℕ
 end_steps_of Truncated = 1
 end_steps_of _ = 0

@@ -42,9 +42,9 @@ pub trait Entries<'a> {
             (λ f. Fails (5 - level) cursor.old cursor.new f.at f.kind) };
 }
 
-/// Reads a whole item at this nesting level (1 to 5), and passes the pairs of a map to `members`. Returns whether the
-/// item is a map all of whose members were accepted. Stops at the first error; the cursor is then where
-/// [`Cursor::skip`] leaves it.
+/// Reads a whole item at this nesting level (1 to 5), and passes the pairs of a map to `members`. Returns true if the
+/// item is a map and all its members were accepted. Stops at the first error; the cursor is then where [`Cursor::skip`]
+/// leaves it.
 pub fn read_map<'a, M: Members<'a>>(
     members: &mut M,
     cursor: &mut Cursor<'a>,
@@ -74,8 +74,8 @@ pub fn read_map<'a, M: Members<'a>>(
     Ok(ok)
 }
 
-/// Reads a whole item at this nesting level (1 to 5), and passes the entries of an array to `entries`. Returns whether
-/// the item is an array all of whose entries were accepted. Stops at the first error; the cursor is then where
+/// Reads a whole item at this nesting level (1 to 5), and passes the entries of an array to `entries`. Returns true if
+/// the item is an array and all its entries were accepted. Stops at the first error; the cursor is then where
 /// [`Cursor::skip`] leaves it.
 pub fn read_array<'a, M: Entries<'a>>(
     entries: &mut M,

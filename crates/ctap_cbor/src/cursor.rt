@@ -189,7 +189,7 @@ impl<'a> Cursor<'a> {
         }
     }
 
-    /// Checks that no byte is left. If there is one, fails with [`Kind::Trailing`], and the cursor doesn't move.
+    /// Checks that no byte is left. If bytes are left, fails with [`Kind::Trailing`], and the cursor doesn't move.
     pub fn end(&mut self) -> Result<(), Fault>
         ensures { MatchResult result (λ _. HasNoByteLeft self.old self.new) (λ f. HasTrailingBytes self.old self.new f.at f.kind) }
     {

@@ -5,7 +5,7 @@ use Rattle.ctap_cbor.specs.Tree.{Map, no_pairs}
 use Rattle.ctap_message.specs.declared.fault.RequestFault.{RequestFault}
 use Rattle.ctap_message.specs.declared.fault.RequestFault.TheVariants as because
 use Rattle.ctap_message.specs.Members.{value_at, all_entries, some_entry, all_pairs}
-use Rattle.ctap_message.specs.RequestFaults.{checked_assertion, checked_make, fault_in}
+use Rattle.ctap_message.specs.RequestFaults.{assertion_fault_in, make_fault_in, fault_in}
 use Rattle.ctap_message.proofs.CheckedExamples.{int, bytes, text, flag, one, two, only, empty, public_key}
 use Rattle.ctap_message.proofs.CheckedExamples.{Make, make_tree, base, Assertion, assertion_tree, asking}
 
@@ -21,7 +21,7 @@ unfolding fault_in
 messages = (refl, refl, refl, refl, refl, refl)
 
 abbrev make : Make → Option RequestFault
-make m = checked_make (make_tree m)
+make m = make_fault_in (make_tree m)
 
 -- each parameter that has to be there, left out, inside too
 make_missing :
@@ -66,7 +66,7 @@ unfolding value_at all_entries some_entry all_pairs
 make_order = (refl, refl, refl, refl)
 
 abbrev assertion : Assertion → Option RequestFault
-assertion a = checked_assertion (assertion_tree a)
+assertion a = assertion_fault_in (assertion_tree a)
 
 assertion_refused :
     (assertion asking ≡ None)

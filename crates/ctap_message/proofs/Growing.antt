@@ -24,8 +24,8 @@ use Rattle.ctap_message.specs.Judged.{MakeParameters, AssertionParameters}
 use Rattle.ctap_message.specs.Walks.{Reads, typed, HasPairs}
 use Rattle.ctap_message.specs.Collected.{rp_next, user_next, options_next, parameter_next, descriptor_next, IsPlainName}
 use Rattle.ctap_message.specs.Collected.{to_rp, to_user, to_options, to_parameter, to_descriptor}
-use Rattle.ctap_message.specs.CollectedRequests.{make_in, make_next, to_make_parameters, IsOtherMake}
-use Rattle.ctap_message.specs.CollectedRequests.{assertion_in, assert_next, to_assertion_parameters, IsPlainAssert, IsOtherAssert}
+use Rattle.ctap_message.specs.CollectedRequests.{make_in, make_next, to_make_parameters, IsUnknownMakeKey}
+use Rattle.ctap_message.specs.CollectedRequests.{assertion_in, assert_next, to_assertion_parameters, IsPlainAssert, IsUnknownAssertKey}
 use Rattle.ctap_message.specs.DescriptorWalk.{DescriptorWalk, list_of, left_of, IsAtFirst}
 use Rattle.ctap_message.proofs.Pushes.{ap2, ap3, field_push, entries_push, some_push}
 use Rattle.ctap_message.proofs.Collecting.{Grows, HeadDecides, adds_head, adds_tree}
@@ -223,7 +223,7 @@ pub make_heads : (k : Tree) → is_key (Number 0x02) k ≡ false → is_key (Num
     HeadDecides make_types make_next k
 make_heads k a b c d e v = grind arith
 
-pub make_other : (levels : ℕ) (key part : Part) (x : Make) (a c : Reading) → IsOtherMake (head_tree key) →
+pub make_other : (levels : ℕ) (key part : Part) (x : Make) (a c : Reading) → IsUnknownMakeKey (head_tree key) →
     PassesHead levels part a c
     → AddsPair (λ m ok ps. HasPairs make_types make_in (to_make_parameters m) ok ps) levels key true x x a c
 make_other levels key part x a c h passes =
@@ -274,7 +274,7 @@ assert_grows ps k v =
 pub assert_heads : (k : Tree) → IsPlainAssert k → HeadDecides assertion_types assert_next k
 assert_heads k h v = grind arith
 
-pub assert_other : (levels : ℕ) (key part : Part) (x : Assert) (a c : Reading) → IsOtherAssert (head_tree key) →
+pub assert_other : (levels : ℕ) (key part : Part) (x : Assert) (a c : Reading) → IsUnknownAssertKey (head_tree key) →
     PassesHead levels part a c
     → AddsPair (λ m ok ps. HasPairs assertion_types assertion_in (to_assertion_parameters m) ok ps) levels key true x x a c
 assert_other levels key part x a c h passes =

@@ -1,4 +1,4 @@
--- The requests of `by_value` as values of the definitions, without their addresses in memory.
+-- The requests of the module `by_value` as values of the specification, without their addresses in memory.
 use Rattle.std.specs.Prelude.{◌≡◌, ℕ, ◌≤◌, length, Result, Ok, Err}
 use Rattle.ctap_message.specs.declared.by_value.Request.{Request}
 use Rattle.ctap_message.specs.declared.by_value.Request.TheVariants as request
@@ -6,7 +6,7 @@ use Rattle.ctap_message.specs.{declared.status.Status.Status, Asked.RequestParam
 use Rattle.ctap_message.specs.Asked as asks
 use Rattle.ctap_message.specs.DescriptorWalk.{list_of, left_of}
 
--- Converts a request of the code to one of the definitions.
+-- Converts the code's `Request` to `RequestParameters`.
 abbrev pub valued_request : Request → RequestParameters
 valued_request (request.Make hash rp_id user_id user_name discoverable exclude) =
     asks.MakeCredential hash.now rp_id.now user_id.now user_name.now discoverable (left_of exclude)
@@ -16,12 +16,12 @@ valued_request request.Reset = asks.Reset
 valued_request request.Next = asks.GetNextAssertion
 valued_request request.Select = asks.Selection
 
--- Converts a result of the code, a request or a status, to one of the definitions.
+-- Converts the code's result, a request or a status, to request parameters or a status code.
 abbrev pub valued_result : Result Request Status → Result RequestParameters ℕ
 valued_result (Ok request) = Ok (valued_request request)
 valued_result (Err status) = Err status.0
 
--- The iterator over the list of descriptors, if the result is a request with a list, is at its beginning.
+-- If the result is a request with a list of descriptors, the iterator over the list is at its beginning.
 abbrev pub IsAtStart : Result Request Status → Type 0
 IsAtStart (Ok (request.Make hash rp_id user_id user_name discoverable exclude)) = list_of exclude ≡ left_of exclude
 IsAtStart (Ok (request.Assert hash rp_id allow presence)) = list_of allow ≡ left_of allow

@@ -27,7 +27,7 @@ rp_next k v id = if is_key (Name "id") k then as_text v else id
 
 -- ---- user
 
--- Converts the code's fields of user to those of the definitions.
+-- Converts the code's `UserFields` to the specification's `User`.
 abbrev pub to_user : UserFields → User
 to_user x = record { id = option_copied x.id; name = option_copied x.name }
 
@@ -40,7 +40,7 @@ user_next k v x = record {
 
 -- ---- options
 
--- Converts the code's options to those of the definitions.
+-- Converts the code's `OptionFields` to the specification's `Options`.
 abbrev pub to_options : OptionFields → Options
 to_options x = record { rk = x.rk; up = x.up; uv = x.uv }
 
@@ -55,7 +55,7 @@ options_next k v x =
 
 -- ---- credential parameters
 
--- Converts the code's fields of a credential parameter to those of the definitions.
+-- Converts the code's `ParameterFields` to the specification's `Parameter`.
 abbrev pub to_parameter : ParameterFields → Parameter
 to_parameter x = record { alg = x.alg; credential_type = option_copied x.kind }
 
@@ -67,13 +67,13 @@ parameter_next k v x =
       credential_type = if is_key (Name "type") k then as_text v else x.credential_type;
     }
 
--- Converts the code's summary of pubKeyCredParams to that of the definitions.
+-- Converts the code's `ParametersFields` to the specification's `Parameters`.
 abbrev pub to_parameters : ParametersFields → Parameters
 to_parameters x = record { is_whole = x.is_whole; has_es256 = x.has_es256 }
 
 -- ---- descriptors
 
--- Converts the code's fields of a descriptor to those of the definitions.
+-- Converts the code's `DescriptorFields` to the specification's `Descriptor`.
 abbrev pub to_descriptor : DescriptorFields → Descriptor
 to_descriptor x = record { id = option_copied x.id; credential_type = option_copied x.kind }
 
@@ -93,7 +93,7 @@ IsPlainName k = is_key (Name "transports") k ≡ false
 abbrev pub listing_in : Option Tree → Bool × Bool
 listing_in t = ((descriptors_in t).is_whole, has_entries (entries_of t))
 
--- Converts the code's summary of a list of descriptors to that of the definitions.
+-- Converts the code's `ListSummary` to a pair as in `listing_in`.
 abbrev pub to_list_summary : ListSummary → Bool × Bool
 to_list_summary x = (x.is_whole, x.given)
 
@@ -101,6 +101,6 @@ to_list_summary x = (x.is_whole, x.given)
 abbrev pub list_in : Option Tree → DescriptorList × Trees
 list_in t = (descriptors_in t, entries_of t)
 
--- Converts the code's summary of a list of descriptors, with its iterator, to a summary and entries of the definitions.
+-- Converts the code's `ListFields` to the specification's `DescriptorList` and the entries that its iterator returns.
 abbrev pub to_descriptor_list : ListFields → DescriptorList × Trees
 to_descriptor_list x = (record { is_whole = x.is_whole; entries = left_of x.list }, list_of x.list)

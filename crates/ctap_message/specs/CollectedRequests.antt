@@ -19,7 +19,7 @@ parameter_key n = Plain (Int (pos n))
 abbrev pub make_in : Option Tree → MakeParameters × Trees
 make_in t = (make_parameters t, entries_of (member (Number 0x05) t))
 
--- Converts the code's parameters of authenticatorMakeCredential to those of the definitions.
+-- Converts the code's `Make` to the specification's `MakeParameters`, with the entries of excludeList.
 abbrev pub to_make_parameters : Make → MakeParameters × Trees
 to_make_parameters m = (
   record {
@@ -61,8 +61,8 @@ pub record IsPlainMake (k : Tree) : Type 0 where
   pub exclude_list : is_key (Number 0x05) k ≡ false
   pub options : is_key (Number 0x07) k ≡ false
 
--- An unknown key.
-pub record IsOtherMake (k : Tree) : Type 0 where
+-- The key is none of the keys of authenticatorMakeCredential.
+pub record IsUnknownMakeKey (k : Tree) : Type 0 where
   pub others : IsPlainMake k
   pub hash : is_key (Number 0x01) k ≡ false
   pub extensions : is_key (Number 0x06) k ≡ false
@@ -76,7 +76,7 @@ pub record IsOtherMake (k : Tree) : Type 0 where
 abbrev pub assertion_in : Option Tree → AssertionParameters × Trees
 assertion_in t = (assertion_parameters t, entries_of (member (Number 0x03) t))
 
--- Converts the code's parameters of authenticatorGetAssertion to those of the definitions.
+-- Converts the code's `Assert` to the specification's `AssertionParameters`, with the entries of allowList.
 abbrev pub to_assertion_parameters : Assert → AssertionParameters × Trees
 to_assertion_parameters a = (
   record {
@@ -107,8 +107,8 @@ pub record IsPlainAssert (k : Tree) : Type 0 where
   pub allow_list : is_key (Number 0x03) k ≡ false
   pub options : is_key (Number 0x05) k ≡ false
 
--- An unknown key.
-pub record IsOtherAssert (k : Tree) : Type 0 where
+-- The key is none of the keys of authenticatorGetAssertion.
+pub record IsUnknownAssertKey (k : Tree) : Type 0 where
   pub others : IsPlainAssert k
   pub rp_id : is_key (Number 0x01) k ≡ false
   pub hash : is_key (Number 0x02) k ≡ false

@@ -18,7 +18,7 @@ pub record DescriptorWalk : Type 0 where
 abbrev pub list_of : DescriptorWalk → Trees
 list_of w = entries_of (canonical_tree w.cursor.bytes)
 
--- The entries left.
+-- The entries that the iterator has not reached yet.
 abbrev pub left_of : DescriptorWalk → Trees
 left_of w = items_at 3 w.count (rest_of w.cursor)
 

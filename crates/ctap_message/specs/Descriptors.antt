@@ -18,7 +18,7 @@ parameter_types = (Name "alg", is_int) ∷ (Name "type", is_text) ∷ []
 abbrev pub option_types : List (MemberKey × (Tree → Bool))
 option_types = (Name "rk", is_flag) ∷ (Name "up", is_flag) ∷ (Name "uv", is_flag) ∷ []
 
--- The credential type is `public-key`.
+-- Whether the credential type is `public-key`.
 abbrev pub is_public_key : Option (List ℕ) → Bool
 is_public_key = is_some_and (λ s. bytes_eq s (codes "public-key"))
 
@@ -26,7 +26,7 @@ is_public_key = is_some_and (λ s. bytes_eq s (codes "public-key"))
 abbrev pub type_of : Tree → Option (List ℕ)
 type_of t = member_as as_text (Name "type") (Some t)
 
--- The descriptor has an ID and a type.
+-- Whether the descriptor has an ID and a type.
 abbrev pub has_id_and_type : Tree → Bool
 has_id_and_type t = is_some (member_as as_bytes (Name "id") (Some t)) && is_some (type_of t)
 
@@ -39,15 +39,15 @@ abbrev pub ids_of : Trees → List (List ℕ)
 ids_of no_trees = []
 ids_of (tree t ts) = cons_option (id_of t) (ids_of ts)
 
--- The algorithm and the type are present.
+-- Whether the credential parameter has an algorithm and a type.
 abbrev pub has_alg_and_type : Tree → Bool
 has_alg_and_type t = is_some (member_as as_int (Name "alg") (Some t)) && is_some (type_of t)
 
--- ES256 is algorithm -7.
+-- Whether the algorithm is ES256, whose identifier is -7.
 abbrev pub is_es256 : Option ℤ → Bool
 is_es256 (Some (negsuc n)) = n == 6
 is_es256 _ = false
 
--- The credential parameter is for ES256 public keys.
+-- Whether the credential parameter is for ES256 public keys.
 abbrev pub is_es256_parameter : Tree → Bool
 is_es256_parameter t = is_es256 (member_as as_int (Name "alg") (Some t)) && is_public_key (type_of t)

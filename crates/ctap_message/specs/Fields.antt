@@ -16,7 +16,7 @@ pub record Descriptor : Type 0 where
 abbrev pub descriptor_in : Option Tree → Descriptor
 descriptor_in t = record { id = member_as as_bytes (Name "id") t; credential_type = member_as as_text (Name "type") t }
 
--- The descriptor has an ID and a type.
+-- Whether the descriptor has an ID and a type.
 abbrev pub is_complete_descriptor : Descriptor → Bool
 is_complete_descriptor d = is_some d.id && is_some d.credential_type
 
@@ -64,11 +64,11 @@ pub record Parameter : Type 0 where
 abbrev pub parameter_in : Option Tree → Parameter
 parameter_in t = record { alg = member_as as_int (Name "alg") t; credential_type = member_as as_text (Name "type") t }
 
--- The credential parameter has an algorithm and a type.
+-- Whether the credential parameter has an algorithm and a type.
 abbrev pub is_whole_parameter : Parameter → Bool
 is_whole_parameter p = is_some p.alg && is_some p.credential_type
 
--- The credential parameter is for ES256 public keys.
+-- Whether the credential parameter is for ES256 public keys.
 abbrev pub is_for_es256 : Parameter → Bool
 is_for_es256 p = is_es256 p.alg && is_public_key p.credential_type
 

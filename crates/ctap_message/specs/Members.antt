@@ -23,7 +23,7 @@ pub data MemberKey : Type 0 where
   Number : ℕ → MemberKey
   Name : String → MemberKey
 
--- The tree is this key.
+-- Whether the tree is this key.
 abbrev pub is_key : MemberKey → Tree → Bool
 is_key (Number n) (Plain (Int (pos m))) = m == n
 is_key (Name name) (Plain (Text s)) = bytes_eq s (codes name)
@@ -42,22 +42,22 @@ member key map = value_at key (pairs_of map)
 abbrev pub member_as : {A : Type 0} → (Tree → Option A) → MemberKey → Option Tree → Option A
 member_as kind key map = option_and_then kind (member key map)
 
--- Each entry passes the test.
+-- Whether each entry passes the test.
 unfoldable pub all_entries : (Tree → Bool) → Trees → Bool
 all_entries test no_trees = true
 all_entries test (tree t ts) = test t && all_entries test ts
 
--- Some entry passes the test.
+-- Whether at least one entry passes the test.
 unfoldable pub some_entry : (Tree → Bool) → Trees → Bool
 some_entry test no_trees = false
 some_entry test (tree t ts) = test t || some_entry test ts
 
--- The list is not empty.
+-- Whether the list is not empty.
 abbrev pub has_entries : Trees → Bool
 has_entries no_trees = false
 has_entries (tree t ts) = true
 
--- The value is present and passes the test.
+-- Whether the value is present and passes the test.
 abbrev pub is_some_and : {A : Type 0} → (A → Bool) → Option A → Bool
 is_some_and test None = false
 is_some_and test (Some x) = test x
@@ -79,20 +79,20 @@ is_uint t = is_some (as_uint t)
 abbrev pub is_flag : Tree → Bool
 is_flag t = is_some (as_flag t)
 
--- An array whose entries have this type.
+-- Whether the tree is an array whose entries have this type.
 abbrev pub array_of : (Tree → Bool) → Tree → Bool
 array_of type t = is_array t && all_entries type (entries_of (Some t))
 
--- Each pair passes the test.
+-- Whether each pair passes the test.
 unfoldable pub all_pairs : (Tree → Tree → Bool) → Pairs → Bool
 all_pairs test no_pairs = true
 all_pairs test (pair k v ps) = test k v && all_pairs test ps
 
--- The value has the type listed for its key. Values of unknown keys may have any type.
+-- Whether the value has the type listed for its key. Values of unknown keys may have any type.
 abbrev pub has_listed_type : List (MemberKey × (Tree → Bool)) → Tree → Tree → Bool
 has_listed_type [] k v = true
 has_listed_type (t ∷ ts) k v = if is_key t.0 k then t.1 v else has_listed_type ts k v
 
--- A map whose members have the listed types.
+-- Whether the tree is a map whose members have the listed types.
 abbrev pub map_of : List (MemberKey × (Tree → Bool)) → Tree → Bool
 map_of types t = is_map t && all_pairs (has_listed_type types) (pairs_of (Some t))

@@ -37,7 +37,8 @@ abbrev pub or_first : List (Bool × RequestFault) → Option RequestFault → Op
 or_first [] other = other
 or_first (check ∷ checks) other = if check.0 then or_first checks other else Some check.1
 
--- The checks of authenticatorMakeCredential after those that clientDataHash, rp and user are present, in order.
+-- The error of the first check of authenticatorMakeCredential that fails, once clientDataHash, rp and user are known to
+-- be present.
 abbrev pub fault_of_make : MakeParameters → (hash user_id : List ℕ) → Option RequestFault
 fault_of_make m hash user_id =
     or_first
@@ -54,7 +55,8 @@ fault_of_make m hash user_id =
     ∷ [])
     None
 
--- All checks of authenticatorMakeCredential, in order.
+-- The error of the first check of authenticatorMakeCredential that fails. `is_typed` is whether all parameters have
+-- their required types.
 abbrev pub make_fault : Bool → MakeParameters → Option RequestFault
 make_fault is_typed m =
     or_first
@@ -65,7 +67,8 @@ make_fault is_typed m =
     ∷ [])
     (fault_of_make m (unwrap_or m.client_data_hash []) (unwrap_or m.user.id []))
 
--- The checks of authenticatorGetAssertion, in order.
+-- The error of the first check of authenticatorGetAssertion that fails. `is_typed` is whether all parameters have their
+-- required types.
 abbrev pub assertion_fault : Bool → AssertionParameters → Option RequestFault
 assertion_fault is_typed a =
     let hash_len = length (unwrap_or a.client_data_hash []) in
@@ -86,13 +89,13 @@ abbrev pub fault_after : Option (ℕ × Kind) → Option RequestFault → Option
 fault_after (Some f) checked = Some (because.NotCanonical (record { at = f.0; kind = f.1 }))
 fault_after None checked = checked
 
--- The error of the first check of authenticatorMakeCredential that fails.
-abbrev pub checked_make : Option Tree → Option RequestFault
-checked_make t = make_fault (is_some_and (map_of make_types) t) (make_parameters t)
+-- The error of the first check of authenticatorMakeCredential that fails, for the parameters in a CBOR item.
+abbrev pub make_fault_in : Option Tree → Option RequestFault
+make_fault_in t = make_fault (is_some_and (map_of make_types) t) (make_parameters t)
 
--- The error of the first check of authenticatorGetAssertion that fails.
-abbrev pub checked_assertion : Option Tree → Option RequestFault
-checked_assertion t = assertion_fault (is_some_and (map_of assertion_types) t) (assertion_parameters t)
+-- The error of the first check of authenticatorGetAssertion that fails, for the parameters in a CBOR item.
+abbrev pub assertion_fault_in : Option Tree → Option RequestFault
+assertion_fault_in t = assertion_fault (is_some_and (map_of assertion_types) t) (assertion_parameters t)
 
 -- The error of a request's parameters, from the outcome of decoding them.
 abbrev pub fault_of : Outcome → (Option Tree → Option RequestFault) → Option RequestFault
@@ -106,8 +109,8 @@ trailing_fault count = if count == 0 then None else Some (because.Trailing count
 unfoldable pub fault_in : List ℕ → Option RequestFault
 fault_in [] = Some because.Empty
 fault_in (byte ∷ parameters) =
-    if byte == 0x01 then fault_of (outcome_of parameters) checked_make
-    else if byte == 0x02 then fault_of (outcome_of parameters) checked_assertion
+    if byte == 0x01 then fault_of (outcome_of parameters) make_fault_in
+    else if byte == 0x02 then fault_of (outcome_of parameters) assertion_fault_in
     else if (byte == 0x04) || ((byte == 0x07) || ((byte == 0x08) || (byte == 0x0b))) then trailing_fault (length parameters)
     else Some (because.NoSuchCommand byte)
 

@@ -15,7 +15,7 @@ use ctap_cbor::head_into;
 /// A response: a status byte and, after status 0x00, usually a map.
 pub type Answer = ArrayVec<u8, 262>;
 
-/// Writes a response with only a status.
+/// Writes a response that consists of the status byte alone.
 pub fn write_status(status: Status, answer: &mut Answer)
     ensures { answer.new.items ≡ spec.refusal status.0 }
 {

@@ -86,7 +86,7 @@ pub fn read_request<'a>(message: &'a [u8]) -> (Result<Request<'a>, Status>, u64)
     (Ok(request), steps)
 }
 
-/// Returns a response with only a status.
+/// Returns a response that consists of the status byte alone.
 pub fn write_status(status: Status) -> Answer
     ensures { result.items ≡ spec.refusal status.0 }
 {

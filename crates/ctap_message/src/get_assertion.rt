@@ -9,7 +9,7 @@ ghost use Rattle.ctap_message.specs.CollectedRequests.{assertion_in, to_assertio
 
 use crate::descriptor::{DescriptorList, read_list};
 use crate::descriptors::Descriptors;
-use crate::item::expect_map;
+use crate::item::is_map_item;
 use crate::options::Options;
 use ctap_cbor::{Cursor, Fault, Item, Members, read_map};
 
@@ -44,7 +44,7 @@ impl<'a> Members<'a> for Assert<'a> {
                         self.hash = value.as_bytes();
                         Ok(self.hash.is_some())
                     }
-                    Item::Int(0x04) => Ok(expect_map(value)),
+                    Item::Int(0x04) => Ok(is_map_item(value)),
                     Item::Int(0x06) => {
                         self.pin_uv_auth_param = value.as_bytes();
                         Ok(self.pin_uv_auth_param.is_some())

@@ -7,7 +7,7 @@ ghost use Rattle.ctap_cbor.specs.Tree.{is_map};
 use ctap_cbor::Item;
 
 /// Returns whether an item is a map.
-pub(crate) fn expect_map(item: Item<'_>) -> bool
+pub(crate) fn is_map_item(item: Item<'_>) -> bool
     ensures { result ≡ is_map (head_tree (to_part item.entry)) }
 {
     matches!(item, Item::Map(_))

@@ -9,7 +9,7 @@ ghost use Rattle.ctap_message.specs.CollectedRequests.{make_in, to_make_paramete
 
 use crate::descriptor::{DescriptorList, read_list};
 use crate::descriptors::Descriptors;
-use crate::item::expect_map;
+use crate::item::is_map_item;
 use crate::options::Options;
 use crate::parameters::Parameters;
 use crate::rp::Rp;
@@ -63,7 +63,7 @@ impl<'a> Members<'a> for Make<'a> {
                         self.hash = value.as_bytes();
                         Ok(self.hash.is_some())
                     }
-                    Item::Int(0x06) => Ok(expect_map(value)),
+                    Item::Int(0x06) => Ok(is_map_item(value)),
                     Item::Int(0x08) => {
                         self.pin_uv_auth_param = value.as_bytes();
                         Ok(self.pin_uv_auth_param.is_some())

@@ -5,8 +5,8 @@ ghost use Rattle.ctap_cbor.specs.Telling.{canonical_tree, outcome_of};
 ghost use Rattle.ctap_message.specs.MakeCredential.{make_request};
 ghost use Rattle.ctap_message.specs.GetAssertion.{assertion_request};
 ghost use Rattle.ctap_message.specs.Requests.{read_of, steps_of, without_parameters as alone_of, reading_steps, MAX_STEPS, MAX_REQUEST_LEN};
-ghost use Rattle.ctap_message.specs.RequestFaults.{checked_assertion, checked_make, fault_in, fault_of, rejection_status, status_of, trailing_fault};
-ghost use Rattle.ctap_message.specs.Shown.{request_result, to_request, parsed_result, fault_of_result, HasFreshList, HasTheLengths, IsFresh, HasLengths};
+ghost use Rattle.ctap_message.specs.RequestFaults.{assertion_fault_in, make_fault_in, fault_in, fault_of, rejection_status, status_of, trailing_fault};
+ghost use Rattle.ctap_message.specs.Shown.{request_result, to_request, parsed_result, fault_of_result, HasFreshList, HasCheckedLengths, IsFresh, HasLengths};
 
 use crate::command::Command;
 use crate::descriptors::Descriptors;
@@ -135,7 +135,7 @@ fn check_no_parameters<'a>(
     request: Request<'a>,
 ) -> Result<Request<'a>, RequestFault>
     requires fresh { HasFreshList request }
-    requires lens { HasTheLengths request }
+    requires lens { HasCheckedLengths request }
     ensures request { parsed_result result ≡ alone_of parameters.now (to_request request.entry) }
     ensures fault { fault_of_result result ≡ trailing_fault (length parameters.now) }
     ensures fresh { IsFresh result }
@@ -154,7 +154,7 @@ fn check_no_parameters<'a>(
 /// with the same cursor.
 fn read_make_credential<'a>(parameters: &'a [u8]) -> (Result<Request<'a>, RequestFault>, u64)
     ensures request { parsed_result result.0 ≡ make_request (canonical_tree parameters.now) }
-    ensures fault { fault_of_result result.0 ≡ fault_of (outcome_of parameters.now) checked_make }
+    ensures fault { fault_of_result result.0 ≡ fault_of (outcome_of parameters.now) make_fault_in }
     ensures steps { result.1 ≡ min (reading_steps parameters.now) MAX_STEPS }
     ensures fresh { IsFresh result.0 }
     ensures lens { HasLengths result.0 }
@@ -175,7 +175,7 @@ fn read_make_credential<'a>(parameters: &'a [u8]) -> (Result<Request<'a>, Reques
 /// the same cursor.
 fn read_get_assertion<'a>(parameters: &'a [u8]) -> (Result<Request<'a>, RequestFault>, u64)
     ensures request { parsed_result result.0 ≡ assertion_request (canonical_tree parameters.now) }
-    ensures fault { fault_of_result result.0 ≡ fault_of (outcome_of parameters.now) checked_assertion }
+    ensures fault { fault_of_result result.0 ≡ fault_of (outcome_of parameters.now) assertion_fault_in }
     ensures steps { result.1 ≡ min (reading_steps parameters.now) MAX_STEPS }
     ensures fresh { IsFresh result.0 }
     ensures lens { HasLengths result.0 }

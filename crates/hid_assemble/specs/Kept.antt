@@ -5,7 +5,7 @@ use Rattle.hid_assemble.specs.declared.assembler.{OpenMessage.OpenMessage, Conte
 use Rattle.hid_assemble.specs.declared.assembler.Contents.TheVariants.{Nothing, Open as HoldsOpen, Finished}
 use Rattle.hid_packet.specs.Limits.{data_capacity, MAX_MESSAGE_LEN}
 
--- Converts the code's incomplete message, whose data is at the beginning of the buffer, to one of the definitions.
+-- Converts the code's incomplete message, whose data is at the beginning of the buffer, to the specification's `Open`.
 abbrev pub stored_open_message : List ℕ → OpenMessage → Open
 stored_open_message buffer m = record {
   cid = m.cid;

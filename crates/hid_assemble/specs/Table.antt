@@ -101,8 +101,9 @@ packet_class given current work (initialization cid cmd len part) =
     Begins (init_packet_row given (option_map (λ m. m.cid) current) work cid cmd len)
 packet_class given current work (continuation cid number part) = Continues (cont_packet_row current cid number)
 
--- Whether a packet changes nothing: a CANCEL without a pending request, a packet on a channel that isn't allocated or
--- while a channel is busy, or a continuation packet outside any transaction.
+-- Whether a packet changes nothing: a CANCEL without a pending request; an initialization packet on a channel that
+-- isn't allocated, except INIT on the broadcast channel; an initialization packet other than INIT while another channel
+-- is busy or a request is pending on its channel; or a continuation packet outside any transaction.
 abbrev pub is_noise : PacketClass → Bool
 is_noise (Begins CancelsNothing) = true
 is_noise (Begins NoSuchChannel) = true

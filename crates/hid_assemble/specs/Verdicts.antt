@@ -14,7 +14,7 @@ use Rattle.hid_assemble.specs.Table.{Stray, WrongNumber, Kept as KeptOn, Whole}
 use Rattle.hid_assemble.specs.declared.verdict.Verdict.{Verdict, TheVariants.GreetAndDrop, TheVariants.CancelWork}
 use Rattle.hid_assemble.specs.declared.verdict.Verdict.TheVariants.{Ignored, Kept, Finished, Refuse, Greet}
 
--- The packet is ignored, or rejected with ERROR "invalid channel" or "channel busy".
+-- Whether the packet is ignored, or rejected with ERROR "invalid channel" or "channel busy".
 abbrev pub is_noise_verdict : Verdict → Bool
 is_noise_verdict Ignored = true
 is_noise_verdict (Refuse cid (because.NoSuchChannel given)) = true

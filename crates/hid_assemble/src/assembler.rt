@@ -28,17 +28,32 @@ struct OpenMessage {
     last: u64,
 }
 
-/// What the buffer contains.
+impl OpenMessage {
+    /// Returns the message that an initialization packet at time `last` begins.
+    fn new(cid: u32, cmd: u8, len: u16, last: u64) -> Self
+        ensures { result ≡ record { cid = cid; cmd = cmd; len = len; kept = 0; last = last } }
+    {
+        OpenMessage {
+            cid,
+            cmd,
+            len,
+            kept: 0,
+            last,
+        }
+    }
+}
+
+/// What an assembler's buffer contains.
 #[derive(Clone, Copy)]
 enum Contents {
     Nothing,
     /// The data bytes of an open message that were received so far.
     Open(OpenMessage),
-    /// The complete message of the last packet, which has this length.
+    /// The message that the last packet completed, with this length.
     Finished(u16),
 }
 
-/// Appends data bytes.
+/// Writes data bytes to the buffer `message`, after the first `held` bytes.
 fn put_data(message: &mut [u8], held: usize, part: &[u8])
     requires { held + length part.now ≤ length message.old }
     ensures { message.new ≡ take held message.old ++ (part.now ++ drop (held + length part.now) message.old) }
@@ -46,8 +61,8 @@ fn put_data(message: &mut [u8], held: usize, part: &[u8])
     message[held..held + part.len()].copy_from_slice(part);
 }
 
-/// Returns the verdict on an INIT packet on the channel `on`, with these data bytes. If a request is pending on this
-/// channel, the request must be dropped.
+/// Returns the verdict on a valid INIT packet on the channel `on`: the response has the channel ID `channel` and the
+/// nonce at the start of `part`. If a request is pending on the channel `on`, the request must be dropped.
 fn init_verdict(on: u32, channel: u32, part: &[u8], working: Option<u32>) -> Verdict
     requires { 8 ≤ length part.now }
     ensures { result ≡ (if is_busy_here working on then Verdict.GreetAndDrop on channel (take 8 part.now)
@@ -62,14 +77,14 @@ fn init_verdict(on: u32, channel: u32, part: &[u8], working: Option<u32>) -> Ver
     }
 }
 
-/// Returns the verdict that rejects a packet on this channel.
+/// Returns the verdict that rejects a packet on this channel for the cause `why`.
 fn refuse(cid: u32, why: Refusal) -> Verdict
     ensures { result ≡ Verdict.Refuse cid why }
 {
     Verdict::Refuse { cid, why }
 }
 
-/// Returns why a packet is rejected while its channel or another channel is busy.
+/// Returns the cause for rejecting a packet on the channel `cid` while another channel is busy, with the busy channel.
 fn busy_refusal(current: Option<u32>, working: Option<u32>, cid: u32) -> Refusal
     ensures { result ≡ Refusal.BusyElsewhere (busy_channel current working cid) }
 {
@@ -80,9 +95,9 @@ fn busy_refusal(current: Option<u32>, working: Option<u32>, cid: u32) -> Refusal
     Refusal::BusyElsewhere { channel }
 }
 
-/// The state of the transport: the number of allocated channels, and the incomplete message, if any.
-/// [`accept`](Self::accept) handles a packet. Before that, [`pass`](Self::pass) drops the incomplete message if it
-/// timed out.
+/// The state of the transport: the number of allocated channels, and the incomplete message, if any. For each packet,
+/// [`pass`](Self::pass) first drops the incomplete message if it timed out. Then [`accept`](Self::accept) handles the
+/// packet.
 #[derive(Drop)]
 pub struct Assembler {
     given: u32,
@@ -187,7 +202,7 @@ impl Assembler {
         }
     }
 
-    /// Removes the complete message of the previous packet.
+    /// Removes the message that the previous packet completed, if any.
     fn clear_finished(&mut self)
         ensures forgotten { self.new ≡ record self.old { finished = [] } }
         ensures lawful { IsValidAssembly self.new }
@@ -255,13 +270,7 @@ impl Assembler {
             }
             ReplyRow::Long => {
                 put_data(&mut self.buffer, 0, part);
-                self.contents = Contents::Open(OpenMessage {
-                    cid,
-                    cmd,
-                    len,
-                    kept: 0,
-                    last: at,
-                });
+                self.contents = Contents::Open(OpenMessage::new(cid, cmd, len, at));
                 Verdict::Kept
             }
         }

@@ -10,8 +10,8 @@ ghost use Rattle.hid_assemble.specs.Assembly.{Assembly, accepted};
 ghost use Rattle.hid_assemble.specs.Receiving.{Arrival, packets_of, received, last_verdict, ArriveInTime, IsSupportedMessage};
 ghost use Rattle.hid_assemble.specs.declared.verdict.Verdict.TheVariants.{Finished};
 
-/// States that the packets of a supported message on an allocated channel, if they arrive less than 500 ms apart and no
-/// message was open before, complete a message with exactly its bytes.
+/// States that the packets of a supported message complete it, with exactly its bytes, if its channel is allocated, the
+/// packets arrive less than 500 ms apart, and no message was open before.
 pub fn packets_of_a_message_complete_it()
     ensures told { (a : Assembly) (arrivals : List Arrival) (cid cmd : ℕ) (bytes : List ℕ) → a.current ≡ None
         → 1 ≤ cid → cid ≤ a.given → IsSupportedMessage cmd bytes
@@ -23,8 +23,8 @@ pub fn packets_of_a_message_complete_it()
         → received a arrivals ≡ record { given = a.given; current = None; finished = bytes } }
 {}
 
-/// States that a packet is ignored ("noise") if and only if no packet or only an ERROR packet "invalid channel" or
-/// "channel busy" is sent for it. Such a packet leaves the channels and the open message unchanged.
+/// States that a packet is noise (ignored input) if and only if the verdict on it is to ignore it, or to reject it with
+/// ERROR "invalid channel" or "channel busy". Noise leaves the channels and the open message unchanged.
 pub fn noise_is_turned_away()
     ensures answer { (a : Assembly) (work : Option ℕ) (f : Fields)
         → is_noise (packet_class a.given a.current work f) ≡ is_noise_verdict (verdict a work f) }

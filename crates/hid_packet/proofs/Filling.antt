@@ -5,6 +5,8 @@ use Rattle.std.proofs.Common.{get_or-drop, get_or-take}
 use native.Mathlib.Nat.{mod-add-mod}
 use Rattle.std.proofs.Math.Seq.{take-length, drop-length}
 use Rattle.std.proofs.lemmas.{List.same_lists, List.get_or_append_left, List.get_or-append_right, Bool.cases_lt}
+use borrow.Rule.Slice.PartMut.{put_mid}
+use Rattle.std.proofs.lemmas.List.{drop-drop}
 use Rattle.hid_packet.specs.Queue.{with_overwritten, window}
 use Rattle.hid_packet.proofs.Windows.{wraps_once, length-window, get_or-window}
 
@@ -59,6 +61,11 @@ module _ (e : ℕ) (front back xs : List ℕ) (fits : e + length front ≤ lengt
 
   pub back_at : (j d : ℕ) → j < length back → get_or (with_overwritten e front back xs) j d ≡ get_or back j d
   back_at = at_back
+
+-- bytes that are copied to index `a` of a list
+pub part_put : (a k : ℕ) (xs ys part : List ℕ) → part ≡ ys → k ≡ length ys →
+    put_mid a k xs part ≡ take a xs ++ (ys ++ drop (a + length ys) xs)
+part_put a k xs ys part same len = ap₂ (λ p l. take a xs ++ (p ++ l)) same (drop-drop k a xs ∙ ap (λ m. drop (a + m) xs) len)
 
 -- all bytes fit before the end
 pub straight_put : (e : ℕ) (ys xs out : List ℕ) → out ≡ take e xs ++ (ys ++ drop (e + length ys) xs) →

@@ -75,7 +75,7 @@ abbrev pub FillsPacket : Fields → Type 0
 FillsPacket (initialization cid cmd len part) = length part ≡ INIT_PACKET_DATA
 FillsPacket (continuation cid number part) = length part ≡ CONT_PACKET_DATA
 
--- Converts the code's type `View` to fields.
+-- Converts the code's `View` to fields.
 abbrev pub to_fields : View → Fields
 to_fields (Start cid cmd len part) = initialization cid cmd len part.now
 to_fields (More cid seq part) = continuation cid seq part.now

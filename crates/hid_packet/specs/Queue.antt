@@ -6,7 +6,7 @@ use Rattle.hid_packet.specs.declared.queued.Queued.{Queued, TheVariants.Whole, T
 use Rattle.hid_packet.specs.declared.fragments.NextPacket.TheVariants.{Initialization, Continuation}
 use Rattle.hid_packet.specs.Limits.{CONT_PACKET_DATA, MAX_MESSAGE_LEN, OUTBOX_CAPACITY}
 
--- `len` items of a ring buffer from index `first` on. After the last item, index 0 follows.
+-- `len` items of a ring buffer from index `first` on. After the last index, index 0 follows.
 abbrev pub window : {X : Type 0} → (first len : ℕ) → List X → List X
 window first len ring = take len (drop first ring ++ take first ring)
 
@@ -41,12 +41,12 @@ abbrev pub HasEntryPacket : Queued → Type 0
 HasEntryPacket Whole = Unit {0}
 HasEntryPacket (Part message) = HasPacketLeft message.due message.left
 
--- The bytes are those of the entries, and each entry has a packet left to send.
+-- `bytes` has as many bytes as the entries need, and each entry has a packet left to send.
 pub record AreEntriesOf (entries : List Queued) (bytes : List ℕ) : Type 0 where
   pub due : AllByRecursion HasEntryPacket entries
   pub sum : sum_by entry_len entries ≡ length bytes
 
--- The bytes are those of the entries, which have `len` packets in all.
+-- The entries and the bytes of the ring buffer are those of an outbox with `len` packets, within its capacity.
 pub record IsQueued (entries : List Queued) (bytes : List ℕ) (len : ℕ) : Type 0 where
   pub held : AreEntriesOf entries bytes
   pub counted : len ≡ length (queued_packets entries bytes)

@@ -10,27 +10,20 @@ use crate::packet::Packet;
 use byteorder::{BigEndian, ByteOrder};
 use std::marker::Model;
 
-/// Returns the number of packets for a message of `len` bytes: 1 for at most 57 bytes, or else 1 plus the least number
-/// of continuation packets of 59 data bytes for the other bytes. It is at most 129.
+/// Returns the number of packets that carry a message of `len` bytes: one initialization packet with up to 57 data
+/// bytes, and as many continuation packets of 59 data bytes as the remaining bytes need. It is at most 129.
 pub fn packets_for(len: u16) -> u16
     requires { len ≤ MAX_MESSAGE_LEN }
     ensures some { 1 ≤ result }
     ensures least { IsLeast (result - 1) len }
     ensures written { (cid cmd : ℕ) (bytes : List ℕ) → length bytes ≡ len → length (message_packets cid cmd bytes) ≡ result }
 {
-    // This rounds up: one continuation packet for each 59 bytes after the first 57.
+    // The number of continuation packets is (len - 57) / 59, rounded up.
     1 + (len + 1) / 59
 }
 
-/// Writes bytes at an offset.
-pub(crate) fn write_at(out: &mut [u8], place: usize, bytes: &[u8])
-    requires { place + length bytes.now ≤ length out.old }
-    ensures { out.new ≡ take place out.old ++ (bytes.now ++ drop (place + length bytes.now) out.old) }
-{
-    out[place..place + bytes.len()].copy_from_slice(bytes);
-}
-
-/// Writes an initialization packet with these data bytes. The bytes of the packet after them are unchanged.
+/// Writes an initialization packet with the data bytes `part` to the start of `out`. The bytes of `out` after the data
+/// are unchanged.
 pub(crate) fn write_init_packet(out: &mut [u8], cid: u32, cmd: u8, len: u16, part: &[u8])
     requires command { cmd < 128 }
     requires space { 7 + length part.now ≤ length out.old }
@@ -40,17 +33,18 @@ pub(crate) fn write_init_packet(out: &mut [u8], cid: u32, cmd: u8, len: u16, par
     BigEndian::write_u32(out, cid);
     out[4] = cmd + 128;
     BigEndian::write_u16(&mut out[5..], len);
-    write_at(out, 7, part);
+    out[7..7 + part.len()].copy_from_slice(part);
 }
 
-/// Writes a continuation packet with these data bytes. The bytes of the packet after them are unchanged.
+/// Writes a continuation packet with the data bytes `part` to the start of `out`. The bytes of `out` after the data are
+/// unchanged.
 pub(crate) fn write_cont_packet(out: &mut [u8], cid: u32, number: u8, part: &[u8])
     requires { 5 + length part.now ≤ length out.old }
     ensures { out.new ≡ ((big_bytes 4 cid ++ number ∷ []) ++ part.now) ++ drop (5 + length part.now) out.old }
 {
     BigEndian::write_u32(out, cid);
     out[4] = number;
-    write_at(out, 5, part);
+    out[5..5 + part.len()].copy_from_slice(part);
 }
 
 /// Returns an initialization packet with these data bytes, padded with zeros.
@@ -74,10 +68,10 @@ fn continuation(cid: u32, number: u8, part: &[u8]) -> Packet
     Packet(packet)
 }
 
-/// The packet of a message that comes next.
+/// The next packet of a message.
 #[derive(Clone, Copy)]
 pub(crate) enum NextPacket {
-    /// The initialization packet, which has this command.
+    /// The initialization packet, with this command.
     Initialization(u8),
     /// A continuation packet with this sequence number, if any byte of the message is left.
     Continuation(u8),
@@ -91,7 +85,7 @@ pub struct Fragments<'a> {
     rest: &'a [u8],
 }
 
-// In contracts, this is the list of the packets that haven't been returned yet.
+// In contracts, the iterator is the list of the packets that it hasn't returned yet.
 impl<'a> Model for Fragments<'a> {
     ghost use Rattle.std.specs.Prelude.{ℕ, List};
     ghost use Rattle.hid_packet.specs.Remaining.{packets_left, CanCarry};
@@ -104,8 +98,8 @@ impl<'a> Model for Fragments<'a> {
 }
 
 impl<'a> Fragments<'a> {
-    /// Returns the packets of the message `bytes` with the command `cmd` on the channel `cid`. Their number is the
-    /// result of [`packets_for`].
+    /// Returns the packets of the message `bytes` with the command `cmd` on the channel `cid`. [`packets_for`] returns
+    /// their number.
     pub fn new(cid: u32, cmd: u8, bytes: &'a [u8]) -> Self
         requires short { length bytes.now ≤ MAX_MESSAGE_LEN }
         requires command { cmd < 128 }

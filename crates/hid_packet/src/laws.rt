@@ -29,8 +29,8 @@ pub fn written_packets_end_in_zeros()
         → PaddingIsZero bytes (message_packets cid cmd bytes) }
 {}
 
-/// States that only the packets written for a message carry the message in packets of 64 bytes with zeros after its
-/// end.
+/// States that if packets of 64 bytes carry a message, with zeros after its end, they are the packets written for the
+/// message.
 pub fn written_packets_are_the_only_ones()
     ensures { (packets : List (List ℕ)) (cid cmd : ℕ) (bytes : List ℕ)
         → CarriesMessage packets cid cmd bytes → ArePackets packets → PaddingIsZero bytes packets

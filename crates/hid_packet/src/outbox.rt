@@ -26,7 +26,7 @@ pub struct Outbox {
     len: usize,
 }
 
-// In contracts, this is the list of the queued packets, in order.
+// In contracts, an outbox is the list of its packets, in order.
 impl Model for Outbox {
     ghost use Rattle.std.specs.Prelude.{ℕ, List};
     ghost use Rattle.hid_packet.specs.Queue.{queued_packets, IsQueued};

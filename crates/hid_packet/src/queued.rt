@@ -10,7 +10,7 @@ use crate::limits::{CONT_PACKET_DATA, INIT_PACKET_DATA};
 use crate::packet::Packet;
 use crate::ring::RingBuffer;
 
-/// The rest of a message: the next packet, and the number of bytes in the ring buffer.
+/// The rest of a message: its next packet, and the number of its bytes in the ring buffer.
 #[derive(Clone, Copy)]
 pub(crate) struct QueuedMessage {
     pub(crate) cid: u32,
@@ -23,7 +23,7 @@ pub(crate) struct QueuedMessage {
 pub(crate) enum Queued {
     /// A packet, whose 64 bytes are in the ring buffer.
     Whole,
-    /// A message, or the rest of a message.
+    /// A message, or the rest of a message after some of its packets were removed.
     Part(QueuedMessage),
 }
 
@@ -34,7 +34,7 @@ impl Default for Queued {
 }
 
 impl QueuedMessage {
-    /// Creates the next packet of the message.
+    /// Creates the next packet of the message, and removes its data bytes from the ring buffer.
     pub(crate) fn next_packet(&mut self, ring: &mut RingBuffer) -> Packet
         requires due { HasPacketLeft self.old.due self.old.left }
         requires there { self.old.left ≤ length ring.old }

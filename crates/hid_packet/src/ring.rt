@@ -2,7 +2,6 @@
 ghost use Rattle.std.specs.Prelude.{◌≡◌, ◌+◌, ◌-◌, ◌*◌, ◌%◌, ◌<◌, ◌≤◌, ◌++◌, [], length, min, take, drop};
 ghost use Rattle.hid_packet.specs.Limits.{RING_SIZE};
 
-use crate::fragments::write_at;
 use crate::limits::OUTBOX_CAPACITY;
 use std::marker::Model;
 
@@ -17,7 +16,7 @@ pub(crate) struct RingBuffer {
     len: usize,
 }
 
-// In contracts, this is the list of the queued bytes.
+// In contracts, a ring buffer is the list of the queued bytes.
 impl Model for RingBuffer {
     ghost use Rattle.std.specs.Prelude.{◌≡◌, ℕ, ◌<◌, ◌≤◌, List, length};
     ghost use Rattle.hid_packet.specs.Queue.{window};
@@ -31,7 +30,7 @@ impl Model for RingBuffer {
 }
 
 impl RingBuffer {
-    /// Returns an empty ring.
+    /// Returns an empty ring buffer.
     pub(crate) fn new() -> Self
         ensures { result ≡ [] }
     {
@@ -42,7 +41,7 @@ impl RingBuffer {
         }
     }
 
-    /// Appends bytes. Bytes past the end of the ring buffer are stored at its beginning.
+    /// Appends bytes. Bytes that don't fit before the end of the array are stored at its beginning.
     pub(crate) fn put(&mut self, bytes: &[u8])
         requires { length self.old + length bytes.now ≤ RING_SIZE }
         ensures { self.new ≡ self.old ++ bytes.now }
@@ -51,15 +50,15 @@ impl RingBuffer {
         let straight = RING_SIZE - end;
         self.len += bytes.len();
         if bytes.len() <= straight {
-            write_at(&mut self.bytes, end, bytes);
+            self.bytes[end..end + bytes.len()].copy_from_slice(bytes);
             return;
         }
         let (front, back) = bytes.split_at(straight);
-        write_at(&mut self.bytes, end, front);
-        write_at(&mut self.bytes, 0, back);
+        self.bytes[end..end + front.len()].copy_from_slice(front);
+        self.bytes[..back.len()].copy_from_slice(back);
     }
 
-    /// Removes the first bytes, as many as fit into `out`, and copies them to `out`.
+    /// Fills `out` with the first bytes, and removes these bytes from the ring buffer.
     pub(crate) fn take(&mut self, out: &mut [u8])
         requires { length out.old ≤ length self.old }
         ensures taken { out.new ≡ take (length out.old) self.old }

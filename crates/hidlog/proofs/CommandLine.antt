@@ -23,7 +23,7 @@ use Rattle.hidlog.specs.declared.args.{CommandOptions.CommandOptions, ShowFormat
 use Rattle.hidlog.specs.declared.args.Verbosity.{TheVariants.ByTerminal}
 use Rattle.hidlog.specs.declared.cli.{CommandEntry.CommandEntry, CommandParameter.CommandParameter}
 use Rattle.hidlog.specs.CommandLine.{Task, command, command_for, rule_for, command_task, parsed_command_line, grammar}
-use Rattle.hidlog.specs.CommandLine.{argument_errors, logs_of, play, check, show, task_for, to_texts}
+use Rattle.hidlog.specs.CommandLine.{argument_errors, log_paths_of, play, check, show, task_for, to_texts}
 use Rattle.clap.specs.declared.error.kind.ErrorKind.TheVariants as kind
 use Rattle.session_log.specs.declared.command.ReplayMode.TheVariants as playing
 
@@ -275,11 +275,11 @@ path_is found id path is = is ∙ first_value-rows found id
 
 -- the paths of logs, where some were found, and where none was
 pub logs_are : (found : Found) (logs : List Text) → Some logs ≡ option_map raw_values (matched_of found (codes "log"))
-    → logs ≡ logs_of (rows_of found)
+    → logs ≡ log_paths_of (rows_of found)
 logs_are found logs is = ap (λ all. unwrap_or all []) (is ∙ raw_values-rows found (codes "log"))
 
 pub no_logs : (found : Found) → None ≡ option_map raw_values (matched_of found (codes "log")) →
-    [] ≡ logs_of (rows_of found)
+    [] ≡ log_paths_of (rows_of found)
 no_logs found is = ap (λ all. unwrap_or all []) (is ∙ raw_values-rows found (codes "log"))
 
 -- What a command alone asks for, whatever the program's name is.

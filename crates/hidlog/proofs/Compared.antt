@@ -1,10 +1,16 @@
 -- Several logs that are compared, one after the other.
 use Rattle.std.proofs.Common.{◌≡◌, ◌∙◌, ℕ, zero, suc, ◌+◌, ◌<◌, false, List, [], ◌∷◌, ◌++◌, length, take, drop, get_or, Option, Ok, Err}
-use Rattle.std.proofs.Common.{OnErr, OnOk, is_err, true, inl, inr, refl, sym, ap, subst}
+use Rattle.std.proofs.Common.{None, Some, OnErr, OnOk, is_err, true, inl, inr, refl, sym, ap, rules, subst}
 use Rattle.std.{specs.Borrow.Bor, proofs.lemmas.List.map-append, proofs.lemmas.List.take_more, proofs.lemmas.List.take-append-drop}
 use Rattle.session_log.specs.Command.{Status}
 use native.Mathlib.Numerals.{unary_clauses}
+use Rattle.std.specs.Io.KnownBytes.{Consumes}
+use Rattle.std.proofs.lemmas.List.{append_cancel_right}
+use Rattle.session_log.specs.{Check.first_comparison, Check.check_history, Command.start_with, Log.fault_of, Log.play_all}
+use Rattle.session_log.specs.Ending.{Refused, ending_of_fault}
+use Rattle.session_log.specs.declared.fault.LogFault.{LogFault}
 use Rattle.hidlog.specs.{CommandLine.to_texts, Fault.FaultText, Model.Model, Several.AreSame, Several.FailsAt, Several.HasFailure, Several.IsSameAt}
+use Rattle.hidlog.specs.Several.{EndsCheck, HasFault, IsSame}
 
 pub on_ok : {P : Type 0} (r : Status) → P → OnOk r P
 on_ok (Ok x) h = h
@@ -103,3 +109,27 @@ module _ {D I O F : Type 0} (model : Model D I O F) where
   all_fail load files paths place input fails =
       subst (λ (logs : List (List ℕ)). HasFailure model load files logs input) (sym (all_texts paths place))
       (more_failures load files (to_texts (take place paths)) (to_texts (drop place paths)) input fails)
+
+-- An error of a log excludes that the log has no difference: what a key sends for the bytes that were read decides.
+module _ {D I O F : Type 0} (model : Model D I O F) where
+  -- the bytes between two states of a source
+  same_bytes : (old new : Option (List ℕ)) (text rest xs ys : List ℕ) → old ≡ Some text → new ≡ Some rest →
+      Consumes old new xs → Consumes old new ys → xs ≡ ys
+  same_bytes old new text rest xs ys from to one other =
+      let one_is : text ≡ xs ++ rest = subst (λ n. Consumes (Some text) n xs) to (subst (λ o. Consumes o new xs) from one) in
+      let other_is : text ≡ ys ++ rest = subst (λ n. Consumes (Some text) n ys) to (subst (λ o. Consumes o new ys) from other) in
+      append_cancel_right xs ys rest (sym one_is ∙ other_is)
+
+  pub same_has_no_fault : (files : D) (fault : LogFault) (input : I × I) (text rest : List ℕ)
+      → model.left input.0 ≡ Some text → model.left input.1 ≡ Some rest → ending_of_fault fault ≡ Refused fault
+      → IsSame model None files input → HasFault model None files fault input → ⊥
+  same_has_no_fault files fault input text rest from to is_own same other =
+      let rows : other.0 ≡ same.0 = other.2 ∙ sym same.2 in
+      let bytes : other.1 ≡ same.1 = same_bytes _ _ text rest _ _ from to other.3 same.3 in
+      let ends = subst (λ e. EndsCheck model other.0 e other.1 input) is_own other.4 in
+      let found : fault_of (check_history (start_with same.0)) (play_all (check_history (start_with same.0)) (first_comparison []) same.1)
+      ≡ Some fault = subst (λ r. fault_of (check_history (start_with r)) (play_all (check_history (start_with r)) (first_comparison []) same.1)
+      ≡ Some fault) rows (subst (λ b. fault_of (check_history (start_with other.0)) (play_all (check_history (start_with other.0)) (first_comparison []) b)
+      ≡ Some fault) bytes ends) in
+      let none : None ≡ Some fault = sym same.4 ∙ found in
+      search rules

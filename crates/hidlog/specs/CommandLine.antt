@@ -56,7 +56,7 @@ rule_for parameter = rule_of_form parameter.form parameter.word.now
 abbrev pub command_for : CommandEntry → Shape
 command_for entry = command entry.word.now (map rule_for entry.parameters.now)
 
--- The five commands, one of which is required. clap adds `help` and `--version`.
+-- The five commands. The command line must contain one of them. clap adds `help` and `--version`.
 abbrev pub grammar : App
 grammar = record {
   top = record (new_shape (codes "hidlog")) { has_version = true; subcommand_required = true; is_leaf = false };
@@ -74,7 +74,7 @@ grammar = record {
 unfoldable pub argument_errors : List (List ℕ) → Kinds
 argument_errors words = fault_of grammar words
 
--- ---- what is asked
+-- ---- tasks
 
 -- The task that the arguments specify, with the paths of snapshots and logs.
 pub data Task : Type 0 where
@@ -86,11 +86,11 @@ pub data Task : Type 0 where
 abbrev pub to_path : Option (Bor (List ℕ)) → Option (List ℕ)
 to_path = option_map (λ path. path.now)
 
--- the words' bytes
+-- The bytes of these texts.
 abbrev pub to_texts : List (Bor (List ℕ)) → List (List ℕ)
 to_texts words = map (λ word. word.now) words
 
--- Converts a task of the code to one of the definitions, with the paths of all logs.
+-- Converts the code's `Action`, with the paths of all logs, to a `Task`.
 abbrev pub to_task : Action → (logs : List (List ℕ)) → Task
 to_task (Play p) logs = play p.command (to_path p.load) (to_path p.save) (to_path p.log)
 to_task (Check load all json) logs = check (to_path load) all json logs
@@ -118,10 +118,10 @@ explains Fixed is_terminal = false
 explains ByTerminal is_terminal = is_terminal
 
 -- The paths of the logs.
-abbrev pub logs_of : List Row → List (List ℕ)
-logs_of found = unwrap_or (all_of (codes "log") found) []
+abbrev pub log_paths_of : List Row → List (List ℕ)
+log_paths_of found = unwrap_or (all_of (codes "log") found) []
 
--- Converts the code's parsed arguments to a task and a level of detail of the definitions.
+-- Converts the code's `Invocation` to a `Task` and a `Verbosity`.
 abbrev pub task_and_verbosity : Invocation → Task × Verbosity
 task_and_verbosity asked = (to_task asked.task (to_texts asked.logs.items), asked.verbosity)
 
@@ -157,7 +157,7 @@ task_from_options name found =
     else if bytes_eq name (codes "live") then Some (play playing.Live (first_of (codes "load") found)
     (first_of (codes "save") found) (first_of (codes "log") found))
     else if bytes_eq name (codes "check") then Some (check (first_of (codes "load") found)
-    (is_set (codes "all") found) (is_set (codes "json") found) (logs_of found))
+    (is_set (codes "all") found) (is_set (codes "json") found) (log_paths_of found))
     else if bytes_eq name (codes "quiet") then Some (play playing.Quiet (first_of (codes "load") found) None
     (first_of (codes "log") found))
     else if bytes_eq name (codes "show") then Some (show (show_format found) (is_set (codes "wide") found)

@@ -26,7 +26,7 @@ abbrev pub checked_save_path : ReplayMode → Option (List ℕ) → Option (List
 checked_save_path Live save = save
 checked_save_path _ save = None
 
--- The logs to compare. Without paths, standard input.
+-- The logs to compare, or standard input if there are no paths.
 abbrev pub logs_or_input : List (List ℕ) → List (List ℕ)
 logs_or_input [] = codes "-" ∷ []
 logs_or_input (log ∷ logs) = log ∷ logs
@@ -50,8 +50,8 @@ detail_for true = Explained
 detail_for false = Fixed
 
 module _ {D I O F : Type 0} (model : Model D I O F) where
-  -- The log at the path is opened, or standard input without a path, and `Goes` holds for the rest. If the log cannot
-  -- be opened, the exit status is 1, and nothing is written.
+  -- The log at the path, or standard input without a path, is opened, and then `Goes` holds. If the log cannot be
+  -- opened, the exit status is 1, and nothing is written.
   abbrev pub Reads : Option (List ℕ) → (Host D I O F → Type 0) → RunResult → (old new : Host D I O F) → Type 0
   Reads log Goes came old new =
       ((came ≡ Err (reasoned 1 cannot_read_log)) × (new ≡ old) × IsSomeAnd (named log) (model.unopenable old.input))
@@ -114,8 +114,8 @@ module _ {D I O F : Type 0} (model : Model D I O F) where
       ⊎ (model.unsaid host.faults ≡ 2 ^ 64 - 1)
 
   -- The logs were compared, and the files are not changed. The exit status is 0 only if no log has a difference and the
-  -- reports were written. It is another one only if a log fails or a report could not be written, and 2 only if the
-  -- snapshot cannot be loaded.
+  -- reports were written. A status other than 0 means that a log fails or that a report could not be written; 2 means
+  -- that the snapshot cannot be loaded.
   abbrev pub Compares : Option (List ℕ) → (logs : List (List ℕ)) → Status → (old new : Host D I O F) → Type 0
   Compares load logs status old new = (new.files ≡ old.files)
       × OnOk status (AreSame model load old.files logs (old.input, new.input)
@@ -172,8 +172,8 @@ module _ {D I O F : Type 0} (model : Model D I O F) where
       status old new
       ⊎ LacksMemory status old new)
 
-  -- As `Answers`. After that, at most one more text was written to the error output, and more of the log may have been
-  -- read.
+  -- Like `Answers`. Afterwards, at most one more text was written to the error output, and more of the log may have
+  -- been read.
   abbrev pub Plays : List (List ℕ) → Status → (old new : Host D I O F) → Type 0
   Plays words status old new = (ran : Host D I O F) × Answers words status old ran
       × (new ≡ record ran { input = new.input; faults = new.faults })

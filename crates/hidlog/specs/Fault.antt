@@ -6,7 +6,7 @@ use Rattle.hidlog.specs.declared.fault.ProgramFault.TheVariants.{Memory, Log, Lo
 use Rattle.hidlog.specs.declared.fault.ProgramFault.TheVariants.{RefusedSnapshot, SnapshotWriteError}
 use Rattle.hidlog.specs.Program.{Ended, IsWrittenTo, IsReported, cannot_read, cannot_read_log, cannot_write, no_memory, refused}
 
--- the exit status
+-- The exit status for an error.
 abbrev pub exit_status : ProgramFault → ℕ
 exit_status (Log fault) = 1
 exit_status (LogOpenError path error) = 1
@@ -41,12 +41,12 @@ to_fault_text (SnapshotWriteError path unwritten) = reasoned 2 cannot_write
 abbrev pub RunResult : Type 0
 RunResult = Result (Unit {0}) FaultText
 
--- Converts a result of the code.
+-- Converts the code's result to a `RunResult`.
 abbrev pub to_result : {A : Type 0} → Result A ProgramFault → RunResult
 to_result (Ok x) = Ok tt
 to_result (Err fault) = Err (to_fault_text fault)
 
--- Converts the result of playing a log.
+-- Converts the result of playing a log to a `RunResult`.
 abbrev pub to_run_result : Ended → RunResult
 to_run_result (Ok x) = Ok tt
 to_run_result (Err fault) = Err of_log

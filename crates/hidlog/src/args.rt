@@ -1,7 +1,7 @@
 //! The program's command line arguments.
 ghost use Rattle.std.specs.Prelude.{◌≡◌, List, ℕ, Some, IfOk, IfErr, IfSome, option_map, option_and_then};
 ghost use Rattle.clap.specs.Words.{HasKind, subcommand_rows_of};
-ghost use Rattle.hidlog.specs.CommandLine.{AreParsedOptions, argument_errors, command_task, task_and_verbosity, parsed_command_line, to_task, explains, show_format, is_set as is_found, logs_of, verbosity_of, task_for, to_texts};
+ghost use Rattle.hidlog.specs.CommandLine.{AreParsedOptions, argument_errors, command_task, task_and_verbosity, parsed_command_line, to_task, explains, show_format, is_set as is_found, log_paths_of, verbosity_of, task_for, to_texts};
 ghost use Rattle.clap.specs.Matches.{found_of};
 ghost use Rattle.clap.specs.Walk.{rows_of};
 
@@ -47,9 +47,9 @@ pub enum Action<'a> {
 /// The level of detail of the program's texts.
 #[derive(Clone, Copy)]
 pub enum Verbosity {
-    /// Explained: texts with names, members, reasons and notes.
+    /// Explained texts, with names, fields, reasons and notes.
     Explained,
-    /// Fixed: texts without explanations, for programs.
+    /// Texts in the fixed format, without explanations, for programs to read.
     Fixed,
     /// Explained if the output is a terminal, or else fixed.
     ByTerminal,
@@ -77,7 +77,7 @@ pub struct Invocation<'a> {
     pub verbosity: Verbosity,
 }
 
-/// The options and paths after a command's name, of any command.
+/// The options and paths of any command. Those that a command doesn't have are absent.
 #[derive(Clone, Copy)]
 struct CommandOptions<'a> {
     load: Option<&'a str>,
@@ -91,7 +91,7 @@ struct CommandOptions<'a> {
 }
 
 impl<'a> CommandOptions<'a> {
-    /// Returns the task of the command with this name.
+    /// Returns the task of the command with this name, or `None` if there is no such command.
     fn task(&self, name: &str) -> Option<Action<'a>>
         ensures { (logs : List (List ℕ)) → option_map (λ task. to_task task logs) result ≡ task_for name.now self.now logs }
     {
@@ -165,7 +165,7 @@ fn parse_verbosity(options: &ArgMatches<'_>) -> Verbosity
 
 /// Returns the paths of the logs.
 fn parse_logs<'a>(alloc: Global, options: &ArgMatches<'a>) -> Result<Vec<&'a str>, AllocError>
-    ensures { IfOk result (λ logs. to_texts logs.items ≡ logs_of (rows_of (found_of options.now))) }
+    ensures { IfOk result (λ logs. to_texts logs.items ≡ log_paths_of (rows_of (found_of options.now))) }
 {
     match options.get_strs("log") {
         Some(paths) => {
@@ -192,7 +192,7 @@ fn parse_options<'a>(options: &ArgMatches<'a>) -> CommandOptions<'a>
     }
 }
 
-/// Returns the task of the command in the arguments.
+/// Returns the task of the command that clap found in the arguments, if it is a known command.
 fn parse_action<'a>(
     alloc: Global,
     matches: &ArgMatches<'a>,
@@ -213,8 +213,8 @@ fn parse_action<'a>(
     }
 }
 
-/// Returns the task of a command that has no options. Doesn't use clap, whose parsing takes a fifth of the instructions
-/// that are executed before the first line of a log.
+/// Parses arguments that consist only of a command, such as `hidlog replay`. Clap isn't used, because its parsing is a
+/// fifth of the instructions that are executed before the first line of a log.
 fn parse_without_options<'a>(alloc: Global, words: &[&str]) -> Option<Invocation<'a>>
     ensures { IfSome result (λ asked. parsed_command_line (to_texts words.now) ≡ Some (task_and_verbosity asked)) }
 {

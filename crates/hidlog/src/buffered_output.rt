@@ -1,4 +1,4 @@
-//! Output that is buffered as long as complete lines of the log were read but not played.
+//! Output that is buffered while complete lines of the log have been read but not yet played.
 ghost use Rattle.std.specs.Prelude.{◌≡◌, ◌<◌, ◌≤◌, ◌-◌, ◌^◌, ◌+◌, [], List, ℕ, length, drop, vec_len, is_ok, if◌then◌else◌, OnOk, OnErr};
 ghost use Rattle.std.specs.Io.KnownBytes.{Keeps, append_known};
 ghost use Rattle.hidlog.specs.Program.{FlushesPending};
@@ -9,14 +9,14 @@ use std::cell::Cell;
 /// Capacity of the buffer in bytes.
 const OUTPUT_BUFFER_LEN: usize = 8192;
 
-/// The next complete line that was read but not played, by its kind.
+/// The kind of the next complete line that was read but not yet played. Lines that begin with `<` or `=` are skipped.
 #[derive(Clone, Copy)]
 pub enum Lookahead {
     /// None.
     Nothing,
     /// A comment or an empty line.
     Comment,
-    /// Any other line: an input, or an invalid line.
+    /// An input, or an invalid line.
     Input,
 }
 
@@ -70,14 +70,14 @@ impl LineBoundaries {
     }
 }
 
-/// Which output is buffered while there is a complete line that was read but not played.
+/// Which output is buffered while there is a complete line that was read but not yet played.
 #[derive(Clone, Copy)]
 pub enum FlushPolicy {
     /// No output is buffered: used by `live`, which responds line by line, and by `check`.
     Nothing,
-    /// Output is buffered as long as another input was read but not played: used by `show`.
+    /// Output is buffered while another input was read but not yet played: used by `show`.
     UntilNextInput,
-    /// All output is buffered: used by the other commands that play a log.
+    /// All output is buffered: used by `replay` and `quiet`.
     All,
 }
 
@@ -90,7 +90,7 @@ pub trait Output: Target {
     ghost waits: { Self → List ℕ };
 
     /// Flushes the buffer. A failed write is not retried.
-    fn settle(&mut self) -> Result<(), Failed>
+    fn flush_buffer(&mut self) -> Result<(), Failed>
         requires { Self.failed self.old < 2 ^ 64 - 1 }
         ensures kept { Keeps (Self.taken self.old) (Self.taken self.new) }
         ensures none { OnOk result (waits self.new ≡ []) }
@@ -99,7 +99,7 @@ pub trait Output: Target {
             ≡ (if is_ok result then Self.failed self.old else Self.failed self.old + 1) };
 }
 
-/// Flushes the buffer, ignores failures, and returns `result`.
+/// Flushes the buffer unless `answer` is a write error. Returns `answer`, or a write error if flushing fails.
 pub fn flush_then<O: Output>(output: &mut O, answer: Result<(), LogFault>) -> Result<(), LogFault>
     ensures { FlushesPending O.taken O.failed O.waits answer (output.old, output.new) result }
 {
@@ -109,20 +109,20 @@ pub fn flush_then<O: Output>(output: &mut O, answer: Result<(), LogFault>) -> Re
     if output.failures() == u64::MAX {
         return Err(LogFault::Write);
     }
-    match output.settle() {
+    match output.flush_buffer() {
         Ok(()) => answer,
         Err(_) => Err(LogFault::Write),
     }
 }
 
-/// A target that writes to another one, and buffers output while there is a complete line that was read but not played.
+/// A target that writes to `inner`, and buffers output while there is a complete line that was read but not yet played.
 #[derive(Drop)]
 pub struct BufferedOutput<'a, T> {
     pub inner: T,
     pub ahead: &'a Cell<Lookahead>,
-    pub holding: FlushPolicy,
+    pub flush_policy: FlushPolicy,
     pub bytes: Vec<u8>,
-    /// Number of bytes of the buffer that were written to the other target.
+    /// Number of bytes of the buffer that were already written to `inner`.
     pub at: usize,
     ghost within: { at ≤ vec_len bytes },
 }
@@ -133,7 +133,7 @@ impl<T: Target> Target for BufferedOutput<'_, T> {
     ghost failed = { λ s. T.failed s.inner };
 
     fn put(&mut self, piece: &[u8]) -> Result<usize, Failed> {
-        let lies_ahead = match (self.ahead.get(), self.holding) {
+        let lies_ahead = match (self.ahead.get(), self.flush_policy) {
             (Lookahead::Nothing, _)
             | (_, FlushPolicy::Nothing)
             | (Lookahead::Comment, FlushPolicy::UntilNextInput) => false,
@@ -145,7 +145,7 @@ impl<T: Target> Target for BufferedOutput<'_, T> {
         {
             return Ok(piece.len());
         }
-        self.settle()?;
+        self.flush_buffer()?;
         self.inner.put(piece)
     }
 
@@ -157,7 +157,7 @@ impl<T: Target> Target for BufferedOutput<'_, T> {
 impl<T: Target> Output for BufferedOutput<'_, T> {
     ghost waits = { λ s. drop s.at s.bytes.items };
 
-    fn settle(&mut self) -> Result<(), Failed> {
+    fn flush_buffer(&mut self) -> Result<(), Failed> {
         'waiting: while self.at < self.bytes.len() {
             self.at += self.inner.put(self.bytes.as_slice().split_at(self.at).1)?;
         }

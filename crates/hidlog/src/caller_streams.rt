@@ -13,7 +13,7 @@ use std::io::{self, Error, ErrorKind, Read};
 pub enum CallerStream<S> {
     /// The caller's source, which takes the place of standard input.
     Source(S),
-    /// A file with a name.
+    /// The file at a path.
     Named(File),
 }
 
@@ -72,7 +72,7 @@ impl<O: Target> Target for Unbuffered<O> {
 impl<O: Target> Output for Unbuffered<O> {
     ghost waits = { λ _. [] };
 
-    fn settle(&mut self) -> Result<(), Failed> {
+    fn flush_buffer(&mut self) -> Result<(), Failed> {
         Ok(())
     }
 }

@@ -28,7 +28,7 @@ use session_show::{TextBuf, Written};
 /// Maximum length of a log that is read a second time to compare the bytes to sign.
 const MAX_REREAD_LEN: u64 = 1 << 26;
 
-/// The report of a log without differences, from its text: `same 14 inputs 22 packets`.
+/// The report of a log without differences. `text` is the result of the check, such as `same 14 inputs 22 packets`.
 #[derive(Clone, Copy)]
 struct SameLog<'a> {
     options: &'a ReportOptions<'a>,
@@ -57,7 +57,8 @@ impl Written for SameLog<'_> {
     }
 }
 
-/// Reports why a line isn't a log line, or why reading failed. `state` contains the name of the log.
+/// Reports why a line isn't a log line, or why reading failed. `name` is the log's name for a failed read, if the name
+/// hasn't been written yet.
 pub fn report_cause<E: Target>(
     state: &LogState<'_>,
     name: Option<&str>,
@@ -181,7 +182,7 @@ impl<D: Files, L: Logs, O: Output, E: Target> Host<D, L, O, E> {
         requires { E.failed self.old.faults < 2 ^ 64 - 1 }
         ensures { self.new.files ≡ self.old.files }
     {
-        // Errors other than those in the log concern no line.
+        // Only an error at a line of the log is reported with the log's path and the line.
         if let ProgramFault::Log(told) = fault
             && !matches!(told, LogFault::Write | LogFault::TooManyLines)
         {
@@ -242,8 +243,8 @@ impl<D: Files, L: Logs, O: Output, E: Target> Host<D, L, O, E> {
         }
     }
 
-    /// Checks each log on a new session. The error is the exit status: 1 if a log differs or has an error.
-    /// If a snapshot cannot be loaded, no further log is read.
+    /// Checks each log on a new session. The error is the exit status: 1 if a log differs or has an error, or 2 if the
+    /// snapshot cannot be loaded. After 2, no further log is read.
     pub fn check_each(&mut self, wished: &ReportOptions<'_>, paths: &[&str]) -> Result<(), u8>
         ensures status { IfErr result (λ code. (code ≡ 1) ⊎ (code ≡ 2)) }
         ensures compares { Compares ⟦<Self as Modeled>⟧.model (to_path wished.now.load) (to_texts paths.now) result

@@ -7,7 +7,7 @@ ghost use Rattle.hidlog.specs.CommandLine.{command_for, grammar, rule_for};
 use clap::{Arg, ArgAction, Command};
 use std::alloc::{AllocError, Global};
 
-/// The version (CHANGELOG.md).
+/// The program's version, as in CHANGELOG.md.
 const VERSION: &str = "0.2.0";
 
 /// The first lines of the help.
@@ -31,7 +31,7 @@ enum ParameterForm {
 #[derive(Clone, Copy)]
 struct CommandParameter {
     form: ParameterForm,
-    /// The name under which clap stores the argument's value.
+    /// The argument's name in clap. For an option, also the option's name without `--`.
     word: &'static str,
     help: &'static str,
 }
@@ -171,7 +171,7 @@ fn command<'a>(alloc: Global, entry: &CommandEntry) -> Result<Command<'a>, Alloc
     Ok(command)
 }
 
-/// Returns the whole command line in clap's type.
+/// Returns the definition of the command line in clap's type.
 pub fn program<'a>(alloc: Global) -> Result<Command<'a>, AllocError>
     ensures { IfOk result (λ program. app_of program ≡ grammar) }
 {

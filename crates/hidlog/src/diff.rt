@@ -1,18 +1,18 @@
-//! Two packets side by side, in the notation of `show`.
+//! The differences between two packets and between their messages, in the notation of `show`.
 use crate::split::{DIGITS, Pieces, count_leading, find_byte, skip_front};
 use hid_packet::{Packet, View};
 use session_show::{Difference, TextBuf};
 
-/// Number of bytes around the first difference of a packet that are written.
+/// Number of bytes in a row that shows the first differing byte.
 const BYTES_PER_ROW: usize = 16;
 
-/// The spaces before a mark below the last byte of a row.
+/// Spaces before the mark `^^`, as many as the mark needs below the last byte of a row.
 const SPACES: &[u8] = b"                                                     ";
 
-/// Maximum depth of nested members that are named.
+/// Maximum number of nested members in a path.
 const MAX_MEMBER_DEPTH: usize = 3;
 
-/// The format for a differing byte of the channel, with both values.
+/// The format for a differing byte of the channel ID, with both values.
 const IN_CHANNEL: &[u8] =
     b"  byte %d of the packet, in the channel, is %x in the log and %x from the key:\n";
 
@@ -89,7 +89,7 @@ pub fn write_first_difference(
     let Some((at, old, new)) = difference.byte() else {
         return;
     };
-    // The meaning of the byte, if both packets have the same kind of field there and it isn't data.
+    // The format that names the field of the byte, if both packets have the same field there.
     let form = match (at, own.view(), other.view()) {
         (0..=3, _, _) => IN_CHANNEL,
         (4, View::Start { .. }, View::Start { .. }) => COMMAND,
@@ -109,7 +109,7 @@ pub fn write_first_difference(
     write_path(buf, &differing_members(logged, sent));
 }
 
-/// Writes a row with some bytes of a packet.
+/// Writes a row with the bytes of a packet from the offset `from` on.
 fn write_row(buf: &mut TextBuf, name: &str, packet: &Packet, from: usize) {
     buf.text(name);
     let part = skip_front(&packet.0, from);
@@ -120,7 +120,7 @@ fn write_row(buf: &mut TextBuf, name: &str, packet: &Packet, from: usize) {
     buf.text("\n");
 }
 
-/// Returns the depth and the name of the member in a line such as `2 authData` or `signCount`.
+/// Returns the nesting depth of the member in a line of `show`, and its name, such as `2 authData` or `signCount`.
 fn parse_member(line: &[u8]) -> (Option<usize>, &[u8]) {
     let text = skip_front(line, count_leading(line, DIGITS));
     let spaces = count_leading(text, b" ");
@@ -134,7 +134,7 @@ fn parse_member(line: &[u8]) -> (Option<usize>, &[u8]) {
     let text = skip_front(text, spaces);
     let colon = find_byte(text, b':');
     let end = match text {
-        // A name that is a number or a quoted string ends at the colon.
+        // A name that begins with a number, a text string or a byte string ends at the colon.
         [b'0'..=b'9' | b'-' | b'"' | b'h', ..] => colon,
         _ => colon.min(find_byte(text, b' ')),
     };

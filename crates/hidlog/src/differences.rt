@@ -31,16 +31,16 @@ const NO_KEY_PACKETS: Note = Note::Differences(
     "the log has no packets from the key; run `hidlog replay` first, then check its output",
 );
 
-/// Returns a comparison before the first line of the log. A comparison takes 40 kB, and is never on the stack together
-/// with a session.
+/// Returns a comparison that hasn't read a line yet. A comparison takes 40 kB, so it is allocated, not kept on the
+/// stack beside a session.
 #[inline(never)]
 fn new_comparison(alloc: Global) -> Option<Box<Comparison>> {
     Box::new(alloc, Comparison::new()).ok()
 }
 
-/// Reports the differences of a log after the error message: if texts are explained, or if all differences are
-/// requested. For a log without differences, reports the line whose bytes to sign differ from those of this key. For
-/// this, the log is read again if possible.
+/// Reports the differences of a log after the error message, if texts are explained, all differences are requested or
+/// reports are JSON. For a log without differences, reports the line whose bytes to sign differ from those of this key.
+/// The log is read again from `again`. `told` is the error that was reported before.
 pub fn report_differences<D: Files, S: Source + Drop, E: Target>(
     files: &D,
     options: &ReportOptions<'_>,
@@ -72,7 +72,7 @@ fn compare_again<D: Files, S: Source, E: Target>(
     faults: &mut E,
 ) {
     let session = &mut new_program_session();
-    // The snapshot was loaded before, so loading it again succeeds.
+    // The snapshot was loaded before. If it can't be loaded again, nothing is reported.
     if load(session, files, options.load).is_err() {
         return;
     }
@@ -86,11 +86,11 @@ fn compare_again<D: Files, S: Source, E: Target>(
 struct ReportedDifferences {
     /// Number of differences.
     count: u64,
-    /// Whether the keys may have different credentials because of a reported difference.
+    /// Whether the log's key and this key may have different credentials because of a reported difference.
     has_changed: bool,
 }
 
-/// Reports the differences that are requested.
+/// Reports the first difference, or all differences if requested.
 fn report_each<S: Source, E: Target>(
     comparison: &mut Comparison,
     session: &mut Session<CAPACITY>,
@@ -132,7 +132,7 @@ fn report_each<S: Source, E: Target>(
 }
 
 /// Reports the number of inputs with differences if all differences are requested. For a log without differences,
-/// reports the line whose bytes to sign differ.
+/// reports the line whose bytes to sign differ. Otherwise, notes if the log has no packets from the key.
 fn report_end<S: Source, E: Target>(
     comparison: &mut Comparison,
     options: &ReportOptions<'_>,
@@ -205,8 +205,8 @@ impl Written for DifferenceCount<'_> {
     }
 }
 
-/// Reports a difference, unless the maximum number was reported already. At a terminal, lines are truncated. Returns
-/// whether the keys may have different credentials because of this difference.
+/// Reports a difference, unless the maximum number of differences was reported already. At a terminal, lines are
+/// truncated. Returns whether the log's key and this key may have different credentials because of this difference.
 fn report_one<S: Source, E: Target>(
     comparison: &mut Comparison,
     options: &ReportOptions<'_>,

@@ -1,4 +1,4 @@
-//! An interface to the disk and its open files, by path.
+//! An interface to the files of a disk, by path, and to open files.
 ghost use Rattle.std.specs.Prelude.{◌≡◌, ◌≤◌, ℕ, Bool, true, false, List, None, Option, Some, is_some, length, take, IfOk, IfSome, OnOk};
 ghost use Rattle.hidlog.specs.Streams.{overwritten_at};
 
@@ -22,7 +22,7 @@ pub trait OpenFile {
         ensures bytes { OnOk result (IfSome (bytes self.old) (λ has. at ≤ length has → bytes self.new ≡ Some (overwritten_at has at piece.now))) }
         ensures place { (path : List ℕ) → is_at path self.old → is_at path self.new };
 
-    /// Truncates the file to `size` bytes if it is longer, and syncs the file to disk. Some file systems don't support
+    /// Truncates the file to `size` bytes if it is longer, and syncs the file to disk if the file system supports
     /// syncing.
     fn cut(&mut self, size: u64) -> io::Result<()>
         ensures bytes { OnOk result (IfSome (bytes self.old) (λ has. size ≤ length has → bytes self.new ≡ Some (take size has))) }
@@ -35,7 +35,7 @@ pub enum PathKind {
     Nothing,
     File,
     Pipe,
-    /// A device, or a symbolic link without a target.
+    /// A device, a socket, or a symbolic link whose target doesn't exist.
     Other,
 }
 
@@ -53,11 +53,12 @@ pub trait Disk {
     fn read(&self, path: &str, most: u64) -> io::Result<Vec<u8>>
         ensures { IfOk result (λ bytes. holds self.now path.now bytes.items × length bytes.items ≤ most) };
 
-    /// Examines the object at a path. A directory, the log, and the file to which standard output goes are errors.
-    fn look(&self, path: &str, log: Option<&str>) -> io::Result<PathKind>;
+    /// Returns the kind of object at a path. Fails for a directory, for the log, and for the file that standard output
+    /// is redirected to. `log` is the log's path, or `None` for standard input.
+    fn path_kind(&self, path: &str, log: Option<&str>) -> io::Result<PathKind>;
 
-    /// Returns the inode number of the file at a path, or 0.
-    fn number(&self, path: &str) -> u64;
+    /// Returns the inode number of the file at a path, or 0 on failure.
+    fn inode(&self, path: &str) -> u64;
 
     /// Returns whether two paths lead to the same file.
     fn is_same(&self, path: &str, other: &str) -> bool;
@@ -69,7 +70,8 @@ pub trait Disk {
         ensures size { IfOk result (λ opened. IfSome (Self.File.bytes opened.0) (λ has. length has ≡ opened.1)) }
         ensures known { IfOk result (λ opened. Self.File.is_known ≡ true → is_some (Self.File.bytes opened.0) ≡ true) };
 
-    /// Creates a file with these bytes and syncs it. Fails with `AlreadyExists` if the path exists, even as a link.
+    /// Creates a file with these bytes and syncs it. Fails with `AlreadyExists` if the path exists, even as a broken
+    /// symbolic link.
     fn create(&self, path: &str, bytes: &[u8]) -> io::Result<Self::File>
         ensures place { IfOk result (λ file. Self.File.is_at path.now file) }
         ensures known { IfOk result (λ file. Self.File.is_known ≡ true → Self.File.bytes file ≡ Some bytes.now) };
@@ -82,7 +84,7 @@ pub trait Disk {
     /// Removes a file.
     fn remove(&self, path: &str) -> io::Result<()>;
 
-    /// Writes bytes to the object at a path that isn't a regular file.
+    /// Writes bytes to an object that isn't a regular file, such as a pipe. `found` is its kind.
     fn write_special(&self, path: &str, bytes: &[u8], found: PathKind) -> io::Result<()>
         ensures { OnOk result (handed path.now bytes.now) };
 }
@@ -118,7 +120,7 @@ impl OpenFile for File {
 #[derive(Clone, Copy)]
 pub struct HostDisk<'a>(pub &'a HostRuntime);
 
-/// The system's error number for a directory, EISDIR.
+/// The error number EISDIR, for a path that is a directory.
 const EISDIR: i32 = 21;
 
 /// Returns whether a path leads to this file.
@@ -147,7 +149,7 @@ impl Disk for HostDisk<'_> {
         Ok(bytes)
     }
 
-    fn look(&self, path: &str, log: Option<&str>) -> io::Result<PathKind> {
+    fn path_kind(&self, path: &str, log: Option<&str>) -> io::Result<PathKind> {
         let found = match fs::metadata(self.0, path) {
             Ok(found) => found,
             Err(error) => {
@@ -183,7 +185,7 @@ impl Disk for HostDisk<'_> {
         Err(Error::new(ErrorKind::InvalidInput, message))
     }
 
-    fn number(&self, path: &str) -> u64 {
+    fn inode(&self, path: &str) -> u64 {
         match fs::metadata(self.0, path) {
             Ok(found) => found.ino(),
             Err(_) => 0,

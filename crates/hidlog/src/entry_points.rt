@@ -32,7 +32,8 @@ type CallerHost<'a, S, O, E> = Host<
 /// The arguments begin with the program's name. Snapshots, and logs with a path, are files of the system.
 ///
 /// The exit status is 0 for `Ok`, or else the error: 1 for an error in the log, and 2 for invalid arguments, a snapshot
-/// that can't be used, or a failed allocation outside the log. It doesn't depend on whether the message is written.
+/// that can't be used, or a failed allocation outside the log. The exit status doesn't depend on whether the error
+/// message can be written.
 pub fn run<'a, S: Source + Drop, O: Target + Drop, E: Target + Drop>(
     rt: &'a HostRuntime,
     words: &[&str],
@@ -95,7 +96,7 @@ fn run_in_process<'a>(
     let around = terminal_info(rt, words);
     let ahead = Cell::new(Lookahead::Nothing);
     let mut faults = ToWrite::new(errors);
-    let Ok(input) = ProcessLog::new(rt, around.is_check, around.audience, &ahead) else {
+    let Ok(input) = ProcessLog::new(rt, around.is_check, around.progress_mode, &ahead) else {
         return RunOutcome::of(Err(no_memory(&mut faults)), false);
     };
     let screen = Screen {
@@ -109,7 +110,7 @@ fn run_in_process<'a>(
         output: BufferedOutput {
             inner: screen,
             ahead: &ahead,
-            holding: around.holding,
+            flush_policy: around.flush_policy,
             bytes: Vec::new(alloc),
             at: 0,
         },

@@ -63,7 +63,8 @@ impl ProgramFault<'_> {
         }
     }
 
-    /// Returns the message that is printed even if texts aren't explained.
+    /// Returns the line that follows the error message if messages aren't explained: the snapshot is locked, or its
+    /// bytes don't match its checksums.
     pub fn notice(&self) -> Option<Notice> {
         let ProgramFault::SnapshotReadError(_, error) = self else {
             return None;
@@ -102,7 +103,7 @@ pub struct ErrorDetail<'a> {
     pub fault: &'a ProgramFault<'a>,
     /// Its path.
     pub path: &'a str,
-    /// The number of the copy beside the snapshot that an interrupted write left, if any.
+    /// The number of the copy that an interrupted write left beside the snapshot, if any.
     pub copy: Option<u64>,
 }
 
@@ -164,7 +165,7 @@ impl Written for ErrorDetail<'_> {
                     *number,
                 ));
             }
-            ProgramFault::SnapshotWriteError(_, SaveError::Left(error, number)) => {
+            ProgramFault::SnapshotWriteError(_, SaveError::CopyRemains(error, number)) => {
                 buf.text("saved, but its backup ");
                 write_copy_path(buf, path, *number);
                 buf.text(" couldn't be removed: ");

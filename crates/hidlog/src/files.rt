@@ -1,4 +1,4 @@
-//! The files of snapshots.
+//! Reading and writing snapshot files.
 ghost use Rattle.std.specs.Prelude.{◌≡◌, ◌⊎◌, ℕ, List, Some, true, length, IfErr, IfOk, IfSome, MatchResult, OnOk};
 ghost use Rattle.std.specs.IoError.{error_kind};
 ghost use Rattle.hidlog.specs.Streams.{IsWritten};
@@ -18,7 +18,7 @@ pub enum SaveError {
     /// The file may contain only some of the new bytes, and there is no copy.
     Broken(Error),
     /// The file contains the new bytes. The copy with this number beside the file could not be removed.
-    Left(Error, u64),
+    CopyRemains(Error, u64),
 }
 
 /// Access to files by path.
@@ -48,17 +48,17 @@ pub trait Files {
 
     /// Locks the file at `path` if it is the same as that at `save`, until the result is dropped. Fails if another
     /// program holds the lock.
-    fn hold(&self, path: &str, save: &str) -> io::Result<Option<Self::Held>>
+    fn lock_input(&self, path: &str, save: &str) -> io::Result<Option<Self::Held>>
         ensures { IfErr result (λ _. unreadable self.now path.now) };
 
-    /// Checks whether a file can be written, as far as possible without writing. The path of the log is an error.
-    fn look(&self, path: &str, log: Option<&str>, is_held: bool) -> io::Result<()>
+    /// Checks whether a file can be written, as far as possible without writing to it. Fails if it is the log.
+    fn check_writable(&self, path: &str, log: Option<&str>, is_held: bool) -> io::Result<()>
         ensures { IfErr result (λ _. unwritable self.now path.now) };
 
-    /// Returns the number of the copy beside a file that an interrupted write left, if any.
-    fn copy(&self, path: &str) -> Option<u64>;
+    /// Returns the number of the copy that an interrupted write left beside a file, if any.
+    fn leftover_copy(&self, path: &str) -> Option<u64>;
 
-    /// Writes a whole file in place. The path of the log is an error.
+    /// Writes a whole file in place. Fails if it is the log.
     fn write(
         &mut self,
         path: &str,
@@ -70,8 +70,8 @@ pub trait Files {
             (λ _. unwritten self.old path.now bytes.now self.new) };
 }
 
-/// The files of a disk, which allocates memory for the paths of copies and checksums. The contracts don't state why a
-/// read or a write fails.
+/// The files of a disk, with the allocator for the paths of copies and checksums. The contracts don't state why a read
+/// or a write fails.
 #[derive(Drop)]
 pub struct HostFiles<D>(pub D, pub Global);
 
@@ -79,18 +79,17 @@ pub struct HostFiles<D>(pub D, pub Global);
 /// snapshot of a key with more capacity is rejected for its number of credentials, not for its length.
 const MAX_SNAPSHOT_LEN: u64 = 1 << 26;
 
-/// The system's error number for a missing path, ENOENT.
+/// The error number ENOENT, for a path that doesn't exist.
 const ENOENT: i32 = 2;
 
 /// The suffix of a copy beside a file. A dot and the copy's number follow, unless the number is 0.
 pub const COPY_SUFFIX: &str = ".hidlog-copy";
 
-/// Maximum number of copies beside a file. An existing file is never overwritten, because it may be something else than
-/// a copy.
+/// Maximum number of copies beside a file. An existing file is never overwritten, because it may not be a copy.
 const MAX_COPIES: u64 = 100;
 
-/// The suffix of the file with another file's checksums (src/sums.rt). It has a line for the content that the file has
-/// or is about to have. If the previous content was intact, a line for that content comes first.
+/// The suffix of a checksum file (src/sums.rt). A checksum file has a line for the content that the snapshot has or is
+/// about to have. If the previous content was intact, a line for that content comes first.
 const CHECKSUM_SUFFIX: &str = ".hidlog-sum";
 
 /// Returns the path of a file's checksums.
@@ -121,7 +120,7 @@ struct CopyFile<F> {
     number: u64,
 }
 
-/// Creates a file with these bytes beside the file at a path, with the first name of a copy that isn't in use.
+/// Creates a file with these bytes beside the file at a path, under the first copy name that isn't in use.
 fn create_copy<D: Disk>(
     files: &HostFiles<D>,
     path: &str,
@@ -162,7 +161,7 @@ fn checksum_error(kind: ErrorKind) -> Error {
 /// Returns a file's checksums, if any.
 fn read_checksums<D: Disk>(files: &HostFiles<D>, path: &str) -> io::Result<Option<Vec<u8>>> {
     let name = checksum_path(files.1, path)?;
-    match files.0.look(name.as_str(), None) {
+    match files.0.path_kind(name.as_str(), None) {
         Ok(PathKind::Nothing) => Ok(None),
         Ok(PathKind::File) => match files.0.read(name.as_str(), MAX_SUMS_LEN as u64) {
             Ok(sums) if are_sums(&sums) => Ok(Some(sums)),
@@ -187,7 +186,7 @@ fn read_checksums<D: Disk>(files: &HostFiles<D>, path: &str) -> io::Result<Optio
 
 /// Writes the checksums of the file with this inode number, before the file itself is written: those of the new bytes
 /// and, unless the present content is damaged, those of the present content. So after an interrupted write, the file
-/// can be loaded with either content. A file without checksums may stay without checksums.
+/// can be loaded with either content. If the file had no checksums, a failure to write them is ignored.
 fn write_checksums<D: Disk>(
     files: &HostFiles<D>,
     path: &str,
@@ -256,7 +255,7 @@ fn write_new<D: Disk>(files: &HostFiles<D>, path: &str, bytes: &[u8]) -> io::Res
     ensures { IfOk result (λ file. IsWritten D.File.is_at D.File.is_known D.File.bytes path.now bytes.now file) }
 {
     let CopyFile { file, name, .. } = create_copy(files, path, bytes)?;
-    let number = files.0.number(name.as_str());
+    let number = files.0.inode(name.as_str());
     let written = match write_checksums(files, path, number, None, bytes) {
         Ok(()) => files.0.rename(file, name.as_str(), path),
         Err(error) => Err(error),
@@ -267,8 +266,8 @@ fn write_new<D: Disk>(files: &HostFiles<D>, path: &str, bytes: &[u8]) -> io::Res
     written
 }
 
-/// Overwrites a file. During this, a copy of the new bytes is beside the file, if the directory permits. If the write
-/// fails, the old content is restored.
+/// Overwrites a file. Meanwhile, a copy of the new bytes exists beside the file, if it can be created. If the write
+/// fails, the old content is restored if possible.
 fn replace<D: Disk>(
     files: &HostFiles<D>,
     path: &str,
@@ -287,7 +286,7 @@ fn replace<D: Disk>(
         Some(old) => Some(old.as_slice()),
         None => None,
     };
-    if let Err(error) = write_checksums(files, path, disk.number(path), had, bytes) {
+    if let Err(error) = write_checksums(files, path, disk.inode(path), had, bytes) {
         return Err(SaveError::Kept(error));
     }
     let copy = create_copy(files, path, bytes).ok();
@@ -306,7 +305,7 @@ fn replace<D: Disk>(
     if let Some(copy) = &copy
         && let Err(error) = disk.remove(copy.name.as_str())
     {
-        return Err(SaveError::Left(error, copy.number));
+        return Err(SaveError::CopyRemains(error, copy.number));
     }
     Ok(file)
 }
@@ -325,7 +324,7 @@ impl<D: Disk> Files for HostFiles<D> {
 
     type Held = D::File;
 
-    fn hold(&self, path: &str, save: &str) -> io::Result<Option<D::File>> {
+    fn lock_input(&self, path: &str, save: &str) -> io::Result<Option<D::File>> {
         if !self.0.is_same(path, save) {
             return Ok(None);
         }
@@ -348,7 +347,7 @@ impl<D: Disk> Files for HostFiles<D> {
             let Some(sums) = read_checksums(self, path)? else {
                 return Ok(bytes);
             };
-            let line = SumLine::of(&bytes, self.0.number(path));
+            let line = SumLine::of(&bytes, self.0.inode(path));
             if line.is_in(&sums) || !line.is_for_same_file(&sums) {
                 return Ok(bytes);
             }
@@ -356,12 +355,12 @@ impl<D: Disk> Files for HostFiles<D> {
         Err(Error::new(ErrorKind::InvalidData, DAMAGED_REASON))
     }
 
-    fn copy(&self, path: &str) -> Option<u64> {
+    fn leftover_copy(&self, path: &str) -> Option<u64> {
         let sums = read_checksums(self, path).ok()?;
-        let file = self.0.number(path);
+        let file = self.0.inode(path);
         for number in 0..MAX_COPIES {
             let name = copy_path(self.1, path, number).ok()?;
-            if let Ok(PathKind::File) = self.0.look(name.as_str(), None)
+            if let Ok(PathKind::File) = self.0.path_kind(name.as_str(), None)
                 && let Ok(bytes) = self.0.read(name.as_str(), MAX_SNAPSHOT_LEN)
             {
                 let is_last = match &sums {
@@ -376,8 +375,8 @@ impl<D: Disk> Files for HostFiles<D> {
         None
     }
 
-    fn look(&self, path: &str, log: Option<&str>, is_held: bool) -> io::Result<()> {
-        let found = self.0.look(path, log)?;
+    fn check_writable(&self, path: &str, log: Option<&str>, is_held: bool) -> io::Result<()> {
+        let found = self.0.path_kind(path, log)?;
         if let PathKind::File = found {
             self.0.open(path, is_held)?;
         }
@@ -387,7 +386,7 @@ impl<D: Disk> Files for HostFiles<D> {
         if path.is_empty() {
             return Err(Error::from_raw_os_error(ENOENT));
         }
-        // Whether a missing file can be created is tested by creating a copy beside its path.
+        // To check that a missing file can be created, an empty copy is created beside its path, and removed.
         let made = create_copy(self, path, b"")?;
         self.0.remove(made.name.as_str())
     }
@@ -399,7 +398,7 @@ impl<D: Disk> Files for HostFiles<D> {
         log: Option<&str>,
         is_held: bool,
     ) -> Result<(), SaveError> {
-        match self.0.look(path, log) {
+        match self.0.path_kind(path, log) {
             Ok(PathKind::Nothing) => match write_new(self, path, bytes) {
                 Ok(_) => Ok(()),
                 Err(error) => Err(SaveError::Kept(error)),

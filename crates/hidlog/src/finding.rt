@@ -11,7 +11,7 @@ use session_show::status::{
 };
 use session_show::{AwaitedReply, Difference, TextBuf, Transaction, Written};
 
-/// Commands that don't change credentials.
+/// Commands that neither create nor delete credentials.
 const READ_ONLY_COMMANDS: [&str; 6] = [
     "INIT",
     "PING",
@@ -36,7 +36,7 @@ pub struct DifferenceReport {
     pub logged: Vec<u8>,
     pub sent: Vec<u8>,
     pub reason: Vec<u8>,
-    /// Whether the packets belong to a request that may refer to a credential created before the log.
+    /// Whether the packets belong to a request that may refer to a credential that was created before the log begins.
     pub may_name_prior_credential: bool,
 }
 
@@ -47,7 +47,7 @@ pub struct Finding<'a> {
     pub difference: &'a Difference,
     /// Whether this is the first difference, which was already reported as an error.
     pub is_first: bool,
-    /// Whether the keys may have different credentials because of an earlier difference.
+    /// Whether the log's key and this key may have different credentials because of an earlier difference.
     pub has_changed: bool,
     pub texts: &'a DifferenceReport,
 }
@@ -58,7 +58,7 @@ enum Reply {
     /// A response with this status.
     Status(u8),
     /// A KEEPALIVE.
-    Waits,
+    Keepalive,
     Other,
 }
 
@@ -68,7 +68,7 @@ fn parse_reply(packet: &Option<Packet>) -> Reply {
         return Reply::Other;
     };
     match packet.view() {
-        View::Start { cmd: KEEPALIVE, .. } => Reply::Waits,
+        View::Start { cmd: KEEPALIVE, .. } => Reply::Keepalive,
         View::Start {
             cmd: CBOR,
             len,
@@ -92,13 +92,13 @@ impl Finding<'_> {
             parse_reply(&difference.logged),
             parse_reply(&difference.sent),
         ) {
-            (Reply::Status(OK) | Reply::Waits, Reply::Status(NO_CREDENTIALS)) => true,
+            (Reply::Status(OK) | Reply::Keepalive, Reply::Status(NO_CREDENTIALS)) => true,
             (
                 Reply::Status(CREDENTIAL_EXCLUDED),
                 Reply::Status(OPERATION_DENIED | KEY_STORE_FULL),
             ) => true,
-            // A key that waits for a new key pair has checked the excludeList.
-            (Reply::Status(CREDENTIAL_EXCLUDED), Reply::Waits) => {
+            // A key that waits for a new key pair has already checked the exclude list.
+            (Reply::Status(CREDENTIAL_EXCLUDED), Reply::Keepalive) => {
                 matches!(difference.awaited, Some(AwaitedReply::Key))
             }
             _ => false,
@@ -110,8 +110,9 @@ impl Finding<'_> {
         }
     }
 
-    /// Returns whether the keys may have different credentials because of this difference, for a reason other than a
-    /// missing snapshot. Returns false if the command doesn't change credentials, or if there is a hint.
+    /// Returns whether the log's key and this key may have different credentials because of this difference, for a
+    /// reason other than a missing snapshot. Returns false if the command doesn't change credentials, or if there is a
+    /// hint.
     pub fn can_change_credentials(&self) -> bool {
         let Some(transaction) = &self.texts.transaction else {
             return true;
@@ -143,7 +144,7 @@ impl Written for Finding<'_> {
             buf.text("\n");
         }
         write_diff(buf, difference, &texts.logged, &texts.sent);
-        // Details are omitted if the lines of the message already contain them.
+        // The reason is omitted if the lines of the message already contain it.
         if memmem::find(&texts.sent, skip_front(&texts.reason, 2)).is_none() {
             buf.bytes(&texts.reason);
         }

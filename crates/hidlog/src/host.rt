@@ -98,7 +98,7 @@ impl<D: Files, L: Logs, O: Output, E: Target> Host<D, L, O, E> {
                     ProgramFault::SnapshotReadError(..) | ProgramFault::RefusedSnapshot(..)
                 );
                 let copy = if explains && is_unread {
-                    self.files.copy(path)
+                    self.files.leftover_copy(path)
                 } else {
                     None
                 };

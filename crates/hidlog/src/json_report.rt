@@ -65,7 +65,7 @@ fn write_members(buf: &mut TextBuf, names: &[&[u8]]) {
     buf.bytes(end);
 }
 
-/// The report of a log error as a JSON object.
+/// The report of an error as a JSON object.
 #[derive(Clone, Copy)]
 pub struct ProgramFaultObject<'a> {
     pub options: &'a ReportOptions<'a>,

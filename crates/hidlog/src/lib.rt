@@ -1,5 +1,5 @@
-//! The library of the program `hidlog`, which replays text logs of CTAPHID sessions. `run` is the program on any streams,
-//! and `run_process` on those of the process.
+//! The library of the program `hidlog`, which replays text logs of CTAPHID sessions. `run` runs the program on any
+//! streams, and `run_process` on those of the process.
 #![tactic(auto)]
 
 mod args;

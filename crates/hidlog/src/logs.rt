@@ -30,12 +30,12 @@ pub trait Logs: Source {
             (λ _. unopenable self.old path.now × (self.new ≡ self.old))) }
         ensures counted { Self.failed self.new ≡ Self.failed self.old };
 
-    /// Returns the reader's state.
+    /// Returns the state of the log.
     fn state(&self) -> LogState<'_>;
 
     /// Returns the log from its start, if it is a file. With `takes_rest`, a log that can't be read twice, such as a
-    /// pipe, is also returned if the part that was read is short. The result then reads the rest, instead of this
-    /// source.
+    /// pipe, is also returned if the bytes that were read so far were kept. The unread bytes are then read from the
+    /// result, not from this source.
     fn reread(&mut self, takes_rest: bool) -> Option<Self::Reread>
         ensures counted { Self.failed self.new ≡ Self.failed self.old }
         ensures kept { takes_rest ≡ false → self.new ≡ self.old };
@@ -44,9 +44,9 @@ pub trait Logs: Source {
 /// The state of a log that is being read.
 #[derive(Clone, Copy)]
 pub struct LogState<'a> {
-    /// The name of the log: its path, if any.
+    /// The name of the log: its path, or `standard input`.
     pub name: &'a str,
-    /// The lines that were read last, without a line of which only the end was kept.
+    /// The lines that were read last, without a first line whose beginning was dropped.
     pub lines: &'a [u8],
     /// The error of the failed read, if any.
     pub failure: Option<&'a Error>,
@@ -54,22 +54,23 @@ pub struct LogState<'a> {
     pub seen: &'a SourceStats,
 }
 
-/// A source of a log.
+/// A stream from which a log is read.
 pub trait OpenSource: Read + Drop {
     /// The stream reads the file at this path, from its start.
     ghost is_at: { List ℕ → Self → Type 0 };
 
-    /// Opens a file that isn't a directory, or standard input. Returns its length if it can be read a second time.
+    /// Opens the file at a path, or standard input. Also returns its length if it can be read a second time. Fails for
+    /// a directory.
     fn open(rt: &HostRuntime, path: Option<&str>) -> io::Result<(Self, Option<u64>)>
         ensures { IfOk result (λ opened. IfSome path.entry (λ path. is_at path.now opened.0)) };
 }
 
-/// A log's bytes: those of standard input or of a file.
+/// The stream of a log: standard input or a file.
 #[derive(Drop)]
 pub enum Stream<I, F> {
     /// Standard input.
     Standard(I),
-    /// A file with a name.
+    /// The file at a path.
     Named(F),
 }
 
@@ -86,7 +87,7 @@ impl<I: Read, F: Read> Read for Stream<I, F> {
     }
 }
 
-/// Opens a file that isn't a directory. Returns its length if it can be read a second time.
+/// Opens the file at a path. Also returns its length if it can be read a second time. Fails for a directory.
 pub fn open_file(rt: &HostRuntime, path: &str) -> io::Result<(File, Option<u64>)> {
     let file = File::open(rt, path)?;
     let found = file.metadata()?;
@@ -129,7 +130,7 @@ pub type ProcessLog<'a> = HostLog<'a, Stream<Stdin, File>>;
 /// The path of standard input.
 const STANDARD_INPUT: &str = "/dev/stdin";
 
-/// The system's error number for a directory, EISDIR.
+/// The error number EISDIR, for a path that is a directory.
 const EISDIR: i32 = 21;
 
 /// The note that is shown when the log is read from a terminal.
@@ -159,13 +160,13 @@ pub struct HostLog<'a, S> {
     failure: Option<Error>,
     /// Whether the note that the program waits for input is shown at a terminal.
     is_told: bool,
-    /// Whether the note is still due for this log.
+    /// Whether this note still has to be shown for this log.
     is_awaited: bool,
     /// The allocator for the bytes of a log that can't be read a second time, if the log may be needed again.
     keeps: Option<Global>,
     seen: SourceStats,
     recent: RecentBytes,
-    /// The last complete lines among the unread bytes, from which the output decides whether to buffer.
+    /// The boundaries of the lines that were read last, from which `ahead` is set.
     last: LineBoundaries,
     ahead: &'a Cell<Lookahead>,
     ended: bool,
@@ -174,17 +175,17 @@ pub struct HostLog<'a, S> {
 
 impl<'a, S: OpenSource> HostLog<'a, S> {
     /// Returns the log on standard input, or an error. With `is_kept`, the bytes of a short log that can't be read a
-    /// second time are kept. `audience` determines what is shown at a terminal.
+    /// second time are kept. `progress_mode` determines what is shown at a terminal.
     pub fn new(
         rt: &'a HostRuntime,
         is_kept: bool,
-        audience: ProgressMode,
+        progress_mode: ProgressMode,
         ahead: &'a Cell<Lookahead>,
     ) -> io::Result<Self>
         ensures { IfOk result (λ log. ⟦<HostLog<'a, S> as Source>⟧.failed log ≡ 0) }
     {
         let (stream, size) = S::open(rt, None)?;
-        HostLog::from_stream(rt, stream, size, is_kept, audience, ahead)
+        HostLog::from_stream(rt, stream, size, is_kept, progress_mode, ahead)
     }
 
     /// Returns the log that a stream contains, or an allocation error. `size` is the log's length if it can be read a
@@ -194,7 +195,7 @@ impl<'a, S: OpenSource> HostLog<'a, S> {
         stream: S,
         size: Option<u64>,
         is_kept: bool,
-        audience: ProgressMode,
+        progress_mode: ProgressMode,
         ahead: &'a Cell<Lookahead>,
     ) -> io::Result<Self>
         ensures left { IfOk result (λ log. ⟦<HostLog<'a, S> as Source>⟧.left log ≡ S.remaining stream) }
@@ -209,10 +210,10 @@ impl<'a, S: OpenSource> HostLog<'a, S> {
             standard: None,
             standard_size: size,
             failure: None,
-            is_told: audience.is_told,
-            is_awaited: audience.is_told,
+            is_told: progress_mode.is_told,
+            is_awaited: progress_mode.is_told,
             keeps,
-            seen: SourceStats::new(audience.sees_progress, size, keeps),
+            seen: SourceStats::new(progress_mode.sees_progress, size, keeps),
             recent: RecentBytes::new(rt.alloc())?,
             last: LineBoundaries::of(b""),
             ahead,
@@ -248,8 +249,8 @@ impl<S: OpenSource> Source for HostLog<'_, S> {
             self.last = LineBoundaries::of(read);
         }
         let last = self.last;
-        // Reads up to the next line with a boundary and its first byte, so that `ahead` changes when that line is
-        // played.
+        // Copies at most the bytes before the next line with a boundary, and its first byte, so that `ahead` changes
+        // when that line is played.
         let behind = recent.unread().len().saturating_sub(1);
         let most = last.next(behind).0.saturating_add(1);
         let n = recent.take(most, out);

@@ -1,4 +1,4 @@
-//! Notes about a log, beside the result of `check`.
+//! Notes about a log, in addition to the result of `check`.
 use crate::report_options::ReportOptions;
 use crate::source_stats::SourceStats;
 use session_log::CAPACITY;
@@ -10,7 +10,7 @@ use token_session::Session;
 pub struct CheckEnd {
     /// The reply that the key needs from its caller.
     awaited: Option<AwaitedReply>,
-    /// Number of bytes that were received of the open message.
+    /// Number of bytes of the open message that were received.
     held: u16,
     /// Whether the session processed a request, so that bytes may have been signed.
     pub has_served: bool,
@@ -33,16 +33,16 @@ impl CheckEnd {
 const SIGNED_OTHERWISE: &[u8] =
     b"line %d: the signed bytes differ from what this key asks to sign:  ";
 
-/// A note about a log, beside the result of `check`.
+/// A note about a log, in addition to the result of `check`.
 #[derive(Clone, Copy)]
 pub enum Note {
-    /// How to get more details about the differences.
+    /// A remark about the differences, or about how to see them.
     Differences(&'static str),
     /// A possible problem of a log without differences.
     Doubt(&'static str),
     /// The log ends while the key waits for this reply.
-    Waits(AwaitedReply),
-    /// The log ends inside a message, of which this many bytes were received.
+    Awaits(AwaitedReply),
+    /// The log ends inside a message, after this many bytes of it.
     EndsInside(u16),
     /// The bytes to sign in the log differ from those of this key.
     Signed(SignedBytesMismatch),
@@ -68,7 +68,7 @@ impl Written for NoteText<'_> {
         }
         match self.remark {
             Note::Differences(text) | Note::Doubt(text) => buf.text(text),
-            Note::Waits(awaited) => {
+            Note::Awaits(awaited) => {
                 buf.text("the log ends while the key is waiting for ");
                 buf.text(awaited.name());
             }
@@ -112,7 +112,7 @@ impl Written for Notes<'_> {
             NoteText { options, remark }.write(buf);
         }
         if let Some(awaited) = self.ending.awaited {
-            let remark = Note::Waits(awaited);
+            let remark = Note::Awaits(awaited);
             NoteText { options, remark }.write(buf);
         }
         if self.ending.held > 0 {

@@ -9,13 +9,13 @@ const MAX_LINE_LEN: usize = 255;
 /// The byte order mark of UTF-8.
 const BYTE_ORDER_MARK: &[u8] = &[0xEF, 0xBB, 0xBF];
 
-/// The first bytes of other kinds of files, and the command that reads such a file.
+/// The first bytes of other kinds of files, and the hint for such a file.
 static OTHER_FILES: [(&[u8], &str); 11] = [
     (&[0xD4, 0xC3, 0xB2, 0xA1], PCAP),
     (&[0xA1, 0xB2, 0xC3, 0xD4], PCAP),
     (&[0x4D, 0x3C, 0xB2, 0xA1], PCAP),
     (&[0xA1, 0xB2, 0x3C, 0x4D], PCAP),
-    // A pcapng file contains a line feed before these bytes.
+    // A pcapng file begins with a line feed, and its second line with these bytes.
     (
         b"\r\r",
         "  this is a pcapng capture: hidlog import FILE reads it\n",
@@ -41,7 +41,7 @@ const JSON: &str = "  this is JSON, not a log\n";
 const UTF_16: &str =
     "  this is UTF-16, as PowerShell writes it: a log is UTF-8 (iconv -f UTF-16 -t UTF-8)\n";
 
-/// The first bytes of log lines.
+/// The first bytes of log lines, except those of `#` and `=` lines.
 const LINE_LETTERS: &[u8] = b"<>tpks";
 
 /// The largest timestamp.
@@ -50,19 +50,19 @@ const MAX_TIMESTAMP: &[u8] = b"18446744073709551615";
 /// A hexadecimal digit in a format.
 const DIGIT: u8 = b'.';
 
-/// The format of a packet: 128 digits.
+/// The format of a packet: 128 hexadecimal digits.
 const PACKET: &[u8] = &[DIGIT; 128];
 
-/// The format of the longest signature: 144 digits.
+/// The format of the longest signature: 144 hexadecimal digits.
 const SIGNATURE: &[u8] = &[DIGIT; 144];
 
-/// The format of a new key: three fields of 64 digits.
+/// The format of a new key: three fields of 64 hexadecimal digits, for the ID, x and y.
 const KEY: &[u8] = b"\
     ................................................................ \
     ................................................................ \
     ................................................................";
 
-/// The formats of the field after the timestamp, for each first letter of a line.
+/// The formats of the text after the timestamp, or after `< `, in the order of `LINE_LETTERS`.
 static FIELD_FORMATS: [&[&[u8]]; 6] = [
     &[PACKET],
     &[PACKET],
@@ -129,7 +129,7 @@ fn fitting_len(line: &[u8]) -> usize {
     front.saturating_add(most)
 }
 
-/// What is expected in place of the first byte that doesn't match: a text and a number, if any.
+/// What is expected in place of the first byte that doesn't match: a format, and the number to insert, if any.
 type Expected = (&'static [u8], Option<u64>);
 
 /// Returns the number of hexadecimal digits at the start of a text.
@@ -166,7 +166,7 @@ fn expected_in_field(letter: u8, field: &[u8]) -> Expected {
     }
 }
 
-/// Returns what is expected in a timestamp and the rest of the line.
+/// Returns what is expected at a position in the timestamp or after it.
 fn expected_in_timed(letter: u8, fields: &[u8], place: usize) -> Expected {
     let digits = count_leading(fields, DIGITS);
     if place < digits && fields.starts_with(b"0") {
@@ -193,7 +193,7 @@ pub struct ParseHint<'a> {
 }
 
 impl ParseHint<'_> {
-    /// Returns the hint for a known kind of file that begins with these bytes.
+    /// Returns the hint for a known kind of file, if the line begins like one.
     fn other_file(&self) -> Option<&'static str> {
         for (magic, text) in &OTHER_FILES {
             if self.line.starts_with(magic) {

@@ -15,8 +15,8 @@ use crate::program::RunOutcome;
 use session_log::{LogFault, Target, ToWrite};
 
 impl<D: Files, L: Logs, O: Output, E: Target> Host<D, L, O, E> {
-    /// Returns further reports about a single log. The differences are reported if texts are explained or all
-    /// differences are requested. If texts are explained, there is also a report of why a line isn't a log line, why
+    /// Returns further reports about a single log. Its differences are reported if texts are explained, all differences
+    /// are requested or reports are JSON. If texts are explained, the reports also say why a line isn't a log line, why
     /// reading failed, or what may be wrong.
     fn further_report(&mut self, outcome: &RunOutcome<'_>) -> Vec<u8>
         ensures { self.new ≡ record self.old { input = self.new.input } }

@@ -1,5 +1,5 @@
 //! The arguments and the standard error stream of the program's process.
-ghost use Rattle.std.specs.Prelude.{◌≡◌, ◌<◌, ◌-◌, ◌^◌, ◌⊎◌, ℕ, List, false, IfErr, OnOk, OnErr};
+ghost use Rattle.std.specs.Prelude.{◌≡◌, ◌<◌, ◌-◌, ◌^◌, ◌⊎◌, ◌↔◌, ℕ, List, IfErr, IsTrue, OnOk, OnErr};
 ghost use Rattle.hidlog.specs.Program.{IsWrittenTo, IsReported, no_memory as no_memory_text, not_text};
 
 use crate::fault::ErrorDetail;
@@ -19,10 +19,11 @@ pub fn write_error_text<E: Target>(faults: &mut E, text: &[u8])
     let _ = put_all(faults, text);
 }
 
-/// Writes a message to a stream. After a failure, only the beginning of the message was written.
+/// Writes a message to a stream. On failure, only the beginning of the message may have been written.
 pub fn put_message<E: Target, W: Written>(stream: &mut E, what: &W) -> Result<(), Failed>
     requires { E.failed stream.old < 2 ^ 64 - 1 }
     ensures written { (text : List ℕ) × IsWrittenTo E.taken E.failed (stream.old, stream.new) text }
+    ensures complete { OnOk result (E.failed stream.new ≡ E.failed stream.old) }
     ensures counted { OnErr result (0 < E.failed stream.new) }
 {
     put_chunks(stream, &mut TextBuf::new(Detail::Explained), what)
@@ -33,7 +34,7 @@ pub fn put_message<E: Target, W: Written>(stream: &mut E, what: &W) -> Result<()
 pub fn write_message<E: Target, W: Written>(stream: &mut E, what: &W) -> bool
     ensures written { E.failed stream.old ≡ 0 → (text : List ℕ) × IsWrittenTo E.taken E.failed (stream.old, stream.new) text }
     ensures kept { 0 < E.failed stream.old → stream.new ≡ stream.old }
-    ensures unwritten { result ≡ false → 0 < E.failed stream.new }
+    ensures complete { IsTrue result ↔ (E.failed stream.new ≡ 0) }
 {
     stream.failures() == 0 && put_message(stream, what).is_ok()
 }

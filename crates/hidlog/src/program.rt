@@ -70,8 +70,8 @@ fn put_text<O: Target>(output: &mut O, text: &[u8]) -> Result<(), LogFault>
     }
 }
 
-/// Writes the log in a format, up to its first error, if any. In JSON, the objects of the open transactions and then
-/// that of the error come last.
+/// Writes the log in a format, up to its first error, if any. In JSON, the objects of the open transactions come last,
+/// followed by the object of the error.
 #[inline(never)]
 fn show_in_format<L: Logs, O: Target>(
     form: OutputFormat,
@@ -106,19 +106,19 @@ fn show_in_format<L: Logs, O: Target>(
     }
 }
 
-/// Shows the log in a format, line by line.
+/// Shows the log in this format.
 fn show_in<L: Logs, O: Target>(
     form: ShowFormat,
-    is_worded: bool,
+    is_explained: bool,
     input: &mut L,
     output: &mut O,
 ) -> Result<(), LogFault>
     requires reads { L.failed input.old < 2 ^ 64 - 1 }
     requires writes { O.failed output.old < 2 ^ 64 - 1 }
-    ensures { ShowsIn form (detail_for is_worded) L.left L.failed L.ended O.taken O.failed result (input.old, input.new)
+    ensures { ShowsIn form (detail_for is_explained) L.left L.failed L.ended O.taken O.failed result (input.old, input.new)
         (output.old, output.new) }
 {
-    match (form, is_worded) {
+    match (form, is_explained) {
         (ShowFormat::Lines, false) => show(input, output),
         (ShowFormat::Lines, true) => explain(input, output),
         (ShowFormat::Summary, _) => show_in_format(OutputFormat::Table, input, output),
@@ -159,16 +159,16 @@ impl<D: Files, L: Logs, O: Output, E: Target> Host<D, L, O, E> {
     fn show_log<'a>(
         &mut self,
         form: ShowFormat,
-        is_worded: bool,
+        is_explained: bool,
         log: Option<&'a str>,
     ) -> Result<(), ProgramFault<'a>>
         requires { CanFail ⟦<Self as Modeled>⟧.model self.old }
         ensures { Reads ⟦<Self as Modeled>⟧.model (to_path log.entry)
-            (λ read. ShowsLog ⟦<Self as Modeled>⟧.model form (detail_for is_worded) (to_result result) read self.new)
+            (λ read. ShowsLog ⟦<Self as Modeled>⟧.model form (detail_for is_explained) (to_result result) read self.new)
             (to_result result) self.old self.new }
     {
         open_log(&mut self.input, log)?;
-        let answer = show_in(form, is_worded, &mut self.input, &mut self.output);
+        let answer = show_in(form, is_explained, &mut self.input, &mut self.output);
         match flush_then(&mut self.output, answer) {
             Ok(()) => Ok(()),
             Err(fault) => Err(ProgramFault::Log(fault)),
@@ -246,7 +246,7 @@ impl<D: Files, L: Logs, O: Output, E: Target> Host<D, L, O, E> {
         }
     }
 
-    /// Runs the program with these arguments, of which the first is the program's name. The exit status is 1 for an
+    /// Runs the program with these arguments. The first argument is the program's name. The exit status is 1 for an
     /// error in the log, and 2 for invalid arguments, a snapshot that can't be used, or a failed allocation outside the
     /// log. The error message is written to standard error, if possible.
     pub fn run<'a>(&mut self, words: &'a [&'a str]) -> RunOutcome<'a>
@@ -280,10 +280,10 @@ impl<D: Files, L: Logs, O: Output, E: Target> Host<D, L, O, E> {
                 };
                 self.check_logs(options, &asked.logs)
             }
-            // Whether lines are truncated depends on the output.
+            // `wide` is ignored here, because `Screen` truncates the lines.
             Action::Show { form, wide: _, log } => {
-                let is_worded = asked.verbosity.explains(self.terminals.output);
-                let came = self.show_log(form, is_worded, log);
+                let is_explained = asked.verbosity.explains(self.terminals.output);
+                let came = self.show_log(form, is_explained, log);
                 self.report_result(&came, explains)
             }
         }

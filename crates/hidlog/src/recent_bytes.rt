@@ -10,7 +10,8 @@ use std::io::{self, Read};
 /// Capacity in bytes.
 const RECENT_CAPACITY: usize = 8192;
 
-/// Number of bytes that are kept when the buffer is full. An invalid line begins within the last 256 bytes read.
+/// Number of consumed bytes that are kept for the next read. At most 256 bytes of a line are consumed, so an invalid
+/// line is kept from its first byte on.
 const KEPT_LEN: usize = 4096;
 
 /// The bytes of a stream that were read last: consumed bytes, followed by unread bytes.
@@ -75,7 +76,7 @@ impl RecentBytes {
         Ok(())
     }
 
-    /// Moves up to `most` unconsumed bytes to `out`, and returns their number.
+    /// Consumes up to `most` unread bytes, as many as fit into `out`. Copies them to `out`, and returns their number.
     pub fn take(&mut self, most: usize, out: &mut [u8]) -> usize
         ensures count { result ≡ min (min (length (unread self.old.held.items self.old.at self.old.end)) (length out.old)) most }
         ensures len { length out.new ≡ length out.old }
@@ -89,7 +90,7 @@ impl RecentBytes {
         n
     }
 
-    /// Returns the lines in the buffer, without a line of which only the end was kept.
+    /// Returns the lines in the buffer, without a first line whose beginning was dropped.
     pub fn lines(&self) -> &[u8] {
         let read = self.held.as_slice().split_at(self.end).0;
         if self.forgot {
@@ -99,7 +100,7 @@ impl RecentBytes {
         }
     }
 
-    /// If the buffer is full, drops the oldest bytes, which were all consumed.
+    /// Drops the oldest bytes if there are more than `KEPT_LEN`, and marks the other bytes as consumed.
     fn drop_old(&mut self)
         ensures at { self.new.at ≡ self.new.end }
         ensures space { self.new.end ≤ 4096 }

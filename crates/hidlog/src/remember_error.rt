@@ -1,4 +1,4 @@
-//! The process's streams, with their last errors.
+//! A writer that remembers the last error of a stream.
 use std::io::{self, Write};
 
 /// A writer that stores its last error, and returns an error of the same kind. A failed call is not retried.

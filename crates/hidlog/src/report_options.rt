@@ -19,7 +19,7 @@ pub struct ReportOptions<'a> {
     pub is_all: bool,
     /// Whether the differences are reported as JSON objects.
     pub is_json: bool,
-    /// Whether nothing differs.
+    /// Whether the log has no differences.
     pub is_same: bool,
     /// The width of the terminal to which reports are written, if any. JSON is never truncated.
     pub width: Option<usize>,

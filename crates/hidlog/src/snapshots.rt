@@ -47,8 +47,8 @@ pub fn load<'a, D: Files>(
     }
 }
 
-/// Locks the snapshot at the path until the result is dropped, if the snapshot is loaded and later saved to. So if two
-/// programs do this at the same time, neither overwrites what the other one saved.
+/// Locks the snapshot at the path until the result is dropped, if it is both loaded and saved to. So if two programs do
+/// this at the same time, neither overwrites what the other one saved.
 pub fn lock_snapshot<'a, D: Files>(
     files: &D,
     path: Option<&'a str>,
@@ -59,7 +59,7 @@ pub fn lock_snapshot<'a, D: Files>(
     let (Some(path), Some(save)) = (path, save) else {
         return Ok(None);
     };
-    match files.hold(path, save) {
+    match files.lock_input(path, save) {
         Ok(held) => Ok(held),
         Err(error) => Err(ProgramFault::SnapshotReadError(path, error)),
     }
@@ -80,7 +80,7 @@ pub fn check_writable<'a, D: Files>(
     let (ReplayMode::Live, Some(path)) = (command, path) else {
         return Ok(());
     };
-    match files.look(path, log, is_held) {
+    match files.check_writable(path, log, is_held) {
         Ok(()) => Ok(()),
         Err(error) => Err(ProgramFault::SnapshotWriteError(path, SaveError::Kept(error))),
     }

@@ -1,4 +1,4 @@
-//! The checksums beside a snapshot, with which damage is detected.
+//! Checksums that are stored beside a snapshot, to detect damage.
 
 use sha2::{Digest, Sha256};
 

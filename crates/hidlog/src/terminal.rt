@@ -7,7 +7,7 @@ use crate::terminal_output::Style;
 use std::env;
 use std::io::IsTerminal;
 
-/// The width that is used for a terminal that doesn't report its width.
+/// The width of a terminal, unless the environment variable COLUMNS is a number.
 const DEFAULT_WIDTH: usize = 80;
 
 /// The minimum width at which lines are truncated.
@@ -19,34 +19,34 @@ const MAX_WIDTH: usize = 1000;
 /// The column in which line numbers end.
 const NUMBER_COLUMN: usize = 5;
 
-/// The terminals of the process, as the program uses them with these arguments.
+/// How the program uses the terminals of its process, for given arguments.
 #[derive(Clone, Copy)]
 pub struct TerminalInfo {
     pub terminals: TerminalFlags,
     /// Whether the command is `check`.
     pub is_check: bool,
-    pub holding: FlushPolicy,
+    pub flush_policy: FlushPolicy,
     /// The progress display.
-    pub audience: ProgressMode,
+    pub progress_mode: ProgressMode,
     /// The style of the log's lines, if standard output is a terminal.
     pub style: Option<Style>,
     /// The width of standard error, if it is a terminal.
     pub width: Option<usize>,
 }
 
-/// Examines the terminals of the process.
+/// Returns how the program uses the terminals of its process, for these arguments.
 pub fn terminal_info(rt: &HostRuntime, words: &[&str]) -> TerminalInfo {
     let terminals = TerminalFlags {
         output: rt.stdout().is_terminal(),
         faults: rt.stderr().is_terminal(),
     };
-    let (is_check, holding) = match words {
+    let (is_check, flush_policy) = match words {
         [_, "check", ..] => (true, FlushPolicy::Nothing),
         [_, "replay" | "quiet", ..] => (false, FlushPolicy::All),
         [_, "show", ..] => (false, FlushPolicy::UntilNextInput),
         _ => (false, FlushPolicy::Nothing),
     };
-    // The width of the terminal according to the environment.
+    // The width of the terminal, from the environment variable COLUMNS if possible.
     let columns = match env::var(rt, "COLUMNS") {
         Ok(text) => text.as_str().parse::<usize>().unwrap_or(DEFAULT_WIDTH),
         Err(_) => DEFAULT_WIDTH,
@@ -55,8 +55,8 @@ pub fn terminal_info(rt: &HostRuntime, words: &[&str]) -> TerminalInfo {
     let mut around = TerminalInfo {
         terminals,
         is_check,
-        holding,
-        audience: ProgressMode::default(),
+        flush_policy,
+        progress_mode: ProgressMode::default(),
         style: None,
         width: terminals.faults.then_some(columns),
     };
@@ -65,8 +65,8 @@ pub fn terminal_info(rt: &HostRuntime, words: &[&str]) -> TerminalInfo {
         && let Ok(asked) = parse_args(rt.alloc(), words)
     {
         let is_told = asked.verbosity.explains(terminals.faults);
-        around.audience.is_told = is_told;
-        around.audience.sees_progress = is_told
+        around.progress_mode.is_told = is_told;
+        around.progress_mode.sees_progress = is_told
             && terminals.faults
             && (is_check || !terminals.output);
         if terminals.output && asked.verbosity.explains(true) {
@@ -85,7 +85,7 @@ fn style_of(rt: &HostRuntime, task: &Action<'_>, columns: usize) -> Option<Style
             ..
         } => Some(Style {
             width: if *wide { usize::MAX } else { columns },
-            // The environment may turn colours off (see no-color.org).
+            // A nonempty NO_COLOR turns colours off (see no-color.org).
             has_colours: match env::var(rt, "NO_COLOR") {
                 Ok(text) => text.as_str().is_empty(),
                 Err(_) => true,

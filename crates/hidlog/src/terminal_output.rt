@@ -113,7 +113,7 @@ impl Written for StyledLines<'_> {
     }
 }
 
-/// A target that writes to another one, which is a terminal if there is a style.
+/// A target that writes to `inner`. If there is a style, `inner` is a terminal.
 #[derive(Drop)]
 pub struct Screen<T> {
     pub inner: T,

@@ -15,7 +15,7 @@ abbrev pub PlaysSliceIn : {S : Type 0} → LineSemantics S → S → (bytes rest
 PlaysSliceIn {S} world x bytes rest text ending = (later : S) × PlaysWholeLog world x later bytes text ending
     × ReadsUpToEnding world x bytes (rest ≡ []) ending
 
--- As `PlaysSliceIn`, for a command (replay, live, check or quiet) on a new session with these credentials.
+-- Like `PlaysSliceIn`, for a command (replay, live, check or quiet) on a new session with these credentials.
 abbrev pub PlaysSlice : ReplayMode → List Row → (bytes rest text : List ℕ) → Ending → Type 0
 PlaysSlice Replay rows bytes rest text ending = PlaysSliceIn (history (start_with rows)) [] bytes rest text ending
 PlaysSlice Live rows bytes rest text ending = PlaysSliceIn (live_history (start_with rows)) [] bytes rest text ending
@@ -39,8 +39,8 @@ pub record IsWritten (log out : List ℕ) (written : ℕ) (answer : Result (Unit
 
 -- Either the command played the log with the credentials of the snapshot, and `outcome` is the corresponding C result;
 -- or the snapshot was rejected, and the buffer is not changed. A pair is the buffer before and after the call.
-abbrev pub Answers : ReplayMode → (log snapshot : List ℕ) → (List ℕ × List ℕ) → CResult → Type 0
-Answers command log snapshot out outcome =
+abbrev pub RunsCommand : ReplayMode → (log snapshot : List ℕ) → (List ℕ × List ℕ) → CResult → Type 0
+RunsCommand command log snapshot out outcome =
     ((rows : List Row) × (answer : Result (Unit {0}) LogFault) × IsSnapshotOrEmpty snapshot rows
     × (outcome ≡ to_c_result answer outcome.written)
     × IsWritten log out.1 outcome.written answer (PlaysSlice command rows))

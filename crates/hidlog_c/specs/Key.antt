@@ -49,15 +49,15 @@ input_return_value None x = ERR_NOT_INITIALIZED
 input_return_value (Some d) x = device_return_value d d.waiting x
 
 -- For each history that leads to the session's state, the history extended by the input leads to its new state, and
--- exactly the packets that the definitions give for the input are queued.
+-- exactly the packets that the definitions in specs/ give for the input are queued.
 abbrev pub FollowsHistory : DeviceState → Timed → Type 0
 FollowsHistory d x = (start : Start) (h : List Timed) → IsStateAfterValidStart d.session start h
     → IsStateAfterValidStart (device_after d x).session start (x ∷ h) × ((device_after d x).waiting ≡ packets_sent_now start h x)
 
--- The state of the key after a call with an input, and the call's return value.
-pub record Answers (before after : Option DeviceState) (x : Timed) (result : ℤ) : Type 0 where
+-- A call with an input: the state of the key after it, and its return value.
+pub record TakesInput (before after : Option DeviceState) (x : Timed) (result : ℤ) : Type 0 where
   pub state : after ≡ after_input before x
-  pub answer : result ≡ input_return_value before x
+  pub return_value : result ≡ input_return_value before x
   pub history : (d : DeviceState) → before ≡ Some d → d.waiting ≡ [] → FollowsHistory d x
 
 -- The device without its first queued packet.
@@ -90,8 +90,9 @@ abbrev pub read_return_value : Option DeviceState → ℤ
 read_return_value None = ERR_NOT_INITIALIZED
 read_return_value (Some d) = packets_left_or_error d.waiting
 
--- The result of returning the first queued packet. A pair is the caller's packet before and after the call.
-pub record Sends (before after : Option DeviceState) (packet : List ℕ × List ℕ) (result : ℤ) : Type 0 where
+-- A call of hidlog_key_read_packet: the state of the key after it, the caller's packet, and the return value. A pair is
+-- the caller's packet before and after the call.
+pub record ReadsPacket (before after : Option DeviceState) (packet : List ℕ × List ℕ) (result : ℤ) : Type 0 where
   pub state : after ≡ device_after_read before
   pub packet_is : packet.1 ≡ first_packet_or packet.0 (queued_packets_of before)
-  pub answer : result ≡ read_return_value before
+  pub return_value : result ≡ read_return_value before

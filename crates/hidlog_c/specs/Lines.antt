@@ -14,13 +14,13 @@ abbrev pub PlaysLines : SessionState → SessionState → (bytes rest text : Lis
 PlaysLines s t bytes rest text ending = Plays live_machine s t bytes text ending
     × ReadsUpToEnding live_machine s bytes (rest ≡ []) ending
 
--- As `PlaysLines`, on a history `h`, which the inputs in the lines extend to `later`.
+-- Like `PlaysLines`, on a history `h`, which the inputs in the lines extend to `later`.
 abbrev pub PlaysLinesOnHistory : Start → List Timed → List Timed → (bytes rest text : List ℕ) → Ending → Type 0
 PlaysLinesOnHistory start h later bytes rest text ending = Writes (live_history start) h later bytes text ending
     × ReadsUpToEnding (live_history start) h bytes (rest ≡ []) ending
 
 -- For each history that leads to state `s`, the inputs in the lines extend it to a history that leads to state `t`, and
--- the written text is the one that the definitions give for that history.
+-- the written text is the one that the definitions in specs/ give for that history.
 abbrev pub FollowsLines : SessionState → SessionState → (log out : List ℕ) → (written : ℕ) → Result (Unit {0}) LogFault
     → Type 0
 FollowsLines s t log out written answer = (start : Start) (h : List Timed) → IsStateAfter s start h

@@ -4,7 +4,7 @@ use Rattle.authn_core.specs.declared.replies.Presence.{Presence as Reply}
 use Rattle.authn_core.specs.declared.replies.Presence.TheVariants.{Granted, Denied, TimedOut}
 use Rattle.token_session.specs.declared.input.Input.{Input, TheVariants.Signature}
 use Rattle.hidlog_c.specs.declared.fault.TheConstants.{ERR_INVALID_ARGUMENT, ERR_NOT_INITIALIZED}
-use Rattle.hidlog_c.specs.Key.{Answers, DeviceState}
+use Rattle.hidlog_c.specs.Key.{TakesInput, DeviceState}
 
 -- The user presence reply for a number of enum hidlog_presence.
 abbrev pub parsed_presence_number : ℕ → Option Reply
@@ -23,6 +23,6 @@ refusal_of (Some d) = ERR_INVALID_ARGUMENT
 
 -- The effect of a call whose argument may be invalid (None). In that case the call returns an error, and the key is not
 -- changed.
-abbrev pub AnswersChecked : (before after : Option DeviceState) → (at : ℕ) → Option Input → ℤ → Type 0
-AnswersChecked before after at None result = (after ≡ before) × (result ≡ refusal_of before)
-AnswersChecked before after at (Some input) result = Answers before after (record { at = at; input = input }) result
+abbrev pub TakesCheckedInput : (before after : Option DeviceState) → (at : ℕ) → Option Input → ℤ → Type 0
+TakesCheckedInput before after at None result = (after ≡ before) × (result ≡ refusal_of before)
+TakesCheckedInput before after at (Some input) result = TakesInput before after (record { at = at; input = input }) result

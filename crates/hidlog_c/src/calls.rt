@@ -8,8 +8,8 @@ ghost use Rattle.hidlog_c.specs.contracts.device.Device.{the_row as device_row};
 ghost use Rattle.hidlog_c.specs.Causes.{ReportsCause};
 ghost use Rattle.hidlog_c.specs.Held.{held};
 ghost use Rattle.hidlog_c.specs.Changed.{Adds, Clears, Removes, SavesKey};
-ghost use Rattle.hidlog_c.specs.Key.{Answers, Sends};
-ghost use Rattle.hidlog_c.specs.Words.{AnswersChecked, parsed_presence_number, signature_input};
+ghost use Rattle.hidlog_c.specs.Key.{TakesInput, ReadsPacket};
+ghost use Rattle.hidlog_c.specs.Words.{TakesCheckedInput, parsed_presence_number, signature_input};
 ghost use Rattle.hidlog_c.specs.Lines.{ReplaysLines};
 ghost use Rattle.hidlog_c.specs.Reports.{ReportsCredential, ReportsMeters, ReportsNeed, count_or, credential_count, pending_assertions, waiting_packets};
 ghost use Rattle.hidlog_c.specs.Switched.{Initializes};
@@ -83,7 +83,7 @@ pub extern "C" fn hidlog_key_init(
 /// Advances the time to `at`, in milliseconds. Returns the number of packets that are queued for sending.
 #[unsafe(no_mangle)]
 pub extern "C" fn hidlog_key_tick(key: &mut KeyHandle, at: u64) -> i32
-    ensures { Answers (held key.old) (held key.new) (record { at = at; input = inputs.Tick }) result }
+    ensures { TakesInput (held key.old) (held key.new) (record { at = at; input = inputs.Tick }) result }
 {
     key.process_input(at, Input::Tick)
 }
@@ -92,7 +92,7 @@ pub extern "C" fn hidlog_key_tick(key: &mut KeyHandle, at: u64) -> i32
 /// sending.
 #[unsafe(no_mangle)]
 pub extern "C" fn hidlog_key_write_packet(key: &mut KeyHandle, at: u64, packet: &[u8; 64]) -> i32
-    ensures { Answers (held key.old) (held key.new)
+    ensures { TakesInput (held key.old) (held key.new)
         (record { at = at; input = inputs.Packet (record { 0 = packet.now }) }) result }
 {
     key.process_input(at, Input::Packet(Packet(*packet)))
@@ -101,7 +101,7 @@ pub extern "C" fn hidlog_key_write_packet(key: &mut KeyHandle, at: u64, packet: 
 /// Removes the next queued packet, and copies it to `packet`. Returns the number of packets that remain.
 #[unsafe(no_mangle)]
 pub extern "C" fn hidlog_key_read_packet(key: &mut KeyHandle, packet: &mut [u8; 64]) -> i32
-    ensures { Sends (held key.old) (held key.new) (packet.old, packet.new) result }
+    ensures { ReadsPacket (held key.old) (held key.new) (packet.old, packet.new) result }
 {
     key.next(packet)
 }
@@ -109,7 +109,7 @@ pub extern "C" fn hidlog_key_read_packet(key: &mut KeyHandle, packet: &mut [u8; 
 /// Provides the user presence reply: 0 granted, 1 denied, 2 timed out.
 #[unsafe(no_mangle)]
 pub extern "C" fn hidlog_key_provide_presence(key: &mut KeyHandle, at: u64, presence: u32) -> i32
-    ensures { AnswersChecked (held key.old) (held key.new) at (option_map inputs.Presence (parsed_presence_number presence)) result }
+    ensures { TakesCheckedInput (held key.old) (held key.new) at (option_map inputs.Presence (parsed_presence_number presence)) result }
 {
     match parsed_presence_number(presence) {
         Some(presence) => key.process_input(at, Input::Presence(presence)),
@@ -126,7 +126,7 @@ pub extern "C" fn hidlog_key_provide_key_pair(
     x: &[u8; 32],
     y: &[u8; 32],
 ) -> i32
-    ensures { Answers (held key.old) (held key.new)
+    ensures { TakesInput (held key.old) (held key.new)
         (record { at = at; input = inputs.Key (Some (record { id = id.now; x = x.now; y = y.now })) }) result }
 {
     let new_key = NewKey {
@@ -140,7 +140,7 @@ pub extern "C" fn hidlog_key_provide_key_pair(
 /// Refuses a key pair.
 #[unsafe(no_mangle)]
 pub extern "C" fn hidlog_key_refuse_key_pair(key: &mut KeyHandle, at: u64) -> i32
-    ensures { Answers (held key.old) (held key.new) (record { at = at; input = inputs.Key None }) result }
+    ensures { TakesInput (held key.old) (held key.new) (record { at = at; input = inputs.Key None }) result }
 {
     key.process_input(at, Input::Key(None))
 }
@@ -152,7 +152,7 @@ pub extern "C" fn hidlog_key_provide_signature(
     at: u64,
     signature: &[u8],
 ) -> i32
-    ensures { AnswersChecked (held key.old) (held key.new) at (signature_input signature.now) result }
+    ensures { TakesCheckedInput (held key.old) (held key.new) at (signature_input signature.now) result }
 {
     match Signature::new(signature) {
         Some(signature) => key.process_input(at, Input::Signature(Some(signature))),
@@ -163,7 +163,7 @@ pub extern "C" fn hidlog_key_provide_signature(
 /// Refuses a signature.
 #[unsafe(no_mangle)]
 pub extern "C" fn hidlog_key_refuse_signature(key: &mut KeyHandle, at: u64) -> i32
-    ensures { Answers (held key.old) (held key.new) (record { at = at; input = inputs.Signature None }) result }
+    ensures { TakesInput (held key.old) (held key.new) (record { at = at; input = inputs.Signature None }) result }
 {
     key.process_input(at, Input::Signature(None))
 }

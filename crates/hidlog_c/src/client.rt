@@ -11,7 +11,7 @@ use webauthn_client::{
 pub struct ClientReport {
     /// The timeout in the options, in milliseconds.
     pub timeout_ms: u32,
-    /// Whether the response states that the user was verified: 0 or 1.
+    /// Whether the user is verified, so that the UV flag of the response must be set: 0 or 1.
     pub is_verified: u32,
     /// After an error: the length of the member's name, which is at the start of `out`.
     pub member_len: u32,

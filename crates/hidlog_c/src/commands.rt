@@ -2,7 +2,7 @@
 ghost use Rattle.std.specs.Prelude.{◌≡◌, [], List, ℕ, take, Option};
 ghost use Rattle.cred_table.specs.declared.row.Row.{Row as AnyRow};
 ghost use Rattle.token_session.specs.Meters.{IsStateAfter, session_of};
-ghost use Rattle.hidlog_c.specs.Commands.{Answers, IsWritten, PlaysSlice};
+ghost use Rattle.hidlog_c.specs.Commands.{RunsCommand, IsWritten, PlaysSlice};
 ghost use Rattle.hidlog_c.specs.Switched.{start_with};
 
 use crate::buffer_target::BufferTarget;
@@ -40,7 +40,7 @@ fn play_on(
     out: &mut [u8],
 ) -> CResult
     requires fresh { session.old ≡ session_of (start_with []) [] }
-    ensures { Answers command log.now snapshot.now (out.old, out.new) result }
+    ensures { RunsCommand command log.now snapshot.now (out.old, out.new) result }
 {
     match open(session, snapshot) {
         Ok(()) => {
@@ -55,7 +55,7 @@ fn play_on(
 /// Runs a command on a session with the credentials of the snapshot, or without credentials if the snapshot is empty.
 /// The output is written to the start of `out`.
 pub fn run(command: ReplayMode, log: &[u8], snapshot: &[u8], out: &mut [u8]) -> CResult
-    ensures { Answers command log.now snapshot.now (out.old, out.new) result }
+    ensures { RunsCommand command log.now snapshot.now (out.old, out.new) result }
 {
     play_on(&mut new_command_session(), command, log, snapshot, out)
 }

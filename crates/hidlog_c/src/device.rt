@@ -1,4 +1,5 @@
-//! The device in a key.
+//! A session with the packets that it sent and that the caller hasn't taken yet: the state behind a key of the C
+//! library.
 ghost use Rattle.std.specs.Prelude.{◌≡◌, ◌≤◌, List, Ok, Some, [], IfErr, IfSome, IfNone, OnOk, is_some, length};
 ghost use Rattle.authn_core.specs.Views.{needs};
 ghost use Rattle.cred_table.specs.declared.row.Row.{Row as AnyRow};
@@ -7,7 +8,7 @@ ghost use Rattle.cred_table.specs.Rows.{has_id, without};
 ghost use Rattle.cred_table.specs.Snapshots.{Loads, Refuses};
 ghost use Rattle.hidlog_c.specs.Changed.{Adds, Clears, HasRows, IsBusy, IsIdle, SavesLen, Removes, SavesRows};
 ghost use Rattle.hidlog_c.specs.Causes.{ReportsCause};
-ghost use Rattle.hidlog_c.specs.Key.{Answers, Sends};
+ghost use Rattle.hidlog_c.specs.Key.{TakesInput, ReadsPacket};
 ghost use Rattle.hidlog_c.specs.Lines.{ReplaysLines};
 ghost use Rattle.hidlog_c.specs.Switched.{IsStarted};
 ghost use Rattle.hidlog_c.specs.Reports.{ReportsRow, credential_count, to_c_stats, to_c_need, pending_assertions, waiting_packets};
@@ -86,7 +87,7 @@ impl Device {
     /// Processes an input. Returns the number of packets queued for sending. If packets were queued before, returns an
     /// error and doesn't process the input.
     pub fn process_input(&mut self, at: u64, input: Input) -> i32
-        ensures { Answers (Some self.old) (Some self.new) (record { at = at; input = input }) result }
+        ensures { TakesInput (Some self.old) (Some self.new) (record { at = at; input = input }) result }
     {
         if !self.outbox.is_empty() {
             return ERR_PACKETS_QUEUED;
@@ -97,7 +98,7 @@ impl Device {
 
     /// Removes the next queued packet, and copies it to `packet`.
     pub fn next(&mut self, packet: &mut [u8; 64]) -> i32
-        ensures { Sends (Some self.old) (Some self.new) (packet.old, packet.new) result }
+        ensures { ReadsPacket (Some self.old) (Some self.new) (packet.old, packet.new) result }
     {
         let Some(first) = self.outbox.pop() else {
             return ERR_NO_PACKET;
@@ -165,7 +166,7 @@ impl Device {
         self.session.pending()
     }
 
-    /// Stores the credential at an index, if there is one.
+    /// Stores the credential at an index. Fails if the index is out of range.
     pub fn credential(&self, place: usize, credential: &mut Credential) -> i32
         ensures { ReportsRow self.now.session.machine.core.state.rows place (credential.old, credential.new) result }
     {

@@ -4,7 +4,7 @@ ghost use Rattle.cred_table.specs.Snapshots.{Refuses};
 ghost use Rattle.hidlog_c.specs.Causes.{ReportsCause};
 ghost use Rattle.hidlog_c.specs.Held.{held};
 ghost use Rattle.hidlog_c.specs.Changed.{Adds, Clears, Removes, SavesKey};
-ghost use Rattle.hidlog_c.specs.Key.{Answers, Sends};
+ghost use Rattle.hidlog_c.specs.Key.{TakesInput, ReadsPacket};
 ghost use Rattle.hidlog_c.specs.Words.{refusal_of};
 ghost use Rattle.hidlog_c.specs.Lines.{ReplaysLines};
 ghost use Rattle.hidlog_c.specs.Switched.{Begins};
@@ -68,7 +68,7 @@ impl KeyHandle {
     /// Processes an input. Returns the number of packets queued for sending. If packets were queued before, returns an
     /// error and doesn't process the input.
     pub fn process_input(&mut self, at: u64, input: Input) -> i32
-        ensures { Answers (held self.old) (held self.new) (record { at = at; input = input }) result }
+        ensures { TakesInput (held self.old) (held self.new) (record { at = at; input = input }) result }
     {
         if !self.is_initialized() {
             return ERR_NOT_INITIALIZED;
@@ -89,7 +89,7 @@ impl KeyHandle {
 
     /// Removes the next queued packet, and copies it to `packet`.
     pub fn next(&mut self, packet: &mut [u8; 64]) -> i32
-        ensures { Sends (held self.old) (held self.new) (packet.old, packet.new) result }
+        ensures { ReadsPacket (held self.old) (held self.new) (packet.old, packet.new) result }
     {
         if !self.is_initialized() {
             return ERR_NOT_INITIALIZED;
@@ -163,7 +163,7 @@ impl KeyHandle {
         self.memory.device().pending() as i32
     }
 
-    /// Stores the credential at an index, if there is one.
+    /// Stores the credential at an index. Fails if the index is out of range.
     pub fn credential(&mut self, place: usize, credential: &mut Credential) -> i32
         ensures same { held self.new ≡ held self.old }
         ensures credential { ReportsCredential (held self.old) place (credential.old, credential.new) result }

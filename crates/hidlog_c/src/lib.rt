@@ -25,7 +25,7 @@ mod structs;
 mod transactions;
 
 ghost use Rattle.session_log.specs.declared.command.ReplayMode.TheVariants as commands;
-ghost use Rattle.hidlog_c.specs.Commands.{Answers};
+ghost use Rattle.hidlog_c.specs.Commands.{RunsCommand};
 ghost use Rattle.hidlog_c.specs.Shown.{IsShown, detail_for};
 ghost use Rattle.session_show.specs.declared.detail.Detail.TheVariants.{Fixed as fixed};
 ghost use Rattle.std.specs.Prelude.{◌≡◌, ◌≤◌, ◌==◌, length, not};
@@ -42,7 +42,7 @@ use session_show::Detail;
 /// The output is written to the start of `out`.
 #[unsafe(no_mangle)]
 pub extern "C" fn hidlog_replay(log: &[u8], snapshot: &[u8], out: &mut [u8], outcome: &mut CResult)
-    ensures { Answers commands.Replay log.now snapshot.now (out.old, out.new) outcome.new }
+    ensures { RunsCommand commands.Replay log.now snapshot.now (out.old, out.new) outcome.new }
 {
     *outcome = run(ReplayMode::Replay, log, snapshot, out);
 }
@@ -51,7 +51,7 @@ pub extern "C" fn hidlog_replay(log: &[u8], snapshot: &[u8], out: &mut [u8], out
 /// contains what the session needs.
 #[unsafe(no_mangle)]
 pub extern "C" fn hidlog_live(log: &[u8], snapshot: &[u8], out: &mut [u8], outcome: &mut CResult)
-    ensures { Answers commands.Live log.now snapshot.now (out.old, out.new) outcome.new }
+    ensures { RunsCommand commands.Live log.now snapshot.now (out.old, out.new) outcome.new }
 {
     *outcome = run(ReplayMode::Live, log, snapshot, out);
 }
@@ -59,7 +59,7 @@ pub extern "C" fn hidlog_live(log: &[u8], snapshot: &[u8], out: &mut [u8], outco
 /// Compares the packets in the log with those that the session sends, and writes the counts to the start of `out`.
 #[unsafe(no_mangle)]
 pub extern "C" fn hidlog_check(log: &[u8], snapshot: &[u8], out: &mut [u8], outcome: &mut CResult)
-    ensures { Answers commands.Check log.now snapshot.now (out.old, out.new) outcome.new }
+    ensures { RunsCommand commands.Check log.now snapshot.now (out.old, out.new) outcome.new }
 {
     *outcome = run(ReplayMode::Check, log, snapshot, out);
 }
@@ -67,7 +67,7 @@ pub extern "C" fn hidlog_check(log: &[u8], snapshot: &[u8], out: &mut [u8], outc
 /// Replaces ignored inputs of the log by ticks, and writes the resulting log to the start of `out`.
 #[unsafe(no_mangle)]
 pub extern "C" fn hidlog_quiet(log: &[u8], snapshot: &[u8], out: &mut [u8], outcome: &mut CResult)
-    ensures { Answers commands.Quiet log.now snapshot.now (out.old, out.new) outcome.new }
+    ensures { RunsCommand commands.Quiet log.now snapshot.now (out.old, out.new) outcome.new }
 {
     *outcome = run(ReplayMode::Quiet, log, snapshot, out);
 }

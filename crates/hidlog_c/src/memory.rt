@@ -1,4 +1,4 @@
-//! The caller's memory.
+//! The memory that the caller of the C library provides for a key.
 ghost use Rattle.std.specs.Prelude.{Option};
 ghost use Rattle.hidlog_c.specs.Owned.{holds};
 ghost use Rattle.hidlog_c.specs.Key.{DeviceState};

@@ -12,7 +12,7 @@ use token_session::Meters;
 #[derive(Clone, Copy)]
 #[repr(C)]
 pub struct CNeed {
-    /// 0 nothing, 1 user presence, 2 a key pair, 3 a signature.
+    /// The kind of the need: 0 nothing, 1 user presence, 2 a key pair, 3 a signature.
     pub kind: u32,
     /// The number of bytes to sign for a signature, or else 0.
     pub to_sign_len: u32,

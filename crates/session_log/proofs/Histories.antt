@@ -14,7 +14,7 @@ use Rattle.session_log.specs.declared.command.ReplayMode.TheVariants.{Check, Qui
 use Rattle.session_log.specs.Check.{Compared, log_comparison, first_comparison, missing, comparison_fault, comparison_after, check_machine}
 use Rattle.session_log.specs.{Check.check_history, Streams.ReadsAndWrites, Text.with_line_feed, World.LineSemantics, World.replay_text}
 use Rattle.session_log.specs.Replay.{Logs, PlaysWholeLog, Plays, ReadsTo, Writes}
-use Rattle.session_log.specs.Session.{session_semantics, history_course, exchange_histories, exchange_history, machine, history, quiet_machine, quiet_history, live_machine}
+use Rattle.session_log.specs.Session.{session_semantics, history_semantics, exchange_semantics, exchange_history, machine, history, quiet_machine, quiet_history, live_machine}
 use Rattle.session_log.specs.Session.{live_history, session_needs, history_needs}
 use Rattle.session_log.proofs.Worlds.{Follows, makes_alike, logs_alike, plays_alike, reads_alike}
 
@@ -24,7 +24,7 @@ module _ (start : Start) where
   counted s h r = ap (λ (z : SessionState). z.meters) r
 
   wrote : (s : SessionState) (h : List Timed) (line : List ℕ) (l : Line) → IsStateAfter s start h
-      → replay_text session_semantics s line l ≡ replay_text (history_course start) h line l
+      → replay_text session_semantics s line l ≡ replay_text (history_semantics start) h line l
   wrote s h line l r = search (arith, step_sends, machine_after)
 
   pub follows : Follows machine (history start) (λ s h. IsStateAfter s start h)
@@ -65,10 +65,10 @@ module _ (start : Start) (is : (h : List Timed) → AgreesWithExchanges start h)
       ∙ told_now_is start h x (is h) (is (x ∷ h))
 
   retold : (s : SessionState) (h : List Timed) (line : List ℕ) (l : Line) → IsStateAfterValidStart s start h
-      → replay_text session_semantics s line l ≡ replay_text (exchange_histories start) h line l
+      → replay_text session_semantics s line l ≡ replay_text (exchange_semantics start) h line l
   retold s h line l f = search (arith, told_sends)
 
-  told_counts : (s : SessionState) (h : List Timed) → IsStateAfterValidStart s start h → s.meters ≡ (exchange_histories start).counts h
+  told_counts : (s : SessionState) (h : List Timed) → IsStateAfterValidStart s start h → s.meters ≡ (exchange_semantics start).counts h
   told_counts s h f = counted start s h f.stands
 
   pub tells : Follows machine (exchange_history start) (λ s h. IsStateAfterValidStart s start h)
@@ -143,7 +143,7 @@ module _ (start : Start) where
   same_stops c d l r = search arith
 
   same_moves : (c : Compared SessionState) (d : Compared (List Timed)) (l : Line) → IsBeside c d
-      → IsBeside (comparison_after session_semantics c l) (comparison_after (history_course start) d l)
+      → IsBeside (comparison_after session_semantics c l) (comparison_after (history_semantics start) d l)
   same_moves c d l r = search (arith, step_sends, machine_after, stands_longer)
 
   check_follows : Follows check_machine (check_history start) (IsBeside)

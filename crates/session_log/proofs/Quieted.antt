@@ -9,7 +9,7 @@ use Rattle.token_session.specs.History.{receive, received}
 use Rattle.token_session.specs.Noise.{HasTicksForNoise, IsSameOrTick, is_noise_after, tick_at}
 use Rattle.token_session.proofs.Noise.{noise_is_named, quiet_alike}
 use Rattle.session_log.specs.declared.line.Line.{Line, TheVariants.Input, TheVariants.Comment}
-use Rattle.session_log.specs.{Inputs.inputs, Inputs.line_inputs, Session.history_course, Session.quiet_history}
+use Rattle.session_log.specs.{Inputs.inputs, Inputs.line_inputs, Session.history_semantics, Session.quiet_history}
 use Rattle.session_log.specs.{Lines.lines, Parsed.parsed, Text.with_line_feed, Text.tick_text, Sent.AllSend, Sent.SendsPackets}
 use Rattle.session_log.specs.Log.{played, play_all, parsed_line_text, state_after, state_after_parsed, parsed_line_fault, line_fault}
 use Rattle.session_log.specs.World.{InputSemantics, LineSemantics, quiet_world}
@@ -124,10 +124,10 @@ module _ (start : Start) where
   quiet = quiet_history start
 
   abbrev kept_of : List Timed → List ℕ → Option Line → List (List ℕ)
-  kept_of = kept_by (history_course start) is_noise
+  kept_of = kept_by (history_semantics start) is_noise
 
   abbrev kept_lines : List Timed → List (List ℕ) → List (List ℕ)
-  kept_lines = kept (history_course start) is_noise
+  kept_lines = kept (history_semantics start) is_noise
 
   -- lines whose inputs go on with quiet histories
   abbrev GoesOn : List (List ℕ) → Type 0
@@ -148,8 +148,8 @@ module _ (start : Start) where
   kept_are : (h : List Timed) (bytes : List ℕ) → (play_all quiet h bytes).fault ≡ None
       → lines (play_all quiet h bytes).text ≡ kept_lines h (lines bytes)
   kept_are h bytes sound =
-      let kept_is = lines_kept (history_course start) is_noise in
-      let sends = all_send (history_course start) is_noise h (lines bytes) in
+      let kept_is = lines_kept (history_semantics start) is_noise in
+      let sends = all_send (history_semantics start) is_noise h (lines bytes) in
       ap lines (written_text kept_is 1 h (lines bytes) sound)
       ∙ lines_joined _ (written_are kept_is h (lines bytes) (lines_are_lines bytes) sends)
 
@@ -192,8 +192,8 @@ module _ (start : Start) where
       × ((play_all quiet h (play_all quiet h bytes).text).text ≡ (play_all quiet h bytes).text)
   quiet_again h bytes sound =
       let first = kept_lines h (lines bytes) in
-      let all = λ (ls : List (List ℕ)). written_text (lines_kept (history_course start) is_noise) 1 h ls in
-      let well = kept_sound (history_course start) is_noise 1 h (lines bytes) (omega arith) sound in
-      let none = sound_is_played (history_course start) is_noise 1 h first well.0 well.1 in
+      let all = λ (ls : List (List ℕ)). written_text (lines_kept (history_semantics start) is_noise) 1 h ls in
+      let well = kept_sound (history_semantics start) is_noise 1 h (lines bytes) (omega arith) sound in
+      let none = sound_is_played (history_semantics start) is_noise 1 h first well.0 well.1 in
       let stays = ap (λ (ls : List (List ℕ)). flat_map with_line_feed ls) (stays_kept (lines bytes) h h (quiet_self h)) in
       rw (kept_are h bytes sound) (none, all first none ∙ stays ∙ sym (all (lines bytes) sound))

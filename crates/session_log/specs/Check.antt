@@ -8,7 +8,7 @@ use Rattle.token_session.specs.{declared.input.Timed.Timed, Meters.SessionState}
 use Rattle.session_log.specs.declared.fault.LogFault.{LogFault, TheVariants.Differs}
 use Rattle.session_log.specs.{declared.line.Line.Line, Text.same_line, World.InputSemantics, World.LineSemantics}
 use Rattle.session_log.specs.declared.line.Line.TheVariants.{Input, Sent, Comment, Count}
-use Rattle.session_log.specs.Session.{session_semantics, history_course}
+use Rattle.session_log.specs.Session.{session_semantics, history_semantics}
 
 -- The state of a comparison after some lines: the session's state, the number of lines, the line number of the last
 -- input (0 before the first input), how many of its packets were found in the log, its remaining packets, and the total
@@ -103,7 +103,7 @@ check_machine = check_world session_semantics
 
 -- Comparing a log with the packets that a history defines.
 abbrev pub check_history : Start → LineSemantics (Compared (List Timed))
-check_history start = check_world (history_course start)
+check_history start = check_world (history_semantics start)
 
 -- The expected packets that remain: the next one, if any, and those after it.
 abbrev pub due_packets : Option Packet → List (List ℕ) → List (List ℕ)

@@ -34,9 +34,9 @@ abbrev pub without_meters : Result Meters LogFault → Result (Unit {0}) LogFaul
 without_meters (Ok meters) = Ok tt
 without_meters (Err fault) = Err fault
 
--- The source's count of failures increases by one if the error is a failed read, the target's if it is a failed write,
--- and otherwise the counts stay the same. Without an error, the source is at its end. A pair is a source or a target
--- before and after the call.
+-- If the error is a failed read, the source's count of failures increases by one; if it is a failed write, the target's
+-- count does. Otherwise the counts stay the same. Without an error, the source is at its end. Each pair is a source or
+-- a target, before and after the call.
 abbrev pub IsCounted : {A I O : Type 0} → (left : I → Option (List ℕ)) → (unread : I → ℕ) → (ended : I → Bool)
     → (unwritten : O → ℕ) → Result A LogFault → (I × I) → (O × O) → Type 0
 IsCounted left unread ended unwritten answer input output =

@@ -12,7 +12,7 @@ line_inputs (Some (Sent packet)) = []
 line_inputs (Some Comment) = []
 line_inputs (Some (Input timed)) = timed ∷ []
 
--- in order
+-- The inputs in these lines, in order.
 abbrev pub inputs : List (List ℕ) → List Timed
 inputs [] = []
 inputs (line ∷ more) = line_inputs (parsed line) ++ inputs more

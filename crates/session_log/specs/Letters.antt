@@ -9,7 +9,7 @@ host_letter = 62
 abbrev pub key_letter : ℕ
 key_letter = 60
 
--- `t`, a tick
+-- `t`: a tick.
 abbrev pub tick_letter : ℕ
 tick_letter = 116
 
@@ -17,19 +17,19 @@ tick_letter = 116
 abbrev pub presence_letter : ℕ
 presence_letter = 112
 
--- `k`, a new key pair
+-- `k`: a new key pair.
 abbrev pub new_key_letter : ℕ
 new_key_letter = 107
 
--- `s`, a signature
+-- `s`: a signature.
 abbrev pub signature_letter : ℕ
 signature_letter = 115
 
--- `#`, a comment
+-- `#`: a comment.
 abbrev pub comment_letter : ℕ
 comment_letter = 35
 
--- `=`, what was counted
+-- `=`: the meters.
 abbrev pub count_letter : ℕ
 count_letter = 61
 

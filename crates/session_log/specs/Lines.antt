@@ -36,6 +36,6 @@ lines_of_pieces [] = []
 lines_of_pieces (x ∷ []) = if length x == 0 then [] else x ∷ []
 lines_of_pieces (x ∷ y ∷ more) = x ∷ lines_of_pieces (y ∷ more)
 
--- The lines of the bytes. The bytes after the last line feed are a line if there are any.
+-- The lines of the bytes. If bytes follow the last line feed, they are a line, too.
 abbrev pub lines : List ℕ → List (List ℕ)
 lines bytes = lines_of_pieces (pieces bytes)

@@ -47,13 +47,13 @@ AreValues digits values = (i : ℕ) → i < length digits
 abbrev pub is_word : List ℕ → List ℕ → Bool
 is_word word field = pointwise ◌==◌ field word
 
--- `P`
+-- A packet, `P`.
 abbrev pub parsed_packet : List ℕ → Option AnyInput
 parsed_packet field = do
   packet ← decoded_bytes 64 field
   Some (Packet (record { 0 = packet }))
 
--- `granted`, `denied`, `timeout`
+-- A user presence reply: `granted`, `denied` or `timeout`.
 abbrev pub parsed_presence : List ℕ → Option AnyInput
 parsed_presence field =
     if is_word (codes "granted") field then Some (Presence Granted)
@@ -71,18 +71,18 @@ parsed_key_pair field = do
   y ← decoded_bytes 32 second.1
   Some (record { id = id; x = x; y = y })
 
--- `ID X Y`, `no`
+-- A new key pair, `ID X Y`, or `no`.
 abbrev pub parsed_new_key : List ℕ → Option AnyInput
 parsed_new_key field = if is_word refusal_word field then Some (Key None)
     else (parsed_key_pair field >>= (λ key. Some (Key (Some key))))
 
--- 1 to 72 bytes
+-- A signature of 1 to 72 bytes.
 abbrev pub parsed_signature_bytes : List ℕ → Option (List ℕ)
 parsed_signature_bytes digits =
     let n = length digits / 2 in
     if nat_le 1 n && nat_le n 72 then decoded_bytes n digits else None
 
--- `S`, `no`
+-- A signature, `S`, or `no`.
 abbrev pub parsed_signature : List ℕ → Option AnyInput
 parsed_signature field = if is_word refusal_word field then Some (Signature None)
     else (parsed_signature_bytes field >>= (λ bytes. Some (Signature (Some bytes))))
@@ -96,7 +96,7 @@ parsed_input letter field =
     else if letter == signature_letter then parsed_signature field
     else None
 
--- `M` and a field
+-- An input other than a tick: its timestamp `M` and a field.
 abbrev pub input_line : ℕ → List ℕ → Option Line
 input_line letter fields = do
   parts ← first_field fields
@@ -104,13 +104,13 @@ input_line letter fields = do
   input ← parsed_input letter parts.1
   Some (Input (record { at = at; input = input }))
 
--- `M`
+-- A tick: its timestamp `M`.
 abbrev pub tick_line : List ℕ → Option Line
 tick_line fields = do
   at ← moment fields
   Some (Input (record { at = at; input = Tick }))
 
--- `P`
+-- A packet that was sent, `P`.
 abbrev pub sent_line : List ℕ → Option Line
 sent_line fields = do
   packet ← decoded_bytes 64 fields

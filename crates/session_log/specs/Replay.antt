@@ -81,7 +81,7 @@ EndingMeans world s t bytes text AtEnd Unwritten = IsUnwritten world s t bytes t
 abbrev pub Plays : {S : Type 0} → LineSemantics S → S → S → List ℕ → List ℕ → Ending → Type 0
 Plays world s t bytes text ending = EndingMeans world s t bytes text (IsPlayed world s t bytes text) ending
 
--- As `Plays`, without the condition on the packets that are sent.
+-- Like `Plays`, without the condition on the packets that are sent.
 abbrev pub Writes : {S : Type 0} → LineSemantics S → S → S → List ℕ → List ℕ → Ending → Type 0
 Writes world s t bytes text ending = EndingMeans world s t bytes text (AreWritten world s t bytes text) ending
 
@@ -89,11 +89,11 @@ Writes world s t bytes text ending = EndingMeans world s t bytes text (AreWritte
 abbrev pub PlaysWholeLog : {S : Type 0} → LineSemantics S → S → S → List ℕ → List ℕ → Ending → Type 0
 PlaysWholeLog world s t bytes text ending = EndingMeans world s t bytes text (IsDone world s t bytes text) ending
 
--- As `PlaysWholeLog`, and without an error the condition on the packets that are sent is true for each line.
+-- Like `PlaysWholeLog`. Also, without an error, the condition on the packets that are sent is true for each line.
 abbrev pub PlaysWholeLogWithMeters : {S A : Type 0} → LineSemantics S → S → S → List ℕ → List ℕ → Result A LogFault → Type 0
 PlaysWholeLogWithMeters world s t bytes text r = PlaysWholeLog world s t bytes text (ending_of r) × OnOk r (AllSend world s (lines bytes))
 
--- As `PlaysWholeLog`, and without an error the meters at the end of the log are returned.
+-- Like `PlaysWholeLog`. Also, without an error, the result contains the meters at the end of the log.
 abbrev pub Logs : {S : Type 0} → LineSemantics S → S → S → List ℕ → List ℕ → Result Meters LogFault → Type 0
 Logs world s t bytes text r = PlaysWholeLog world s t bytes text (ending_of r) × IfOk r (λ m. m ≡ world.counts t)
 
@@ -162,7 +162,7 @@ ReadsUpToFault world s bytes all (Read n) = ⊥
 ReadsUpToFault world s bytes all Write = ⊥
 ReadsUpToFault world s bytes all (Memory n) = ⊥
 
--- How many bytes were read at this ending. Only for an error in the log is anything stated.
+-- How many bytes were read at this ending. Nothing is stated unless the ending is an error in the log.
 abbrev pub ReadsUpToEnding : {S : Type 0} → LineSemantics S → S → List ℕ → Type 0 → Ending → Type 0
 ReadsUpToEnding world s bytes all (Refused fault) = ReadsUpToFault world s bytes all fault
 ReadsUpToEnding world s bytes all _ = Unit {0}

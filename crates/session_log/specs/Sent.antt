@@ -3,7 +3,7 @@ use Rattle.std.specs.Prelude.{ℕ, ◌<◌, ◌^◌, List, [], ◌∷◌, Option
 use Rattle.token_session.specs.declared.input.Meters.{Meters}
 use Rattle.session_log.specs.{declared.line.Line.Line, Log.state_after, Parsed.parsed, World.LineSemantics}
 
--- For a parsed line.
+-- For a parsed line, the condition on the packets that are sent is true.
 abbrev pub SendsPackets : {S : Type 0} → LineSemantics S → S → Option Line → Type 0
 SendsPackets world s None = Unit {0}
 SendsPackets world s (Some l) = world.sound s l

@@ -14,8 +14,8 @@ session_semantics = record { turned = λ s x. stepped s x; sends = λ s x. input
 
 -- The effect of inputs on a history, which is the list of all inputs, newest first. The packets and the meters are
 -- those that the history defines.
-abbrev pub history_course : Start → InputSemantics (List Timed)
-history_course start = record {
+abbrev pub history_semantics : Start → InputSemantics (List Timed)
+history_semantics start = record {
   turned = λ h x. x ∷ h;
   sends = λ h x. sent_now start h x;
   counts = λ h. meters_of start (received start h);
@@ -27,11 +27,12 @@ machine = replay_world session_semantics
 
 -- Replaying a log on a history.
 abbrev pub history : Start → LineSemantics (List Timed)
-history start = replay_world (history_course start)
+history start = replay_world (history_semantics start)
 
--- As `history_course`, with packets whose definition uses only the start and the inputs, not an authenticator's state.
-abbrev pub exchange_histories : Start → InputSemantics (List Timed)
-exchange_histories start = record {
+-- Like `history_semantics`, with packets whose definition uses only the start and the inputs, not an authenticator's
+-- state.
+abbrev pub exchange_semantics : Start → InputSemantics (List Timed)
+exchange_semantics start = record {
   turned = λ h x. x ∷ h;
   sends = λ h x. packets_sent_now start h x;
   counts = λ h. meters_of start (received start h);
@@ -39,7 +40,7 @@ exchange_histories start = record {
 
 -- Replaying a log on a history, with packets whose definition uses only the start and the inputs.
 abbrev pub exchange_history : Start → LineSemantics (List Timed)
-exchange_history start = replay_world (exchange_histories start)
+exchange_history start = replay_world (exchange_semantics start)
 
 -- Replacing noise by ticks in a log, from a session's state.
 abbrev pub quiet_machine : LineSemantics SessionState
@@ -47,7 +48,7 @@ quiet_machine = quiet_world session_semantics (λ s x. is_noise_at s.machine x)
 
 -- Replacing noise by ticks in a log, from a history.
 abbrev pub quiet_history : Start → LineSemantics (List Timed)
-quiet_history start = quiet_world (history_course start) (λ h x. is_noise_after start (receive start x (received start h))
+quiet_history start = quiet_world (history_semantics start) (λ h x. is_noise_after start (receive start x (received start h))
     (received start h))
 
 -- What the pending request of a session needs.
@@ -64,7 +65,7 @@ live_machine = live_world session_semantics session_needs
 
 -- Replaying a log as `live` does, with what the pending request needs, on a history.
 abbrev pub live_history : Start → LineSemantics (List Timed)
-live_history start = live_world (history_course start) (history_needs start)
+live_history start = live_world (history_semantics start) (history_needs start)
 
 -- The text that was written to the target is a log with the same output from state `s`, unless it has 2^32 or more
 -- lines.
@@ -72,6 +73,6 @@ abbrev pub RepeatsIn : LineSemantics SessionState → Option (List ℕ) → Opti
 RepeatsIn world taken taken' s = (text : List ℕ) × Appends taken taken' text
     × (length (lines text) < 2 ^ 32 → log world s text ≡ text)
 
--- As `RepeatsIn`, for a replay on a session's state.
+-- Like `RepeatsIn`, for a replay on a session's state.
 abbrev pub Repeats : Option (List ℕ) → Option (List ℕ) → SessionState → Type 0
 Repeats = RepeatsIn machine

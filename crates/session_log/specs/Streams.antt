@@ -36,7 +36,7 @@ abbrev pub WritesText : {F A E : Type 0} → (F → Option (List ℕ)) → (F �
 WritesText taken failed target text r = MatchResult r (λ x. WritesAll taken failed target text)
     (λ e. WriteFails taken failed target text)
 
--- As `WritesText`, and the error is `Write`.
+-- Like `WritesText`. The error, if any, is `Write`.
 abbrev pub WritesLogLine : {F A : Type 0} → (F → Option (List ℕ)) → (F → ℕ) → (F × F) → List ℕ → Result A LogFault → Type 0
 WritesLogLine taken failed target text r = MatchResult r (λ x. WritesAll taken failed target text)
     (λ e. (e ≡ Write) × WriteFails taken failed target text)

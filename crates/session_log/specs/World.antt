@@ -61,7 +61,7 @@ replay_world course = record {
   counts = course.counts;
 }
 
--- `quiet` writes each input line and each comment again, with a tick in place of noise, and nothing else.
+-- `quiet` writes each input line and each comment again, with a tick in place of each ignored input, and nothing else.
 
 -- The text that `quiet` writes for a line.
 abbrev pub quiet_text : {S : Type 0} → (S → Timed → Bool) → S → List ℕ → Line → List ℕ
@@ -82,8 +82,8 @@ quiet_world course noises = record {
   counts = course.counts;
 }
 
--- `live` writes the same as `replay` and, after the packets of an input line, the comments with what the key needs
--- then. Such comments in the input are dropped.
+-- `live` writes the same as `replay` and, after the packets of an input line, comments that state what the key needs.
+-- Comments of this kind in the input are dropped.
 
 -- Each packet that is sent for an input line has 64 bytes, and what the key needs after the line is well-formed.
 abbrev pub sends_needs : {S : Type 0} → InputSemantics S → (S → Needed) → S → Line → Type 0

@@ -178,8 +178,8 @@ pub fn check<S: Source, T: Target, const C: usize>(
         × PlaysThrough check_machine (first_comparison session.old)
         (λ bytes text. PlaysWholeLog check_machine (first_comparison session.old) later bytes text (ending_of result)) S.left S.failed
         S.ended T.taken T.failed result (reader.old, reader.new) (writer.old, writer.new) }
-    // For each history that leads to the session's state, the result is the one that the definitions give for the
-    // history.
+    // For each history that leads to the session's state, the result is the one that the definitions in specs/ give for
+    // the history.
     ensures history { (start : Start) (h : List OneInput) → IsStateAfter session.old start h
         → PlaysLog commands.Check start h S.left S.failed S.ended T.taken T.failed result session.new (reader.old, reader.new)
         (writer.old, writer.new) }

@@ -45,7 +45,7 @@ fn discard_meters(answer: Result<Meters, LogFault>) -> Result<(), LogFault>
 pub enum ReplayMode {
     /// Writes the log, with the packets that the session sends ([`crate::replay`]).
     Replay,
-    /// As `Replay`, and also writes what the session needs ([`crate::live`]).
+    /// Like `Replay`, and also writes what the session needs ([`crate::live`]).
     Live,
     /// Compares the packets in the log with those that the session sends ([`crate::check`]).
     Check,
@@ -64,8 +64,8 @@ impl ReplayMode {
     ) -> Result<(), LogFault>
         requires reads { S.failed reader.old < 2 ^ 64 - 1 }
         requires writes { T.failed writer.old < 2 ^ 64 - 1 }
-        // For each history that leads to the session's state, the result is the one that the definitions give for the
-        // history.
+        // For each history that leads to the session's state, the result is the one that the definitions in specs/ give
+        // for the history.
         ensures plays { (start : Start) (h : List OneInput) → IsStateAfter session.old start h
             → PlaysLog self start h S.left S.failed S.ended T.taken T.failed result session.new
             (reader.old, reader.new) (writer.old, writer.new) }

@@ -14,7 +14,7 @@ ghost use Rattle.session_log.specs.Lines.{lines};
 ghost use Rattle.session_log.specs.Log.{fault_of, play_all};
 ghost use Rattle.session_log.specs.Needs.{need_lines, pieces_of, reports_need};
 ghost use Rattle.session_log.specs.Parsed.{parsed};
-ghost use Rattle.session_log.specs.Session.{history_course, quiet_history};
+ghost use Rattle.session_log.specs.Session.{history_semantics, quiet_history};
 ghost use Rattle.session_log.specs.declared.fault.LogFault.TheVariants.{Differs};
 
 /// States that parsing a line returns exactly what the grammar defines for the line, and `None` if and only if the line
@@ -45,11 +45,11 @@ pub fn making_quiet_is_idempotent()
 {}
 
 /// States that in a log without differences, the packets before the first input and after each input are exactly those
-/// that the definitions give for the history, and the counts are the numbers of its inputs and packets.
+/// that the definitions in specs/ give for the history, and the counts are the numbers of its inputs and packets.
 pub fn checked_logs_have_the_sent_packets()
     ensures same { (start : Start) (h : List OneInput) (bytes : List ℕ)
         → fault_of (check_history start) (play_all (check_history start) (first_comparison h) bytes) ≡ None
-        → found_groups (lines bytes) ≡ [] ∷ sent_groups (history_course start) h (inputs (lines bytes)) }
+        → found_groups (lines bytes) ≡ [] ∷ sent_groups (history_semantics start) h (inputs (lines bytes)) }
     ensures inputs { (start : Start) (h : List OneInput) (bytes : List ℕ)
         → (play_all (check_history start) (first_comparison h) bytes).fault ≡ None
         → (play_all (check_history start) (first_comparison h) bytes).state.inputs ≡ length (inputs (lines bytes)) }
@@ -62,12 +62,12 @@ pub fn checked_logs_have_the_sent_packets()
 {}
 
 /// States that a reported difference is the first position at which the packets in the log differ from those that the
-/// definitions give for the history.
+/// definitions in specs/ give for the history.
 pub fn differences_are_the_first()
     ensures { (start : Start) (h : List OneInput) (bytes : List ℕ) (line packet : ℕ)
         → fault_of (check_history start) (play_all (check_history start) (first_comparison h) bytes) ≡ Some (Differs line packet)
         → IsFirstDifference (found_groups (lines bytes))
-        ([] ∷ sent_groups (history_course start) h (inputs (lines bytes))) (0 ∷ input_lines 1 (lines bytes)) line packet }
+        ([] ∷ sent_groups (history_semantics start) h (inputs (lines bytes))) (0 ∷ input_lines 1 (lines bytes)) line packet }
 {}
 
 /// States that among the lines for a need, exactly the last one begins with `# need `. The bytes to sign are in pieces

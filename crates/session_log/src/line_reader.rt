@@ -13,7 +13,7 @@ use crate::window::Window;
 const MAX_LINES: u64 = 0xFFFF_FFFF;
 
 /// Returns whether the window contains the beginning of a line beyond the maximum number of lines.
-fn is_too_many(window: &Window, number: u64) -> bool
+fn has_too_many_lines(window: &Window, number: u64) -> bool
     ensures value { MatchBool result
         ((2 ^ 32 ≤ number) × (0 < length window.now))
         (2 ^ 32 ≤ number → window.now ≡ []) }
@@ -29,7 +29,7 @@ fn is_too_many(window: &Window, number: u64) -> bool
 /// fits into the window. Allocates nothing. Fails with [`LogFault::TooManyLines`] if line 2^32 begins, with
 /// [`LogFault::TooLong`] at the 256th byte of a line, and with [`LogFault::Read`] if the reader fails, which is not
 /// retried. All bytes that were read are in the window. Inlined, because most lines are in the window already, and then
-/// a call takes longer than its work.
+/// a call would take longer than the function's work.
 #[inline(always)]
 pub fn next_line<S: Source>(
     window: &mut Window,
@@ -46,7 +46,7 @@ pub fn next_line<S: Source>(
     ensures reads { Counts S.failed (reader.old, reader.new) (read_fails (ending_of result)) }
 {
     'reading: loop {
-        if is_too_many(window, number) {
+        if has_too_many_lines(window, number) {
             return Err(LogFault::TooManyLines);
         }
         if let Some(end) = window.find_newline() {

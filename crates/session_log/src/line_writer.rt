@@ -209,7 +209,7 @@ pub fn put_input<T: Target>(
 
 /// Writes an input line with its line feed, the lines for the packets in the outbox, which are removed from it, and the
 /// lines for what the session needs.
-pub fn put_response<T: Target>(
+pub fn put_input_with_need<T: Target>(
     writer: &mut T,
     text: &mut Text,
     line: &[u8],

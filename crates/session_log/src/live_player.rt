@@ -12,7 +12,7 @@ ghost use Rattle.session_log.specs.Streams.{Counts, IsAtEndOfInput, ReadsAndWrit
 
 use crate::fault::LogFault;
 use crate::line::Line;
-use crate::line_writer::{Text, put_meters, put_response, put_text};
+use crate::line_writer::{Text, put_input_with_need, put_meters, put_text};
 use crate::player::{Player, process_lines, process_log};
 use crate::replay_player::meters_u64;
 use crate::source::Source;
@@ -77,7 +77,7 @@ impl<const C: usize> Player<C> for LivePlayer {
             Line::Input(timed) => {
                 session.step(timed.at, timed.input, &mut self.outbox);
                 // What the session needs is determined after the input.
-                put_response(
+                put_input_with_need(
                     writer,
                     &mut self.text,
                     text,
@@ -108,8 +108,8 @@ pub fn process_live_lines<S: Source, T: Target, const C: usize>(
     ensures end { OnOk result (IsAtEndOfInput S.left S.ended reader.new) }
     ensures reach { ReadsTo live_machine session.old (S.left reader.old) (S.left reader.new)
         (IsAtEndOfInput S.left S.ended reader.new) (ending_of result) }
-    // For each history that leads to the session's state, the result is the one that the definitions give for the
-    // history.
+    // For each history that leads to the session's state, the result is the one that the definitions in specs/ give for
+    // the history.
     ensures history { (start : Start) (h : List OneInput) → IsStateAfter session.old start h
         → (later : List OneInput) × IsStateAfter session.new start later
         × ReadsAndWrites (S.left reader.old) (S.left reader.new) (T.taken writer.old) (T.taken writer.new)
@@ -124,10 +124,10 @@ pub fn process_live_lines<S: Source, T: Target, const C: usize>(
 }
 
 /// Replays a log on a session like [`crate::replay`]. After the packets of each input line, also writes what the
-/// session needs ([`Session::need`]; docs/use/LOG_FORMAT.md), as comments of which exactly the last begins with `# need
-/// `. Comments in the log that begin with `# need ` or `# signed ` are dropped, so that playing the output gives the
-/// same output. The text for a line is written before more is read. Allocates nothing. The errors are those of
-/// [`crate::replay`].
+/// session needs ([`Session::need`]; docs/use/LOG_FORMAT.md), as comments. Only the last of these comments begins with
+/// `# need `. Comments in the log that begin with `# need ` or `# signed ` are dropped, so that playing the output
+/// gives the same output. The text for a line is written before more is read. Allocates nothing. The errors are those
+/// of [`crate::replay`].
 pub fn live<S: Source, T: Target, const C: usize>(
     reader: &mut S,
     writer: &mut T,
@@ -144,8 +144,8 @@ pub fn live<S: Source, T: Target, const C: usize>(
     ensures again { OnOk result (RepeatsIn live_machine (T.taken writer.old) (T.taken writer.new) session.old) }
     // Replaying the output on an equal session gives the same output, too.
     ensures replays { OnOk result (Repeats (T.taken writer.old) (T.taken writer.new) session.old) }
-    // For each history that leads to the session's state, the result is the one that the definitions give for the
-    // history.
+    // For each history that leads to the session's state, the result is the one that the definitions in specs/ give for
+    // the history.
     ensures history { (start : Start) (h : List OneInput) → IsStateAfter session.old start h
         → (later : List OneInput) × IsStateAfter session.new start later
         × PlaysThrough (live_history start) h (λ bytes text. Logs (live_history start) h later bytes text result)

@@ -104,8 +104,8 @@ pub fn quiet<S: Source, T: Target, const C: usize>(
     ensures made { PlaysThrough quiet_machine session.old
         (λ bytes text. PlaysWholeLog quiet_machine session.old session.new bytes text (ending_of result)) S.left S.failed S.ended
         T.taken T.failed result (reader.old, reader.new) (writer.old, writer.new) }
-    // For each history that leads to the session's state, the result is the one that the definitions give for the
-    // history.
+    // For each history that leads to the session's state, the result is the one that the definitions in specs/ give for
+    // the history.
     ensures history { (start : Start) (h : List OneInput) → IsStateAfter session.old start h
         → PlaysLog commands.Quiet start h S.left S.failed S.ended T.taken T.failed result session.new (reader.old, reader.new)
         (writer.old, writer.new) }

@@ -102,8 +102,8 @@ pub fn replay<S: Source, T: Target, const C: usize>(
         result (reader.old, reader.new) (writer.old, writer.new) }
     // Replaying the output on an equal session gives the same output.
     ensures again { OnOk result (Repeats (T.taken writer.old) (T.taken writer.new) session.old) }
-    // For each history that leads to the session's state, the result is the one that the definitions give for the
-    // history.
+    // For each history that leads to the session's state, the result is the one that the definitions in specs/ give for
+    // the history.
     ensures history { (start : Start) (h : List OneInput) → IsStateAfter session.old start h
         → (later : List OneInput) × IsStateAfter session.new start later
         × PlaysThrough (history start) h (λ bytes text. Logs (history start) h later bytes text result)

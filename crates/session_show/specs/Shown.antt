@@ -42,7 +42,7 @@ IsLineText detail n (Some line) text = IsTextOfParsed detail n line (parsed line
 IsLineText Fixed n None text = text ≡ []
 IsLineText Explained n None text = (text ≡ []) ⊎ IsNumbered n text
 
--- Any text.
+-- The condition that every text meets.
 abbrev pub Unspecified : LineTextRule
 Unspecified n line text = Unit {0}
 

@@ -27,7 +27,7 @@ pub static TEXT_FORMATS: CountFormats = CountFormats {
     unexpected: b"unexpected continuation packets: %d%-\nunexpected CANCELs: %d%-\nunexpected replies: %d%-\n",
 };
 
-/// As a JSON object.
+/// The formats of a JSON object.
 pub static JSON_FORMATS: CountFormats = CountFormats {
     credentials: b"{\"kind\":\"summary\",\"registrations\":%d,\"credentialsMade\":%d,\"assertions\":%d,\
         \"credentialsUsed\":%d,\"credentialsExcluded\":%d,\"requestsRefused\":%d,\"statuses\":[",

@@ -95,8 +95,7 @@ pub struct Comparison {
     played: ReplayedLog,
     /// The bytes that were read but not processed. After an error, they begin with the invalid line.
     pub window: Window,
-    /// Whether the packets that were explained last belong to a request that may refer to a credential created before
-    /// the log.
+    /// Whether the last explained packets belong to a request that may refer to a credential created before the log.
     pub may_name_prior_credential: bool,
     /// Number of lines processed.
     lines: u64,
@@ -199,7 +198,7 @@ impl Comparison {
         };
         let _ = put_counted(reason, &mut self.buf, &why);
         if difference.sent.is_some() {
-            self.played.process_last();
+            self.played.process_last_difference();
             transaction = self.played.key.transaction.or(before);
         }
         let _ = self.put(difference, reader, logged, sent);

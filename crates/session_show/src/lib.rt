@@ -1,6 +1,6 @@
 //! Shows a recorded session of a security key: each line of a log as text, and each CBOR request and response in
-//! diagnostic notation, as a fixed text or explained for people (docs/use/LOG_FORMAT.md); a session's summary; the same
-//! as JSON for scripts; and its transactions as numbers. Allocates nothing.
+//! diagnostic notation, as a fixed text or explained for people (docs/use/LOG_FORMAT.md); a session's summary; both as
+//! JSON for scripts; and its transactions as numbers. Allocates nothing.
 #![tactic(auto)]
 
 mod authenticator_data;

@@ -206,8 +206,9 @@ impl LogWriter {
     }
 }
 
-/// Writes a log (docs/use/EXPLAINED.md) in the format of `log_writer`, which must be new and has the state afterwards.
-/// In a format without a text for each line, call [`LogWriter::put`] afterwards for the rest.
+/// Writes a log (docs/use/EXPLAINED.md) in the format of `log_writer`, which must be new. Afterwards, `log_writer` has
+/// the state at the end of the log. In a format without a text for each line, call [`LogWriter::put`] afterwards to
+/// write the end of the output.
 ///
 /// The text for a line is written before more is read; in JSON, except for a continuation packet 100 ms or more after
 /// the one before it: only the next line shows whether it was too late. These JSON objects don't include the counts.
@@ -254,7 +255,7 @@ pub fn write_log<S: Source, T: Target>(
 }
 
 /// Writes a transaction that ended, with the number of the line at which it ended. In a table, the header comes before
-/// the first transaction. In a text, each transaction but the first is preceded by the line number.
+/// the first transaction. In a text, the line number precedes each transaction but the first.
 fn write_end(buf: &mut TextBuf, format: OutputFormat, number: u64, ended: &Ended, has_head: bool) {
     match format {
         OutputFormat::Text(_) | OutputFormat::Page => {

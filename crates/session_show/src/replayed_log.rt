@@ -155,7 +155,7 @@ impl ReplayedLog {
     }
 
     /// Passes the last differing packets to their trackers.
-    pub fn process_last(&mut self) {
+    pub fn process_last_difference(&mut self) {
         self.process_logged();
         let Some(last) = self.last.take() else {
             return;
@@ -166,9 +166,10 @@ impl ReplayedLog {
         }
     }
 
-    /// Continues after a difference, with the packets of the session.
+    /// Continues after a difference: passes the differing packets, and the session's remaining packets, to the
+    /// trackers.
     pub fn resume_after_difference(&mut self) {
-        self.process_last();
+        self.process_last_difference();
         for _ in 0..PACKET_BOUND {
             let Some(packet) = self.outbox.pop() else {
                 break;

@@ -44,7 +44,7 @@ pub fn show<S: Source, T: Target>(reader: &mut S, writer: &mut T) -> Result<(), 
 }
 
 /// Explains a log (docs/use/EXPLAINED.md): writes the text of [`show`] with the standard's names for numbers, with the
-/// comments of the log, and with a line for each member of a message. Otherwise the same as [`show`].
+/// comments of the log, and with a line for each member of a message. Everything else is as in [`show`].
 pub fn explain<S: Source, T: Target>(reader: &mut S, writer: &mut T) -> Result<(), LogFault>
     requires read { S.failed reader.old < 2 ^ 64 - 1 }
     requires write { T.failed writer.old < 2 ^ 64 - 1 }
@@ -64,7 +64,7 @@ pub fn explain<S: Source, T: Target>(reader: &mut S, writer: &mut T) -> Result<(
 }
 
 /// Writes the transaction of each line of a log (hidlog.h, `hidlog_transactions`): a line of numbers for each packet,
-/// tick and reply. Otherwise the same as [`crate::show`]. A continuation packet that may have arrived too late is
+/// tick and reply. Everything else is as in [`crate::show`]. A continuation packet that may have arrived too late is
 /// written with the message to which it would belong. If it was too late, the next line shows that it belongs to no
 /// transaction.
 pub fn write_transactions<S: Source, T: Target>(

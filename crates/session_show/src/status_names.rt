@@ -1,4 +1,5 @@
-//! The names of numbers in CTAP 2.1. A number without a name is written in digits.
+//! The names of numbers in CTAP 2.1, and the descriptions of CBOR errors. Callers write a number without a name in
+//! digits.
 
 use crate::standard::{ERRORS, KEEPALIVES, STATUSES, request_names};
 use crate::text_buf::TextBuf;

@@ -2,12 +2,12 @@
 use Rattle.std.proofs.Common.{◌≡◌, ◌<◌, ◌≤◌, ◌+◌, ℕ, Bool, true, false, List, Option, Some, None, length, get_or, slice_get, inl, inr, arith, refl}
 use Rattle.std.proofs.lemmas.{Bool.cases_lt, Option.slice_get_read, Option.slice_get_past}
 use Rattle.std.proofs.lemmas.{Grind.common_steps}
-use Rattle.session_walk.specs.Channels.{is_sooner, makes_way_before, yields}
+use Rattle.session_walk.specs.Channels.{is_evicted_sooner, is_evicted_before, yields}
 use Rattle.session_walk.specs.Whole.{is_idle}
 use Rattle.session_walk.specs.declared.channel.Channel.{Channel}
 
-later : (a : Bool) (u : ℕ) (b : Bool) (v : ℕ) (c : Bool) (w : ℕ) → is_sooner b v c w ≡ true → is_sooner a u c w ≡ false
-    → is_sooner a u b v ≡ false
+later : (a : Bool) (u : ℕ) (b : Bool) (v : ℕ) (c : Bool) (w : ℕ) → is_evicted_sooner b v c w ≡ true → is_evicted_sooner a u c w ≡ false
+    → is_evicted_sooner a u b v ≡ false
 later true u true v true w sooner not_sooner = grind (arith, common_steps)
 later true u true v false w sooner not_sooner = grind (arith, common_steps)
 later true u false v true w sooner not_sooner = grind (arith, common_steps)
@@ -23,7 +23,7 @@ keeps_none (Some a) (Some b) None sooner not_sooner = grind (arith, common_steps
 keeps_none (Some a) (Some b) (Some c) sooner not_sooner =
     later (is_idle a) a.used (is_idle b) b.used (is_idle c) c.used sooner not_sooner
 
-not_itself : (a : Bool) (u : ℕ) → is_sooner a u a u ≡ false
+not_itself : (a : Bool) (u : ℕ) → is_evicted_sooner a u a u ≡ false
 not_itself true u = grind (arith, common_steps)
 not_itself false u = grind (arith, common_steps)
 
@@ -35,7 +35,7 @@ no_second None = refl
 no_second (Some a) = refl
 
 within_taken : (channels : List Channel) (found place : ℕ) (c other : Channel) → slice_get channels place ≡ Some c
-    → slice_get channels found ≡ Some other → makes_way_before c other ≡ true
+    → slice_get channels found ≡ Some other → is_evicted_before c other ≡ true
     → ((i : ℕ) → i < place → yields (slice_get channels i) (slice_get channels found) ≡ false)
     → (i : ℕ) → i < place + 1 → yields (slice_get channels i) (slice_get channels place) ≡ false
 within_taken channels found place c other at at_found sooner before i less = elim (cases_lt i place) [
@@ -47,7 +47,7 @@ within_taken channels found place c other at at_found sooner before i less = eli
 -- No channel up to an index makes way sooner than the one at the index, if that one makes way sooner than the one found
 -- before.
 pub taken : (channels : List Channel) (found place : ℕ) (c other : Channel) → c ≡ get_or channels place c
-    → other ≡ get_or channels found other → found ≤ place → makes_way_before c other ≡ true
+    → other ≡ get_or channels found other → found ≤ place → is_evicted_before c other ≡ true
     → ((i : ℕ) → i < place → yields (slice_get channels i) (slice_get channels found) ≡ false)
     → (i : ℕ) → i < place + 1 → yields (slice_get channels i) (slice_get channels place) ≡ false
 taken channels found place c other is is_found order sooner before i less = elim (cases_lt place (length channels)) [
@@ -68,7 +68,7 @@ within_kept channels found place other at is is_found not_sooner before i less =
 
 -- Nor sooner than the one found before, if the one at the index doesn't.
 pub kept : (channels : List Channel) (found place : ℕ) (c other : Channel) → c ≡ get_or channels place c
-    → other ≡ get_or channels found other → makes_way_before c other ≡ false
+    → other ≡ get_or channels found other → is_evicted_before c other ≡ false
     → ((i : ℕ) → i < place → yields (slice_get channels i) (slice_get channels found) ≡ false)
     → (i : ℕ) → i < place + 1 → yields (slice_get channels i) (slice_get channels found) ≡ false
 kept channels found place c other is is_found not_sooner before i less = elim (cases_lt found (length channels)) [

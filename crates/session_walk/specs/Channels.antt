@@ -18,7 +18,7 @@ use Rattle.session_walk.specs.declared.transaction.End.TheVariants.{Cut, Dropped
 abbrev pub open_end : OpenTransaction → Ended
 open_end m = record { exchange = m; end = Open }
 
--- The transaction of a message, if there is one.
+-- The transaction of the message, or none without a message.
 abbrev pub open_message : Option OpenTransaction → List Ended
 open_message None = []
 open_message (Some m) = open_end m ∷ []
@@ -28,16 +28,16 @@ abbrev pub cut_response : MessageProgress → Option OpenTransaction → List En
 cut_response progress None = []
 cut_response progress (Some m) = record { exchange = m; end = Cut progress } ∷ []
 
--- The transaction of the response that the device is sending on a channel.
-abbrev pub response_in_progress : Channel → List Ended
-response_in_progress c =
+-- The transaction whose response the device is sending on a channel, if any.
+abbrev pub responding_transaction : Channel → List Ended
+responding_transaction c =
     let progress = c.last_response.progress in
     if is_whole progress.length progress.continuations then [] else cut_response progress c.last_response.exchange
 
 -- The open transactions of a channel. Each one has the end that applies if no packet follows.
 abbrev pub open_transactions : Channel → List Ended
 open_transactions c =
-    response_in_progress c ++ (map (λ g. open_end (open_init c.number g)) c.pending_inits.items
+    responding_transaction c ++ (map (λ g. open_end (open_init c.number g)) c.pending_inits.items
     ++ (open_message c.current ++ open_message c.contender))
 
 -- The ended transactions, together with transactions that are no longer tracked.
@@ -74,32 +74,32 @@ fresh_channel number line = record {
 }
 
 -- A channel whose first tracked packet is on this line, at time `now`. If a channel with an open transaction was
--- evicted, this may be it: then the device may be processing an unidentified message.
+-- evicted before, it may be this channel, and the device may be processing a message that is no longer tracked.
 abbrev pub tracked_channel : (has_forgotten : Bool) → (now number line : ℕ) → Channel
 tracked_channel true now number line = record (fresh_channel number line) { ambiguous_count = 1; last_active_at = now }
 tracked_channel false now number line = fresh_channel number line
 
--- The first of two channels is evicted before the second: it alone is idle, or both or neither are idle and it was used
--- earlier.
-abbrev pub is_sooner : (is_idle : Bool) → (used : ℕ) → (is_other_idle : Bool) → (other_used : ℕ) → Bool
-is_sooner true used true other = nat_lt used other
-is_sooner true used false other = true
-is_sooner false used true other = false
-is_sooner false used false other = nat_lt used other
+-- Whether the first of two channels is evicted before the second: it alone is idle, or both or neither are idle and it
+-- was used earlier.
+abbrev pub is_evicted_sooner : (is_idle : Bool) → (used : ℕ) → (is_other_idle : Bool) → (other_used : ℕ) → Bool
+is_evicted_sooner true used true other = nat_lt used other
+is_evicted_sooner true used false other = true
+is_evicted_sooner false used true other = false
+is_evicted_sooner false used false other = nat_lt used other
 
--- A channel is evicted before another.
-abbrev pub makes_way_before : Channel → Channel → Bool
-makes_way_before c other = is_sooner (is_idle c) c.used (is_idle other) other.used
+-- Whether the first channel is evicted before the second.
+abbrev pub is_evicted_before : Channel → Channel → Bool
+is_evicted_before c other = is_evicted_sooner (is_idle c) c.used (is_idle other) other.used
 
--- There are two channels, and the first one is evicted before the second.
+-- Whether both channels exist, and the first one is evicted before the second.
 abbrev pub yields : Option Channel → Option Channel → Bool
 yields None other = false
 yields (Some c) None = false
-yields (Some c) (Some other) = makes_way_before c other
+yields (Some c) (Some other) = is_evicted_before c other
 
 -- No channel is evicted before the one at an index.
-abbrev pub MakesWay : ℕ → List Channel → Type 0
-MakesWay place channels = (i : ℕ) → i < 6 → yields (slice_get channels i) (slice_get channels place) ≡ false
+abbrev pub IsEvictedFirst : ℕ → List Channel → Type 0
+IsEvictedFirst place channels = (i : ℕ) → i < 6 → yields (slice_get channels i) (slice_get channels place) ≡ false
 
 -- Whether the device may be processing an unidentified message on any channel.
 abbrev pub may_any_be_processing : ℕ → List Channel → Bool
@@ -110,7 +110,7 @@ abbrev pub with_allocated : (number line : ℕ) → Option ℕ → List Channel 
 with_allocated number line None channels = channels
 with_allocated number line (Some place) channels = slice_set channels place (fresh_channel number line)
 
--- The transactions of a channel in use, if there is one.
+-- The open transactions of the channel, or none without a channel.
 abbrev pub open_on : Option Channel → List Ended
 open_on None = []
 open_on (Some c) = open_transactions c
@@ -120,7 +120,8 @@ abbrev pub after_allocation : (number line : ℕ) → List Channel → List Chan
 after_allocation number line channels =
     if number == BROADCAST then channels else with_allocated number line (index_on number channels) channels
 
--- The transactions that end with the response to an INIT: those that are open on the channel that it allocates.
+-- The ended transactions, followed by those that the response to an INIT ends: the transactions open on the channel
+-- that it allocates.
 abbrev pub ends_by_allocation : (number line : ℕ) → List Channel → List Ended → List Ended
 ends_by_allocation number line channels ended =
     if number == BROADCAST then ended else with_dropped line ended (open_on (channel_on number channels))
@@ -147,19 +148,19 @@ allocating_line answer (Some transaction) =
 abbrev pub replaces_assertion : ResponseStart → Option Transaction → Bool
 replaces_assertion answer transaction = is_success answer && (is_none transaction || is_assertion transaction)
 
--- The last request on a channel is this one, and it may refer to a credential created before the log.
+-- Whether this is the last request on a channel, and it may refer to a credential created before the log.
 abbrev pub may_name_prior : Transaction → Option OpenTransaction → Bool
 may_name_prior transaction None = false
 may_name_prior transaction (Some last) = (last.transaction.line == transaction.line) && last.named.may_name_prior
 
--- The transaction that began first, of two that began after a line.
+-- The earlier of two transactions, of those that began after a line. The first of the two, if any, began after it.
 abbrev pub earlier_of : ℕ → Option Ended → Ended → Option Ended
 earlier_of line None m = if nat_lt line m.exchange.transaction.line then Some m else None
 earlier_of line (Some first) m =
     if nat_lt line m.exchange.transaction.line && nat_lt m.exchange.transaction.line first.exchange.transaction.line
     then Some m else Some first
 
--- The transaction of a channel that began first after a line.
+-- The transaction that began first after a line, among those in the list and `other`.
 abbrev pub first_after : ℕ → Option Ended → List Ended → Option Ended
 first_after line other ended = fold (earlier_of line) other ended
 

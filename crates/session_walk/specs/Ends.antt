@@ -14,12 +14,12 @@ use Rattle.session_walk.specs.declared.transaction.{Ended.Ended, OpenTransaction
 use Rattle.session_walk.specs.declared.transaction.End.{End}
 use Rattle.session_walk.specs.declared.transaction.End.TheVariants.{Dropped, Refused, Replaced, Unknown}
 
--- After this input, the transaction of the device's next packet is ambiguous.
+-- Whether the transaction of the device's next packet is ambiguous after the input on this line.
 abbrev pub is_undecided : ℕ → Option OpenTransaction → Bool → Bool
 is_undecided input None unclear = unclear
 is_undecided input (Some contender) unclear = unclear || not (contender.transaction.line == input)
 
--- After this input, the transaction of the device's next packet on the channel is ambiguous.
+-- Whether the transaction of the device's next packet on the channel is ambiguous after the input on this line.
 abbrev pub is_owner_undecided : ℕ → Channel → Bool
 is_owner_undecided input c = is_undecided input c.contender (is_owner_unknown c)
 
@@ -28,7 +28,7 @@ abbrev pub current_unidentified : Option OpenTransaction → Channel → Channel
 current_unidentified None c = c
 current_unidentified (Some current) c = with_unidentified current.transaction.line c
 
--- The channel without its current message and its contender, each of which may still be pending.
+-- The channel without its current message and its contender. Both may still be pending.
 abbrev pub both_unidentified : Channel → Channel
 both_unidentified c = let s = contender_accepted false c in record (current_unidentified s.current (current_ended s)) { is_ambiguous = false }
 
@@ -36,64 +36,65 @@ both_unidentified c = let s = contender_accepted false c in record (current_unid
 abbrev pub with_unknown_ends : Channel → List Ended → List Ended
 with_unknown_ends c ended = with_end_of (ends_by_contender false c ended) (contender_accepted false c).current Unknown
 
--- The effect of ERROR 05: the incomplete message timed out (CTAP 2.1, section 11.2.5.2). A continuation packet that
--- arrived too late doesn't belong to this message.
-abbrev pub is_late_for : Option Ambiguous → OpenTransaction → Bool
-is_late_for None current = false
-is_late_for (Some d) current = current.transaction.line == d.transaction.line
+-- Whether the ambiguous continuation packet, if any, belongs to this message.
+abbrev pub is_ambiguous_part_of : Option Ambiguous → OpenTransaction → Bool
+is_ambiguous_part_of None current = false
+is_ambiguous_part_of (Some d) current = current.transaction.line == d.transaction.line
 
 -- Whether the ambiguous continuation packet has the sequence number that its message expects.
 abbrev pub has_expected_sequence : Option Ambiguous → Bool
 has_expected_sequence None = false
 has_expected_sequence (Some d) = d.is_next
 
--- The message without a continuation packet that arrived too late.
+-- The message without the ambiguous continuation packet. If ERROR 05 shows that the packet arrived too late, the
+-- message timed out without it (CTAP 2.1, section 11.2.5.2).
 abbrev pub without_late : Option Ambiguous → OpenTransaction → OpenTransaction
 without_late ambiguous current =
-    if is_late_for ambiguous current && has_expected_sequence ambiguous
+    if is_ambiguous_part_of ambiguous current && has_expected_sequence ambiguous
     then record current { progress = record current.progress { continuations = current.progress.continuations - 1 } }
     else current
 
--- The channel after its message timed out.
+-- The channel after its current message, if any, timed out.
 abbrev pub timed_out_by : Option Ambiguous → Option OpenTransaction → Channel → Channel
 timed_out_by ambiguous None c = c
 timed_out_by ambiguous (Some current) c =
     let h = without_late ambiguous current in
     if is_complete_message h then record c { current = Some h } else record c { current = c.contender; contender = None }
 
--- The channel after its message timed out.
+-- The channel after its current message, if any, timed out.
 abbrev pub timed_out : Option Ambiguous → Channel → Channel
 timed_out ambiguous c = timed_out_by ambiguous c.current c
 
--- The transactions that the time-out ends.
+-- The ended transactions, followed by the one that the time-out ends.
 abbrev pub ends_by_timeout : Option Ambiguous → Option OpenTransaction → List Ended → List Ended
 ends_by_timeout ambiguous None ended = ended
 ends_by_timeout ambiguous (Some current) ended =
     let h = without_late ambiguous current in if is_complete_message h then ended else with_end ended h (Refused 5)
 
--- The transaction of the time-out's ERROR.
+-- The transaction to which the time-out's ERROR belongs.
 abbrev pub timeout_transaction : Option Ambiguous → Option OpenTransaction → Option Transaction
 timeout_transaction ambiguous None = None
 timeout_transaction ambiguous (Some current) = if is_complete_message (without_late ambiguous current) then None else Some current.transaction
 
--- The ambiguous continuation packet arrived too late for this message.
-abbrev pub is_late_by : Option Ambiguous → Option OpenTransaction → Bool
-is_late_by ambiguous None = false
-is_late_by ambiguous (Some current) = is_late_for ambiguous current
+-- Whether there are an ambiguous continuation packet and a message, and the packet belongs to the message.
+abbrev pub is_ambiguous_part_of_any : Option Ambiguous → Option OpenTransaction → Bool
+is_ambiguous_part_of_any ambiguous None = false
+is_ambiguous_part_of_any ambiguous (Some current) = is_ambiguous_part_of ambiguous current
 
--- The transaction that ends together with a refused one: ERROR 04 for a message that begins inside another message ends
--- both, and so does ERROR 03 for an INIT (CTAP 2.1, sections 11.2.5.3 and 11.2.5.4).
+-- Whether the current message ends together with a refused transaction: ERROR 04 for a message that begins inside
+-- another message ends both, and so does ERROR 03 for an INIT (CTAP 2.1, sections 11.2.5.3 and 11.2.5.4).
 abbrev pub also_ends : Transaction → ℕ → Option OpenTransaction → Bool
 also_ends refused code None = false
 also_ends refused code (Some current) =
     (code == (if refused.message == INIT then 3 else 4)) && (not (is_complete_message current)
     && nat_lt current.transaction.line refused.line)
 
--- How a message ends that a refused message interrupted.
+-- How a message ends if another message interrupted it and the device refused the other message.
 abbrev pub interrupted_end : Transaction → End
 interrupted_end refused = if refused.message == INIT then Dropped refused.line else Replaced refused.line
 
--- A response has the command of its complete request (CTAP 2.1, section 11.2.4).
+-- Whether the message can have this response: a response has the command of its complete request (CTAP 2.1, section
+-- 11.2.4).
 abbrev pub can_answer : ResponseStart → Option OpenTransaction → Bool
 can_answer answer None = false
 can_answer answer (Some m) = is_complete_message m && (m.transaction.message == answer.command)
@@ -133,7 +134,8 @@ response_continued number last_response =
     then record last_response { progress = record last_response.progress { continuations = min 255 (number + 1) } }
     else last_response
 
--- The reply that the request waits for: a key pair, or a signature once the key pair was made.
+-- The reply that a request waits for while the device processes it: the same key pair or signature as before, or else a
+-- key pair for authenticatorMakeCredential (`is_made`) and a signature for other requests.
 abbrev pub key_or_signature : Option AwaitedReply → (is_made : Bool) → AwaitedReply
 key_or_signature (Some Key) is_made = Key
 key_or_signature (Some Signature) is_made = Signature
@@ -191,9 +193,9 @@ keepalive_transaction input now c =
     else if was_due_before_contender input now c then transaction_of c.current
     else None
 
--- An ERROR other than a time-out, without a pending INIT, after a packet outside any transaction. If the current
--- request has had a KEEPALIVE, the ERROR belongs to that packet, because such a request isn't refused with these codes
--- (CTAP 2.1, section 11.2.9.1.6).
+-- Whether an ERROR with this code belongs to the host's last packet, which is outside any transaction. This is so if
+-- the current request has had a KEEPALIVE: after a KEEPALIVE, a request isn't refused with code 01, 04, 06 or 0B (CTAP
+-- 2.1, section 11.2.9.1.6).
 abbrev pub refuses_stray : ℕ → Channel → Bool
 refuses_stray code c = c.last_was_stray && (nat_lt 0 (keepalive_count c.current)
     && ((code == 1) || (code == 4) || (code == 6) || (code == 0x0b)))

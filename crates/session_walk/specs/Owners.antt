@@ -20,11 +20,11 @@ abbrev pub with_end_of : List Ended → Option OpenTransaction → End → List 
 with_end_of ended None end = ended
 with_end_of ended (Some current) end = with_end ended current end
 
--- The message is complete.
+-- Whether the message is complete.
 abbrev pub is_complete_message : OpenTransaction → Bool
 is_complete_message m = is_whole m.progress.length m.progress.continuations
 
--- The device is processing the message: it is complete, and neither PING nor INIT.
+-- Whether the device is processing the message: it is complete, and neither PING nor INIT.
 abbrev pub is_in_process : Option OpenTransaction → Bool
 is_in_process None = false
 is_in_process (Some m) =
@@ -34,7 +34,7 @@ is_in_process (Some m) =
 abbrev pub is_owner_unknown : Channel → Bool
 is_owner_unknown c = c.is_ambiguous || nat_lt 0 c.ambiguous_count
 
--- One more message that may still be pending.
+-- The channel with one more message that may still be pending.
 abbrev pub with_unidentified : ℕ → Channel → Channel
 with_unidentified line c = record c { ambiguous_count = min 255 (c.ambiguous_count + 1); last_lost_line = max c.last_lost_line line }
 
@@ -49,7 +49,8 @@ abbrev pub end_of_current : Bool → (contender current : OpenTransaction) → E
 end_of_current true contender current = replaced_end contender current current.cancelled
 end_of_current false contender current = Unknown
 
--- The channel after its current message ended.
+-- The channel after the contender replaced its current message. Unless a device packet shows this (true), the current
+-- message may still be pending.
 abbrev pub without_current : Bool → OpenTransaction → Channel → Channel
 without_current true current c = record c { is_ambiguous = false }
 without_current false current c =
@@ -85,7 +86,7 @@ abbrev pub current_ended_of : Option OpenTransaction → Channel → Channel
 current_ended_of None c = c
 current_ended_of (Some current) c = record c { current = c.contender; contender = None }
 
--- The channel without its current message; the contender takes its place.
+-- The channel without its current message. The contender becomes the current message.
 abbrev pub current_ended : Channel → Channel
 current_ended c = current_ended_of c.current c
 
@@ -121,7 +122,7 @@ channel_with_message m before =
     let c = contender_accepted false (after_idle m.at before) in
     place_message m c.current (record c { last_was_init = false })
 
--- The message is incomplete and expects this sequence number (CTAP 2.1, section 11.2.4).
+-- Whether the message is incomplete and expects this sequence number (CTAP 2.1, section 11.2.4).
 abbrev pub expects_sequence : ℕ → Option OpenTransaction → Bool
 expects_sequence number None = false
 expects_sequence number (Some m) = (m.progress.continuations == number) && not (is_complete_message m)
@@ -161,7 +162,7 @@ message_after_continuation number now (Some m) = Some (if is_complete_message m 
 abbrev pub continued_message : ℕ → Channel → Option OpenTransaction
 continued_message number c = if expects_sequence number c.contender then c.contender else c.current
 
--- The result of a continuation packet outside any transaction.
+-- Whether the continuation packet is outside any transaction.
 abbrev pub is_stray : Option ContinuationMatch → Bool
 is_stray None = true
 is_stray (Some c) = false
@@ -184,8 +185,8 @@ abbrev pub transaction_of : Option OpenTransaction → Option Transaction
 transaction_of None = None
 transaction_of (Some m) = Some m.transaction
 
--- The channel after a CANCEL, which cancels the request that is processed. If there are two such requests, it is
--- unknown which one is cancelled (CTAP 2.1, section 11.2.9.1.5).
+-- The channel after a CANCEL, which cancels the request that the device is processing. If there are two such requests,
+-- it is unknown which one is cancelled (CTAP 2.1, section 11.2.9.1.5).
 abbrev pub channel_cancelled : ℕ → Channel → Channel
 channel_cancelled line before =
     let c = record before { last_was_stray = true } in

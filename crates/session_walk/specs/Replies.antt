@@ -1,5 +1,4 @@
--- What a packet of the device tells in addition to the channel's state, and the requests to which the caller's replies
--- belong.
+-- What a packet of the device states by itself, and the requests to which the caller's replies belong.
 use Rattle.std.specs.Prelude.{ℕ, Bool, false, ◌&&◌, ◌==◌, nat_le, List, [], ◌++◌, replicate, take, drop, length, Option, Some, None, if◌then◌else◌}
 use Rattle.byteorder.specs.Endian.{big_number}
 use Rattle.sha2.specs.Sha256.{sha256}
@@ -21,7 +20,7 @@ reply_to_need presence = Some Presence
 reply_to_need key = Some Key
 reply_to_need (sign id signed) = Some Signature
 
--- The kind of an input that is a reply of the caller.
+-- The kind of the reply in an input, or None if the input is not a reply of the caller.
 abbrev pub kind_of_input : Input → Option AwaitedReply
 kind_of_input (input.Packet packet) = None
 kind_of_input input.Tick = None
@@ -33,16 +32,17 @@ kind_of_input (input.Signature reply) = Some Signature
 abbrev pub no_rp_id : RpId
 no_rp_id = record { bytes = replicate 253 0; len = 0 }
 
--- A CBOR response with status 0x00.
+-- Whether the response is a CBOR response with status 0x00.
 abbrev pub is_success : ResponseStart → Bool
 is_success answer = (answer.command == CBOR) && has_status 0 answer.status
 
--- The transaction is an authenticatorGetAssertion.
+-- Whether the transaction is an authenticatorGetAssertion.
 abbrev pub is_assertion : Option Transaction → Bool
 is_assertion None = false
 is_assertion (Some transaction) = has_status 2 transaction.command
 
--- The channel that a response to INIT allocates (CTAP 2.1, section 11.2.9.1.3): the four bytes after the nonce.
+-- The channel that a response to INIT allocates (CTAP 2.1, section 11.2.9.1.3): the four bytes after the nonce, or the
+-- broadcast channel if the response is too short.
 abbrev pub allocated_channel : List ℕ → ℕ
 allocated_channel part = if nat_le 12 (length part) then big_number 4 (drop 8 part) else BROADCAST
 

@@ -42,7 +42,7 @@ abbrev pub last_input_line : List Line → ℕ
 last_input_line [] = 0
 last_input_line (line ∷ before) = input_line_after (last_input_line before) (length before + 1) line
 
--- The tracker's state after these lines.
+-- The tracker's latest timestamp and line of the last input are those of these lines.
 pub record IsTrackerAfter (lines : List Line) (walk : TransactionTracker) : Type 0 where
   pub moment : walk.now ≡ time_of_lines lines
   pub input : walk.input ≡ last_input_line lines
@@ -88,12 +88,12 @@ abbrev pub complete_response_end : Option ℕ → End
 complete_response_end (Some status) = Status status
 complete_response_end None = Answered
 
--- The transaction that a complete response ends.
+-- The ended transactions, followed by the one that a complete response ends.
 abbrev pub answered_by : Option OpenTransaction → Option ℕ → List Ended → List Ended
 answered_by None status ended = ended
 answered_by (Some exchange) status ended = with_end ended exchange (complete_response_end status)
 
--- The transaction that a complete response ends.
+-- The ended transactions, followed by the one that a complete response ends.
 abbrev pub answered : ResponseMessage → ℕ → List Ended → List Ended
 answered last_response message_start ended =
     if (last_response.line == message_start) && is_whole last_response.progress.length last_response.progress.continuations
@@ -108,8 +108,8 @@ abbrev pub reports_waiting : Option OpenTransaction → Bool
 reports_waiting None = false
 reports_waiting (Some m) = is_some m.awaited && is_none m.cancelled
 
--- Whether a request on the channel may wait for the caller's reply: a KEEPALIVE states this, or the request has no
--- response yet.
+-- Whether a request on the channel waits for the caller's reply. With `true`, a KEEPALIVE must state this. With
+-- `false`, it suffices that a request may be pending.
 abbrev pub may_wait : Bool → Channel → Bool
 may_wait true c = reports_waiting c.current
 may_wait false c = is_owner_unknown c || (c.has_ambiguous_keepalive || (is_in_process c.current || is_in_process c.contender))
@@ -135,7 +135,7 @@ packet_time_of (Some m) = Some m.at
 abbrev pub current_time_at : ℕ → TransactionTracker → Option (Option ℕ)
 current_time_at place walk = option_map (λ c. packet_time_of c.current) (slice_get walk.channels.list place)
 
--- The tracked channel has this ID.
+-- Whether the tracked channel has this ID.
 abbrev pub is_on : ℕ → Channel → Bool
 is_on number c = nat_lt 0 c.used && (c.number == number)
 

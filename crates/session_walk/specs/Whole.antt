@@ -4,7 +4,7 @@ use Rattle.std.specs.Prelude.{ℕ, Bool, true, false, not, ◌&&◌, ◌||◌, �
 use Rattle.std.specs.Prelude.{◌∷◌, ◌++◌, length, drop, remove, position, slice_get, Option, Some}
 use Rattle.std.specs.Prelude.{None, is_none, is_some, option_map, unwrap_or, if◌then◌else◌}
 use Rattle.hid_packet.specs.Commands.{BROADCAST, ERROR, INIT, KEEPALIVE}
-use Rattle.session_walk.specs.Ends.{after_keepalive, has_status, keepalive_transaction, also_ends, contender_refused, can_answer, interrupted_end, is_late_by}
+use Rattle.session_walk.specs.Ends.{after_keepalive, has_status, keepalive_transaction, also_ends, contender_refused, can_answer, interrupted_end, is_ambiguous_part_of_any}
 use Rattle.session_walk.specs.Ends.{is_owner_undecided, with_unknown_ends, both_unidentified, is_for_contender}
 use Rattle.session_walk.specs.Ends.{refuses_stray, timeout_transaction, timed_out, ends_by_timeout}
 use Rattle.session_walk.specs.Extents.{is_whole}
@@ -31,7 +31,7 @@ pub record PacketResult : Type 0 where
   pub transaction : Option OpenTransaction
   pub deferred : Bool
 
--- The device may be processing an unidentified message.
+-- Whether the device may be processing an unidentified message.
 abbrev pub may_be_processing : ℕ → Channel → Bool
 may_be_processing now c = is_owner_unknown c && nat_lt (now - c.last_active_at) IDLE_TIMEOUT_MS
 
@@ -63,7 +63,7 @@ open_init channel g = record {
 abbrev pub MAX_PENDING_INITS : ℕ
 MAX_PENDING_INITS = 4
 
--- The channel after an INIT.
+-- The channel with one more unanswered INIT. If there are already too many, the oldest one is removed.
 abbrev pub with_pending_init : OpenTransaction → List ℕ → Channel → Channel
 with_pending_init m part c =
     let items = c.pending_inits.items in
@@ -80,7 +80,7 @@ with_oldest_ended channel (oldest ∷ others) ended =
 abbrev pub init_begun : OpenTransaction → List ℕ → Channel → Channel
 init_begun m part c = with_pending_init m part (contender_accepted false (after_idle m.at c))
 
--- The transactions that a new INIT ends.
+-- The ended transactions, followed by those that a new INIT ends.
 abbrev pub ends_by_init : OpenTransaction → Channel → List Ended → List Ended
 ends_by_init m c ended =
     with_oldest_ended c.number c.pending_inits.items (ends_by_contender false (after_idle m.at c) ended)
@@ -114,8 +114,9 @@ open_init_at channel (Some g) = Some (open_init channel g)
 abbrev pub init_at : ℕ → Channel → Option OpenTransaction
 init_at place c = open_init_at c.number (slice_get c.pending_inits.items place)
 
--- Whether an ERROR with this code can belong to an INIT of 8 bytes: codes 04 and 05 never, codes 06 and 7F on the
--- broadcast channel, and other codes if nothing else is pending (CTAP 2.1, section 11.2.9.1.6).
+-- Whether an ERROR with this code can belong to an INIT of 8 bytes: codes 04 and 05 never can, code 06 can only on the
+-- broadcast channel, and code 7F always can there. Otherwise, an ERROR can if nothing else is pending (CTAP 2.1,
+-- section 11.2.9.1.6).
 abbrev pub can_refuse_init : ℕ → Channel → Bool
 can_refuse_init code c =
     if (code == 4) || (code == 5) then false
@@ -136,8 +137,8 @@ refused_init code c =
     else if c.last_was_init && can_refuse_init code c then last_init_index c
     else length items
 
--- The message that began last, if an ERROR refuses it: an INIT; or the contender, unless it is unknown to which message
--- the ERROR belongs.
+-- The message that an ERROR refuses at its beginning, if any: an INIT; or the contender, unless it is unknown to which
+-- message the ERROR belongs.
 abbrev pub refused_start : ℕ → (is_undecided : Bool) → Channel → Option OpenTransaction
 refused_start code is_undecided c =
     let place = refused_init code c in
@@ -145,7 +146,7 @@ refused_start code is_undecided c =
     else if is_undecided || c.last_was_init then None
     else c.contender
 
--- The channel without the message that began last, if an ERROR refuses it.
+-- The channel without the message that `refused_start` returns, if any.
 abbrev pub without_refused_start : ℕ → (is_undecided : Bool) → Channel → Channel
 without_refused_start code is_undecided c =
     let place = refused_init code c in
@@ -180,7 +181,8 @@ current_refused code (Some current) c ended =
     if refuses_stray code c then refuses_nothing c ended
     else record { channel = current_ended c; ended = with_end ended current (Refused code); transaction = Some current; deferred = false }
 
--- The result of an ERROR that refuses the message that began last, if any.
+-- The result of an ERROR that refuses this message at its beginning. Without such a message, it refuses the current
+-- message, unless it is unknown to which message the ERROR belongs.
 abbrev pub start_refused : ℕ → (is_undecided : Bool) → Option OpenTransaction → Channel → List Ended → PacketResult
 start_refused code is_undecided (Some start) c ended =
     let refused = with_end ended start (Refused code) in
@@ -224,11 +226,11 @@ timeout_or_refusal (Some transaction) ambiguous input c ended = record {
   channel = timed_out ambiguous c;
   ended = ends_by_timeout ambiguous c.current ended;
   transaction = Some transaction;
-  deferred = is_late_by ambiguous c.current;
+  deferred = is_ambiguous_part_of_any ambiguous c.current;
 }
 timeout_or_refusal None ambiguous input c ended =
     let other = to_start_result (error_result 5 input (timed_out ambiguous c) (ends_by_timeout ambiguous c.current ended)) in
-    record other { deferred = is_late_by ambiguous c.current }
+    record other { deferred = is_ambiguous_part_of_any ambiguous c.current }
 
 -- The result of ERROR 05 for the current message.
 abbrev pub current_timed_out : Option Ambiguous → ℕ → Channel → List Ended → StartResult
@@ -242,7 +244,7 @@ contender_timed_out ambiguous c ended =
       channel = record (timed_out ambiguous alone) { current = c.current };
       ended = ends_by_timeout ambiguous c.contender ended;
       transaction = timeout_transaction ambiguous c.contender;
-      deferred = is_late_by ambiguous c.contender;
+      deferred = is_ambiguous_part_of_any ambiguous c.contender;
     }
 
 -- The result of ERROR 05 if it is unknown which message timed out.
@@ -254,13 +256,14 @@ both_lost_by_timeout c ended = record {
   deferred = false;
 }
 
--- The result of ERROR 05 for the contender, if it is known that the current message is processed.
+-- The result of ERROR 05 for the contender, unless it is unknown which message the device is processing.
 abbrev pub contender_lost : Option Ambiguous → Channel → List Ended → StartResult
 contender_lost ambiguous c ended =
     if is_owner_unknown c then both_lost_by_timeout c ended else contender_timed_out ambiguous c ended
 
 -- The result of ERROR 05 while the contender is incomplete. If the current message is complete, the contender timed
--- out. If the contender began within the shortest time-out after the current message, the current message timed out.
+-- out. If the contender began less than 100 ms after the last packet of the current message, the device accepted the
+-- contender, which then timed out. Otherwise, the current message timed out, unless it is unknown which message did.
 abbrev pub one_of_two_timed_out : Option Ambiguous → ℕ → (contender current : OpenTransaction) → Channel → List Ended → StartResult
 one_of_two_timed_out ambiguous input contender current c ended =
     if is_complete_message current then contender_lost ambiguous c ended
@@ -287,7 +290,7 @@ cleared_by_init init c =
     if c.number == BROADCAST then c
     else record c { is_ambiguous = false; ambiguous_count = if nat_lt c.last_lost_line init.transaction.line then 0 else c.ambiguous_count }
 
--- Whether the message began before the other one.
+-- Whether the second message, if any, began before the first one.
 abbrev pub is_before : OpenTransaction → Option OpenTransaction → Bool
 is_before init None = false
 is_before init (Some current) = nat_lt current.transaction.line init.transaction.line
@@ -310,10 +313,10 @@ abbrev pub answered_init : List ℕ → Channel → List Ended → PacketResult
 answered_init part c ended =
     let place = init_index (matches_nonce (Some (nonce_of part))) c.pending_inits.items in init_answered place (init_at place c) c ended
 
--- Whether the device is processing the message, and the message wasn't cancelled.
-abbrev pub is_served_uncancelled : Option OpenTransaction → Bool
-is_served_uncancelled None = false
-is_served_uncancelled (Some current) = is_complete_message current && is_none current.cancelled
+-- Whether the message is complete and wasn't cancelled.
+abbrev pub is_complete_uncancelled : Option OpenTransaction → Bool
+is_complete_uncancelled None = false
+is_complete_uncancelled (Some current) = is_complete_message current && is_none current.cancelled
 
 -- The result of a response other than to INIT: the response belongs to the complete message with the same command (CTAP
 -- 2.1, section 11.2.4).
@@ -324,7 +327,7 @@ message_answered answer c ended =
     if not is_held && not is_asked then record { channel = c; ended = ended; transaction = None; deferred = false }
     else if is_owner_unknown c || is_held && is_asked
     then record { channel = record (both_unidentified c) { last_asserted_rp = no_rp_id }; ended = with_unknown_ends c ended; transaction = None; deferred = false }
-    else if is_asked && is_served_uncancelled c.current
+    else if is_asked && is_complete_uncancelled c.current
     then record { channel = record c { contender = None }; ended = ended; transaction = c.contender; deferred = false }
     else if is_asked then record {
       channel = record (contender_accepted true c) { current = None; contender = None };
@@ -364,18 +367,19 @@ with_response answer r =
     let exchange = option_map (with_asserted_rp answer r.channel.last_asserted_rp) r.transaction in
     record r { channel = with_response_of answer exchange r.channel; deferred = false }
 
--- The transactions whose incomplete response ends because the device begins another message.
+-- The ended transactions, followed by the one whose incomplete response ends because the device begins another message.
 abbrev pub truncated_by : ResponseMessage → List Ended → List Ended
 truncated_by last_response ended =
     if is_whole last_response.progress.length last_response.progress.continuations then ended else with_end_of ended last_response.exchange (Cut last_response.progress)
 
--- The channel when no further packet of its device's last message can follow.
+-- The channel after its device's last message was closed: no further packet of the message can follow.
 abbrev pub response_closed : Channel → Channel
 response_closed c = record c {
   last_response = record c.last_response { line = 0; progress = record { length = 0; continuations = 0 }; exchange = None };
 }
 
--- The transaction that a KEEPALIVE ends: that of the current message if the device is processing only the contender.
+-- The ended transactions, followed by that of the current message if a KEEPALIVE shows that the device is processing
+-- only the contender.
 abbrev pub ends_by_keepalive : Channel → List Ended → List Ended
 ends_by_keepalive c ended =
     if not (is_owner_unknown c) && (is_in_process c.contender && not (is_in_process c.current)) then ends_by_contender true c ended
@@ -397,13 +401,13 @@ result_of_command answer input now ambiguous c ended =
     else if answer.command == KEEPALIVE then keepalive_result (unwrap_or answer.status 0) input now c ended
     else to_start_result (with_response answer (response_result answer c ended))
 
--- No transaction is open on the channel.
+-- Whether no transaction is open on the channel.
 abbrev pub is_idle : Channel → Bool
 is_idle c = is_none c.current && (is_none c.contender && ((length c.pending_inits.items == 0)
     && ((c.ambiguous_count == 0) && is_whole c.last_response.progress.length c.last_response.progress.continuations)))
 
--- The channel after a packet of the device at this time. On an idle channel, a KEEPALIVE of no known transaction shows
--- that a message is pending, and a response of no known transaction shows that one message less is pending.
+-- The channel after a packet of the device at this time. If its transaction is unknown, a KEEPALIVE on an idle channel
+-- shows that a message is pending, and a response shows that one message less is pending.
 unfoldable pub after_device_packet : ResponseStart → ℕ → (is_known : Bool) → Channel → Channel
 after_device_packet answer now is_known before =
     let c = record before { last_active_at = now; has_ambiguous_keepalive = (answer.command == KEEPALIVE) && not is_known } in
@@ -412,7 +416,7 @@ after_device_packet answer now is_known before =
     else if (answer.command == ERROR) || (answer.command == INIT) then c
     else record c { ambiguous_count = c.ambiguous_count - 1 }
 
--- The role of a device packet, from its transaction. An ERROR of no known transaction is outside any transaction.
+-- The role of a device packet, from its transaction. An ERROR without a known transaction is outside any transaction.
 abbrev pub device_role : ResponseStart → Option Transaction → Role
 device_role answer transaction = if (answer.command == ERROR) && is_none transaction then Error else Owned
 
@@ -426,15 +430,15 @@ after_device_start answer input now ambiguous c ended =
 abbrev pub role_outside : Role → Channel → Role
 role_outside role c = if nat_lt 0 c.ambiguous_count || c.has_ambiguous_keepalive then Owned else role
 
--- The request needs user presence: authenticatorMakeCredential, Reset and Selection, and GetAssertion unless its option
--- `up` is false (CTAP 2.1, section 6).
+-- Whether the request needs user presence: authenticatorMakeCredential, authenticatorReset and authenticatorSelection
+-- do, and authenticatorGetAssertion unless its option `up` is false (CTAP 2.1, section 6).
 abbrev pub needs_presence : OpenTransaction → Bool
 needs_presence m =
     has_status 1 m.transaction.command || (has_status 7 m.transaction.command || (has_status 0x0b m.transaction.command
     || (has_status 2 m.transaction.command && not m.named.is_silent)))
 
--- The request after a reply of the caller, or None if it didn't wait for one of this kind. Without a KEEPALIVE it is
--- unknown which reply is needed, and a key may report PROCESSING while it waits for the user.
+-- The request after a reply of the caller, or None if it didn't wait for a reply of this kind. Without a KEEPALIVE it
+-- is unknown which reply is needed, and a key may report PROCESSING while it waits for the user.
 abbrev pub request_after_reply : Option AwaitedReply → AwaitedReply → ℕ → OpenTransaction → Option OpenTransaction
 request_after_reply (Some Presence) Presence now m = Some (record m { presence_ms = Some (now - m.at); awaited = None })
 request_after_reply (Some Key) Key now m = Some (record m { awaited = Some Signature })
@@ -452,7 +456,7 @@ request_replied reply now (Some m) = request_after_reply m.awaited reply now m
 abbrev pub is_reply_unclear : Channel → Bool
 is_reply_unclear c = is_some c.contender || (is_owner_unknown c || c.has_ambiguous_keepalive)
 
--- The channel whose current message is this one, if any.
+-- The channel with its current message replaced by this one, if any.
 abbrev pub with_current : Option OpenTransaction → Channel → Channel
 with_current None c = c
 with_current (Some m) c = record c { current = Some m }
@@ -475,7 +479,7 @@ abbrev pub last_transaction : Option Channel → Option OpenTransaction
 last_transaction None = None
 last_transaction (Some c) = if is_some c.current then c.current else c.last_response.exchange
 
--- The device's last message on the channel is incomplete.
+-- Whether the device's last message on the channel is incomplete.
 abbrev pub has_unfinished_response : Option Channel → Bool
 has_unfinished_response None = false
 has_unfinished_response (Some c) = not (is_whole c.last_response.progress.length c.last_response.progress.continuations)

@@ -40,7 +40,7 @@ impl AwaitedReply {
         }
     }
 
-    /// Returns its name.
+    /// Returns the name of the reply, for texts.
     pub fn name(self) -> &'static str {
         match self {
             AwaitedReply::Presence => "the user's presence",

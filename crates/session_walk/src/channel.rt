@@ -5,7 +5,7 @@ ghost use Rattle.session_walk.specs.Owners.{cancelled_transaction, channel_cance
 ghost use Rattle.session_walk.specs.Owners.{continued_message, continuation_match, with_continuation, is_owner_unknown, with_unidentified, channel_with_message};
 ghost use Rattle.session_walk.specs.Owners.{nonce_of, ends_by_contender, after_idle, message_after_continuation, transaction_of};
 ghost use Rattle.hid_packet.specs.Commands.{INIT as INIT_COMMAND};
-ghost use Rattle.session_walk.specs.Channels.{fresh_channel, makes_way_before, open_transactions, tracked_channel, with_dropped, with_forgotten};
+ghost use Rattle.session_walk.specs.Channels.{fresh_channel, is_evicted_before, open_transactions, tracked_channel, with_dropped, with_forgotten};
 ghost use Rattle.session_walk.specs.Extents.{is_whole};
 ghost use Rattle.std.specs.Prelude.{length, not};
 ghost use Rattle.session_walk.specs.Walks.{packet_time_of, may_wait};
@@ -147,7 +147,7 @@ pub struct Channel {
     pub has_ambiguous_keepalive: bool,
     /// Number of further messages of unknown transactions that may still be pending on the channel.
     pub ambiguous_count: u8,
-    /// Line of the last such message, or of the packet that shows that there is one.
+    /// Line of the last message of an unknown transaction, or of the packet that shows that such a message is pending.
     pub last_lost_line: u64,
     /// Timestamp of the device's last packet, or of the last packet of an unidentified message if that is later. If an
     /// unidentified message may be older than the first tracked packet, at least the timestamp of that packet.
@@ -173,8 +173,8 @@ impl Channel {
         }
     }
 
-    /// Returns a channel whose first tracked packet is on this line. If a channel with an open transaction was evicted,
-    /// this may be it: then the device may be processing an unidentified message.
+    /// Returns a channel whose first tracked packet is on this line. If a channel with an open transaction was evicted
+    /// before, it may be this channel, and the device may be processing a message that is no longer tracked.
     pub fn tracked(number: u32, line: u64, now: u64, has_forgotten: bool) -> Self
         ensures { result ≡ tracked_channel has_forgotten now number line }
     {
@@ -211,7 +211,8 @@ impl Channel {
         self.is_unclear() && now.saturating_sub(self.last_active_at) < IDLE_TIMEOUT_MS
     }
 
-    /// Returns the role of a packet outside any open message: `role`, unless it may belong to an unidentified one.
+    /// Returns the role of a packet outside any open message: `role`, unless the packet may belong to an unidentified
+    /// message.
     pub fn role_outside_messages(&self, role: Role) -> Role
         ensures { result ≡ role_outside role self.now }
     {
@@ -273,8 +274,8 @@ impl Channel {
 
     /// Returns whether this channel is evicted before `other`: the idle one, if only one is idle, or else the least
     /// recently used one.
-    pub fn makes_way_before(&self, other: &Channel) -> bool
-        ensures { result ≡ makes_way_before self.now other.now }
+    pub fn is_evicted_before(&self, other: &Channel) -> bool
+        ensures { result ≡ is_evicted_before self.now other.now }
     {
         let is_idle = self.is_idle();
         if is_idle == other.is_idle() {
@@ -285,7 +286,7 @@ impl Channel {
     }
 
     /// Begins a message other than CANCEL. Until its response, an INIT changes nothing else (section 11.2.9.1.3). If
-    /// another message holds the channel, it isn't known yet which of the two the device continues.
+    /// another message is open on the channel, it isn't known yet which of the two the device continues.
     pub fn begin(&mut self, mut begun: OpenTransaction, part: &[u8], ended: &mut EndedList)
         ensures message { (begun.transaction.message ≡ INIT_COMMAND → ⊥) → self.new ≡ channel_with_message begun self.old }
         ensures ended { (begun.transaction.message ≡ INIT_COMMAND → ⊥)
@@ -378,7 +379,7 @@ impl Channel {
     }
 
     /// Stores the RP ID and credentials of an open request.
-    pub fn name(&mut self, transaction: &Transaction, named: RequestNames)
+    pub fn set_request_names(&mut self, transaction: &Transaction, named: RequestNames)
         ensures at { packet_time_of self.new.current ≡ packet_time_of self.old.current }
     {
         if let Some(mut current) = self.current
@@ -413,7 +414,7 @@ impl Channel {
     }
 
     /// Handles a reply of the caller. Returns the request that waited for it, or the reply's role if none did. Without
-    /// a KEEPALIVE it is unknown which reply is needed, and with two messages, which one is processed.
+    /// a KEEPALIVE it is unknown which reply is needed, and with two messages, it is unknown which one is processed.
     pub fn reply(&mut self, reply: AwaitedReply, now: u64) -> (Option<Transaction>, Role)
         ensures state { self.new ≡ channel_replied reply now self.old }
         ensures transaction { result.0 ≡ replied_transaction reply now self.old }
@@ -444,7 +445,8 @@ impl Channel {
     }
 }
 
-/// Continues an incomplete message with the continuation packet of this sequence number.
+/// Continues an incomplete message with a continuation packet. Returns `None` if the message is complete, or without a
+/// message.
 fn continue_slot(
     message: &mut Option<OpenTransaction>,
     number: u8,
@@ -465,7 +467,8 @@ fn continue_slot(
 }
 
 impl OpenTransaction {
-    /// Continues the device's message with the packet of this sequence number.
+    /// Continues the host's message if the packet has the expected sequence number. Returns how the packet relates to
+    /// the message.
     fn on_continuation(&mut self, number: u8, now: u64) -> ContinuationMatch
         ensures next { result.is_whole ≡ true → result.is_next ≡ true }
         ensures value { result ≡ continuation_match number now self.old }

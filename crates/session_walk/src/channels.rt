@@ -3,7 +3,7 @@ ghost use Rattle.session_walk.specs.declared.channel.Channel.{Channel as AnyChan
 ghost use Rattle.session_walk.specs.Walks.{channel_on, is_on, index_on, may_wait};
 ghost use Rattle.std.specs.Prelude.{ℕ, count_by, false, is_none, option_map, position, slice_get, true, None, Some, ◌≡◌, ◌<◌, IfSome, if◌then◌else◌};
 ghost use Rattle.std.specs.Option.{option_copied};
-ghost use Rattle.session_walk.specs.Channels.{AreWithoutAssertion, MakesWay, after_allocation, allocating_line, ends_by_allocation};
+ghost use Rattle.session_walk.specs.Channels.{AreWithoutAssertion, IsEvictedFirst, after_allocation, allocating_line, ends_by_allocation};
 ghost use Rattle.session_walk.specs.Channels.{first_open_after, may_any_be_processing, open_transactions, replaces_assertion, tracked_channel, with_forgotten};
 ghost use Rattle.session_walk.specs.Replies.{allocated_channel};
 ghost use Rattle.session_walk.specs.Whole.{has_unfinished_response, is_idle, last_transaction};
@@ -39,7 +39,7 @@ impl Channels {
         ensures found { (c : AnyChannel) → channel_on number self.old.list ≡ Some c
             → slice_get self.new.list result ≡ Some (record c { used = line }) }
         ensures others { (i : ℕ) → (i ≡ result → ⊥) → slice_get self.new.list i ≡ slice_get self.old.list i }
-        ensures evicted { index_on number self.old.list ≡ None → MakesWay result self.old.list }
+        ensures evicted { index_on number self.old.list ≡ None → IsEvictedFirst result self.old.list }
         ensures fresh { index_on number self.old.list ≡ None
             → slice_get self.new.list result ≡ Some (tracked_channel self.old.has_forgotten now number line) }
         ensures kept { (c : AnyChannel) → channel_on number self.old.list ≡ Some c
@@ -90,11 +90,11 @@ impl Channels {
     /// Returns the index of the channel to evict.
     fn oldest(&self) -> usize
         ensures within { result < 6 }
-        ensures oldest { MakesWay result self.now.list }
+        ensures oldest { IsEvictedFirst result self.now.list }
     {
         let mut oldest = 0;
         for place in 0..MAX_TRACKED_CHANNELS {
-            if self.list[place].makes_way_before(&self.list[oldest]) {
+            if self.list[place].is_evicted_before(&self.list[oldest]) {
                 oldest = place;
             }
         }
@@ -249,8 +249,8 @@ impl Channels {
         }
     }
 
-    /// Copies, from another tracker, the excluded credential of the request that holds a channel, if the other
-    /// tracker has the same request on it.
+    /// Copies the excluded credential of a channel's current request from another tracker, if the last request there is
+    /// the same.
     pub fn resolve_excluded(&mut self, number: u32, other: &Channels) {
         if let Some(named) = other.last_transaction_on(number)
             && let Some(excluded) = named.named.excluded

@@ -19,7 +19,7 @@ pub struct Collector {
 }
 
 impl Collector {
-    /// Adds a packet, and returns the CBOR message that it completes, unless that is empty.
+    /// Adds a packet, and returns the CBOR message that it completes, unless the message is empty.
     ///
     /// An initialization packet begins a new message. Of continuation packets, only the expected one on the message's
     /// channel is added. A message of over 7609 bytes isn't collected.

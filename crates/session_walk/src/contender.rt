@@ -1,4 +1,4 @@
-//! Which of two messages on a channel the device continues, and the end of the other one.
+//! Which of two messages on a channel the device continues, and how the other message ends.
 
 ghost use Rattle.std.specs.Prelude.{◌≡◌, false, None, Some};
 ghost use Rattle.session_walk.specs.Owners.{contender_accepted, current_ended, ends_by_contender, transaction_of, with_end_of};
@@ -23,7 +23,7 @@ impl Channel {
         }
     }
 
-    /// Ends `current` and `contender` as unknown, because a packet may be for either of them; the other one may still
+    /// Ends `current` and `contender` as unknown, because a packet may belong to either of them. One of them may still
     /// be pending.
     pub fn end_as_unknown(&mut self, ended: &mut EndedList)
         ensures state { self.new ≡ record (both_unidentified self.old) { last_asserted_rp = no_rp_id } }

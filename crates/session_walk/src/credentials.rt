@@ -213,7 +213,7 @@ impl Credentials {
 }
 
 /// Returns whether a request's list with this map key contains a credential. Entries of another type don't count
-/// (WebAuthn, section 5.8.3). `is_any` is the result for a list without entries.
+/// (WebAuthn, section 5.8.3). `is_any` is the result without a list, or for a list without entries.
 fn may_name_prior(item: &[u8], key: i128, is_any: bool) -> bool {
     let Some(list) = value_at(item, Item::Int(key)) else {
         return is_any;

@@ -27,8 +27,8 @@ use hid_packet::command::{ERROR, INIT, KEEPALIVE};
 pub const MIN_TIMEOUT_MS: u64 = 100;
 
 impl Channel {
-    /// Handles the initialization packet of a device message. `behind` contains the line of the last input and the
-    /// current time.
+    /// Handles the initialization packet of a device message. `behind` is the line of the last input and the current
+    /// time.
     pub fn on_device_init_packet(
         &mut self,
         answer: &ResponseStart<'_>,
@@ -79,7 +79,8 @@ impl Channel {
         (transaction, is_late)
     }
 
-    /// Ends the device's last message, of which no further packet can follow, and its transaction if it is incomplete.
+    /// Ends the device's last message, because no further packet of it can follow, and its transaction if the message
+    /// is incomplete.
     fn close_response(&mut self, ended: &mut EndedList)
         ensures state { self.new ≡ response_closed self.old }
         ensures ended { ended.new.0.items ≡ truncated_by self.old.last_response ended.old.0.items }
@@ -202,8 +203,8 @@ impl Channel {
         Some(current.transaction)
     }
 
-    /// Returns the index of the first INIT with this nonce, or, without a nonce, of the first one with a wrong length;
-    /// the number of INITs if there is none.
+    /// Returns the index of the first INIT with this nonce, or, without a nonce, of the first one with a wrong length.
+    /// Returns the number of INITs if there is none.
     pub(crate) fn pending_init_index(&self, nonce: Option<u64>) -> usize
         ensures { result ≡ init_index (matches_nonce nonce) self.now.pending_inits.items }
     {
@@ -234,7 +235,7 @@ impl Channel {
         self.record_response(answer, exchange)
     }
 
-    /// Removes and returns the message that a response is for.
+    /// Removes and returns the message to which a response belongs.
     fn answered(
         &mut self,
         answer: &ResponseStart<'_>,
@@ -245,9 +246,9 @@ impl Channel {
         ensures transaction { result ≡ (response_result answer.now self.old ended.old.0.items).transaction }
     {
         if answer.command == INIT {
-            self.answer_init(answer, ended)
+            self.on_init_response(answer, ended)
         } else {
-            self.answer_message(answer, ended)
+            self.on_message_response(answer, ended)
         }
     }
 
@@ -280,7 +281,7 @@ impl Channel {
 
     /// Handles the response to the INIT with this nonce. On an allocated channel, INIT aborts the preceding transaction
     /// (section 11.2.5.3).
-    fn answer_init(
+    fn on_init_response(
         &mut self,
         answer: &ResponseStart<'_>,
         ended: &mut EndedList,
@@ -308,9 +309,9 @@ impl Channel {
         Some(exchange)
     }
 
-    /// Handles the response to the complete message with this command. If both messages qualify, it is unknown which
-    /// one it is for, and both end as unknown.
-    fn answer_message(
+    /// Handles the response to the complete message with this command. If both messages qualify, it is unknown to which
+    /// one the response belongs, and both end as unknown.
+    fn on_message_response(
         &mut self,
         answer: &ResponseStart<'_>,
         ended: &mut EndedList,

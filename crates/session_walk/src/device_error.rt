@@ -2,7 +2,7 @@
 
 ghost use Rattle.std.specs.Prelude.{◌≡◌, true, false, if◌then◌else◌, Some, None};
 ghost use Rattle.session_walk.specs.Owners.{with_end_of, current_ended};
-ghost use Rattle.session_walk.specs.Ends.{also_ends, interrupted_end, is_late_by, timeout_transaction};
+ghost use Rattle.session_walk.specs.Ends.{also_ends, interrupted_end, is_ambiguous_part_of_any, timeout_transaction};
 ghost use Rattle.session_walk.specs.Ends.{timed_out, ends_by_timeout};
 ghost use Rattle.session_walk.specs.Owners.{transaction_of};
 ghost use Rattle.session_walk.specs.Whole.{contender_lost, current_refused, current_timed_out, timeout_result, last_init_refused, refused_init, refused_start, start_refused, without_refused_start, can_refuse_init, error_result, refused as refusal_result};
@@ -103,7 +103,7 @@ impl Channel {
         ensures state { self.new ≡ timed_out ambiguous.now self.old }
         ensures ended { ended.new.0.items ≡ ends_by_timeout ambiguous.now self.old.current ended.old.0.items }
         ensures transaction { result.0 ≡ timeout_transaction ambiguous.now self.old.current }
-        ensures deferred { result.1 ≡ is_late_by ambiguous.now self.old.current }
+        ensures deferred { result.1 ≡ is_ambiguous_part_of_any ambiguous.now self.old.current }
     {
         let Some(mut current) = self.current else {
             return (None, false);
@@ -179,8 +179,8 @@ impl Channel {
         self.end_refused_by(code, is_undecided, &start, ended)
     }
 
-    /// Handles an ERROR that refuses the message that began last, if any. Otherwise it refuses the current message, if
-    /// that is known to be the one.
+    /// Handles an ERROR that refuses `start` at its beginning. Without `start`, the ERROR refuses the current message,
+    /// unless it is unknown to which message it belongs.
     fn end_refused_by(
         &mut self,
         code: u8,
@@ -205,7 +205,7 @@ impl Channel {
         self.end_refused_current(code, ended)
     }
 
-    /// Removes and returns the message that began last if an ERROR refuses it.
+    /// Removes and returns the message that an ERROR refuses at its beginning, if any.
     fn take_refused_start(&mut self, code: u8, is_undecided: bool) -> Option<OpenTransaction>
         ensures state { self.new ≡ without_refused_start code is_undecided self.old }
         ensures transaction { result ≡ refused_start code is_undecided self.old }
@@ -277,8 +277,8 @@ impl Channel {
         Some(init.transaction)
     }
 
-    /// Returns whether an ERROR with this code can be for an INIT of 8 bytes. An allocated channel accepts INIT at any
-    /// time, so there the ERROR is for another open message.
+    /// Returns whether an ERROR with this code can belong to an INIT of 8 bytes. On an allocated channel, a device
+    /// accepts INIT at any time. If another message is open there, the ERROR belongs to that message.
     fn can_refuse_init(&self, code: u8) -> bool
         ensures { result ≡ can_refuse_init code self.now }
     {

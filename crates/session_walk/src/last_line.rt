@@ -95,7 +95,7 @@ impl TransactionTracker {
         }
     }
 
-    /// Returns a completed message.
+    /// Returns the completed message, if any, with its bytes if they were kept.
     pub fn message(&self, completed: &Option<CompletedMessage>) -> Option<CborMessage<'_>>
         ensures { message_bytes result ≡ completed_bytes self.entry.now.pool completed.now }
     {

@@ -46,7 +46,7 @@ pub fn next_value<'a>(cursor: &mut Cursor<'a>, item: &'a [u8]) -> Option<&'a [u8
     item.get(start..cursor.place())
 }
 
-/// Returns the bytes of the value at this key of a map, if the bytes are a map with it.
+/// Returns the bytes of the value at this key, or `None` if `item` isn't a map with this key.
 pub fn value_at<'a>(item: &'a [u8], wanted: Item<'_>) -> Option<&'a [u8]> {
     let Some(mut pairs) = Pairs::of(item) else {
         return None;
@@ -62,7 +62,7 @@ pub fn value_at<'a>(item: &'a [u8], wanted: Item<'_>) -> Option<&'a [u8]> {
     None
 }
 
-/// Returns the item at this key of a map, if the bytes are a map with it.
+/// Returns the item at this key, or `None` if `item` isn't a map with this key.
 pub fn item_at<'a>(item: &'a [u8], wanted: Item<'_>) -> Option<Item<'a>> {
     let Some(value) = value_at(item, wanted) else {
         return None;

@@ -17,7 +17,7 @@ pub struct RpId {
 }
 
 impl Default for RpId {
-    /// Returns no RP ID.
+    /// Returns the value for a request without an RP ID.
     fn default() -> Self
         ensures { result ≡ no_rp_id }
     {
@@ -55,7 +55,7 @@ impl RpId {
         self.bytes.get(..self.len).unwrap_or(b"")
     }
 
-    /// Returns the RP ID as text, if there is one.
+    /// Returns the RP ID as text, or `None` without an RP ID.
     pub fn text(&self) -> Option<&str>
         ensures { IfSome result (λ text. text.now ≡ rp_id_bytes self.now) }
     {

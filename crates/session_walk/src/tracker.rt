@@ -106,7 +106,7 @@ impl TransactionTracker {
         }
     }
 
-    /// Processes the end of the log: an ambiguous packet belongs to its message.
+    /// Processes the end of the log. An ambiguous packet then belongs to its message.
     pub fn finish(&mut self)
         ensures { KeepsOnly self.old.pool self.new.pool }
     {
@@ -156,7 +156,8 @@ impl TransactionTracker {
     // ---- inputs
 
     /// Handles a reply of the caller. The reply belongs to the message that waits for it according to a KEEPALIVE, or
-    /// else to the message without a response. If there are two such messages, it is unknown to which one.
+    /// else to the message without a response. If there are two such messages, it is unknown to which of them the reply
+    /// belongs.
     fn on_reply(&mut self, input: &Input)
         ensures pool { self.new.pool ≡ self.old.pool }
         ensures completed { self.new.completed ≡ self.old.completed }
@@ -367,14 +368,14 @@ impl TransactionTracker {
         ensures at { current_time_at place self.new ≡ current_time_at place self.old }
     {
         let named = self.credentials.identify(transaction, &self.pool);
-        self.channels.list[place].name(transaction, named);
+        self.channels.list[place].set_request_names(transaction, named);
         Some(CompletedMessage {
             line: transaction.line,
             place: None,
         })
     }
 
-    /// Resolves the ambiguous packet, if any: whether it arrived too late.
+    /// Resolves the ambiguous packet, if any. `is_late` is whether it arrived too late.
     pub(crate) fn resolve(&mut self, is_late: bool)
         ensures pool { self.new.pool ≡ self.old.pool }
         ensures line { self.new.message_start ≡ self.old.message_start }

@@ -80,7 +80,7 @@ impl MessageProgress {
         self.length <= MAX_MESSAGE_LEN && self.received_len() == usize::from(self.length)
     }
 
-    /// Returns the bytes received and the message's length, or `None`s if it is complete.
+    /// Returns the bytes received and the message's length, or `None` for both if the message is complete.
     pub fn missing(&self) -> (Option<u64>, Option<u64>)
         ensures { result ≡ (if is_whole self.now.length self.now.continuations then (None, None)
             else (Some (bytes_received self.now.length self.now.continuations), Some self.now.length)) }
@@ -112,7 +112,7 @@ pub struct RequestNames {
 }
 
 impl Default for RequestNames {
-    /// Returns no RP ID and no credentials.
+    /// Returns the value for a request without an RP ID and credentials.
     fn default() -> Self
         ensures { result ≡ no_names }
     {

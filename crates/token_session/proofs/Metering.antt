@@ -13,7 +13,7 @@ use Rattle.token_session.specs.Machine.{MachineState, turn, start_state}
 use Rattle.cred_table.specs.Waiting.{pending_count}
 use Rattle.std.specs.List.{cons_option}
 use Rattle.token_session.specs.Meters.{AreBounded, peak_rows, peak_pending, requests, peak_held, meters_of, counted}
-use Rattle.token_session.specs.Meters.{metered, SessionState, IsStateAfter, stepped, session_of}
+use Rattle.token_session.specs.Meters.{update_meters, SessionState, IsStateAfter, stepped, session_of}
 
 -- the bytes held are those that the history names
 pub held_named : (start : Start) (h : List ReceivedInput) → stored_len (state_of start h).current ≡ held start h
@@ -37,10 +37,10 @@ unfolding counted
 counted_more x0 held rows pending rs = grind (arith, common_steps, sum_by-cons)
 
 pub meters_more : (start : Start) (e : ReceivedInput) (h : List ReceivedInput)
-    → metered (meters_of start h) (held start (e ∷ h)) (length (core start (e ∷ h)).state.rows)
+    → update_meters (meters_of start h) (held start (e ∷ h)) (length (core start (e ∷ h)).state.rows)
     (pending_count (core start (e ∷ h)).state.pending) (request_in (event_at start e h))
     ≡ meters_of start (e ∷ h)
-unfolding meters_of metered requests peak_held peak_rows peak_pending
+unfolding meters_of update_meters requests peak_held peak_rows peak_pending
 meters_more start e h = search (rules, arith, counted_more)
 
 -- A session that stands after a history stands after the longer one.
@@ -59,7 +59,7 @@ pub stepped_is : (m n : MachineState) (k l : Meters) (s : SessionState) (x : Tim
     → held ≡ max l.held (stored_len n.current) → rows ≡ max l.rows (length n.core.state.rows)
     → pending ≡ max l.pending (pending_count n.core.state.pending)
     → record { machine = n; meters = record l { held = held; rows = rows; pending = pending } } ≡ stepped s x
-unfolding stepped metered
+unfolding stepped update_meters
 stepped_is m n k l s x held rows pending is state finished held_is rows_are pending_is = search (rules, arith)
 
 -- the session at its start

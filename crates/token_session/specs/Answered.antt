@@ -73,7 +73,7 @@ timer_packets start past latest t =
     if is_some before && is_none (open_at past t) then timeout_packets before
     else if keepalive_due work latest t then keepalive_packets work else []
 
--- The time of the last KEEPALIVE, or 0.
+-- The time of the last KEEPALIVE, or 0 if none was sent.
 unfoldable pub last_keepalive_at : Start → List ReceivedInput → ℕ
 last_keepalive_at start [] = 0
 last_keepalive_at start (e ∷ past) =

@@ -11,7 +11,7 @@ use Rattle.hid_packet.specs.Limits.{OUTBOX_CAPACITY}
 abbrev pub numbered_packet : Sent → ℕ × List ℕ
 numbered_packet s = (s.input, (s.packet).0)
 
--- the packet alone
+-- The packet without the number of its input.
 abbrev pub packet_of : Sent → List ℕ
 packet_of s = (s.packet).0
 

@@ -11,7 +11,7 @@ use Rattle.authn_core.specs.Exchanges.{rows_after}
 use Rattle.token_session.specs.Answered.{exchanges_of, received_inputs, packets_sent}
 use Rattle.token_session.specs.{History.received, History.held, History.core, Meters.requests}
 
--- a session's start
+-- The start of a session.
 abbrev pub start_of : (aaguid : List ℕ) → (moment capacity : ℕ) → List Row → Start
 start_of aaguid moment capacity rows = record { aaguid = aaguid; moment = moment; capacity = capacity; rows = rows }
 

@@ -39,8 +39,8 @@ unfoldable pub core : Start → List ReceivedInput → CoreState
 core start [] = first_state start
 core start (e ∷ past) = let before = core start past in event_core before e.at (event_after before e past)
 
--- Whether an initialization packet begins a message: PING or CBOR on an allocated channel, while no message is open and
--- no request is pending.
+-- Whether an initialization packet begins a message: a PING, or a CBOR message of at least one byte, on an allocated
+-- channel, while no message is open and no request is pending.
 unfoldable pub admits : ℕ → Option MessageStart → Option ℕ → List ℕ → Bool
 admits channels_allocated o work p =
     is_initialization p && is_allocated channels_allocated (channel p)
@@ -101,7 +101,7 @@ time_packets start past latest t =
     if is_some before && is_none (open_at past t) then timeout_packets before
     else if keepalive_due work latest t then keepalive_packets work else []
 
--- The time of the last KEEPALIVE, or 0.
+-- The time of the last KEEPALIVE, or 0 if none was sent.
 unfoldable pub last_keepalive : Start → List ReceivedInput → ℕ
 last_keepalive start [] = 0
 last_keepalive start (e ∷ past) =

@@ -20,7 +20,7 @@ abbrev pub latest_time : Start → List ReceivedInput → ℕ
 latest_time start [] = start.moment
 latest_time start (e ∷ past) = e.at
 
--- The bytes of an input's packet.
+-- The bytes of an input's packet, or the empty list for other inputs.
 abbrev pub packet : Input → List ℕ
 packet (Packet p) = p.0
 packet other = []

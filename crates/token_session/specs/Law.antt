@@ -50,7 +50,8 @@ abbrev pub run_state : MachineState → List Timed → MachineState
 run_state s [] = s
 run_state s (x ∷ xs) = run_state (turn s x).state xs
 
--- The packets that the composed machine sends for the inputs of a list.
+-- The packets that the composed machine sends for the inputs of a list, each with the number of its input. The first
+-- input has the number `n`.
 abbrev pub run_sent : ℕ → MachineState → List Timed → List (ℕ × List ℕ)
 run_sent n s [] = []
 run_sent n s (x ∷ xs) = with_input_number n (turn s x).packets ++ run_sent (n + 1) (turn s x).state xs

@@ -52,8 +52,8 @@ counted m (Some message) = record m {
 }
 
 -- The meters after an input, from the numbers of stored bytes, credentials and pending assertions then.
-unfoldable pub metered : Meters → (held rows pending : ℕ) → Option (List ℕ) → Meters
-metered m held rows pending request =
+unfoldable pub update_meters : Meters → (held rows pending : ℕ) → Option (List ℕ) → Meters
+update_meters m held rows pending request =
     let n = counted m request in
     record n { held = max n.held held; rows = max n.rows rows; pending = max n.pending pending }
 
@@ -69,7 +69,7 @@ pub record SessionState : Type 0 where
 -- The meters after an input of the composed machine.
 abbrev pub with_turn_metered : Meters → MachineTurn → Meters
 with_turn_metered m t =
-    metered m (stored_len t.state.current) (length t.state.core.state.rows) (pending_count t.state.core.state.pending)
+    update_meters m (stored_len t.state.current) (length t.state.core.state.rows) (pending_count t.state.core.state.pending)
     (request_in t.event)
 
 -- The session after one more input.

@@ -42,7 +42,8 @@ abbrev pub is_ignored : Answer → Bool
 is_ignored Ignored = true
 is_ignored answer = false
 
--- Whether an input is ignored, or refused because of its channel. This describes noise by its result.
+-- Whether an input is ignored, or refused because of its channel. This is an equivalent definition of noise, by the
+-- result of the input.
 abbrev pub is_ignored_or_rejected : Assembly → CoreState → (now : ℕ) → Input → Bool
 is_ignored_or_rejected a core now (Packet p) = is_noise_verdict (verdict a (working_channel core) (fields p.0))
 is_ignored_or_rejected a core now (Presence reply) = is_ignored (core_answer core now (PresenceIs reply))

@@ -14,11 +14,11 @@ use Rattle.authn_core.specs.{State.Event, State.Request, State.Answer, State.Ans
 unfoldable pub init_response : (on cid : ℕ) → (nonce : List ℕ) → List (List ℕ)
 init_response on cid nonce = message_packets on INIT (nonce ++ big_bytes 4 cid ++ 2 ∷ 1 ∷ 0 ∷ 0 ∷ 0x0c ∷ [])
 
--- an ERROR (CTAP 2.1, section 11.2.9.1.6)
+-- An ERROR packet with this error code (CTAP 2.1, section 11.2.9.1.6).
 abbrev pub error : ℕ → ℕ → List (List ℕ)
 error cid code = message_packets cid ERROR (code ∷ [])
 
--- a KEEPALIVE (CTAP 2.1, section 11.2.9.1.7)
+-- A KEEPALIVE packet with this status (CTAP 2.1, section 11.2.9.1.7).
 abbrev pub keepalive : ℕ → ℕ → List (List ℕ)
 keepalive cid status = message_packets cid KEEPALIVE (status ∷ [])
 

@@ -9,7 +9,7 @@ abbrev pub latest_requests : Start → List ReceivedInput → LatestRequests
 latest_requests start h = requests_of (steps start h)
 
 -- The response is sent on the channel of the request. The authenticator data in the response, followed by the request's
--- clientDataHash, is exactly the bytes that were to be signed.
+-- clientDataHash, equals the bytes to sign.
 pub record IsAnsweredBy (start : Start) (h : List ReceivedInput) (e : ReceivedInput) (id signed sig : List ℕ) : Type 0 where
   pub cid : ℕ
   pub bytes : List ℕ

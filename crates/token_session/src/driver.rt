@@ -107,7 +107,7 @@ pub fn drive<const C: usize, const N: usize>(
     // The call fails if and only if the capacity is too small.
     ensures full { IfErr result (λ e. (inputs_done 0 result < length inputs.now)
         × (N < array_vec_len sent.new + OUTBOX_CAPACITY)) }
-    // After any history.
+    // For each history that leads to the session's state, the extended history leads to the new state.
     ensures after { (start : Start) (h : List OneInput) → IsStateAfter session.old start h
         → IsStateAfter session.new start (append_inputs (take (inputs_done (length inputs.now) result) inputs.now) h) }
     ensures sent { (start : Start) (h : List OneInput) → IsStateAfter session.old start h
@@ -134,8 +134,8 @@ pub fn drive<const C: usize, const N: usize>(
 
 /// Creates a session and passes the inputs to it. The packets that are sent replace the content of `sent`. Stops before
 /// the first input at which there is capacity for fewer than 130 packets. The contract is the main theorem: for every
-/// start and every list of inputs, the packets that are sent are exactly those that the definitions give for the
-/// history.
+/// start and every list of inputs, the packets that are sent are exactly those that the definitions in specs/ give for
+/// the history.
 pub fn drive_new<const C: usize, const N: usize>(
     config: Config,
     rows: Store<C>,

@@ -1,5 +1,6 @@
 //! Laws about the definitions. The state machine of transport and authenticator sends, for any history, exactly the
-//! packets that the definitions give for the history. Each function has an empty body, and its contract is the law.
+//! packets that the definitions in specs/ give for the history. Each function has an empty body, and its contract is
+//! the law.
 
 ghost use Rattle.std.specs.Prelude.{◌≡◌, ◌≤◌, ◌⊎◌, ◌+◌, ◌*◌, ℕ, List, [], ◌∷◌, length, max, true, Some, None, option_to_list, if◌then◌else◌};
 ghost use Rattle.token_session.specs.declared.input.Timed.{Timed as OneInput};
@@ -40,8 +41,8 @@ use authn_core::laws::{
 };
 use ctap_message::laws::steps_are_bounded;
 
-/// States that after any history, the machine is in the state that the definitions give for the history, and that for
-/// each input exactly the packets are sent that the definitions give.
+/// States that after any history, the machine is in the state that the definitions in specs/ give for the history, and
+/// that for each input exactly the packets are sent that the definitions in specs/ give.
 pub fn machine_follows_history()
     ensures state { (start : Start) (h : List OneInput) → IsMachineAfter (machine start h) start h }
     ensures packets { (start : Start) (h : List OneInput) (x : OneInput)
@@ -137,8 +138,8 @@ pub fn finished_messages_were_received()
 pub fn noise_is_a_tick()
     ensures step { (s : SessionState) (x : OneInput) → is_noise_at s.machine x ≡ true
         → stepped s x ≡ stepped s (tick_at x.at) }
-    // An input is ignored if and only if it is a packet for which no packet or only an ERROR packet "invalid channel"
-    // or "channel busy" is sent, or a reply that the authenticator ignores. A tick isn't.
+    // An input is ignored if and only if it is a packet that the reply table ignores or rejects with the ERROR packet
+    // "invalid channel" or "channel busy", or a reply that the authenticator ignores. A tick isn't.
     ensures answered { (a : Assembly) (core : CoreState) (now : ℕ) (i : Input)
         → is_noise_among a.given a.current core i ≡ is_ignored_or_rejected a core now i }
     ensures packets { (s : MachineState) (at : ℕ) → (turn s (tick_at at)).packets ≡ (time_passed s (max s.now at)).packets }

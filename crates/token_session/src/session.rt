@@ -164,7 +164,7 @@ impl<const C: usize> Session<C> {
         ensures packets { outbox.new ≡ input_packets_of self.old (record { at = at; input = input }) }
         ensures few { length outbox.new ≤ OUTBOX_CAPACITY }
         // For each history that leads to the session's state, the history extended by this input leads to the new
-        // state, and exactly the packets that the definitions give for the input are sent.
+        // state, and exactly the packets that the definitions in specs/ give for the input are sent.
         ensures after { (start : Start) (h : List OneInput) → IsStateAfter self.old start h
             → IsStateAfter self.new start (record { at = at; input = input } ∷ h) }
         ensures sent { (start : Start) (h : List OneInput) → IsStateAfter self.old start h
@@ -175,8 +175,8 @@ impl<const C: usize> Session<C> {
             → IsStateAfterValidStart self.new start (record { at = at; input = input } ∷ h) }
         ensures told { (start : Start) (h : List OneInput) → IsStateAfterValidStart self.old start h
             → outbox.new ≡ packets_sent_now start h (record { at = at; input = input }) }
-        // The causes of refusals are those of the composed machine, and those that the definitions give for the
-        // history.
+        // The causes of refusals are those of the composed machine, and those that the definitions in specs/ give for
+        // the history.
         ensures why { result ≡ causes_of self.old.machine (record { at = at; input = input }) }
         ensures named { (start : Start) (h : List OneInput) → IsStateAfter self.old start h
             → result ≡ causes_after start h (record { at = at; input = input }) }

@@ -44,7 +44,7 @@ struct Checker {
 }
 
 impl Checker {
-    /// Returns the state with these tokens as the ones that may come next.
+    /// Returns the state in which these tokens may come next.
     fn expecting(self, at: ExpectedToken) -> Option<Checker> {
         Some(Checker { at, ..self })
     }

@@ -28,8 +28,8 @@ pub struct Client<'a> {
     suffix: &'a [u8],
     abilities: Abilities,
     is_conditional: bool,
-    /// The timeout in milliseconds: that of the options, or `DEFAULT_TIMEOUT_MS` if the options have none or mediation
-    /// is conditional, which ignores it.
+    /// The timeout in milliseconds: that of the options, or `DEFAULT_TIMEOUT_MS` if the options have none or the
+    /// mediation is conditional.
     pub timeout: u32,
 }
 
@@ -52,7 +52,8 @@ fn status_rejection(status: u8) -> Rejection
 }
 
 impl<'a> Client<'a> {
-    /// Begins a call with JSON options from a page with this origin. Fails if an option has the wrong type.
+    /// Begins a call with JSON options from a page with this origin. Fails if the options aren't valid JSON, an option
+    /// has the wrong type, or the mediation or the origin is invalid.
     pub fn begin(
         ceremony: Ceremony,
         options: &'a [u8],
@@ -108,7 +109,7 @@ impl<'a> Client<'a> {
             )?,
         }
         if self.is_conditional && self.ceremony == Ceremony::Create {
-            return Err(not_allowed("cannot create a credential with silent mediation"));
+            return Err(not_allowed("cannot create a credential with conditional mediation"));
         }
         if self.timeout == 0 {
             return Err(not_allowed("the request's timeout is 0"));
@@ -116,7 +117,7 @@ impl<'a> Client<'a> {
         Ok(())
     }
 
-    /// Returns whether the UV flag of the response is set.
+    /// Returns whether the user is verified, so that the UV flag of the response must be set.
     pub fn is_verified(&self) -> Result<bool, Rejection>
         ensures { IfOk result (λ v. IsTrue v → self.now.abilities.verification ≡ Verified) }
     {

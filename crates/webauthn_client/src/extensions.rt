@@ -41,7 +41,7 @@ fn unsupported(member: &'static str, reason: &'static str) -> Rejection
     }
 }
 
-/// Checks the types of the `prf` inputs.
+/// Checks that an input of `prf` is a dictionary with the member `first`.
 fn check_prf_values(value: &[u8]) -> Result<(), Rejection> {
     dictionary(value, "AuthenticationExtensionsPRFValuesJSON")?;
     required(value, "first")?;
@@ -84,7 +84,7 @@ pub fn check_extension_types(extensions: Option<&[u8]>) -> Result<(), Rejection>
     check_by_credential(inner_member(extensions, "prf", "evalByCredential"))
 }
 
-/// Checks that the `prf` inputs are base64url.
+/// Checks that the members of an input of `prf` are base64url.
 fn check_prf_bytes(value: &[u8]) -> Result<(), Rejection> {
     decode_member(required(value, "first")?, "extensions.prf.first")?;
     if let Some(second) = member(value, "second") {

@@ -164,8 +164,8 @@ pub fn inside(value: &[u8]) -> &[u8] {
     }
 }
 
-/// Returns the value of an object's member by name. If the name occurs several times, the last value is returned. For
-/// other values, returns None.
+/// Returns the value of an object's member by name. If the name occurs several times, the last value is returned.
+/// Returns None if the value isn't an object or has no member of this name.
 pub fn member<'a>(object: &'a [u8], name: &str) -> Option<&'a [u8]> {
     if kind_of(object) != Kind::Object {
         return None;

@@ -1,5 +1,5 @@
-//! Conversion of JSON values to WebIDL's 32-bit numbers. A string is parsed as a decimal number without an exponent;
-//! any other string is converted to 0.
+//! Conversion of JSON values to WebIDL's 32-bit numbers. A string is parsed as a decimal number. A string with an
+//! exponent or with any other text is converted to 0.
 
 ghost use Rattle.std.specs.Prelude.{◌≤◌, length};
 

@@ -49,7 +49,7 @@ pub fn dictionary(value: &[u8], name: &'static str) -> Result<(), Rejection> {
     }
 }
 
-/// Checks that a value is a dictionary without required members, or null.
+/// Checks that a value, if any, is a dictionary or null.
 pub fn optional_dictionary(value: Option<&[u8]>, name: &'static str) -> Result<(), Rejection> {
     match value {
         Some(value) if kind_of(value) != Kind::Null => dictionary(value, name),
@@ -72,7 +72,7 @@ pub fn sequence(value: &[u8], name: &'static str) -> Result<(), Rejection> {
     }
 }
 
-/// Returns a required member.
+/// Returns a required member of an object. Fails if the member is missing.
 pub fn required<'a>(object: &'a [u8], name: &'static str) -> Result<&'a [u8], Rejection> {
     match member(object, name) {
         Some(value) => Ok(value),
@@ -91,7 +91,7 @@ fn check_descriptor(item: &[u8]) -> Result<(), Rejection> {
     Ok(())
 }
 
-/// Checks the types of all members in a list of credential descriptors.
+/// Checks that a value, if any, is a list of credential descriptors.
 pub fn check_descriptors(list: Option<&[u8]>, name: &'static str) -> Result<(), Rejection> {
     let Some(list) = list else {
         return Ok(());
@@ -183,8 +183,8 @@ pub fn put_descriptors(message: &mut Message, list: &[u8]) -> Result<(), Rejecti
     Ok(())
 }
 
-/// Returns whether user verification is requested. As in Chromium, a registration requests user verification if the
-/// authenticator supports it.
+/// Returns whether the authenticator verifies the user. As in Chromium, a registration requests user verification if
+/// the authenticator supports it. Fails if user verification is required but not supported, or if it fails.
 pub fn is_verified(
     wanted: Option<&[u8]>,
     verification: Verification,

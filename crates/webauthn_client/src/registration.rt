@@ -20,7 +20,7 @@ use crate::relying_party::{Origin, select_rp_id};
 use crate::text::{is_word, to_string_value};
 use sha2::{Digest, Sha256};
 
-/// Checks the types of all members in `pubKeyCredParams`.
+/// Checks that `pubKeyCredParams` is a list of dictionaries with an algorithm and a type.
 fn check_parameters(list: &[u8]) -> Result<(), Rejection> {
     sequence(list, "pubKeyCredParams")?;
     let mut rest = inside(list);
@@ -77,7 +77,8 @@ fn selection<'a>(options: &'a [u8], name: &str) -> Option<&'a [u8]> {
     member(member(options, "authenticatorSelection")?, name)
 }
 
-/// Returns whether a discoverable credential is requested.
+/// Returns whether the new credential is discoverable. Fails if the options require this and the authenticator doesn't
+/// support it.
 pub fn is_discoverable(options: &[u8], abilities: Abilities) -> Result<bool, Rejection> {
     let wanted = selection(options, "residentKey").unwrap_or(b"null");
     let is_known = is_word(wanted, "required")
@@ -96,7 +97,7 @@ pub fn is_discoverable(options: &[u8], abilities: Abilities) -> Result<bool, Rej
     Ok((is_required || is_preferred) && abilities.has_resident_key)
 }
 
-/// Checks that the authenticator has the abilities that the options require.
+/// Checks that the option `authenticatorAttachment`, if any, matches the authenticator.
 fn check_abilities(options: &[u8], abilities: Abilities) -> Result<(), Rejection> {
     if let Some(wanted) = selection(options, "authenticatorAttachment") {
         if is_word(
@@ -113,7 +114,7 @@ fn check_abilities(options: &[u8], abilities: Abilities) -> Result<(), Rejection
     Ok(())
 }
 
-/// Appends `pubKeyCredParams`.
+/// Appends the entries of `pubKeyCredParams`, or ES256 and RS256 if the list is empty.
 fn put_parameters(message: &mut Message, list: &[u8]) -> Result<(), Rejection> {
     if count(list) == 0 {
         return put(
@@ -186,7 +187,7 @@ fn check_values(options: &[u8], origin: &Origin, abilities: Abilities) -> Result
     )
 }
 
-/// Returns whether user verification is requested.
+/// Returns whether the authenticator verifies the user.
 pub fn requests_verification(options: &[u8], abilities: Abilities) -> Result<bool, Rejection>
     ensures { IfOk result (λ v. IsTrue v → abilities.verification ≡ Verified) }
 {

@@ -32,7 +32,8 @@ impl DomError {
     }
 }
 
-/// An error: the name of the DOM exception, the name of the invalid option, or an empty text, and the reason.
+/// An error: the name of the DOM exception, the name of the invalid option (empty if no option is invalid), and the
+/// reason.
 #[derive(Clone, Copy)]
 pub struct Rejection {
     pub error: DomError,
@@ -63,13 +64,20 @@ pub fn not_allowed(reason: &'static str) -> Rejection
     }
 }
 
-/// Returns the error for a string or list that is too long for this client's buffers.
-pub fn too_long() -> Rejection
+/// Returns the error for a value that this client can't store or convert.
+pub fn range_error(reason: &'static str) -> Rejection
     ensures { result.error ≡ Range }
 {
     Rejection {
         error: DomError::Range,
         member: "",
-        reason: "a text or a list is longer than this client takes",
+        reason,
     }
+}
+
+/// Returns the error for a string or list that is too long for this client's buffers.
+pub fn too_long() -> Rejection
+    ensures { result.error ≡ Range }
+{
+    range_error("a string or a list is longer than the client's buffer")
 }

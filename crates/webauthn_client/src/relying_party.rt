@@ -80,7 +80,7 @@ fn last_label(host: &[u8]) -> &[u8] {
     host
 }
 
-/// Returns whether a host is an IPv4 address: its last label is a number.
+/// Returns whether a host counts as an IPv4 address: its last label consists of digits, or is empty.
 fn is_address(host: &[u8]) -> bool {
     last_label(host).iter().all(|&byte| byte.is_ascii_digit())
 }
@@ -127,7 +127,7 @@ fn check_context(origin: &Origin) -> Result<(), Rejection> {
 }
 
 /// Returns the RP ID of a call: the one in the options if the page may use it, or else the page's host. If the caller
-/// passes no public suffix, the last label of the host is used.
+/// passes no public suffix, the last label of the host is used as the suffix.
 pub fn select_rp_id<'a>(
     given: Option<&'a [u8]>,
     origin: &Origin<'a>,
@@ -177,7 +177,10 @@ pub fn check_site(url: &[u8], name: &'static str, origin: &Origin) -> Result<(),
     let site = rest.get(..len).unwrap_or(b"");
     let is_near = may_use(site, origin.host, last_label(origin.host))
         || may_use(origin.host, site, last_label(site));
-    if !is_near || !origin.is_secure_scheme {
+    if !origin.is_secure_scheme {
+        return Err(security_error(name, "the page isn't served over https"));
+    }
+    if !is_near {
         return Err(security_error(name, "the extension's URL belongs to another site"));
     }
     Ok(())

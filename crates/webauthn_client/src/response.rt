@@ -35,7 +35,7 @@ struct ResponseMember<'a> {
 pub fn invalid_response() -> Rejection
     ensures { result.error ≡ NotAllowed }
 {
-    not_allowed("the key's answer can't be read")
+    not_allowed("the authenticator's response is not CBOR in canonical form, or lacks members")
 }
 
 /// Returns a member of a response map by its number.
@@ -116,7 +116,7 @@ fn push_end(out: &mut Response, abilities: Abilities) -> Result<(), Rejection> {
     }
 }
 
-/// Ends an unfinished JSON string. If the COSE key is on P-256, appends the public key and its algorithm.
+/// Ends an unfinished JSON string. If the COSE key is an ES256 key on P-256, appends the public key and its algorithm.
 fn push_public_key(out: &mut Response, cose: &[u8]) -> Result<(), Rejection> {
     push(out, b"\"")?;
     if cose.len() < 77 || &cose[..10] != b"\xa5\x01\x02\x03\x26\x20\x01\x21\x58\x20".as_slice() {
@@ -134,7 +134,7 @@ fn push_public_key(out: &mut Response, cose: &[u8]) -> Result<(), Rejection> {
     push(out, b"\",\"publicKeyAlgorithm\":-7")
 }
 
-/// Appends an extension result. A comma precedes it, unless it is the first one.
+/// Appends an extension result if `is_there`. A comma precedes it, unless it is the first result.
 fn push_result(
     out: &mut Response,
     has_any: &mut bool,

@@ -32,7 +32,7 @@ pub fn check_types(options: &[u8]) -> Result<(), Rejection> {
     check_extension_bytes(extensions)
 }
 
-/// Returns whether a value is the name of this transport.
+/// Returns whether a value is the name of a transport.
 fn is_transport(value: &[u8]) -> bool {
     let text = match to_string_value(value) {
         Ok(text) => text,
@@ -68,7 +68,7 @@ fn is_usable_over(item: &[u8], transport: &str) -> bool {
     !has_named
 }
 
-/// Returns whether the list is empty, or contains a credential that is usable over this transport.
+/// Returns whether the list has no entry of the type `public-key`, or has one that is usable over this transport.
 fn is_any_usable_over(list: &[u8], transport: &str) -> bool {
     if public_key_count(list) == 0 {
         return true;
@@ -86,7 +86,7 @@ fn is_any_usable_over(list: &[u8], transport: &str) -> bool {
     false
 }
 
-/// Returns whether user verification is requested.
+/// Returns whether the authenticator verifies the user.
 pub fn requests_verification(options: &[u8], abilities: Abilities) -> Result<bool, Rejection>
     ensures { IfOk result (λ v. IsTrue v → abilities.verification ≡ Verified) }
 {

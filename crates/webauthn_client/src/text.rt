@@ -3,7 +3,7 @@
 ghost use Rattle.std.specs.Prelude.{◌≡◌, ◌<◌, ◌++◌, OnOk};
 
 use crate::json::{Kind, inside, kind_of, next_value};
-use crate::rejection::{Rejection, too_long};
+use crate::rejection::{Rejection, range_error, too_long};
 use arrayvec::ArrayVec;
 
 /// A buffer for a text in UTF-8 or other bytes.
@@ -181,7 +181,7 @@ fn push_scalar(value: &[u8], out: &mut Text) -> Result<(), Rejection> {
     }
 }
 
-/// Appends a value, converted to a string. Nested arrays are converted to empty strings.
+/// Appends a value, converted to a string. Fails for an array inside an array.
 pub fn push_value(value: &[u8], out: &mut Text) -> Result<(), Rejection> {
     if kind_of(value) != Kind::Array {
         return push_scalar(value, out);
@@ -196,7 +196,9 @@ pub fn push_value(value: &[u8], out: &mut Text) -> Result<(), Rejection> {
         }
         match kind_of(item) {
             Kind::Null => {}
-            Kind::Array => return Err(too_long()),
+            Kind::Array => {
+                return Err(range_error("an array inside an array can't be converted to a string"));
+            }
             _ => push_scalar(item, out)?,
         }
         rest = after;

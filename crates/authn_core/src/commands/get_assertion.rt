@@ -200,7 +200,7 @@ impl<T: Table<C>, const C: usize> Core<T, C> {
         Turn::Answer
     }
 
-    // ---- the next one
+    // ---- authenticatorGetNextAssertion
 
     /// Begins an assertion by the first pending credential.
     pub(crate) fn next(&mut self, cid: u32, answer: &mut Answer) -> Turn

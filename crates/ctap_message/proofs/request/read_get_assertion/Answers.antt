@@ -4,7 +4,7 @@ use Rattle.ctap_cbor.specs.{Telling.canonical_tree, Telling.outcome_of, Tree.Tre
 use Rattle.ctap_message.specs.{Members.map_of, Walks.typed, Judged.AssertionParameters, Judged.validated_assertion}
 use Rattle.ctap_message.specs.GetAssertion.{assertion_types, assertion_request}
 use Rattle.ctap_message.specs.CollectedRequests.{assertion_in, to_assertion_parameters}
-use Rattle.ctap_message.specs.RequestFaults.{checked_assertion, assertion_fault, fault_after}
+use Rattle.ctap_message.specs.RequestFaults.{assertion_fault_in, assertion_fault, fault_after}
 use Rattle.ctap_message.proofs.Asking.{accepted, never, refused, told}
 use Rattle.ctap_message.proofs.Refusing.{checked_whole}
 use Rattle.ctap_message.proofs.request.read_get_assertion.Goals as goal
@@ -14,7 +14,7 @@ returns-in-Err-clause-fault c =
     let b = c.args.parameters.now in
     let first = refused b c.new-cursor.result c.read_whole.new.cursor c.in-Err.fault c.cursor_agrees_with_check.ensures
     c.new-cursor.ensures c.in-Err.ensures in
-    ap (λ found. fault_after found (checked_assertion (canonical_tree b))) (sym first.fault_is)
+    ap (λ found. fault_after found (assertion_fault_in (canonical_tree b))) (sym first.fault_is)
 
 pub returns-in-Err-clause-steps : goal.returns-in-Err-clause-steps
 returns-in-Err-clause-steps c =
@@ -49,7 +49,7 @@ returns-clause-fault c =
     c.read_whole.new.cursor c.rewind.new.self h.0 c.parse_get_assertion.new.cursor c.cursor_agrees_with_check.ensures first
     (c.rewind.ensures ∙ first.back) h.1 h.2 in
     c.validate_get_assertion.ensures.fault ∙ ap (λ (x : Bool × (AssertionParameters × Trees)). assertion_fault x.0 x.1.0) t.value_is
-    ∙ sym (checked_whole (outcome_of c.args.parameters.now) t.tree checked_assertion t.tree_is)
+    ∙ sym (checked_whole (outcome_of c.args.parameters.now) t.tree assertion_fault_in t.tree_is)
 
 pub returns-clause-steps : goal.returns-clause-steps
 returns-clause-steps c =

@@ -1,5 +1,5 @@
-use Rattle.session_log.{specs.Lines.lines, specs.Session.history_course, proofs.Groups.first_difference}
+use Rattle.session_log.{specs.Lines.lines, specs.Session.history_semantics, proofs.Groups.first_difference}
 use Rattle.session_log.proofs.laws.differences_are_the_first.Goals as goal
 
 pub returns : goal.returns
-returns c = λ start h bytes line packet differs. first_difference (history_course start) h (lines bytes) line packet differs
+returns c = λ start h bytes line packet differs. first_difference (history_semantics start) h (lines bytes) line packet differs

@@ -21,8 +21,8 @@ reading-preserved g c = grind (arith, common_steps, gathers)
 pub reading-smaller : goal.reading-smaller
 reading-smaller g c = search arith
 
-pub returns-then-is_too_many : goal.returns-then-is_too_many
-returns-then-is_too_many g c = search arith
+pub returns-then-has_too_many_lines : goal.returns-then-has_too_many_lines
+returns-then-has_too_many_lines g c = search arith
 
 pub returns-in-Some : goal.returns-in-Some
 returns-in-Some g c = search (arith, in_count)

@@ -1,13 +1,13 @@
 use Rattle.std.proofs.Common.{arith, ap, take, ◌≡◌, ◌∙◌}
 use Rattle.std.specs.Option.{option_copied}
-use Rattle.ctap_cbor.specs.{Views.to_part, Reading.log_comparison, Faults.AKey, Faults.is_above}
+use Rattle.ctap_cbor.specs.{Views.to_part, Reading.comparison_steps, Faults.AKey, Faults.is_above}
 use Rattle.ctap_cbor.proofs.cursor.Cursor.key.Goals.{in-None, in-Some}
 use Rattle.ctap_cbor.proofs.Keys.{key_taken, key_below, key_refused, key_given, key_not_given}
 use Rattle.ctap_cbor.proofs.cursor.Cursor.key.Goals as goal
 
 pub returns-then-is_above-clause-gives : goal.returns-then-is_above-clause-gives
 returns-then-is_above-clause-gives c =
-    let steps : c.match-previous.is_above.1 ≡ log_comparison (option_copied c.args.previous) c.in-Ok.len =
+    let steps : c.match-previous.is_above.1 ≡ comparison_steps (option_copied c.args.previous) c.in-Ok.len =
     elim c.match-previous.branch [ in-None w ↦ grind (arith, w.in-None.is, w.is_above-is) | in-Some w ↦ grind (arith, w.in-Some.is, w.is_above-is, w.cmp.ensures, w.is_lt.ensures) ] in
     let order : is_above (AKey (option_copied c.args.previous)) (take c.in-Ok.len c.rest-rest.result.now) ≡ c.match-previous.is_above.0 =
     elim c.match-previous.branch [ in-None w ↦ grind (arith, w.in-None.is, w.is_above-is) | in-Some w ↦ grind (arith, w.in-Some.is, w.is_above-is, w.cmp.ensures, w.is_lt.ensures) ] in
@@ -20,7 +20,7 @@ returns-then-is_above-clause-exact c = key_given _ _ _ _ _ (returns-then-is_abov
 
 pub returns-else-is_above-clause-gives : goal.returns-else-is_above-clause-gives
 returns-else-is_above-clause-gives c =
-    let steps : c.match-previous.is_above.1 ≡ log_comparison (option_copied c.args.previous) c.in-Ok.len =
+    let steps : c.match-previous.is_above.1 ≡ comparison_steps (option_copied c.args.previous) c.in-Ok.len =
     elim c.match-previous.branch [ in-None w ↦ grind (arith, w.in-None.is, w.is_above-is) | in-Some w ↦ grind (arith, w.in-Some.is, w.is_above-is, w.cmp.ensures, w.is_lt.ensures) ] in
     let order : is_above (AKey (option_copied c.args.previous)) (take c.in-Ok.len c.rest-rest.result.now) ≡ c.match-previous.is_above.0 =
     elim c.match-previous.branch [ in-None w ↦ grind (arith, w.in-None.is, w.is_above-is) | in-Some w ↦ grind (arith, w.in-Some.is, w.is_above-is, w.cmp.ensures, w.is_lt.ensures) ] in

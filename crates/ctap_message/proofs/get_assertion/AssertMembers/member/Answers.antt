@@ -54,10 +54,10 @@ returns-in-Int-eq2 c =
 pub returns-in-Int-eq4 : goal.returns-in-Int-eq4
 returns-in-Int-eq4 c =
     adds_put to_assertion_parameters assertion_types assertion_in assert_next (5 - c.args.level) (to_part c.args.key)
-    (Int (pos 4)) (to_part c.in_ok-value-in_default.value) c.expect_map.result c.args.self.now c.args.self.now
+    (Int (pos 4)) (to_part c.in_ok-value-in_default.value) c.is_map_item.result c.args.self.now c.args.self.now
     c.args.cursor.now c.read_whole_item.new.self assert_grows (search rules)
     (assert_heads (parameter_key 4) (record { allow_list = refl; options = refl })) c.in_ok-value-in_default.ensures
-    (c.expect_map.ensures) refl
+    (c.is_map_item.ensures) refl
 
 pub returns-in-Int-eq6 : goal.returns-in-Int-eq6
 returns-in-Int-eq6 c =

@@ -79,9 +79,9 @@ returns-in-Int-eq1 c =
 pub returns-in-Int-eq6 : goal.returns-in-Int-eq6
 returns-in-Int-eq6 c =
     adds_put to_make_parameters make_types make_in make_next (5 - c.args.level) (to_part c.args.key) (Int (pos 6))
-    (to_part c.in_ok-value-in_default.value) c.expect_map.result c.args.self.now c.args.self.now c.args.cursor.now
+    (to_part c.in_ok-value-in_default.value) c.is_map_item.result c.args.self.now c.args.self.now c.args.cursor.now
     c.read_whole_item.new.self make_grows (search rules) (make_heads (parameter_key 6) refl refl refl refl refl)
-    c.in_ok-value-in_default.ensures (c.expect_map.ensures) refl
+    c.in_ok-value-in_default.ensures (c.is_map_item.ensures) refl
 
 pub returns-in-Int-eq8 : goal.returns-in-Int-eq8
 returns-in-Int-eq8 c =

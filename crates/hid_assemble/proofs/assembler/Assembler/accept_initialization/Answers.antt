@@ -27,11 +27,11 @@ invariant_of-self-in-Long c =
     (row_says c.self.inside.given c.open_on.result c.args.working c.args.cid c.args.cmd c.args.len
     c.self.invariant.channels) in
     let size : length c.put_data-in-Long.new.message ≡ 7609 = omega arith in
-    record {
+    rw c.new.ensures (record {
       channels = c.self.invariant.channels;
       size = size;
       held = says;
-    }
+    })
 
 pub returns-in-Short-clause-state : goal.returns-in-Short-clause-state
 returns-in-Short-clause-state c =
@@ -48,5 +48,5 @@ returns-in-Long-clause-state c =
     let same = given-is _ _ _ _ c.self.view_is in
     let row = sym (c.init_packet_row.ensures ∙ (λ i. init_packet_row (same i) (c.open_on.ensures i) c.args.working
     c.args.cid c.args.cmd c.args.len)) ∙ c.in-Long.is in
-    long_state _ _ _ _ c.self.view_is c.args.at _ c.args.cmd _ _ c.args.working c.args.part.now _
-    c.requires.data c.put_data-in-Long.ensures row
+    rw c.new.ensures (long_state _ _ _ _ c.self.view_is c.args.at _ c.args.cmd _ _ c.args.working c.args.part.now _
+    c.requires.data c.put_data-in-Long.ensures row)

@@ -18,7 +18,7 @@ returns-in-Play-clause-answered g c =
 pub returns-clause-answered : goal.returns-clause-answered
 returns-clause-answered g c =
     done _ _ (to_texts c.args.words.now) (task_and_verbosity c.in-Ok.asked) c.in-Ok.ensures.task
-    (inl (rw (c.in-Show.is, sym c.explains-explains.ensures, sym c.explains-is_worded.ensures) (
+    (inl (rw (c.in-Show.is, sym c.explains-explains.ensures, sym c.explains-is_explained.ensures) (
       to_result c.show_log-came.result,
       c.show_log-came.new.self,
       c.show_log-came.ensures,

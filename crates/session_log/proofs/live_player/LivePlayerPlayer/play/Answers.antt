@@ -18,10 +18,10 @@ returns-in-Input g c =
     let text =
     c.args.text.now ++ flat_map sent_text c.step.new.outbox ++ flat_map with_line_feed (need_lines (to_needed c.need.result)) in
     writes_for live_machine g.T.Target.taken g.T.Target.failed c.args._number s c.step.new.self line (Input x)
-    (c.args.writer.now, c.put_response.new.writer) c.put_response.result text is refl c.step.ensures.state
-    (subst ArePackets c.step.ensures.packets c.put_response.ensures.packets, subst IsValidNeed need c.need.ensures.sized)
+    (c.args.writer.now, c.put_input_with_need.new.writer) c.put_input_with_need.result text is refl c.step.ensures.state
+    (subst ArePackets c.step.ensures.packets c.put_input_with_need.ensures.packets, subst IsValidNeed need c.need.ensures.sized)
     (λ i. c.requires.ended i ++ flat_map sent_text (c.step.ensures.packets i) ++ flat_map with_line_feed (need_lines (need i)))
-    c.put_response.ensures.puts c.put_response.ensures.empty
+    c.put_input_with_need.ensures.puts c.put_input_with_need.ensures.empty
 
 pub returns-then-is_need_line : goal.returns-then-is_need_line
 returns-then-is_need_line g c =
@@ -51,8 +51,8 @@ returns-in-Sent g c =
 pub step-requires : goal.step-requires
 step-requires g c = (assumption c.well_formed, c.requires.ready)
 
-pub put_response-requires : goal.put_response-requires
-put_response-requires g c =
+pub put_input_with_need-requires : goal.put_input_with_need-requires
+put_input_with_need-requires g c =
     let short = fits_ended c.args.line.now _ c.requires.ended c.requires.short in
     record { write = c.requires.write; short = short; few = c.step.ensures.few; sized = c.need.ensures.sized }
 

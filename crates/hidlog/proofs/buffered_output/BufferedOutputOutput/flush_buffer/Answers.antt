@@ -1,7 +1,7 @@
 use Rattle.std.proofs.Common.{drop, take, subst, ap, ◌∙◌}
 use Rattle.std.specs.Io.KnownBytes.{Appends}
 use Rattle.hidlog.proofs.Unread.{handed}
-use Rattle.hidlog.proofs.buffered_output.BufferedOutputOutput.settle.Goals as goal
+use Rattle.hidlog.proofs.buffered_output.BufferedOutputOutput.flush_buffer.Goals as goal
 
 pub waiting-preserved : goal.waiting-preserved
 waiting-preserved g c =

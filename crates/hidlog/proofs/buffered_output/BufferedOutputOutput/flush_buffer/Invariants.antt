@@ -1,6 +1,6 @@
 use Rattle.std.proofs.Common.{◌≡◌, ◌-◌, drop, vec_len}
 use Rattle.std.specs.Io.KnownBytes.{Keeps, append_known}
-use Rattle.hidlog.proofs.buffered_output.BufferedOutputOutput.settle.Given as goal
+use Rattle.hidlog.proofs.buffered_output.BufferedOutputOutput.flush_buffer.Given as goal
 
 -- what was taken stays
 abbrev pub invariant-waiting : goal.invariant-waiting
