@@ -1,7 +1,7 @@
 #!/usr/bin/env python3
 """hidlog live as a real-time command: an example for `run.py --device COMMAND`.
 
-Reads and writes packets as lines of 128 hexadecimal digits. The line `touch` is a touch.
+Reads and writes packets as lines of 128 hexadecimal digits. The line `touch` means that the user touches the key.
 """
 
 from __future__ import annotations

@@ -2,14 +2,15 @@
 """Checks the corpus itself.
 
     conformance/check.py faults [WORD ..]       the cases detect faulty authenticators, under the violated section
-    conformance/check.py lawful [WORD ..]       conforming authenticators have no violation, in the cases and in a walk
-    conformance/check.py others                 an authenticator that shares no code with this project fails listed cases
+    conformance/check.py conforming [WORD ..]   conforming authenticators have no violation, in the cases and in a walk
+    conformance/check.py others                 an authenticator that shares no code with this project fails the listed
+                                                cases, and no others
     conformance/check.py judged [WORD ..]       `hidlog judge` detects faults in recordings of authenticators
-    conformance/check.py judged --clients       and in recordings of clients
+    conformance/check.py judged --clients       `hidlog judge` detects faults in recordings of clients
     conformance/check.py clients                python-fido2 and libfido2 fail the listed sessions for clients
-    conformance/check.py clients --pin          and use the PIN of the reference authenticator
+    conformance/check.py clients --pin          python-fido2 and libfido2 use the PIN of the reference authenticator
 
-`conformance/check.py NAME --help` lists further options of faults, lawful and judged.
+`conformance/check.py NAME --help` lists further options of faults, conforming and judged.
 """
 
 from __future__ import annotations
@@ -22,7 +23,7 @@ from typing import List
 HERE = os.path.dirname(os.path.abspath(__file__))
 sys.path.insert(0, os.path.join(HERE, "checks"))
 
-NAMES = ("faults", "lawful", "others", "judged", "clients")
+NAMES = ("faults", "conforming", "others", "judged", "clients")
 # The modules of checks with an option, by name and option.
 WITH_OPTION = {("judged", "--clients"): "judged_clients", ("clients", "--pin"): "pin_clients"}
 

@@ -16,7 +16,7 @@ from typing import Dict, List, Tuple
 
 from hidlog_conformance.cases.all_cases import build_session_texts, write_sessions
 from hidlog_conformance.cases.sentence_table import format_sentence_table
-from hidlog_conformance.client_runner import client_sessions, read_client_session
+from hidlog_conformance.client_runner import client_sessions
 
 HERE = os.path.dirname(os.path.abspath(__file__))
 # In the format of sha256sum: cd conformance/sessions && sha256sum --check ../../sessions.sha256
@@ -60,8 +60,7 @@ def format_table(corpus_texts: Dict[str, str]) -> str:
 def list_rules(corpus_texts: Dict[str, str]) -> Dict[str, str]:
     """Returns the rule of each session, including those of clients, by name."""
     rules = {name: text.partition("\n")[0].partition(", ")[2] for name, text in corpus_texts.items()}
-    for path in client_sessions():
-        session, _ = read_client_session(path)
+    for session, _ in client_sessions():
         rules["client:" + session.name] = session.head["rule"].partition(", ")[2]
     return rules
 

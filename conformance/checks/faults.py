@@ -4,7 +4,7 @@
     conformance/check.py faults [--jobs N] WORD ..  those whose names contain a word
 
 A fault is a filter between the runner and hidlog live. All cases run, without the choices of the profile; none may fail
-under another rule, except the rules in `implies`. A mutant is the reference authenticator with a wrong method. Cases
+under another rule, except the rules in `implies`. A mutant is the reference authenticator with one faulty method. Cases
 run until two fail under the violated rule; with `--whole` all run, and failed cases are counted by rule. Two cases must
 detect each fault and mutant, unless it is listed with the reason. Two walks must detect each mutant that needs state.
 """
@@ -122,7 +122,7 @@ def main(arguments: List[str]) -> int:
         print(f"check.py faults: no fault matches {' '.join(options.words)}", file=sys.stderr)
         return 2
     keys.is_valid_signature = verify_cached
-    # Without the choices of the profile: each fault must violate the standard.
+    # Choices of the profile are not checked, since each fault must violate the standard.
     SESSIONS.extend(list_supported_sessions())
     failed = count_control_failures() if not options.words or any(name in FAULTS for name in chosen) else 0
     print(f"the filters alone: {failed} of {len(SESSIONS)} cases fail")

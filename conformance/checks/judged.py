@@ -47,7 +47,7 @@ FAULTS: Dict[str, Fault] = {fault.name: fault for fault in WIRE_FAULTS + CBOR_FA
 WAIT_MS = 3000
 # Faults of the INIT response that end a run before its first case. Their cases are recorded without the runner.
 INVALID_INIT_FAULTS = ("packet_short", "length_of_packets", "init_short")
-# The maximum of recordings per fault.
+# The maximum number of recordings per fault.
 MAX_RECORDINGS = 24
 
 
@@ -114,13 +114,14 @@ class Recorder:
         return packet
 
     def log(self, first: List[str]) -> bytes:
-        """Returns the recording, after `first` of the same device, with the time that the host waited at the end."""
+        """Returns the recording as a log. It begins with the lines `first`, recorded with the same device, and ends
+        with the time that the host waited."""
         lines = [*first, "# power cycle", *self.lines, f"t {self.now + WAIT_MS}"]
         return "".join(line + "\n" for line in lines).encode()
 
 
 class FullPlayer(Player):
-    """Plays a session to its end; the first difference is the outcome."""
+    """Plays a session to its end, even after a failure. The first failure is the outcome."""
 
     def __init__(self, *words: Any) -> None:
         super().__init__(*words)
@@ -162,7 +163,7 @@ class FullPlayer(Player):
 
 
 class StoppingPlayer(FullPlayer):
-    """Plays a session to its first difference, as the runner does, and then waits."""
+    """Plays a session to its first failure, as the runner does, and then waits."""
 
     def judge(self, expected: str) -> None:
         """Checks an expectation."""

@@ -27,7 +27,7 @@ WAIT_MS = 3000
 
 
 def find_violations(log: List[str]) -> List[Finding]:
-    """Returns the key's violations in a recording, with the time that the client waited."""
+    """Returns the key's violations in a recording, after adding the time that the client waited at the end."""
     lines = [line for line in log if line[:1] in "<>"]
     text = "".join(line + "\n" for line in ["# the packets of one client alone", *lines, f"t {WAIT_MS}"])
     return [finding for finding in judge(text.encode()).findings if finding.side == KEY]

@@ -1,4 +1,5 @@
-"""Runs the conformance tests against others/python_key.py, which shares no code with the core, by the log's clock.
+"""Runs the conformance tests against others/python_key.py, which shares no code with the core. Time is the log's, so
+the tests do not wait.
 
     conformance/check.py others             fail unless exactly the cases in others/python_key.failed fail
     conformance/check.py others --report    print the report of each failed case

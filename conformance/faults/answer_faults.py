@@ -35,7 +35,7 @@ def change_assertion(change: Callable[[FaultyDevice, Dict[Any, Any]], None], sig
         identity = item[1]["id"]
         change(device, item)
         if sign:
-            item[3] = device.resigned(item[2], decode_parameters(device.asked[GET])[2], identity)
+            item[3] = device.sign_again(item[2], decode_parameters(device.asked[GET])[2], identity)
         return replace_data(message, b"\0" + encode(item))
 
     return hook
@@ -51,7 +51,7 @@ def change_registration(change: Callable[[FaultyDevice, Dict[Any, Any]], None], 
         identity = item[2][55:87]
         change(device, item)
         if sign:
-            item[3]["sig"] = device.resigned(item[2], decode_parameters(device.asked[MAKE])[1], identity)
+            item[3]["sig"] = device.sign_again(item[2], decode_parameters(device.asked[MAKE])[1], identity)
         return replace_data(message, b"\0" + encode(item))
 
     return hook

@@ -10,7 +10,7 @@ from hidlog_conformance.keys import KeyMaker
 
 
 class Node:
-    """The output after the inputs on the path to this node."""
+    """A node in a tree of inputs: the program's output after the inputs on the path to the node."""
 
     def __init__(self) -> None:
         self.answers: List[str] = []
@@ -41,7 +41,7 @@ class CachedDevice(LiveDevice):
         self.place = ROOT
         self.inputs: List[str] = []
 
-    def answers(self, line: str) -> List[str]:
+    def get_output(self, line: str) -> List[str]:
         """Returns the response's lines after an input line."""
         self.inputs.append(line)
         node = self.place.next.get(line)

@@ -36,9 +36,9 @@ class Fault(NamedTuple):
     clock: Optional[Callable[["FaultyDevice", int], int]] = None
     # The line that the program gets instead of a power cycle.
     power: str = POWER_CYCLE
-    # The case that must detect it; empty for any case of the section.
+    # The case that must detect the fault. If empty, any case of the section may.
     by: str = ""
-    # Other sections that it violates, too.
+    # Other sections that the fault also violates.
     implies: Tuple[str, ...] = ()
 
 
@@ -55,8 +55,8 @@ class FaultyDevice(CachedDevice):
 
     def restart(self) -> None:
         """Resets the state of the last session."""
-        self.host = hid.Collector(of_host=True)
-        self.guest = hid.Collector()
+        self.host = hid.MessageReassembler(of_host=True)
+        self.guest = hid.MessageReassembler()
         self.held: List[Tuple[int, bytes]] = []
         # The last request of each command, and the command of the last one.
         self.asked: Dict[int, bytes] = {}
@@ -152,7 +152,7 @@ class FaultyDevice(CachedDevice):
         """Passes on the user's reply, changed by the fault."""
         super().presence(at, self.fault.reply(self, word) if self.fault.reply else word)
 
-    def resigned(self, auth: bytes, client_hash: bytes, credential: bytes) -> bytes:
+    def sign_again(self, auth: bytes, client_hash: bytes, credential: bytes) -> bytes:
         """Signs changed authenticator data."""
         signature: bytes = self.keys.sign(credential, auth + client_hash)
         return signature

@@ -24,7 +24,7 @@ from faults import FAULTS  # noqa: E402
 from faulty import Fault, FaultyDevice  # noqa: E402
 from hidlog import shrink  # noqa: E402
 from malformed_requests import hostile_log  # noqa: E402
-from judge import is_line  # noqa: E402
+from judge import is_log_line  # noqa: E402
 
 PLAIN = Fault("none", "", "", lambda device, message: None)
 PLAIN_LOGS = Fault("none", "", "", request=lambda device, request: request)
@@ -33,7 +33,7 @@ Sent = Tuple[int, bytes]
 
 def list_inputs(log: bytes) -> List[bytes]:
     """Returns a log's input lines."""
-    return [line for line in log.split(b"\n") if line[:1] in (b">", b"t", b"p", b"k", b"s") and is_line(line)]
+    return [line for line in log.split(b"\n") if line[:1] in (b">", b"t", b"p", b"k", b"s") and is_log_line(line)]
 
 
 def play_inputs(device: FaultyDevice, lines: List[bytes]) -> List[Sent]:
@@ -66,7 +66,7 @@ def read_head(packets: List[Sent], place: int) -> bytes:
 
 
 def find_difference(fault: Fault, lines: List[bytes]) -> Optional[Tuple[bytes, bytes]]:
-    """Returns the heads of the first packets that differ, with and without the fault, or None."""
+    """Returns the commands and first bytes of the first packets that differ, with and without the fault, or None."""
     try:
         right, wrong = play_inputs(FaultyDevice(PLAIN_LOGS if fault.request else PLAIN), lines), play_inputs(
             FaultyDevice(fault), lines
@@ -81,7 +81,8 @@ def find_difference(fault: Fault, lines: List[bytes]) -> Optional[Tuple[bytes, b
 
 
 class DifferenceCheck(shrink.Command):
-    """Fails on logs for which a fault makes the same difference."""
+    """A command for `shrink`. It fails on a log if the packets with and without a fault differ, and its failure is the
+    difference."""
 
     def __init__(self, fault: Fault) -> None:
         super().__init__([], None)
@@ -89,7 +90,7 @@ class DifferenceCheck(shrink.Command):
 
     def failure(self, blocks: Any) -> Any:
         """Returns the difference that the fault makes, or None."""
-        return find_difference(self.fault, list_inputs(shrink.joined(blocks)))
+        return find_difference(self.fault, list_inputs(shrink.join_blocks(blocks)))
 
 
 def minimize_finding(fault: Fault, count: int) -> Optional[bytes]:
@@ -99,18 +100,18 @@ def minimize_finding(fault: Fault, count: int) -> Optional[bytes]:
         if find_difference(fault, lines) is None:
             continue
         command = DifferenceCheck(fault)
-        blocks = shrink.blocks_of(b"".join(line + b"\n" for line in lines))
+        blocks = shrink.split_blocks(b"".join(line + b"\n" for line in lines))
         expected: Any = command.failure(blocks)
         shrinking = shrink.Shrinking(command, blocks, expected, tell=lambda text: None)
         shrinking.remove_transactions()
         shrinking.remove_blocks()
-        shortest: bytes = shrink.joined(shrinking.blocks)
+        shortest: bytes = shrink.join_blocks(shrinking.blocks)
         return shortest
     return None
 
 
 def main(arguments: List[str]) -> int:
-    """Searches a finding for each fault."""
+    """Searches for a finding for each fault."""
     parser = argparse.ArgumentParser(description="Let the fuzzer detect faulty authenticators.")
     parser.add_argument("folder", metavar="FOLDER")
     parser.add_argument("--count", type=int, default=1500, help="number of malformed logs (default: 1500)")

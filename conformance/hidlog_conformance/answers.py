@@ -19,7 +19,7 @@ RESERVED_FLAGS = 0x22
 FORMATS = ("packed", "tpm", "android-key", "android-safetynet", "fido-u2f", "apple", "none", "compound")
 # Versions to which the rules of CTAP 2.1 do not apply.
 EARLIER_VERSIONS = ("FIDO_2_0", "FIDO_2_1_PRE")
-# The maximum of PIN retries, and of built-in user verification retries.
+# The maximum number of PIN retries, and of built-in user verification retries.
 MAX_RETRIES, MAX_USER_RETRIES = 8, 25
 MAKE, GET, INFO, RESET, NEXT, SELECTION, BLOBS = 0x01, 0x02, 0x04, 0x07, 0x08, 0x0B, 0x0C
 
@@ -111,7 +111,7 @@ def check_auth_data(auth: bytes, rp: str, words: List[str]) -> None:
 
 
 def find_flag_fault(flags: int, words: List[str]) -> str:
-    """Returns which requirement the flags of authenticator data violate, or empty."""
+    """Returns which requirement the flags of authenticator data violate, or an empty string."""
     if "up" in words and not flags & UP:
         return "flag UP set"
     if "no-up" in words and flags & UP:
@@ -182,11 +182,11 @@ def read_agreement_key(item: Dict[Any, Any]) -> Dict[Any, Any]:
 
 
 def check_attestation(item: Dict[Any, Any], auth: bytes, cose: Dict[int, Any], client_hash: bytes) -> None:
-    """Checks packed attestation, self or with a certificate; of other formats only the name."""
+    """Checks packed attestation with or without a certificate. Of another format, checks only the name."""
     statement = get_member(item, 3, dict, "the attestation statement")
-    check(item[1] in FORMATS, f"a format of {', '.join(FORMATS)}", item[1])
+    check(item[1] in FORMATS, f"one of the formats {', '.join(FORMATS)}", item[1])
     if item[1] == "none":
-        check(statement == {}, "an empty statement of the format none", statement)
+        check(statement == {}, "an empty statement for the format none", statement)
     if item[1] == "packed" and "x5c" in statement:
         chain = get_member(statement, "x5c", list, "the certificates")
         check(bool(chain) and all(isinstance(one, bytes) for one in chain), "at least one certificate", chain)
@@ -220,10 +220,10 @@ def check_credential_id(credential: bytes, length: int, user: bytes, known: Dict
         quantity(length, "byte"),
     )
     check(all(credential != other.id for other in known.values()), "a new credential ID", credential)
-    check(len(user) < 8 or user not in credential, "an ID that does not contain the user ID", credential)
+    check(len(user) < 8 or user not in credential, "a credential ID that does not contain the user ID", credential)
     number = int.from_bytes(credential, "big")
     near = [one.id for one in known.values() if abs(int.from_bytes(one.id, "big") - number) < 2**64]
-    check(not near or len(near[0]) != length, "an ID that is not derived from an earlier one", credential)
+    check(not near or len(near[0]) != length, "a credential ID that is not close to an earlier one", credential)
 
 
 def check_algorithm(cose: Dict[int, Any], asked: Dict[Any, Any], facts: DeviceFacts) -> None:
@@ -231,7 +231,7 @@ def check_algorithm(cose: Dict[int, Any], asked: Dict[Any, Any], facts: DeviceFa
     listed = [entry.get("alg") for entry in asked[4] if isinstance(entry, dict) and entry.get("type") == "public-key"]
     check(cose[3] in listed, f"a key with one of the algorithms {listed}", cose)
     served = [number for number in listed if number in facts.algorithms]
-    check(not served or cose[3] == served[0], f"the first requested algorithm in getInfo: {served[:1]}", cose)
+    check(not served or cose[3] == served[0], f"the first requested algorithm that getInfo lists: {served[:1]}", cose)
 
 
 def check_make_credential_response(
@@ -257,7 +257,11 @@ def check_make_credential_response(
     check_algorithm(cose, asked, facts)
     counter = int.from_bytes(auth[33:37], "big")
     if "counter" in words:
-        check(counter == int(words[words.index("counter") + 1]), "the counter of the expectation", f"counter {counter}")
+        check(
+            counter == int(words[words.index("counter") + 1]),
+            "the expected signature counter",
+            f"signature counter {counter}",
+        )
     check_attestation(item, auth, cose, asked[1])
     discoverable = asked.get(7, {}).get("rk") is True
     return Credential(credential, cose, rp, asked[3]["id"], counter, discoverable)
@@ -295,10 +299,10 @@ def check_user_entity(item: Dict[Any, Any], words: List[str], facts: DeviceFacts
 
 
 def check_counter(credential: Credential, counter: int, words: List[str]) -> None:
-    """Checks that the signature counter rises, and keeps it."""
+    """Checks that the signature counter increases, and stores the new value."""
     rises = counter > credential.counter or counter == credential.counter == 0
     if "counter-rises" in words and not (rises and (counter > 0 or "strictly" not in words)):
-        raise Mismatch(f"a counter above {credential.counter}", str(counter))
+        raise Mismatch(f"a signature counter above {credential.counter}", str(counter))
     credential.counter = max(counter, credential.counter)
 
 
@@ -323,7 +327,7 @@ def check_assertion_response(
         check(descriptor.get("type") == "public-key", 'a credential of type "public-key"', descriptor)
         identity = get_member(descriptor, "id", bytes, "the credential ID")
     else:
-        check(len(allowed) == 1, "the credential, since the allow list has more than one entry", item)
+        check(len(allowed) == 1, "the member credential, since the allow list does not have exactly one entry", item)
         identity = allowed[0]
     found = [credential for credential in known.values() if credential.id == identity]
     check(bool(found) and found[0].rp == asked[1], "a credential registered for this RP", identity)
@@ -348,16 +352,20 @@ def check_info_lists(item: Dict[Any, Any]) -> None:
         if key in item:
             listed = get_member(item, key, list, name)
             check(bool(listed) or key == 2, f"{name} as a non-empty list", listed)
-            check(all(isinstance(one, kind) for one in listed), f"{name} of one type", listed)
-            check(len({repr(one) for one in listed}) == len(listed), f"{name}, each once", listed)
+            check(all(isinstance(one, kind) for one in listed), f"{name} of the type {kind.__name__}", listed)
+            check(len({repr(one) for one in listed}) == len(listed), f"{name} without duplicates", listed)
     for key, name in ((7, "maxCredentialCountInList"), (8, "maxCredentialIdLength")):
         if key in item:
             check(isinstance(item[key], int) and item[key] > 0, f"{name} above 0", item[key])
     entries = item.get(10, [])
     for entry in entries:
         check(isinstance(entry, dict) and {"alg", "type"} == set(entry), "algorithms with alg and type", entry)
-        check(isinstance(entry["alg"], int) and entry["type"] == "public-key", "an algorithm of public-key", entry)
-    check(len({entry["alg"] for entry in entries}) == len(entries), "algorithms, each once", entries)
+        check(
+            isinstance(entry["alg"], int) and entry["type"] == "public-key",
+            'an integer alg and type "public-key"',
+            entry,
+        )
+    check(len({entry["alg"] for entry in entries}) == len(entries), "algorithms without duplicates", entries)
 
 
 def check_get_info_response(data: bytes) -> Dict[Any, Any]:

@@ -21,14 +21,14 @@ class DerError(Exception):
 
 
 def read_element(data: bytes) -> Tuple[Element, bytes]:
-    """Returns the first element, and the bytes behind it."""
+    """Returns the first element, and the bytes after it."""
     if len(data) < 2 or data[1] == 0x80 or data[1] > 0x83:
         raise DerError("no element")
     more = data[1] - 0x80 if data[1] > 0x80 else 0
     length = int.from_bytes(data[2 : 2 + more], "big") if more else data[1]
     end = 2 + more + length
     if end > len(data):
-        raise DerError("it is truncated")
+        raise DerError("truncated element")
     return (data[0], data[2 + more : end]), data[end:]
 
 
@@ -42,9 +42,9 @@ def read_elements(data: bytes) -> List[Element]:
 
 
 def read_content(element: Element, tag: int) -> List[Element]:
-    """Returns the elements of one, which must have this tag."""
+    """Returns the elements inside an element, which must have this tag."""
     if element[0] != tag:
-        raise DerError("another element")
+        raise DerError("unexpected tag")
     return read_elements(element[1])
 
 
@@ -78,7 +78,7 @@ def is_authority(value: bytes) -> bool:
 
 
 def find_part_fault(parts: List[Element], aaguid: bytes) -> str:
-    """Returns which requirement the parts of a certificate violate, or empty."""
+    """Returns which requirement the parts of a certificate violate, or an empty string."""
     if parts[0][0] != VERSION_TAG or parts[0][1] != VERSION_3:
         return "a certificate of version 3"
     subject, extensions = read_subject(parts[5]), read_extensions(parts)
@@ -97,7 +97,8 @@ def find_part_fault(parts: List[Element], aaguid: bytes) -> str:
 
 
 def find_certificate_fault(certificate: Any, aaguid: bytes) -> str:
-    """Returns which requirement of packed attestation a certificate violates (WebAuthn Level 2, 8.2.1), or empty."""
+    """Returns which requirement of packed attestation a certificate violates (WebAuthn Level 2, 8.2.1), or an empty
+    string."""
     if not isinstance(certificate, bytes):
         return NO_DER
     try:

@@ -18,7 +18,7 @@ def hash_of(rp: str) -> bytes:
 
 
 class Listing:
-    """The RPs and credentials that a device has enumerated so far; none may come twice."""
+    """The RPs and credentials that a device has enumerated so far. None may be enumerated twice."""
 
     def __init__(self, is_complete: bool = True) -> None:
         # Whether all credentials of the device are known; otherwise there may be more.
@@ -38,7 +38,7 @@ class Listing:
         check(get_member(item, LEFT, int, "the remaining capacity") >= 0, "a remaining capacity", item)
 
     def check_rp(self, item: Dict[Any, Any], known: List[Credential], total: Optional[int]) -> None:
-        """Checks an enumerated RP; the first comes with the total."""
+        """Checks an enumerated RP. Only the first response of an enumeration has the total."""
         if total is not None:
             self.rps.clear()
         digest = get_member(item, RP_HASH, bytes, "the RP ID hash")
@@ -54,7 +54,7 @@ class Listing:
         self.check_total(item, RPS, total, "RPs")
 
     def check_credential(self, item: Dict[Any, Any], known: List[Credential], rp: bytes, total: Optional[int]) -> None:
-        """Checks an enumerated credential; the first comes with the total."""
+        """Checks an enumerated credential. Only the first response of an enumeration has the total."""
         if total is not None:
             self.ids.clear()
         descriptor = get_member(item, ID, dict, "the credential")
@@ -79,7 +79,7 @@ class Listing:
         check(key == found[0].cose, "the public key of the registration", item)
 
     def check_total(self, item: Dict[Any, Any], key: int, total: Optional[int], name: str) -> None:
-        """Checks that only the first of an enumeration has the total."""
+        """Checks that only the first response of an enumeration has the total."""
         found, left = item.get(key), self.left[key]
         if total is None:
             check(found is None, f"no number of {name}", item)
@@ -100,7 +100,7 @@ class Listing:
         self.check_blob_key(item, BLOB_KEY, words)
 
     def check_blob_key(self, item: Dict[Any, Any], key: int, words: List[str]) -> None:
-        """Checks a large blob key: the session's name for it always means the same key."""
+        """Checks a large blob key: each of the session's names for large blob keys stands for one key."""
         if "no-blob-key" in words:
             check(key not in item, "no large blob key", item)
         if "blob-key" not in words:
@@ -110,7 +110,7 @@ class Listing:
         check(len(found) == 32, "a large blob key of 32 bytes", found)
         check(self.blob_keys.setdefault(name, found) == found, f"the large blob key {name} again", found)
         other = self.blob_names.setdefault(found, name)
-        check(other == name, f"another large blob key than {other}", found)
+        check(other == name, f"a large blob key that differs from that of {other}", found)
 
 
 def check_fragment(item: Dict[Any, Any], expected: bytes) -> None:

@@ -26,7 +26,7 @@ class SettingsReader(ResponseReader):
     def read_data(self, command: int, channel: int, expected: str) -> bytes:
         """Returns the data of the next message, which must have this command and channel."""
         message = self.read_response(expected)
-        check(message.command == command and message.channel == channel, expected, message.shown())
+        check(message.command == command and message.channel == channel, expected, message.describe())
         return message.data
 
     def check_option(self, words: List[str], channel: int, expected: str) -> None:
@@ -132,7 +132,9 @@ class SettingsReader(ResponseReader):
         request = self.sent[channel].data[7:]
         check(data[:1] == bytes([PRESENT]), "user presence 01", data[:1])
         counter = int.from_bytes(data[1:5], "big")
-        check(counter > self.counters[name] or counter == 0, f"a counter above {self.counters[name]}", str(counter))
+        check(
+            counter > self.counters[name] or counter == 0, f"a counter above {self.counters[name]}, or 0", str(counter)
+        )
         self.counters[name] = counter
         point = self.points[name]
         cose = {1: 2, 3: -7, -1: 1, -2: point[1:33], -3: point[33:]}

@@ -50,7 +50,7 @@ class ClientDevice:
 
     def __init__(self, rules: Rules) -> None:
         self.rules = rules
-        self.host = hid.Collector(of_host=True)
+        self.host = hid.MessageReassembler(of_host=True)
         self.keys = KeyMaker()
         self.channel = 0
         self.credential = b""
@@ -65,7 +65,7 @@ class ClientDevice:
         self.pin = make_pin_side() if has_pin else None
         self.u2f: Optional[U2fSide] = None
 
-    def words(self, kind: str, name: str) -> List[str]:
+    def get_words(self, kind: str, name: str) -> List[str]:
         """Returns the words of a rule, or an empty list."""
         found = [words[1:] for words in self.rules.get(kind, []) if words[0] == name]
         return found[0] if found else []
@@ -78,7 +78,7 @@ class ClientDevice:
         if message.command == hid.CANCEL:
             held, self.held = self.held, []
             return [(0, piece) for piece in held]
-        kind, reply = self.conforming(message)
+        kind, reply = self.make_conforming_reply(message)
         self.seen[kind] = self.seen.get(kind, 0) + 1
         rules = self.rules.get(kind, [])
         for stage in (MAP_RULES, BYTE_RULES, PACKET_RULES):
@@ -91,12 +91,12 @@ class ClientDevice:
                     stage[words[0]](self, kind, reply, words[1:])
         return reply.before + [(0, piece) for piece in reply.packets]
 
-    def conforming(self, message: hid.Message) -> Tuple[str, Reply]:
+    def make_conforming_reply(self, message: hid.Message) -> Tuple[str, Reply]:
         """Returns the kind of a request, and the response that a conforming device sends."""
         reply = Reply(message.channel, message.command)
         if message.command == hid.INIT:
-            self.channel = int("".join(self.words("init", "channel") or ["11223344"]), 16)
-            tail = bytes.fromhex("".join(self.words("init", "tail") or ["020102030c"]))
+            self.channel = int("".join(self.get_words("init", "channel") or ["11223344"]), 16)
+            tail = bytes.fromhex("".join(self.get_words("init", "tail") or ["020102030c"]))
             reply.data = message.data + self.channel.to_bytes(4, "big") + tail
             return "init", reply
         if message.command == hid.PING:
@@ -123,7 +123,7 @@ class ClientDevice:
         return kind, reply
 
     def info(self, asked: Dict[Any, Any]) -> Dict[Any, Any]:
-        """Answers authenticatorGetInfo."""
+        """Responds to authenticatorGetInfo."""
         algorithms = [{"alg": -7, "type": "public-key"}]
         if self.pin is not None:
             options = {"rk": True, "up": True, "clientPin": True}
@@ -133,18 +133,18 @@ class ClientDevice:
     def auth(self, kind: str, flags: int) -> bytes:
         """Returns the first 37 bytes of authenticator data."""
         self.count += 1
-        counters = self.words(kind, "counter")
+        counters = self.get_words(kind, "counter")
         count = int(counters[min(self.seen.get(kind, 0), len(counters) - 1)]) if counters else self.count
         flags = flags | (0x04 if self.pin is not None else 0)
-        flags = int("".join(self.words(kind, "flags") or [f"{flags:02x}"]), 16)
-        rp = "".join(self.words(kind, "rp") or [self.rp])
+        flags = int("".join(self.get_words(kind, "flags") or [f"{flags:02x}"]), 16)
+        rp = "".join(self.get_words(kind, "rp") or [self.rp])
         return hashlib.sha256(rp.encode()).digest() + bytes([flags]) + count.to_bytes(4, "big")
 
     def make(self, asked: Dict[Any, Any]) -> Dict[Any, Any]:
-        """Answers authenticatorMakeCredential."""
+        """Responds to authenticatorMakeCredential."""
         self.rp = asked[2]["id"]
         name, x, y = self.keys.make()
-        length = int("".join(self.words("make", "id-length") or ["32"]))
+        length = int("".join(self.get_words("make", "id-length") or ["32"]))
         self.credential = (name * 32)[:length]
         self.keys.private[self.credential] = self.keys.private[name]
         cose = ctap_cbor.encode({1: 2, 3: -7, -1: 1, -2: x, -3: y})
@@ -155,21 +155,21 @@ class ClientDevice:
     def get(self, asked: Dict[Any, Any]) -> Dict[Any, Any]:
         """Responds to authenticatorGetAssertion: one account with an allow list, or as many as the rule says."""
         self.rp, self.hash = asked[1], asked[2]
-        accounts = int("".join(self.words("get", "accounts") or ["3"]))
+        accounts = int("".join(self.get_words("get", "accounts") or ["3"]))
         self.pending = 0
         if asked.get(3):
-            answer = self.asserted("get", self.credential)
+            answer = self.make_assertion("get", self.credential)
             return {key: answer[key] for key in (1, 2, 3)}
         self.pending = accounts - 1
         more = {5: accounts} if accounts > 1 else {}
-        return {**self.asserted("get", self.keys.make()[0]), **more}
+        return {**self.make_assertion("get", self.keys.make()[0]), **more}
 
     def next(self, asked: Dict[Any, Any]) -> Dict[Any, Any]:
-        """Answers authenticatorGetNextAssertion."""
+        """Responds to authenticatorGetNextAssertion."""
         self.pending -= 1
-        return self.asserted("next", self.keys.make()[0])
+        return self.make_assertion("next", self.keys.make()[0])
 
-    def asserted(self, kind: str, credential: bytes) -> Dict[Any, Any]:
+    def make_assertion(self, kind: str, credential: bytes) -> Dict[Any, Any]:
         """Returns an assertion."""
         auth = self.auth(kind, 0x01)
         user = {"id": b"user %d" % self.pending}
@@ -246,7 +246,7 @@ def set_channel(device: ClientDevice, kind: str, reply: Reply, words: List[str])
     reply.channel = int(words[0], 16)
 
 
-def byte(device: ClientDevice, kind: str, reply: Reply, words: List[str]) -> None:
+def replace_byte(device: ClientDevice, kind: str, reply: Reply, words: List[str]) -> None:
     """byte INDEX HEX: replaces a byte."""
     place = int(words[0])
     reply.data = reply.data[:place] + bytes.fromhex(words[1]) + reply.data[place + 1 :]
@@ -321,7 +321,7 @@ BYTE_RULES = {
     "error": respond_with_error,
     "command": set_command,
 }
-BYTE_RULES.update({"on": set_channel, "byte": byte, "first": set_first_response})
+BYTE_RULES.update({"on": set_channel, "byte": replace_byte, "first": set_first_response})
 PACKET_RULES = {
     "keepalive": add_keepalives,
     "stranger": add_other_host_message,

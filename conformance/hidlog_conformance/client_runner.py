@@ -3,12 +3,13 @@
 from __future__ import annotations
 
 import os
+import re
 import select
 import shlex
 import signal
 import subprocess
 import time
-from typing import List, Optional, Tuple
+from typing import List, NamedTuple, Optional, Sequence, Tuple
 
 from hidlog_conformance.client_device import BUILT_IN_RULES, BYTE_RULES, MAP_RULES, PACKET_RULES, ClientDevice, Rules
 from hidlog_conformance.devices import MAX_LINE, InputNotReadError, end_command, start_command, write_to_command
@@ -23,6 +24,8 @@ from hidlog_conformance.session_file import SessionSyntaxError, Session
 Played = Tuple[Outcome, List[str]]
 
 HEADS = ("rule", "requirement", "why", "device", "task", "client", "result", "level")
+# The line before a session in a file of several sessions. The name becomes part of the path of a log.
+SESSION_NAME = re.compile(r"\[([A-Za-z0-9_-]+)\]")
 # Seconds after which a silent client counts as waiting: at the start, and later.
 STARTING, PATIENCE = 30.0, 3.0
 # The first words of a client's last line, and verdicts of the runner, which no session expects.
@@ -30,31 +33,58 @@ RESULT_WORDS = ("ok", "refused", "skipped")
 RUNNER_VERDICTS = {"ok": "takes", "refused": "refuses"}
 
 
+class ClientSession(NamedTuple):
+    """A session of conformance/clients, and the rules by which its device responds."""
+
+    session: Session
+    rules: Rules
+
+
 def parse_rule(line: str, path: str) -> Tuple[str, List[str]]:
     """Parses a rule: at KIND NAME WORDS."""
-    at, kind, *words = line.split(" ")
+    at, _, rest = line.partition(" ")
+    kind, *words = rest.split(" ")
     if at != "at" or not words or words[0] not in {*BUILT_IN_RULES, *MAP_RULES, *BYTE_RULES, *PACKET_RULES}:
         raise SessionSyntaxError(f"{path}: not a rule: {line}")
     return kind, words
 
 
-def read_client_session(path: str) -> Tuple[Session, Rules]:
-    """Reads a session of conformance/clients."""
-    name = os.path.relpath(path, CLIENTS)[: -len(".session")]
-    session = Session(name, {}, [], [], [], f"conformance/clients/{name}.session")
+def parse_client_session(name: str, lines: List[str], path: str) -> ClientSession:
+    """Parses the lines of a client session."""
+    session = Session(name, {}, [], [], [], path)
     rules: Rules = {}
-    with open(path, encoding="utf-8") as file:
-        for line in file.read().splitlines():
-            word, _, rest = line[2:].partition(": ")
-            if line.startswith("# ") and word in HEADS:
-                session.head[word] = rest
-            elif line and not line.startswith("#"):
-                kind, words = parse_rule(line, path)
-                rules.setdefault(kind, []).append(words)
+    for line in lines:
+        word, _, rest = line[2:].partition(": ")
+        if line.startswith("# ") and word in HEADS:
+            session.head[word] = rest
+        elif line and not line.startswith("#"):
+            kind, words = parse_rule(line, path)
+            rules.setdefault(kind, []).append(words)
     lacking = [word for word in ("rule", "requirement", "device", "task", "client") if word not in session.head]
     if lacking or session.head["device"] not in ("conforming", "nonconforming"):
-        raise SessionSyntaxError(f"{path}: missing {lacking or 'device: conforming or nonconforming'}")
-    return session, rules
+        raise SessionSyntaxError(f"{path}: session {name}: missing {lacking or 'device: conforming or nonconforming'}")
+    return ClientSession(session, rules)
+
+
+def read_client_sessions(path: str) -> List[ClientSession]:
+    """Reads a file of client sessions. Each begins with a line that has its name in brackets, and is named after the
+    file and that line. A file without such lines is one session."""
+    file_name = os.path.basename(path)
+    group = os.path.splitext(file_name)[0]
+    shown = f"conformance/clients/{file_name}" if os.path.dirname(os.path.abspath(path)) == CLIENTS else path
+    sections: List[Tuple[str, List[str]]] = [(group, [])]
+    with open(path, encoding="utf-8") as file:
+        for line in file.read().splitlines():
+            named = SESSION_NAME.fullmatch(line)
+            if named:
+                sections.append((f"{group}/{named[1]}", []))
+            else:
+                sections[-1][1].append(line)
+    if len(sections) > 1 and not any(sections[0][1]):
+        del sections[0]
+    if len({name for name, _ in sections}) < len(sections):
+        raise SessionSyntaxError(f"{path}: two sessions have the same name")
+    return [parse_client_session(name, lines, shown) for name, lines in sections]
 
 
 class Conversation:
@@ -76,17 +106,17 @@ class Conversation:
         while b"\n" not in self.rest:
             ready, _, _ = select.select([self.process.stdout], [], [], max(0.0, end - time.monotonic()))
             if not ready:
-                return self.waiting()
+                return self.judge_silence()
             piece = os.read(self.process.stdout.fileno(), 65536)
             if not piece:
-                return self.crash()
+                return self.describe_crash()
             self.rest += piece
             if b"\n" not in self.rest and len(self.rest) > MAX_LINE:
                 return f"garbage: a line without a newline: {self.rest[:40]!r}"
         line, _, self.rest = self.rest.partition(b"\n")
         return line.decode("utf-8", "backslashreplace")
 
-    def crash(self) -> str:
+    def describe_crash(self) -> str:
         """Describes the end of a client that exited without a result."""
         try:
             status = self.process.wait(PATIENCE)
@@ -96,7 +126,7 @@ class Conversation:
             return f"killed: by {signal.Signals(-status).name}"
         return f"ended: with status {status}, without printing ok or refused"
 
-    def waiting(self) -> str:
+    def judge_silence(self) -> str:
         """Returns the verdict on a silent client: it waits for the device if it exits at the end of its input, or
         hangs."""
         if not self.log:
@@ -109,9 +139,9 @@ class Conversation:
             pass
         except subprocess.TimeoutExpired:
             return "hangs: it does not react to the end of its input"
-        return "waits" if self.process.returncode >= 0 else self.crash()
+        return "waits" if self.process.returncode >= 0 else self.describe_crash()
 
-    def answer(self, packet: bytes) -> None:
+    def send_packets(self, packet: bytes) -> None:
         """Sends the device's packets to the client."""
         assert self.process.stdin is not None
         self.log.append("> 0 " + packet.hex())
@@ -147,14 +177,16 @@ class Conversation:
     def respond(self, packet: bytes) -> None:
         """Responds to a packet; ignores a client that exited."""
         try:
-            self.answer(packet)
+            self.send_packets(packet)
         except BrokenPipeError:
             pass
 
 
-def play_client(command: str, path: str, slow: bool, should: bool = True, seconds: float = CASE_SECONDS) -> Played:
+def play_client(
+    command: str, played: ClientSession, slow: bool, should: bool = True, seconds: float = CASE_SECONDS
+) -> Played:
     """Plays one session; returns its outcome and log. With `slow`, a minute of KEEPALIVEs takes a minute."""
-    session, rules = read_client_session(path)
+    session, rules = played
     talk = Conversation(command, session.head["task"], rules, slow, seconds + (60 if slow else 0))
     verdict = talk.run()
     if verdict.startswith("killed: "):
@@ -172,15 +204,16 @@ def play_client(command: str, path: str, slow: bool, should: bool = True, second
     return Outcome(session, "ok"), log
 
 
-def client_sessions(only: str = "") -> List[str]:
-    """Returns the paths of the sessions whose names contain a word."""
-    found = [os.path.join(folder, name) for folder, _, names in os.walk(CLIENTS) for name in names]
-    return sorted(path for path in found if path.endswith(".session") and only in path)
+def client_sessions(only: str = "", paths: Sequence[str] = ()) -> List[ClientSession]:
+    """Returns the sessions whose names or rules contain a word, from these files or else from conformance/clients."""
+    files = paths or sorted(os.path.join(CLIENTS, name) for name in os.listdir(CLIENTS) if name.endswith(".sessions"))
+    found = [session for path in files for session in read_client_sessions(path)]
+    return [one for one in found if only in one.session.name or only in one.session.head["rule"]]
 
 
 def play_clients(
     command: str,
-    paths: List[str],
+    sessions: List[ClientSession],
     slow: bool,
     should: bool = True,
     seconds: float = CASE_SECONDS,
@@ -188,7 +221,7 @@ def play_clients(
 ) -> List[Played]:
     """Plays sessions, four at a time; `results` gets each when it ends."""
     results = results if results is not None else Results()
-    collect(lambda path: play_client(command, path, slow, should, seconds), paths, 4, results)
+    collect(lambda played: play_client(command, played, slow, should, seconds), sessions, 4, results)
     return results.close()
 
 

@@ -1,4 +1,4 @@
-"""PIN and U2F of the device that client sessions play."""
+"""The PIN and U2F functions of the device that sessions for clients play."""
 
 from __future__ import annotations
 
@@ -39,7 +39,7 @@ class PinSide:
         if not param or protocol is None:
             return NEEDS_TOKEN
         client_hash = asked[1] if kind == "make" else asked[2]
-        return 0 if self.pin.verified(protocol, client_hash, param) else AUTH_INVALID
+        return 0 if self.pin.is_authentic(protocol, client_hash, param) else AUTH_INVALID
 
 
 class U2fSide:

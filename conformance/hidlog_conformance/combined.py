@@ -22,20 +22,20 @@ from hidlog_conformance.reset_tours import RESET_TOURS
 from hidlog_conformance.tours import TOURS
 
 TOURS_BY_SIZE = RESET_TOURS + TOURS
-# Cases about pending requests, and a device's response to a request of the second host.
+# Beginnings of the names of cases about pending requests, and the expectation for a request of the second host.
 ABOUT_PENDING = ("cancel/", "fuzzed/cancel", "hosts/", "keepalive/", "order/")
 OTHER_ASKED = ["keepalive 02 on 2"]
-# The packets' channels 1 and 2.
+# The channel IDs 1 and 2, each with the other one.
 SWAPPED = {b"\0\0\0\1": b"\0\0\0\2", b"\0\0\0\2": b"\0\0\0\1"}
 
 
 @dataclass
-class Combined:
+class CombinedCase:
     """Cases that are played as one."""
 
     whole: Session
     parts: List[Session]
-    # The outcome, once it was played; and the outcomes of its parts, if they were played by themselves.
+    # The outcome of the combined case once it was played, and those of its parts that were played by themselves.
     outcome: Optional[Outcome] = None
     of_parts: List[Outcome] = field(default_factory=list)
 
@@ -62,7 +62,7 @@ def get_key(step: Step) -> Tuple[Any, ...]:
 
 def make_whole(
     parts: List[Session], steps: List[Step], more: Optional[Dict[bytes, Tuple[str, bytes]]] = None
-) -> Combined:
+) -> CombinedCase:
     """Returns the combined case of `parts` with these steps; `more` are derived IDs that no part has."""
     first = parts[0]
     head = {**first.head, "requirement": " ".join(part.head["requirement"] for part in parts)}
@@ -71,10 +71,10 @@ def make_whole(
     derived.update(more or {})
     name = f"{first.name} and {len(parts) - 1} more"
     changes: Dict[str, Any] = {"needs": needs, "uses": uses, "derived": derived, "cases": len(parts)}
-    return Combined(replace(first, name=name, head=head, steps=steps, **changes), parts)
+    return CombinedCase(replace(first, name=name, head=head, steps=steps, **changes), parts)
 
 
-def combine_tours(sessions: List[Session], can_play: Callable[[Session], bool]) -> List[Combined]:
+def combine_tours(sessions: List[Session], can_play: Callable[[Session], bool]) -> List[CombinedCase]:
     """Returns the tours of at least two cases; each case is in the first one that can be played."""
     known = {session.name: session for session in sessions}
     left, found = dict(known), []
@@ -146,7 +146,7 @@ def split_pending(session: Session) -> Optional[Pending]:
     return Pending(session, steps[:begin], steps[begin + 1 : touch], steps[end:], registration)
 
 
-def combine_pending(sessions: List[Session]) -> List[Combined]:
+def combine_pending(sessions: List[Session]) -> List[CombinedCase]:
     """Combines cases that send something while a registration is pending."""
     groups: Dict[bool, List[Pending]] = {}
     for pending in filter(None, map(split_pending, sessions)):
@@ -154,7 +154,7 @@ def combine_pending(sessions: List[Session]) -> List[Combined]:
     return [join_pending(parts) for parts in groups.values() if len(parts) > 1]
 
 
-def join_pending(parts: List[Pending]) -> Combined:
+def join_pending(parts: List[Pending]) -> CombinedCase:
     """Returns cases as one with a single pending registration, after the longest of their beginnings."""
     first = max(parts, key=lambda part: (len(part.before), part.registration[0].expects == ["keepalive 02"]))
     steps = [*first.before, replace(first.registration[0], expects=["keepalive 02"])]
@@ -177,7 +177,7 @@ def renew_times(steps: List[Step]) -> List[Step]:
 # Registrations.
 
 
-def combine_registrations(sessions: List[Session]) -> List[Combined]:
+def combine_registrations(sessions: List[Session]) -> List[CombinedCase]:
     """Combines cases with one registration each, whose requests differ from a plain one in different members. The
     combined case has the longest of their beginnings."""
     groups: List[Tuple[bool, Tuple[Any, ...], Dict[Any, Any], List[Session]]] = []
@@ -197,7 +197,7 @@ def combine_registrations(sessions: List[Session]) -> List[Combined]:
     return [join_registrations(whole, parts) for _, _, whole, parts in groups if len(parts) > 1]
 
 
-def join_registrations(asked: Dict[Any, Any], parts: List[Session]) -> Combined:
+def join_registrations(asked: Dict[Any, Any], parts: List[Session]) -> CombinedCase:
     """Returns one registration with the members and the expectations of all cases."""
     steps = list(max(parts, key=lambda part: len(part.steps)).steps)
     place = len(steps) - len(REGISTRATION)
@@ -212,7 +212,7 @@ def join_registrations(asked: Dict[Any, Any], parts: List[Session]) -> Combined:
     return make_whole(parts, steps)
 
 
-def combine(sessions: List[Session], can_play: Callable[[Session], bool]) -> List[Combined]:
+def combine(sessions: List[Session], can_play: Callable[[Session], bool]) -> List[CombinedCase]:
     """Returns the cases that can be played as one, of those that the device supports."""
     supported = sorted(filter(can_play, sessions), key=lambda session: session.name)
     tours = combine_tours(supported, can_play)

@@ -64,7 +64,7 @@ class Reader:
         """Returns the next bytes."""
         start, end = self.place, self.place + count
         if end > len(self.data):
-            raise CborError(f"bytes are missing at {len(self.data)}")
+            raise CborError(f"the item is truncated at {len(self.data)}")
         self.place = end
         return self.data[start:end]
 
@@ -76,7 +76,7 @@ class Reader:
         if info < 24:
             return major, info, info
         if info > 27:
-            raise CborError(f"indefinite length or reserved information at {start}")
+            raise CborError(f"indefinite length or reserved additional information at {start}")
         return major, info, int.from_bytes(self.take(1 << (info - 24)), "big")
 
     def read_head(self) -> Tuple[int, int, int]:
@@ -118,7 +118,7 @@ class Reader:
             return -1 - argument
         if major == 7 and info in SIMPLE:
             return SIMPLE[info]
-        raise CborError(f"a tag, a float or another simple value at {start}")
+        raise CborError(f"a tag, a float or an unsupported simple value at {start}")
 
     def text(self, start: int, length: int) -> str:
         """Returns a text string."""

@@ -33,7 +33,7 @@ def read_message(
     device: Device, channel: int, nonce: bytes, seconds: float, until_asked: bool
 ) -> Optional[hid.Message]:
     """Returns the next message on a channel except KEEPALIVE, or None; ignores INIT responses with another nonce."""
-    collector = hid.Collector()
+    collector = hid.MessageReassembler()
     end = time.monotonic() + seconds
     last = time.monotonic() + LAST
     while True:
@@ -55,7 +55,7 @@ def send_init(device: Device, seconds: float = ANSWER) -> bytes:
     if answer is None or answer.command != hid.INIT or len(answer.data) != 17:
         raise OSError(
             "the device does not respond to INIT: "
-            + (answer.shown() if answer else "no packet came (a command must flush each line)")
+            + (answer.describe() if answer else "no packet was received; a command must flush each line")
         )
     return answer.data
 
@@ -97,7 +97,7 @@ def empty_array() -> Dict[Any, Any]:
 
 def list_requests(session: Session) -> List[bytes]:
     """Returns the registrations and sign-ins that a session sends."""
-    collector = hid.Collector(of_host=True)
+    collector = hid.MessageReassembler(of_host=True)
     messages = [collector.feed(packet) for step in session.steps for _, packet in step.packets]
     whole = [message for message in messages if message is not None and not message.problem]
     return [one.data for one in whole if one.command == hid.CBOR and one.data[:1] in (b"\1", b"\2")]

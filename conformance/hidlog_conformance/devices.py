@@ -91,11 +91,11 @@ def write_to_command(process: "subprocess.Popen[bytes]", data: bytes, deadline: 
 class Device:
     """A device under test. Real devices ignore the user's replies of the session."""
 
-    # Whether the device runs by the log's clock, so that packets come at once or not at all.
+    # Whether time is the log's, so that packets come at once or not at all.
     virtual = False
     # Whether each session begins without credentials.
     fresh = False
-    # Whether it makes keys and signatures itself, and so responds before the session's k and s lines.
+    # Whether the device creates key pairs and signatures itself, and so responds before the session's k and s lines.
     makes_keys = True
     # The `needs` of sessions that this kind of device provides.
     features: Tuple[str, ...] = ("touch", "two channels")
@@ -150,7 +150,7 @@ class Device:
 
 
 class LiveDevice(Device):
-    """`hidlog live`, which runs by the log's clock. This class makes its keys and signatures."""
+    """`hidlog live`, whose time is the log's. This class provides its key pairs and signatures."""
 
     virtual = True
     fresh = True
@@ -229,14 +229,14 @@ class LiveDevice(Device):
             answers.append(answer.rstrip("\n"))
         return answers
 
-    def answers(self, line: str) -> List[str]:
+    def get_output(self, line: str) -> List[str]:
         """Returns the output lines for an input line."""
         return self.exchange(line)
 
     def play(self, line: str) -> None:
         """Plays an input line."""
         self.signed = b""
-        for answer in self.answers(line):
+        for answer in self.get_output(line):
             if answer.startswith("< "):
                 self.packets.append(bytes.fromhex(answer[2:]))
             elif answer.startswith("# signed "):
@@ -345,12 +345,12 @@ class HidrawDevice(RealTimeDevice):
     def __init__(self, path: str, prompt_touch: bool) -> None:
         super().__init__(prompt_touch)
         self.path = path
-        self.file = self.opened()
+        self.file = self.open_file()
         self.packets: Deque[bytes] = deque()
         if prompt_touch:
             self.features += ("power cycle",)
 
-    def opened(self) -> int:
+    def open_file(self) -> int:
         """Opens the device."""
         return os.open(self.path, os.O_RDWR | os.O_NONBLOCK)
 
@@ -368,7 +368,7 @@ class HidrawDevice(RealTimeDevice):
         while unplugged and not os.access(self.path, os.R_OK | os.W_OK) and time.monotonic() < end + 60:
             time.sleep(0.05)
         self.packets.clear()
-        self.file = self.opened()
+        self.file = self.open_file()
         self.powered_at = time.monotonic()
         if not unplugged:
             raise CaseSkipped("nobody unplugged the device within a minute")
@@ -380,7 +380,7 @@ class HidrawDevice(RealTimeDevice):
         for _ in range(MAX_LEFT_OVER):
             if self.read(0) is None or time.monotonic() > end:
                 return
-        raise OSError(f"{self.path} never stops sending")
+        raise OSError(f"{self.path} sends packets without end")
 
     def write(self, packet: bytes) -> None:
         """Writes a packet as report number 0."""
@@ -462,7 +462,7 @@ class PipeDevice(RealTimeDevice):
                 raise OSError("the command exited")
             self.rest += piece
             if b"\n" not in self.rest and len(self.rest) > MAX_LINE:
-                raise OSError(f"the command writes a line without a newline: {self.rest[:40]!r}..")
+                raise OSError(f"the command wrote more than {MAX_LINE} bytes without a newline: {self.rest[:40]!r}..")
         line, _, self.rest = self.rest.partition(b"\n")
         try:
             packet = bytes.fromhex(line.decode())

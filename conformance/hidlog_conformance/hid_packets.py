@@ -35,7 +35,7 @@ class Message:
     problem: str = ""
     padding: bytes = b""
 
-    def shown(self) -> str:
+    def describe(self) -> str:
         """Returns a description."""
         if self.problem:
             return self.problem
@@ -54,7 +54,7 @@ class Part:
     due: int = 0
 
 
-class Collector:
+class MessageReassembler:
     """Reassembles messages by channel. A host may begin a message within another one, a device may not."""
 
     def __init__(self, of_host: bool = False) -> None:

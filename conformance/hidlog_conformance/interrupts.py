@@ -43,7 +43,7 @@ def wait_for_end(status: Optional[int]) -> None:
         time.sleep(SAME)
 
 
-def hold() -> None:
+def ignore_signals() -> None:
     """Ignores the signals from now on, so that the report is written completely."""
     for number in SIGNALS:
         if isinstance(signal.getsignal(number), Interrupts):

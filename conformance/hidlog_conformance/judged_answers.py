@@ -66,7 +66,7 @@ class AnswerJudge:
         self.settings = SettingsJudge()
         self.u2f = U2fJudge()
         self.statuses = StatusJudge(self)
-        # Whether the log has all credentials of the key, since a reset.
+        # Whether the log shows all credentials of the key, because it shows a reset.
         self.is_complete = False
         # Whether the key has no display to select accounts on, as numberOfCredentials in a response shows.
         self.no_display = False
@@ -87,7 +87,8 @@ class AnswerJudge:
         self.powered = at
 
     def restart(self, at: int, is_likely: bool) -> None:
-        """Processes that the key may have been plugged in again; with `is_likely`, it allocated a channel again."""
+        """Handles the possibility that the key was unplugged and plugged in again. `is_likely`: the key allocated a
+        channel ID for the second time."""
         self.powered = at
         self.pins.restart()
         if is_likely:
@@ -96,12 +97,12 @@ class AnswerJudge:
             self.settings.power_cycle()
 
     def take_unreadable(self, transaction: Transaction) -> None:
-        """Processes an unreadable response: its effects are unknown."""
+        """Handles an unreadable response, whose effects are unknown."""
         self.pending, self.is_complete = None, False
         self.pins, self.stored, self.settings = Pins(), StoredJudge(), SettingsJudge()
 
     def take_unanswered(self, transaction: Transaction) -> None:
-        """Processes a request without a response, or with an unreadable one: its effects are unknown."""
+        """Handles a request without a readable response, whose effects are unknown."""
         if transaction.command == hid.MSG:
             self.is_complete = False
         if transaction.command != hid.CBOR or not transaction.data or self.recording.is_cut(transaction):
@@ -121,7 +122,7 @@ class AnswerJudge:
             self.pending = None
 
     def forget_account(self, rp: str, user: bytes) -> None:
-        """Forgets the discoverable credential of an account, which may have been replaced."""
+        """Removes the discoverable credential of an account, since it may have been replaced."""
         for name, one in list(self.kept.discoverable.get(rp, {}).items()):
             if one.credential.user == user:
                 self.kept.remove(name)
@@ -135,8 +136,8 @@ class AnswerJudge:
         self.u2f.judge(request, data, transaction.last, is_sure)
 
     def is_recent(self, at: int, transaction: Transaction) -> bool:
-        """Returns whether the state that a response showed at a time is still certain: without a packet in the log, it
-        can only change later than this."""
+        """Returns whether the state that a response showed at time `at` still holds. Changes that the log does not show
+        take at least MIN_DELETION_MS."""
         return not self.recording.has_no_timestamps and transaction.last - at < MIN_DELETION_MS
 
     def is_fresh(self, kept: KnownCredential, transaction: Transaction) -> bool:
@@ -203,7 +204,7 @@ class AnswerJudge:
         except (KeyError, TypeError, ValueError, IndexError, AttributeError) as fault:
             shape = Mismatch("a response with the standard's structure", describe_error(fault))
             self.recording.add_mismatch(self.make_difference(transaction, expected, message), entry.line, shape)
-        self.follow(entry, transaction, data)
+        self.record_effects(entry, transaction, data)
 
     def check_pin_response(self, request: bytes, data: bytes) -> None:
         """Checks a response to authenticatorClientPIN."""
@@ -212,8 +213,8 @@ class AnswerJudge:
         self.pins.judge(request, data, self.may_be_forced())
 
     def may_be_forced(self) -> bool:
-        """Returns whether forcePINChange may be true, so that the key issues no token until the PIN is changed: unless
-        getInfo or the version shows that it is not."""
+        """Returns whether forcePINChange may be true, in which case the key issues no token until the PIN is changed.
+        The result is False if getInfo or the version shows that it is not."""
         return self.settings.is_forced or (self.settings.is_forced is None and not self.facts.old)
 
     def check_settings(self, request: bytes, data: bytes) -> None:
@@ -281,7 +282,7 @@ class AnswerJudge:
         kept.shown = transaction.last
         self.kept.add(kept)
         self.settings.made += kept.discoverable
-        self.stored.check_key(data, self.list_served(extensions), made.id, 5, True)
+        self.stored.check_key(data, self.select_supported_extensions(extensions), made.id, 5, True)
         self.check_setting_use(transaction, asked, data)
         answers.check_certificate(answers.decode_map(data))
 
@@ -291,12 +292,12 @@ class AnswerJudge:
             is_sure = self.is_recent(self.settings.shown, transaction)
             self.settings.check_use(transaction.data, asked, data, is_sure)
 
-    def list_served(self, extensions: Dict[str, Any]) -> Dict[str, Any]:
-        """Returns the extensions that getInfo names."""
+    def select_supported_extensions(self, extensions: Dict[str, Any]) -> Dict[str, Any]:
+        """Returns those of the extensions that getInfo names."""
         return {name: value for name, value in extensions.items() if name in self.info.get(2, [])}
 
     def replace(self, made: Credential, asked: Dict[Any, Any]) -> None:
-        """Forgets the discoverable credential that a new one of the same RP and user replaces."""
+        """Removes the discoverable credential that a new one of the same RP and user replaces."""
         if not asked.get(7, {}).get("rk"):
             return
         for name, one in list(self.kept.discoverable.get(made.rp, {}).items()):
@@ -344,7 +345,9 @@ class AnswerJudge:
         self.check_account(transaction, item, follows, identity)
         if kept is not None:
             kept.shown = transaction.last
-            self.stored.check_key(data, self.list_served(asked.get(4, {})), identity, 7, BLOB_KEY in extensions)
+            self.stored.check_key(
+                data, self.select_supported_extensions(asked.get(4, {})), identity, 7, BLOB_KEY in extensions
+            )
         if not follows:
             self.check_setting_use(transaction, asked, data)
 
@@ -352,7 +355,7 @@ class AnswerJudge:
         """Checks a further assertion: another credential, the same flags, no numberOfCredentials."""
         if not follows or self.pending is None:
             return
-        check(identity not in self.pending.signed, "another credential than before", identity)
+        check(identity not in self.pending.signed, "a credential that has not signed in this series", identity)
         self.pending.signed.append(identity)
         check(5 not in item, "no numberOfCredentials", item)
         auth = item[2]
@@ -391,7 +394,7 @@ class AnswerJudge:
         if item.get(5) == 1:
             # CTAP 2.0 requires numberOfCredentials with several accounts, and does not define it with one.
             kind = UncertainMismatch if self.facts.old else Mismatch
-            raise kind("no numberOfCredentials of 1", ctap_cbor.to_diagnostic(item))
+            raise kind("no numberOfCredentials, since there is only one credential", ctap_cbor.to_diagnostic(item))
         if follows or asked.get(3):
             return
         mine, kept = self.statuses.list_candidates(asked), self.kept.get(identity)
@@ -419,7 +422,7 @@ class AnswerJudge:
             check(least, f"numberOfCredentials of at least {len(names)}", item)
             check(not self.is_complete or number == len(names), f"numberOfCredentials {len(names)}", item)
 
-    def follow(self, entry: Entry, transaction: Transaction, data: bytes) -> None:
+    def record_effects(self, entry: Entry, transaction: Transaction, data: bytes) -> None:
         """Records the effects of a response."""
         request, status = transaction.data, data[0]
         command = request[0]

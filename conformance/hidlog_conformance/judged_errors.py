@@ -1,4 +1,4 @@
-"""Checks the key's ERRORs in a recorded log: the message that each refuses, and its code."""
+"""Checks the key's ERRORs in a recorded log: the message that each ERROR refuses, and the ERROR's code."""
 
 from __future__ import annotations
 

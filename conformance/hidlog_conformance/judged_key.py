@@ -16,10 +16,11 @@ from hidlog_conformance.judged_parts import ExtensionMismatch
 from hidlog_conformance.quantity import quantity
 from hidlog_conformance.transactions import CANCELLED, NO_TIME_OUT, Entry, Transaction
 
-# The least milliseconds between unplugging a key and its next packet: the debounce interval (USB 2.0, 7.1.7.3).
+# The minimum number of milliseconds between unplugging a key and its next packet: the debounce interval (USB 2.0,
+# 7.1.7.3).
 MIN_UNPLUGGED_MS = 100
-# The maximum of unfinished transactions, and of unfinished messages of the key, that are tracked; the oldest is
-# dropped. A device has one at a time.
+# The maximum number of unfinished transactions, and of unfinished messages of the key, that are tracked. The oldest
+# ones are dropped. A device has one at a time.
 MAX_OPEN = 64
 ZEROS = bytes(64)
 
@@ -32,7 +33,7 @@ class KeyJudge:
         self.answers = AnswerJudge(recording)
         self.errors = ErrorJudge(self)
         self.missing = MissingJudge(self)
-        self.guest = hid.Collector()
+        self.guest = hid.MessageReassembler()
         self.allocated: Dict[int, int] = {}
         self.capabilities: Dict[int, int] = {}
         self.is_first = True
@@ -53,8 +54,8 @@ class KeyJudge:
         self.parts: Dict[int, Entry] = {}
         # Channels on which a response may belong to another request than the last one.
         self.unsure: Set[bytes] = set()
-        # Whether a power cycle came. Whether the key responded to an INIT of the log, and to another request of it; and
-        # the channels on which the key began a message. They limit which packets may depend on the time before the log.
+        # Whether the log has a power cycle so far, whether the key responded to an INIT and to another request, and the
+        # channels on which the key began a message. They show which packets may depend on packets before the log.
         self.was_cycled = self.answered_init = self.answered_request = False
         self.sent_on: Set[bytes] = set()
         # The time of the key's last packet.
@@ -83,8 +84,8 @@ class KeyJudge:
 
     @property
     def lacks_start(self) -> bool:
-        """Whether earlier packets, which the log lacks, may matter: it begins within a session, and no power cycle
-        came."""
+        """Whether packets before the beginning of the log may matter: the log begins within a session, and has no power
+        cycle so far."""
         return self.recording.begins_within and not self.was_cycled
 
     def is_from_before(self, channel: int) -> bool:
@@ -92,8 +93,8 @@ class KeyJudge:
         return self.lacks_start and channel not in self.allocated and channel not in (0, hid.BROADCAST)
 
     def note_channel(self, channel: bytes) -> None:
-        """Processes the key's use of a channel. If the log does not have the channel's allocation, it begins within a
-        session."""
+        """Processes the key's use of a channel. If the log does not have the channel's allocation, the log begins
+        within a session."""
         number = int.from_bytes(channel, "big")
         if number not in self.allocated and number not in (0, hid.BROADCAST):
             self.recording.begins_within = True
@@ -106,7 +107,7 @@ class KeyJudge:
 
     def forget(self) -> None:
         """Resets the transport state."""
-        self.guest, self.open, self.allocated, self.parts = hid.Collector(), [], {}, {}
+        self.guest, self.open, self.allocated, self.parts = hid.MessageReassembler(), [], {}, {}
         self.unsure = set()
         self.errors.locked = (0, 0, 0)
 
@@ -114,7 +115,8 @@ class KeyJudge:
         """Records a packet of the host."""
         if entry.part in ("stray", "cancel") and entry.transaction is None and entry.packet[:4] not in self.last:
             if self.is_from_before(int.from_bytes(entry.packet[:4], "big")):
-                # It continues or cancels a message from before the log, which may still be answered.
+                # The packet continues or cancels a message from before the log, and the key may still respond to that
+                # message.
                 self.unsure.add(entry.packet[:4])
         self.last[entry.packet[:4]] = self.input = entry
         if entry.part == "start" and entry.transaction is not None:
@@ -169,7 +171,7 @@ class KeyJudge:
         if message is not None and message.problem:
             channel = int.from_bytes(packet[:4], "big")
             if packet[4] < 0x80 and self.is_from_before(channel) and packet[:4] not in self.sent_on:
-                # It continues a response that began before the log.
+                # The packet continues a response that began before the log.
                 return
             expected, actual = "the packets of a message in order", message.problem
             self.add_gap(entry.line, rules.PACKETS, expected, actual, MUST, rules.SEQUENCE)
@@ -192,8 +194,8 @@ class KeyJudge:
                 del self.parts[list(self.parts)[0]]
 
     def close(self, entry: Entry) -> None:
-        """Removes transactions that ended before a packet of the key or with it. Those that a new message of the host
-        ended stay, since the key may not have received that message."""
+        """Removes transactions that ended before a packet of the key or with it. Transactions that a new message of the
+        host ended are kept, since the key may not have received that message yet."""
         for one in self.open:
             if one.by is not None and one.by <= entry.line and not self.is_replaced(one):
                 self.open = [
@@ -309,7 +311,7 @@ class KeyJudge:
         if self.recording.is_single_client and (last is None or command == hid.INIT):
             return
         if command == hid.INIT and self.lacks_start and not self.answered_init:
-            # It responds to an INIT from before the log.
+            # The message responds to an INIT from before the log.
             return
         if command == hid.INIT:
             waiting = [item for item in self.open if item.command == hid.INIT]
@@ -412,7 +414,7 @@ class KeyJudge:
         if message.data != transaction.data:
             raise Mismatch(
                 f"the {quantity(transaction.length, 'byte')} of the PING",
-                f"{quantity(len(message.data), 'byte')}: {message.shown()}",
+                f"{quantity(len(message.data), 'byte')}: {message.describe()}",
             )
 
     def check_status(self, entry: Entry, transaction: Transaction, message: hid.Message) -> None:

@@ -30,7 +30,7 @@ POWER_CYCLE = b"# power cycle"
 TRUNCATED = b"# note: the capture is truncated in its last record"
 # Recorders' notes about missing packets; logs of version 1.0 have "it was passed over".
 LOST = (b"the recorder lost ", b"it was passed over", b"skipped a", b": skipped", b"is left out: ")
-# Words of which each comment that is not ignored has one.
+# Each comment that is not ignored contains one of these words.
 COMMENTS = (
     b"nobody read it",
     b"one client alone",
@@ -53,7 +53,7 @@ class Finding:
     section: str
     expected: str
     actual: str
-    # Another section that has the same rule, about encodings or sequence numbers.
+    # Another section with the same rule, for rules about encodings or sequence numbers.
     also: str = ""
 
     @property
@@ -104,13 +104,13 @@ class Recording:
         if kind == b"<":
             if not walk.packets:
                 self.begins_within = True
-            walk.device(number, bytes.fromhex(line[2:].decode()), owners.of(number))
+            walk.handle_device_packet(number, bytes.fromhex(line[2:].decode()), owners.of(number))
         elif kind == b">":
             moment, _, digits = line[2:].partition(b" ")
             packet = bytes.fromhex(digits.decode())
             if not walk.packets and not is_first_init(packet):
                 self.begins_within = True
-            walk.host(number, int(moment), packet, owners.of(number))
+            walk.handle_host_packet(number, int(moment), packet, owners.of(number))
         elif kind == b"#":
             self.take_comment(number, line, owners)
             return
@@ -118,7 +118,7 @@ class Recording:
             walk.advance_time(int(line[2:].partition(b" ")[0]))
             words = owners.ends(number)
             if words:
-                walk.passed(number, words)
+                walk.handle_reply(number, words)
         else:
             return
         if self.start is None:
@@ -146,14 +146,14 @@ class Recording:
             self.walk.restart()
 
     def take_cut(self, number: int, is_host: bool, at: int, packet: bytes, owners: Owners) -> None:
-        """Processes a truncated packet, of which only the header is known."""
+        """Processes a truncated packet, whose header alone is known."""
         self.cut.add(number)
         self.begins_within = self.begins_within or (not self.walk.packets and not (is_host and is_first_init(packet)))
         if is_host:
-            self.walk.host(number, at, packet, owners.of(number))
+            self.walk.handle_host_packet(number, at, packet, owners.of(number))
             return
         self.walk.advance_time(at)
-        self.walk.device(number, packet, owners.of(number))
+        self.walk.handle_device_packet(number, packet, owners.of(number))
 
     def is_cut(self, *parts: Optional[Part]) -> bool:
         """Returns whether a packet of these messages is truncated."""
@@ -228,7 +228,7 @@ def make_difference(
     return rules.Difference(section, expected, actual, partial, request, cancelled)
 
 
-def walked(log: bytes) -> bytes:
+def pad_truncated_packets(log: bytes) -> bytes:
     """Returns a log as `hidlog_transactions` reads it, with the same line numbers: truncated packets are padded."""
     if b"# cut to " not in log:
         return log
@@ -258,7 +258,7 @@ def judge_parts(
     they are checked."""
     judged = LogJudge(prepare)
     for part in (piece for whole in parts for piece in split_at_power_cycles(whole)):
-        judged.take_part(part, Owners(walk(walked(part)), judged.recording.lines))
+        judged.take_part(part, Owners(walk(pad_truncated_packets(part)), judged.recording.lines))
     return judged.finish()
 
 
@@ -311,7 +311,7 @@ class LogJudge:
         self.waiting = []
 
     def finish(self) -> Recording:
-        """Checks the other packets, and returns the recording with its findings in order."""
+        """Checks the remaining packets, and returns the recording with its findings in order."""
         check_entries(self.waiting, self.host, self.key)
         check_entries(self.recording.walk.take_entries(), self.host, self.key)
         self.key.finish()

@@ -123,12 +123,12 @@ class ExtensionMismatch(Mismatch):
     def __init__(self, section: str, expected: str, actual: str, is_sure: bool = True) -> None:
         super().__init__(expected, actual)
         self.section = section
-        # Whether it is a violation whatever happened without packets in the log.
+        # Whether it is a violation even if something happened that the log does not show.
         self.is_sure = is_sure
 
 
 class UncertainMismatch(Mismatch):
-    """A difference that something without packets in the log may explain: it is reported as a SHOULD violation."""
+    """A difference that an event outside the log may explain. It is reported as a SHOULD violation."""
 
 
 def describe_retries(count: Optional[int]) -> str:
@@ -218,7 +218,7 @@ class Pins:
             return
         kind, status = asked[2], data[0]
         if status == PIN_INVALID and may_be_forced and kind in TOKENS:
-            # Either the PIN is wrong, or it is right, which restores the retries, and must be changed.
+            # Either the PIN is wrong, or the PIN is right and must be changed. A right PIN restores the retries.
             self.retries, self.wrong = None, 0
         elif status == PIN_INVALID:
             self.wrong += 1
@@ -284,5 +284,5 @@ class Pins:
         """Checks that a token was used only as it permits."""
         if self.permissions is None:
             return
-        check(bool(self.permissions & needed), "status 33, since the token does not permit this", "status 00")
+        check(bool(self.permissions & needed), "status 33, since the token lacks the permission", "status 00")
         check(self.rp is None or self.rp == rp, f"status 33, since the token is for {self.rp}", "status 00")

@@ -37,7 +37,7 @@ class SettingsJudge:
         self.is_forced: Optional[bool] = None
         self.is_enterprise: Optional[bool] = None
         self.always_uv: Optional[bool] = None
-        # Whether the device was reset since the last getInfo; the RPs that are authorized to get minPINLength.
+        # Whether the device was reset since the last getInfo, and the RPs that are authorized to get minPINLength.
         self.is_reset = False
         self.authorized_rps: Optional[List[str]] = None
         # The names of templates by ID, empty if unknown; whether there are no others; and IDs of removed templates.
@@ -84,7 +84,7 @@ class SettingsJudge:
         """Checks that a request that succeeded had a token that permits it, if a PIN is set."""
         check(param in asked or not pins.is_set, "status 36, since a PIN is set", "status 00")
         permitted = param not in asked or pins.permissions is None or bool(pins.permissions & permission)
-        check(permitted, "status 33, since the token does not permit this", "status 00")
+        check(permitted, "status 33, since the token lacks the permission", "status 00")
 
     # authenticatorConfig (6.11).
 
@@ -203,7 +203,7 @@ class SettingsJudge:
         """Checks a response to authenticatorBioEnrollment."""
         command, status, parameters = asked.get(2), data[0], asked.get(3, {})
         if status == 0 and asked.get(6) is True and command is None:
-            check(answers.decode_map(data).get(1) == 1, "the modality 1, fingerprint", "another one")
+            check(answers.decode_map(data).get(1) == 1, "the modality 1, fingerprint", "another modality")
         elif status == 0 and command == SENSOR:
             item = answers.decode_map(data)
             check(item.get(2) in (1, 2), "a fingerprintKind of 1 or 2", item)

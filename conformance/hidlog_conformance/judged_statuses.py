@@ -166,7 +166,8 @@ class StatusJudge:
         return len(listed) > count or any(length is None or len(entry["id"]) > length for entry in listed)
 
     def find_invalid_option(self, command: int, asked: Dict[Any, Any], options: Dict[str, Any]) -> str:
-        """Returns an invalid option (rk in a sign-in, up false in a registration, uv if not supported), or empty."""
+        """Returns an invalid option (rk in a sign-in, up false in a registration, uv if not supported), or an empty
+        string."""
         if command == GET and "rk" in options:
             return "rk"
         if command == MAKE and options.get("up") is False:
@@ -246,18 +247,18 @@ class StatusJudge:
         if used in self.answers.forgotten:
             raise ExtensionMismatch("6.6", "no credential from before the reset", used.hex())
         if mine and self.answers.facts.protection < 2 and status == NO_CREDENTIALS:
-            expected = "an assertion, since the key has a credential for it"
+            expected = "an assertion, since the key has a matching credential"
             check(not any(self.answers.is_fresh(one, transaction) for one in mine), expected, "status 2e")
             raise UncertainMismatch(f"{expected}, {OTHERWISE}", "status 2e")
         if status == 0 and self.answers.is_complete and not mine and not self.is_protected(asked):
-            raise Mismatch("status 2e, since the key has no credential for it", "status 00")
+            raise Mismatch("status 2e, since the key has no matching credential", "status 00")
         if (
             not mine
             and self.answers.is_complete
             and status not in (0, NO_CREDENTIALS, *ANY_REQUEST_STATUSES, TIMED_OUT)
             and status < 0x31
         ):
-            raise Mismatch("status 2e, since the key has no credential for it", f"status {status:02x}")
+            raise Mismatch("status 2e, since the key has no matching credential", f"status {status:02x}")
 
     def is_protected(self, asked: Dict[Any, Any]) -> bool:
         """Returns whether the RP has a credential that credProtect hides."""

@@ -111,7 +111,7 @@ class StoredJudge:
         """Checks that the last token has a permission, if the request succeeded."""
         check(param in asked, "status 36, since pinUvAuthParam is missing", "status 00")
         permitted = pins.permissions is None or bool(pins.permissions & permission)
-        check(permitted, "status 33, since the token does not permit this", "status 00")
+        check(permitted, "status 33, since the token lacks the permission", "status 00")
 
     def check_rp(self, command: Any, parameters: Dict[Any, Any], kept: KnownCredentials, pins: Pins) -> None:
         """Checks that a token with an RP ID is only used for that RP."""

@@ -94,19 +94,21 @@ class U2fJudge:
             return
         owner, point, counter, _ = known
         if owner != application:
-            check(word not in (OK, NOT_SATISFIED), "6a80, since the key handle is of another application", word.hex())
+            check(
+                word not in (OK, NOT_SATISFIED), "6a80, since the key handle belongs to another application", word.hex()
+            )
             return
         if word == WRONG_DATA:
             del self.made[handle]
             expected = "9000 or 6985, since the key handle is registered"
             raise ExtensionMismatch(SECTION, expected if is_sure else f"{expected}, {OTHERWISE}", "6a80", is_sure)
-        check(control != CHECK_ONLY or word != OK, "6985, since it only asks for the key handle", "9000")
+        check(control != CHECK_ONLY or word != OK, "6985, since the control byte is check-only", "9000")
         self.made[handle] = (owner, point, counter, at)
         if word != OK:
             return
         check(len(data) > 5 and (data[0] & 1 == 1 or control != ENFORCE), "user presence 01", data)
         number = int.from_bytes(data[1:5], "big")
-        check(number > counter or number == 0, f"a counter above {counter}", str(number))
+        check(number > counter or number == 0, f"a counter above {counter}, or 0", str(number))
         self.made[handle] = (owner, point, number, at)
         cose = {1: 2, 3: -7, -1: 1, -2: point[1:33], -3: point[33:]}
         is_valid = keys.is_valid_signature(cose, application + data[:5] + asked[:HASH], data[5:])

@@ -25,7 +25,7 @@ from hidlog_conformance.judged_parts import (
 )
 from hidlog_conformance.judged_settings import CONFIG
 from hidlog_conformance.judged_statuses import EXCLUDED, NO_CREDENTIALS
-from hidlog_conformance.platform_side import Filled, Platform
+from hidlog_conformance.platform_side import FilledValues, Platform
 from hidlog_conformance.quantity import quantity
 from hidlog_conformance.requests import PIN, decode_parameters
 from hidlog_conformance.transactions import Entry, Transaction
@@ -57,9 +57,9 @@ class Secrets:
 
     def __init__(self, most: int = MAX_RETRIES) -> None:
         self.pin: Optional[bytes] = None
-        # The PIN before the last change, or empty.
+        # The PIN before the last change. Empty if there was none.
         self.former = b""
-        # The maximum of PIN retries, and the number of retries left.
+        # The maximum number of PIN retries, and the number of retries left.
         self.most = self.retries = most
         self.in_a_row = 0
         self.token: Optional[Token] = None
@@ -88,7 +88,7 @@ class KnownAnswers(AnswerJudge):
         super().__init__(recording)
         self.platform = platform
         self.secrets = Secrets()
-        self.filled: Dict[bytes, Filled] = {}
+        self.filled: Dict[bytes, FilledValues] = {}
         # Values that must never repeat, by kind; whether the maximum of PIN retries is known; the last key agreement
         # key.
         self.values: Dict[str, Set[bytes]] = {}
@@ -119,7 +119,7 @@ class KnownAnswers(AnswerJudge):
         was_old, self.length, self.is_forced = self.facts.old, self.settings.length, self.settings.is_forced
         super().judge(entry, transaction, message)
         request, data = transaction.data, message.data
-        filled = self.filled.pop(request, Filled())
+        filled = self.filled.pop(request, FilledValues())
         asked = decode_parameters(request) or {}
         try:
             if request[0] == PIN:
@@ -151,7 +151,7 @@ class KnownAnswers(AnswerJudge):
 
     # authenticatorClientPIN (6.5).
 
-    def check_pin(self, entry: Entry, asked: Dict[int, Any], filled: Filled, data: bytes) -> None:
+    def check_pin(self, entry: Entry, asked: Dict[int, Any], filled: FilledValues, data: bytes) -> None:
         """Checks a response to authenticatorClientPIN."""
         kind, status = asked.get(2), data[0]
         if kind == GET_AGREEMENT and status == 0:
@@ -183,7 +183,7 @@ class KnownAnswers(AnswerJudge):
             words = [quantity(number, "retry", "retries") for number in (secrets.retries, left)]
             self.add_known_finding(entry, PIN, words[0] + ", also after a power cycle", words[1])
 
-    def check_used(self, entry: Entry, kind: int, filled: Filled, status: int) -> None:
+    def check_used(self, entry: Entry, kind: int, filled: FilledValues, status: int) -> None:
         """Checks the status of a request with a PIN."""
         pin = self.secrets.pin
         due = self.secrets.use(filled.pin or b"")
@@ -195,7 +195,7 @@ class KnownAnswers(AnswerJudge):
             return
         self.add_known_finding(entry, PIN, f"status {allowed[0]:02x}, since {why}", f"status {status:02x}")
 
-    def expect_after_right_pin(self, kind: int, filled: Filled) -> Tuple[Tuple[int, ...], str]:
+    def expect_after_right_pin(self, kind: int, filled: FilledValues) -> Tuple[Tuple[int, ...], str]:
         """Returns the possible statuses of a request with the right PIN, and why: the PIN may have to be changed, or
         the new one may be too short (6.5.5.6, 6.5.5.7)."""
         why, policy = "the PIN is right", (POLICY, PIN_INVALID) if kind == GET_TOKEN else (POLICY,)
@@ -227,7 +227,7 @@ class KnownAnswers(AnswerJudge):
 
     # pinUvAuthParam (6.1.2, step 11; 6.2.2, step 6).
 
-    def check_token_use(self, entry: Entry, transaction: Transaction, filled: Filled, data: bytes) -> None:
+    def check_token_use(self, entry: Entry, transaction: Transaction, filled: FilledValues, data: bytes) -> None:
         """Checks the status of a request with pinUvAuthParam, and flag UV."""
         request, status, asked = transaction.data, data[0], decode_parameters(transaction.data) or {}
         makes = request[0] == MAKE
@@ -259,8 +259,8 @@ class KnownAnswers(AnswerJudge):
         if auth[32] & UV:
             self.add_known_finding(entry, request[0], "flag UV not set", f"flags {auth[32]:02x}")
 
-    def find_token_fault(self, filled: Filled, needed: int, rp: str, now: int) -> Tuple[str, bool]:
-        """Returns why the device must refuse pinUvAuthParam, or empty; and whether it must accept it otherwise."""
+    def find_token_fault(self, filled: FilledValues, needed: int, rp: str, now: int) -> Tuple[str, bool]:
+        """Returns why the device must refuse pinUvAuthParam, or an empty string, and whether the result is certain."""
         token = self.secrets.token
         if not filled.is_whole:
             return "pinUvAuthParam is truncated", True
@@ -269,7 +269,7 @@ class KnownAnswers(AnswerJudge):
         if token.rp is not None and token.rp != rp:
             return f"the token is for {token.rp}", True
         if not token.permissions & needed:
-            return "the token does not permit this, or was used before", True
+            return "the token lacks the permission, or was used before", True
         return "", token.is_sure and now - token.at < FRESH
 
     def record_use(self, asked: Dict[int, Any], makes: bool, rp: str, status: int) -> None:

@@ -13,8 +13,8 @@ from hidlog_conformance.judged_host import HostJudge
 from hidlog_conformance.judged_key import KeyJudge
 from hidlog_conformance.judged_log import MUST, POWER_CYCLE, Finding, Recording, check_entries
 from hidlog_conformance.known_answers import KnownAnswers
-from hidlog_conformance.platform_side import Filled, Platform
-from hidlog_conformance.transactions import BY_ERROR, Ending, Owned, Owners
+from hidlog_conformance.platform_side import FilledValues, Platform
+from hidlog_conformance.transactions import BY_ERROR, Ending, OwnerRow, Owners
 
 ANSWERED = ord("s")
 
@@ -24,19 +24,19 @@ class SentOwners(Owners):
 
     def __init__(self) -> None:
         super().__init__(b"")
-        self.now = Owned()
+        self.now = OwnerRow()
         # By channel: the line of the open request, and of the response that is coming. By nonce: the line of INIT.
         self.open: Dict[bytes, int] = {}
         self.answers: Dict[bytes, int] = {}
         self.nonces: Dict[bytes, int] = {}
 
-    def of(self, number: int) -> Owned:
+    def of(self, number: int) -> OwnerRow:
         """Returns the transaction of the last line."""
         return self.now
 
     def take_line(self, number: int, line: bytes) -> None:
         """Processes a line."""
-        self.now = Owned()
+        self.now = OwnerRow()
         if line == POWER_CYCLE:
             self.open, self.answers, self.nonces = {}, {}, {}
         elif line[:1] == b">":
@@ -50,24 +50,24 @@ class SentOwners(Owners):
         if packet[4] == 0x80 | hid.INIT:
             self.nonces[packet[7:15]] = number
         elif packet[4] == 0x80 | hid.CANCEL:
-            self.now = Owned(self.open.get(channel, 0))
+            self.now = OwnerRow(self.open.get(channel, 0))
         elif packet[4] & 0x80:
             self.open[channel] = number
         else:
-            self.now = Owned(self.open.get(channel, 0), self.open.get(channel, 0))
+            self.now = OwnerRow(self.open.get(channel, 0), self.open.get(channel, 0))
 
     def see_answer(self, number: int, packet: bytes) -> None:
         """Processes a packet of the device."""
         channel, command = packet[:4], packet[4] & 0x7F
         if packet[4] < 0x80:
-            self.now = Owned(0, self.answers.get(channel, 0))
+            self.now = OwnerRow(0, self.answers.get(channel, 0))
         elif command == hid.KEEPALIVE:
-            self.now = Owned(self.open.get(channel, 0))
+            self.now = OwnerRow(self.open.get(channel, 0))
         else:
             line = self.nonces.pop(packet[7:15], 0) if command == hid.INIT else self.open.pop(channel, 0)
             letter = BY_ERROR if command == hid.ERROR else ANSWERED
             self.answers[channel] = number
-            self.now = Owned(line, line, [Ending(letter, line, packet[7])] if line else [])
+            self.now = OwnerRow(line, line, [Ending(letter, line, packet[7])] if line else [])
 
 
 class LiveJudge:
@@ -81,9 +81,9 @@ class LiveJudge:
         self.key.answers = self.answers
         self.seen = 0
 
-    def record_filled(self, request: bytes, filled: Filled) -> None:
+    def record_filled(self, request: bytes, filled: FilledValues) -> None:
         """Records the values of a request's placeholders."""
-        if filled != Filled():
+        if filled != FilledValues():
             self.answers.filled[request] = filled
 
     def take(self, lines: List[str]) -> None:

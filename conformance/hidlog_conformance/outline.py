@@ -25,8 +25,8 @@ MAX_REGISTRATIONS = 6
 
 
 def get_cbor_request(step: Step) -> bytes:
-    """Returns the CBOR request that a step sends, or empty."""
-    collector = hid.Collector(of_host=True)
+    """Returns the CBOR request that a step sends, or empty bytes."""
+    collector = hid.MessageReassembler(of_host=True)
     messages = [collector.feed(packet) for _, packet in step.packets]
     last = messages[-1] if messages else None
     return last.data if last is not None and not last.problem and last.command == hid.CBOR else b""
@@ -99,7 +99,7 @@ class Outline:
         return "reset" in self.session.needs
 
     @property
-    def spoils(self) -> bool:
+    def prevents_reuse(self) -> bool:
         """Whether other cases cannot reuse the registrations after this case."""
         lost = self.resets or self.changes_pin or self.stores or bool(self.deleted)
         return lost or self.guesses or self.writes
@@ -118,7 +118,7 @@ class OutlineReader:
         end = self.read_setup()
         found, session = self.outline, self.outline.session
         if not self.has_subject(end):
-            # The case is about its last registration, or about setting the PIN.
+            # A case without further requests tests its last registration, or that the PIN is set.
             end = 0 if found.pin or not found.registrations else found.registrations.pop().number
         if end == 0:
             found.registrations, found.pin, found.pin_step = [], b"", -1
@@ -155,7 +155,7 @@ class OutlineReader:
                     return number
                 number += len(REGISTRATION)
             elif step.kind == ">" and request[:1] == bytes([PIN]):
-                if not self.read_pin(number) and not self.is_token(number):
+                if not self.read_pin(number) and not self.gets_token(number):
                     return number
                 number += 2
             elif step.kind == ">" and step.expects[:1] and step.expects[0].startswith("init "):
@@ -191,7 +191,7 @@ class OutlineReader:
         self.outline.pin, self.outline.pin_step = sets[5][len(ENCRYPT) :].rstrip(b"\0"), number + 1
         return True
 
-    def is_token(self, number: int) -> bool:
+    def gets_token(self, number: int) -> bool:
         """Returns whether two steps get a token with the PIN that was set."""
         if number + 1 >= len(self.steps) or not self.outline.pin:
             return False

@@ -76,7 +76,7 @@ class PinUser:
         return request[:1] == bytes([PIN]) and decode_parameters(request).get(2) == SET_PIN
 
     def find_obstacle(self, session: Session) -> str:
-        """Returns why a session cannot be played with tokens of --pin, or empty."""
+        """Returns why a session cannot be played with tokens of --pin, or an empty string."""
         if any(map(sends_reset, session.steps)):
             return "a reset removes the PIN of --pin"
         if any(map(self.sets_pin, session.steps)):
@@ -94,8 +94,8 @@ class PinUser:
         return ""
 
     def find_rp_prefix(self, session: Session) -> str:
-        """Returns a prefix for the RP IDs of a session that needs an authenticator without credentials, or empty if a
-        prefix does not suffice. The session's credentials are deleted afterwards."""
+        """Returns a prefix for the RP IDs of a session that needs an authenticator without credentials, or an empty
+        string if a prefix does not suffice. The session's credentials are deleted afterwards."""
         may_stay = may_have_own_rps(session) or self.can_replace(session)
         if self.device_info.options.get("credMgmt") is not True or not may_stay:
             return ""

@@ -1,10 +1,10 @@
 """The platform's side of PINs, tokens and hmac-secret (CTAP 2.1, 6.5 and 12.5): replaces placeholders in requests.
 
-Byte strings that depend on keys are placeholders: `=agreement`, the platform's key; `=encrypt:BYTES`; `=hash:PIN`,
-the encrypted PIN hash; `=auth:5+6`, pinUvAuthParam of members by the shared secret; `=token:1`, of a member by the
-token, `=former:1`, by the token before it, and `=cut:8:1`, the first 8 bytes of that by the token; `=manage`, of a
-subcommand with its parameters, `=config` and `=enroll` the same of the other commands; `=blob`, of a large-blob
-fragment.
+Byte strings that depend on keys are placeholders: `=agreement`, the platform's key; `=encrypt:BYTES`; `=hash:PIN`, the
+encrypted PIN hash; `=auth:5+6`, the pinUvAuthParam of members 5 and 6 by the shared secret; `=token:1`, the
+pinUvAuthParam of member 1 by the token; `=former:1`, by the previous token; `=cut:8:1`, the first 8 bytes of
+`=token:1`; `=manage`, `=config` and `=enroll`, the pinUvAuthParam of a subcommand with its parameters; `=blob`, the
+pinUvAuthParam of a large-blob fragment.
 """
 
 from __future__ import annotations
@@ -53,7 +53,7 @@ def derive_hkdf(secret: bytes, info: bytes) -> bytes:
 
 
 @dataclass
-class Filled:
+class FilledValues:
     """The values of a request's placeholders, which its bytes do not show."""
 
     pin: Optional[bytes] = None
@@ -75,7 +75,7 @@ class Platform:
         # The last token, all tokens so far, and the values of the last request's placeholders.
         self.token = b""
         self.tokens: List[bytes] = []
-        self.last_filled = Filled()
+        self.last_filled = FilledValues()
         self.secrets: Dict[str, bytes] = {}
         # The device's PIN, which replaces that of the session.
         self.user_pin = b""
@@ -138,11 +138,11 @@ class Platform:
         for name, part in zip(names, parts):
             check(self.secrets.setdefault(name, part) == part, f"the secret {name} again", part)
             others = [other for other, secret in self.secrets.items() if other != name and secret[:32] == part[:32]]
-            check(not others, f"another secret than {' '.join(others)}", part)
+            check(not others, f"a secret that differs from {' '.join(others)}", part)
 
     def fill(self, request: bytes) -> bytes:
         """Returns a request with its placeholders filled in."""
-        self.last_filled = Filled()
+        self.last_filled = FilledValues()
         if b"=" not in request:
             return request
         try:

@@ -7,7 +7,7 @@ import sys
 from collections import Counter
 from typing import List
 
-from hidlog_conformance.combined import Combined, combine
+from hidlog_conformance.combined import CombinedCase, combine
 from hidlog_conformance.credential_reuse import CredentialReuse
 from hidlog_conformance.device_info import DeviceInfo
 from hidlog_conformance.devices import Device
@@ -33,7 +33,7 @@ def saves_touches(device: Device, options: argparse.Namespace) -> bool:
 
 def find_combined(
     device: Device, sessions: List[Session], options: argparse.Namespace, device_info: DeviceInfo
-) -> List[Combined]:
+) -> List[CombinedCase]:
     """Returns the combined cases that save touches."""
     if not saves_touches(device, options):
         return []
@@ -57,7 +57,7 @@ def order_sessions(
     most = sum(count_touches(one) for one in replace_parts(played, combined))
     if saves:
         # First the cases whose credentials others can reuse.
-        alone.sort(key=lambda one: (count_touches(one) > 0, not makes_credentials(one)))
+        alone.sort(key=lambda one: (count_touches(one) > 0, not makes_reusable_credential(one)))
         names = {one.name for one in replace_parts(played, combined)}
         shared = [one for one in alone if "reset" in one.needs and one.name in names]
         others = [one for one in alone if not any(one is session for session in shared)]
@@ -74,14 +74,15 @@ def order_sessions(
     return [session for one in alone for session in wholes.get(one.name, [one])]
 
 
-def replace_parts(sessions: List[Session], combined: List[Combined]) -> List[Session]:
+def replace_parts(sessions: List[Session], combined: List[CombinedCase]) -> List[Session]:
     """Returns sessions with combined ones in place of their parts."""
     parts = {part.name for one in combined for part in one.parts}
     return [one for one in sessions if one.name not in parts] + [one.whole for one in combined]
 
 
 def count_reused(sessions: List[Session]) -> int:
-    """Returns the number of registrations that earlier cases replace, in cases that need no reset."""
+    """Returns the number of registrations that are left out, since an earlier case left a credential that can be used.
+    Cases that need a reset are not counted."""
     reuse, made, count = CredentialReuse(), Counter[bytes](), 0
     for session in sessions:
         taken = Counter[bytes]()
@@ -95,7 +96,7 @@ def count_reused(sessions: List[Session]) -> int:
     return count
 
 
-def makes_credentials(session: Session) -> bool:
+def makes_reusable_credential(session: Session) -> bool:
     """Returns whether a case needs no reset, and others can reuse the credential that it registers."""
     reuse = CredentialReuse()
     numbers = range(len(session.steps))

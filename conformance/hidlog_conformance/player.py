@@ -32,7 +32,7 @@ FULL = "the device is full (28)"
 
 
 def check_further_extensions(auth: bytes, words: List[str]) -> None:
-    """Checks the extension outputs that an expectation names after the first one; the authenticator data is valid."""
+    """Checks the extension outputs that an expectation names, except the first, which `answers` has checked."""
     behind = auth[37:]
     if auth[32] & answers.AT:
         behind = answers.read_cose_key(auth[55 + int.from_bytes(auth[53:55], "big") :])[1]
@@ -151,7 +151,7 @@ class Player(SettingsReader):
         return self.facts.protection >= (3 if answers.decode_parameters(self.request).get(3) else 2)
 
     def find_excuse(self) -> str:
-        """Returns why a difference is not a failure of the device, or empty."""
+        """Returns why a difference is not a failure of the device, or an empty string."""
         if self.is_hidden_by_cred_protect():
             return "the device sets credProtect without a request"
         if self.is_late_reset():
@@ -160,7 +160,7 @@ class Player(SettingsReader):
         return ""
 
     def is_late_reset(self) -> bool:
-        """Returns whether a device refused a reset that came too late, since it or its user is slow (6.6)."""
+        """Returns whether a device refused a reset that came too late because the device or its user is slow (6.6)."""
         found = self.actual is not None and self.actual.command == hid.CBOR and self.actual.data == b"\x30"
         return found and self.request == bytes([answers.RESET]) and self.device.powered_for * 1000 > RESET_TIME
 
@@ -183,7 +183,7 @@ class Player(SettingsReader):
         if self.pin_user is None or not stored or not self.allocated:
             return
         try:
-            self.guest = hid.Collector()
+            self.guest = hid.MessageReassembler()
             self.pin_user.delete(stored, lambda request: self.exchange(self.allocated[0], request))
         except (Mismatch, OSError, ValueError) as fault:
             print(f"credentials of {self.session.name} may be left on the device: {fault}", file=sys.stderr)
@@ -195,7 +195,7 @@ class Player(SettingsReader):
             message = self.read_message(0)
             if message is None:
                 break
-            check(self.is_expected_keepalive(message), "nothing more", message.shown())
+            check(self.is_expected_keepalive(message), "nothing more", message.describe())
         check(not self.guest.open, "complete messages", "an incomplete message")
 
     def check_end(self) -> None:
@@ -205,7 +205,7 @@ class Player(SettingsReader):
         check(
             message is None or self.is_expected_keepalive(message),
             "nothing more",
-            message.shown() if message else "",
+            message.describe() if message else "",
         )
         check(not self.guest.open, "complete messages", "an incomplete message")
 
@@ -230,12 +230,12 @@ class Player(SettingsReader):
             message = self.read_message(end - time.monotonic())
             if message is None:
                 return
-            check(self.is_expected_keepalive(message), expected, message.shown())
+            check(self.is_expected_keepalive(message), expected, message.describe())
 
     def check_silence(self, words: List[str], channel: int, expected: str) -> None:
         """`silence`: no packet comes."""
         message = self.read_message(0.3)
-        check(message is None, expected, message.shown() if message else "")
+        check(message is None, expected, message.describe() if message else "")
 
     def check_init(self, words: List[str], channel: int, expected: str) -> None:
         """`init nonce HEX`, and `on N` unless on the broadcast channel: a response to INIT."""
@@ -259,7 +259,7 @@ class Player(SettingsReader):
         if "or" in words:
             message = self.read_response(expected)
             if message.command == hid.CBOR and message.channel == channel:
-                check(len(message.data) == 1 and message.data != b"\0", expected, message.shown())
+                check(len(message.data) == 1 and message.data != b"\0", expected, message.describe())
                 return
             self.early.insert(0, message)
         data = self.read_data(hid.ERROR, channel, expected)
@@ -299,11 +299,11 @@ class Player(SettingsReader):
             message = self.read_message(self.patience)
             if message is None:
                 raise Mismatch(expected, self.describe_silence())
-            check(message.command == hid.KEEPALIVE and message.channel == channel, expected, message.shown())
+            check(message.command == hid.KEEPALIVE and message.channel == channel, expected, message.describe())
             check(
                 self.is_expected_keepalive(message),
                 "a KEEPALIVE of one byte, 01 or 02, for a request",
-                message.shown(),
+                message.describe(),
             )
             if message.data == bytes.fromhex(words[0]):
                 return

@@ -100,7 +100,7 @@ def is_bytes(item: Any) -> bool:
     return isinstance(item, bytes)
 
 
-def is_true_or_false(item: Any) -> bool:
+def is_boolean(item: Any) -> bool:
     """Returns whether an item is true or false."""
     return isinstance(item, bool)
 
@@ -135,7 +135,7 @@ MEMBERS: Dict[int, Dict[int, Member]] = {
         3: ("subCommandParams", False, is_map),
         4: ("pinUvAuthProtocol", False, is_number),
         5: ("pinUvAuthParam", False, is_bytes),
-        6: ("getModality", False, is_true_or_false),
+        6: ("getModality", False, is_boolean),
     },
     CONFIGURE: {
         1: ("subCommand", True, is_number),

@@ -134,7 +134,8 @@ def resets_with_pin(case: Case, made: List[bytes]) -> Case:
 
 
 def all_stored(case: Case, made: List[bytes]) -> Case:
-    """Stores credentials, fingerprints and large blobs before the resets, all but Firefox's credential and the PIN."""
+    """Stores credentials, fingerprints and large blobs before the resets. Firefox's credential and the PIN already
+    exist."""
     return store_everything(TourCase(), False)
 
 
@@ -193,7 +194,7 @@ def find_credentials(case: Case, rp: str, words: str) -> Case:
 def same_users(
     case: Case, made: List[bytes], is_long: bool = True, has_eddsa: bool = True, has_protection: bool = True
 ) -> Case:
-    """Adds credentials of two RPs for Firefox's user and for others, discoverable and not. Some are replaced or
+    """Adds discoverable and other credentials of two RPs, for Firefox's user and for others. Some are replaced or
     excluded, and each registration has different unusual members."""
     first, com, org = (
         {"id": made[0], "type": KIND},
@@ -228,7 +229,7 @@ def same_users(
 
 
 def case_of_two(case: Case, first: Dict[str, Any], com: Dict[str, str]) -> Case:
-    """Registers a second user, with an exclude list that has no credential of this RP."""
+    """Registers a second user, with an exclude list without a credential of this RP."""
     similar = [case.similar_descriptor(5, kind) for kind in ("changed", "longer", "shorter")]
     others = [descriptor(9), descriptor(5, "other"), descriptor(5, "")]
     user_id: bytes = user_of(64)["id"]
@@ -253,13 +254,13 @@ def is_only(number: int) -> str:
 
 
 def find_two(case: Case, rp: str, newest: bytes) -> Case:
-    """Signs in without an allow list: the user with this ID, and Firefox's."""
+    """Signs in without an allow list, and expects two accounts: the newest, with this user ID, and Firefox's."""
     find_credentials(case, rp, f"number 2 user {newest.hex()}").cbor(NEXT)
     return case.expect_assertion("no-up user 626f62", presence=False).cbor(NEXT).expect("status 30")
 
 
 def protected(case: Case, made: List[bytes]) -> Case:
-    """Adds credentials that are hidden without user verification, of RP IDs of one character and of 253."""
+    """Adds credentials that are hidden without user verification, for RP IDs of one character and of 253 characters."""
     case.allocate().make(p2={"id": "a", "name": "x"}, p6={"credProtect": 3}, p7=RK)
     case.expect_credential(1, "up extension credProtect 03").get(p1="a", p3=[descriptor(1)]).expect("status 2e")
     case.get(p1="a").expect("status 2e")

@@ -91,7 +91,7 @@ class ResponseReader:
         share = min(session.cases, MAX_SHARE)
         self.max_packets = MAX_PACKETS * share
         self.deadline = time.monotonic() + seconds * share + (session.steps[-1].at if session.steps else 0) / 1000
-        # Messages received early, the channels in use, and whether the device asked for a touch.
+        # Messages received early, the channels and nonces in use, and whether the device asked for a touch.
         self.early: List[Message] = []
         self.used: Set[int] = {hid.BROADCAST}
         self.nonces: Set[bytes] = set()
@@ -108,7 +108,8 @@ class ResponseReader:
         self.known: Dict[bytes, Credential] = {}
         # The device's IDs of fingerprint templates and U2F key handles, by those of the session.
         self.other_ids: Dict[bytes, bytes] = {}
-        # Numbers for later comparisons: of getInfo by member, of samples, and the points and counters of U2F.
+        # Values for later comparisons: getInfo's numbers by member, the number of samples, and the public keys and
+        # counters of U2F registrations by key handle.
         self.numbers: Dict[int, Any] = {}
         self.samples = 0
         self.points: Dict[bytes, bytes] = {}
@@ -120,8 +121,8 @@ class ResponseReader:
         # By channel, the number of pending requests, and the command of the last message.
         self.working: Dict[int, int] = {}
         self.newest: Dict[int, int] = {}
-        self.host = hid.Collector(of_host=True)
-        self.guest = hid.Collector()
+        self.host = hid.MessageReassembler(of_host=True)
+        self.guest = hid.MessageReassembler()
         self.last: Optional[Message] = None
         # The current expectation, and the actual response.
         self.expected = ""
@@ -186,7 +187,7 @@ class ResponseReader:
         self.device.power_cycle(at)
         self.has_answered = False
         self.former, self.allocated = self.allocated or self.former, []
-        self.host, self.guest = hid.Collector(of_host=True), hid.Collector()
+        self.host, self.guest = hid.MessageReassembler(of_host=True), hid.MessageReassembler()
         self.sent.clear()
         self.working.clear()
         self.newest.clear()
@@ -228,7 +229,7 @@ class ResponseReader:
 
     def rename_ids(self, packets: List[bytes]) -> List[bytes]:
         """Replaces the credential IDs of a complete CBOR message by the device's."""
-        collector = hid.Collector()
+        collector = hid.MessageReassembler()
         messages = [message for message in map(collector.feed, packets) if message]
         if len(messages) != 1 or messages[0].problem or messages[0].command not in (hid.CBOR, hid.MSG):
             return packets
@@ -351,7 +352,7 @@ class ResponseReader:
             self.last = message
             self.has_answered = True
             self.count(message)
-            check(not message.problem, expected, message.shown())
+            check(not message.problem, expected, message.describe())
             return message
 
     def may_touch_first(self, expected: str) -> bool:

@@ -44,7 +44,7 @@ class ResultFile:
         if not os.path.exists(self.path):
             return []
         if not os.path.isfile(self.path):
-            raise ValueError(f"{self.path} is not a regular file, so the results cannot be read again")
+            raise ValueError(f"{self.path} is not a regular file, which --resume needs")
         with open(self.path, "rb") as file:
             whole, newline, rest = file.read().rpartition(b"\n")
         if rest:
@@ -52,9 +52,9 @@ class ResultFile:
         try:
             found = [json.loads(line) for line in whole.splitlines()]
         except ValueError:
-            raise ValueError(f"{self.path} is not a file of --resume") from None
+            raise ValueError(f"{self.path} was not written by --resume") from None
         if not all(isinstance(line, dict) for line in found):
-            raise ValueError(f"{self.path} is not a file of --resume")
+            raise ValueError(f"{self.path} was not written by --resume")
         return found
 
     def write(self, members: Dict[str, Any]) -> None:

@@ -69,12 +69,12 @@ class Difference:
 
     @property
     def error_code(self) -> str:
-        """The code of the ERROR received, or empty."""
+        """The code of the ERROR received, or an empty string."""
         return self.actual.data.hex() if self.actual is not None and self.actual.command == hid.ERROR else ""
 
     @property
     def cbor_response(self) -> bytes:
-        """The CBOR response received, or empty."""
+        """The CBOR response received, or empty bytes."""
         return self.actual.data if self.actual is not None and self.actual.command == hid.CBOR else b""
 
 

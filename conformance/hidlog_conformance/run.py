@@ -23,9 +23,8 @@ from hidlog_conformance.client_runner import (
     client_sessions,
     write_failed_logs,
     play_clients,
-    read_client_session,
 )
-from hidlog_conformance.combined import Combined
+from hidlog_conformance.combined import CombinedCase
 from hidlog_conformance.devices import Device, PipeDevice, kill_running
 from hidlog_conformance.device_options import add_device_options, make_device
 from hidlog_conformance.expected_failures import parse_list
@@ -119,7 +118,7 @@ def make_pin_user(session: Session, options: argparse.Namespace, device_info: De
 def check_pin(device: Device, options: argparse.Namespace, device_info: DeviceInfo) -> None:
     """Checks --pin before the first case, since each use of a wrong PIN decrements the retries."""
     if options.reset:
-        raise ValueError("--pin is for a device that keeps its PIN: leave out --reset")
+        raise ValueError("--pin cannot be used with --reset, which removes the PIN")
     if not keys.AVAILABLE:
         raise ValueError("--pin needs python3-cryptography")
     if device_info.options.get("clientPin") is not True:
@@ -136,7 +135,7 @@ def check_pin(device: Device, options: argparse.Namespace, device_info: DeviceIn
 
 
 def answer_of(message: Optional[hid.Message]) -> bytes:
-    """Returns the data of a response; raises ValueError if none came."""
+    """Returns the data of a response. Raises ValueError if there is no response."""
     if message is None:
         raise ValueError("the device does not respond to authenticatorClientPIN")
     return message.data
@@ -145,8 +144,8 @@ def answer_of(message: Optional[hid.Message]) -> bytes:
 def prepare_case(
     device: Device, session: Session, options: argparse.Namespace, saver: Optional[TouchSaver], front: str
 ) -> Tuple[str, Optional[Sharing]]:
-    """Resets a device if the case needs it. Returns why the case cannot be played, or empty; and the state that it
-    shares with other cases."""
+    """Resets a device if the case needs it. Returns why the case cannot be played, or an empty string, and the state
+    that it shares with other cases."""
     if saver is not None and options.reset:
         return saver.begin(session)
     if "reset" not in session.needs or device.fresh or front:
@@ -219,7 +218,7 @@ def play_on_cluster(
 
 def play_alone(
     sessions: List[Session],
-    combined: List[Combined],
+    combined: List[CombinedCase],
     play_whole: Callable[[Session], Outcome],
     play: Callable[[Session, Device], Outcome],
     device: Device,
@@ -270,9 +269,7 @@ def play_all(
         play_on_cluster(sessions, options, device_info, results)
         return
     if options.executor:
-        raise ValueError(
-            "--executor needs a --device COMMAND without --persistent, and --touch-line instead of a person"
-        )
+        raise ValueError("--executor needs --device COMMAND without --persistent, and --touch-line instead of --touch")
     if alone:
         combined = find_combined(device, sessions, options, device_info)
         play_alone(
@@ -332,7 +329,7 @@ def parse_options(arguments: List[str]) -> argparse.Namespace:
 
 def results_so_far(results: "Results[Result]") -> "List[Result]":
     """Returns the results so far, and ignores signals from now on, so that the report is written completely."""
-    interrupts.hold()
+    interrupts.ignore_signals()
     found = results.close()
     kill_running()
     return found
@@ -355,33 +352,33 @@ def report_results(
     expected = set(parse_list(options.expected_failures)) & played
     for name in sorted(failed ^ expected):
         text = "unexpected failure" if name in failed else "unexpected success"
-        print(f"{text} (by {options.expected_failures}): {name}", file=sys.stderr)
+        print(f"{text} (according to {options.expected_failures}): {name}", file=sys.stderr)
     return 1 if failed - expected else 0
 
 
 def play_to_client(options: argparse.Namespace) -> int:
     """Tests a client: plays the device to its command, and writes the report."""
-    paths = options.sessions or client_sessions(options.only)
-    paths = [path for path in paths if not any(word in path for word in options.skip)]
-    if not paths:
+    sessions = client_sessions(options.only, options.sessions)
+    sessions = [one for one in sessions if not any(word in one.session.name for word in options.skip)]
+    if not sessions:
         raise ValueError(report.describe_no_case(options.only, options.skip))
     results: Results[Played] = Results()
     interrupted = False
     try:
-        play_clients(options.client, paths, options.slow, options.warnings_as_errors, options.deadline, results)
+        play_clients(options.client, sessions, options.slow, options.warnings_as_errors, options.deadline, results)
     except KeyboardInterrupt:
         interrupted = True
     played = results_so_far(results)
     if options.logs:
         write_failed_logs(options.logs, played)
     header = report.make_client_header(options.client)
-    return report_results(options, [outcome for outcome, _ in played], header, len(paths) if interrupted else 0)
+    return report_results(options, [outcome for outcome, _ in played], header, len(sessions) if interrupted else 0)
 
 
 def print_list(options: argparse.Namespace) -> int:
     """Lists the cases."""
     if options.client:
-        sessions = [read_client_session(path)[0] for path in client_sessions(options.only)]
+        sessions = [found.session for found in client_sessions(options.only, options.sessions)]
     else:
         sessions = all_sessions(options.only, tuple(options.sessions), tuple(options.skip))
     for session in sessions:

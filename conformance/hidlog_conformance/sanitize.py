@@ -1,4 +1,4 @@
-"""Escapes text of devices and clients for terminals and XML."""
+"""Escapes control and invisible characters in texts of devices and clients. XML's markup is left to the caller."""
 
 from __future__ import annotations
 

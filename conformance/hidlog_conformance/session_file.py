@@ -6,7 +6,7 @@ import re
 from dataclasses import dataclass, field
 from typing import Dict, List, Tuple
 
-from hidlog_conformance.hid_packets import CBOR, Collector
+from hidlog_conformance.hid_packets import CBOR, MessageReassembler
 
 LISTS = ("needs", "uses")
 POWER_CYCLE = "power cycle"
@@ -55,7 +55,7 @@ class Session:
 
     @property
     def lenient(self) -> str:
-        """Why a difference is not a failure of other makers' devices, or empty."""
+        """Why a difference is not a failure of other makers' devices, or an empty string."""
         if self.head.get("profile"):
             return "a choice of this project's profile: " + self.head["profile"]
         return "the standard says should" if self.head.get("level") == "should" else ""
@@ -66,7 +66,7 @@ class SessionReader:
 
     def __init__(self, name: str) -> None:
         self.session = Session(name, {}, [], [], [], f"conformance/sessions/{name}.log")
-        self.host = Collector(of_host=True)
+        self.host = MessageReassembler(of_host=True)
         self.open = False
 
     def make_error(self, line: int, text: str) -> SessionSyntaxError:
@@ -84,7 +84,7 @@ class SessionReader:
         word, _, rest = text.partition(" ")
         if text == POWER_CYCLE:
             self.session.steps.append(Step("power", self.get_last_step(line).at, [], line))
-            self.host = Collector(of_host=True)
+            self.host = MessageReassembler(of_host=True)
             self.open = False
         elif word == "expect":
             self.get_last_step(line).expects.append(rest)

@@ -11,20 +11,20 @@ from hidlog_conformance.answers import GET, NEXT
 from hidlog_conformance.outline import decode_parameters, get_cbor_request
 from hidlog_conformance.session_file import Session, Step
 
-# Cases about user presence, and about the time before a touch; and a client's sign-in without an allow list. Clients'
-# sign-ins with an allow list test the same as get/up_true.
+# Beginnings of the names of cases about user presence or the time before a touch. One is a recorded sign-in without an
+# allow list: recorded sign-ins with an allow list test the same as get/up_true.
 ABOUT_TOUCHES = tuple(
     "cancel/ fuzzed/ hosts/ keepalive/ order/ pin/signs_in_ recorded/libfido2_discoverable selection/ time/ user/".split()
 )
 WORDS_OF_TOUCHES = ("touch", "presence", "up_true")
-# Cases among these whose sign-ins are not about touches.
+# Cases with such names whose sign-ins are not about touches.
 OTHERS = ("cancel/then_again", "fuzzed/nothing_pending_after_a_list", "hosts/sign_in_after_another_registered")
 # The maximum length of a request to which the option is added; and cases about long messages, with their maximum.
 LONGEST, LONG_MESSAGES, LONGEST_OF_THEM = 900, "messages of 2048", 2000
 
 
 def is_about_touches(session: Session) -> bool:
-    """Returns whether a case is about user presence, or comes from a client."""
+    """Returns whether a case's sign-ins are about user presence."""
     is_about = session.name.startswith(ABOUT_TOUCHES) or any(word in session.name for word in WORDS_OF_TOUCHES)
     return is_about and session.name not in OTHERS
 

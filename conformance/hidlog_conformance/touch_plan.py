@@ -20,7 +20,7 @@ EXTENSIONS, PROTOCOL, HARMLESS = 6, 9, {"credBlob", "hmac-secret", "largeBlobKey
 
 
 @dataclass
-class Item:
+class SharedRegistration:
     """A registration on the device: its request with the expectation, and its credential, or None in a plan."""
 
     key: Tuple[bytes, str]
@@ -42,11 +42,11 @@ def is_enough(made: Tuple[bytes, str], wanted: Tuple[bytes, str]) -> bool:
 
 
 @dataclass
-class Group:
+class RegistrationGroup:
     """Registrations that cases share, in order, with a common prefix of their RP IDs."""
 
     front: str
-    items: List[Item] = field(default_factory=list)
+    items: List[SharedRegistration] = field(default_factory=list)
     is_spoiled: bool = False
 
     def can_begin(self, registrations: List[Registration]) -> bool:
@@ -57,10 +57,10 @@ class Group:
 
 
 @dataclass
-class Visit:
+class Preparation:
     """The preparation of the device for a case, in its current state."""
 
-    group: Optional[Group]
+    group: Optional[RegistrationGroup]
     # Whether the device is reset first, whether an empty large-blob array is written, and whether retries are restored.
     resets: bool = False
     cleans_blobs: bool = False
@@ -76,7 +76,7 @@ class DeviceState:
 
     def __init__(self) -> None:
         self.pin = b""
-        self.groups: List[Group] = []
+        self.groups: List[RegistrationGroup] = []
         # Whether there may be other discoverable credentials, large blobs, and wrong PINs.
         self.has_others = True
         self.has_blobs = True
@@ -88,7 +88,7 @@ class DeviceState:
         self.pin, self.groups = b"", []
         self.has_others = self.has_blobs = self.was_guessed = False
 
-    def find_group(self, outline: Outline) -> Optional[Group]:
+    def find_group(self, outline: Outline) -> Optional[RegistrationGroup]:
         """Returns the group that a case can reuse, or a new group; None if the device must be reset."""
         stored = [group for group in self.groups if any(item.is_discoverable for item in group.items)]
         groups = self.groups
@@ -100,17 +100,17 @@ class DeviceState:
         if fitting:
             return max(fitting, key=lambda group: len(group.items))
         if outline.is_global:
-            return None if stored else Group("")
-        return Group(f"c{self.fronts + 1}.")
+            return None if stored else RegistrationGroup("")
+        return RegistrationGroup(f"c{self.fronts + 1}.")
 
-    def plan(self, outline: Outline) -> Visit:
+    def plan(self, outline: Outline) -> Preparation:
         """Returns the preparation for a case, without changing the state."""
         is_same = self.pin == outline.pin or (bool(outline.pin) and not self.pin)
         is_same = is_same or (outline.ignores_pin and self.pin != UNKNOWN)
         group = self.find_group(outline) if is_same else None
-        visit = Visit(group, has_pin=bool(outline.pin) and self.pin == outline.pin)
+        visit = Preparation(group, has_pin=bool(outline.pin) and self.pin == outline.pin)
         if group is None:
-            visit = Visit(Group("" if outline.is_global else f"c{self.fronts + 1}."), resets=True)
+            visit = Preparation(RegistrationGroup("" if outline.is_global else f"c{self.fronts + 1}."), resets=True)
         else:
             visit.reused = len(group.items)
             visit.cleans_blobs = outline.uses_blobs and self.has_blobs
@@ -118,7 +118,7 @@ class DeviceState:
         visit.touches = visit.resets + len(outline.registrations) - visit.reused + outline.touches
         return visit
 
-    def enter(self, outline: Outline, visit: Visit) -> None:
+    def enter(self, outline: Outline, visit: Preparation) -> None:
         """Processes the beginning of a case."""
         if visit.resets:
             self.clear()
@@ -131,7 +131,7 @@ class DeviceState:
             self.groups.append(visit.group)
         self.pin = outline.pin or self.pin
 
-    def leave(self, outline: Outline, visit: Visit, known: Optional[Dict[bytes, Credential]] = None) -> None:
+    def leave(self, outline: Outline, visit: Preparation, known: Optional[Dict[bytes, Credential]] = None) -> None:
         """Processes the end of a case that passed; `known` has its credentials by their names in the session."""
         group = visit.group
         assert group is not None
@@ -139,7 +139,7 @@ class DeviceState:
             self.clear()
         else:
             for one in outline.registrations[len(group.items) :]:
-                group.items.append(Item(one.key, one.is_discoverable, (known or {}).get(one.name)))
+                group.items.append(SharedRegistration(one.key, one.is_discoverable, (known or {}).get(one.name)))
             gone = [place for place, one in enumerate(outline.registrations) if one.name in outline.deleted]
             group.items = [item for place, item in enumerate(group.items) if place not in gone]
         group.is_spoiled = group.is_spoiled or outline.stores
@@ -148,7 +148,7 @@ class DeviceState:
         self.pin = outline.left_pin if outline.changes_pin else self.pin
         self.was_guessed = self.was_guessed or outline.guesses
 
-    def leave_unknown(self, outline: Outline, visit: Visit) -> None:
+    def leave_unknown(self, outline: Outline, visit: Preparation) -> None:
         """Processes the end of a case that did not pass: the state of the device is unknown."""
         if visit.group is not None:
             visit.group.is_spoiled = True
@@ -156,7 +156,7 @@ class DeviceState:
         self.pin = UNKNOWN if self.pin or outline.changes_pin else b""
 
 
-def rank(state: DeviceState, outline: Outline, visit: Visit, pins: List[bytes]) -> Tuple[int, int, int]:
+def rank(state: DeviceState, outline: Outline, visit: Preparation, pins: List[bytes]) -> Tuple[int, int, int]:
     """Returns a key to choose the next case by: first cases that leave the device's state unchanged, then cases that
     reset a device without a PIN, last cases that need a reset."""
     added = len(outline.registrations) - visit.reused
@@ -168,11 +168,11 @@ def rank(state: DeviceState, outline: Outline, visit: Visit, pins: List[bytes]) 
         level = 5 if outline.left_pin in pins and not state.pin else 6
     elif outline.pin and not state.pin:
         level = 5
-    elif outline.is_combined and not (outline.is_global and outline.spoils):
+    elif outline.is_combined and not (outline.is_global and outline.prevents_reuse):
         # Other cases can reuse their registrations.
-        level = 2 if outline.spoils else 1
+        level = 2 if outline.prevents_reuse else 1
     else:
-        level = 3 if outline.spoils or added else 0
+        level = 3 if outline.prevents_reuse or added else 0
     # A reset deletes what cases share, so the case that reuses most comes first.
     is_later = outline.changes_pin if outline.resets else not outline.changes_pin
     return level, int(is_later), added - 2 * visit.reused * outline.resets + int(visit.resets)

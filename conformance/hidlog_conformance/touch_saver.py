@@ -16,7 +16,7 @@ from hidlog_conformance.outline import MANAGE, UNKNOWN, UPDATE, Outline, decode_
 from hidlog_conformance.pin_user import MANAGES, PERMISSIONS, PinUser
 from hidlog_conformance.platform_side import adapt_pin
 from hidlog_conformance.session_file import Session, sends_reset
-from hidlog_conformance.touch_plan import DeviceState, Visit
+from hidlog_conformance.touch_plan import DeviceState, Preparation
 
 # The permission lbw of a token.
 WRITES = 0x10
@@ -69,7 +69,7 @@ class TouchSaver:
         # Credentials for cases that need any, and the outlines of sessions.
         self.pool = CredentialReuse()
         self.outlines: Dict[str, Outline] = {}
-        self.visit = Visit(None)
+        self.visit = Preparation(None)
 
     def get_outline(self, session: Session) -> Outline:
         """Returns the outline of a session."""
@@ -78,8 +78,8 @@ class TouchSaver:
         return self.outlines[session.name]
 
     def begin(self, session: Session) -> "tuple[str, Optional[Sharing]]":
-        """Prepares the device for a case. Returns why the case cannot be played, or empty; and the state that it
-        reuses."""
+        """Prepares the device for a case. Returns why the case cannot be played, or an empty string, and the state that
+        it reuses."""
         outline = self.get_outline(session)
         if not outline.needs_empty:
             return (self.reset(session) if self.state.pin else ""), None
@@ -97,7 +97,7 @@ class TouchSaver:
         credentials = [one for one in found if one is not None]
         return "", Sharing(outline, visit.group.front, credentials, visit.has_pin, user)
 
-    def undo_changes(self, visit: Visit) -> bool:
+    def undo_changes(self, visit: Preparation) -> bool:
         """Undoes changes of earlier cases; returns whether that succeeded."""
         try:
             if visit.restores_retries:
@@ -138,7 +138,7 @@ class TouchSaver:
                 self.state.leave_unknown(outline, self.visit)
 
     def forget(self) -> TouchSaver:
-        """Processes that the device is full: it is reset before the next case that registers."""
+        """Records that the device is full, so that it is reset before the next case that registers."""
         self.state.pin, self.state.has_others = UNKNOWN, True
         return self
 
@@ -152,7 +152,7 @@ class TouchSaver:
         channel = int.from_bytes(send_init(self.device)[8:12], "big")
 
         def exchange(request: bytes) -> bytes:
-            """Returns the response to a request; empty if none came."""
+            """Returns the response to a request, or empty bytes if there is none."""
             message = ask(self.device, channel, hid.CBOR, request)
             return message.data if message is not None else b""
 

@@ -132,7 +132,7 @@ class Entry:
     # start, more, wrong number, stray, cancel; keepalive, error, answer.
     part: str = ""
     transaction: Optional[Transaction] = None
-    # Of a KEEPALIVE: whether its status changed, or the interval passed.
+    # For a KEEPALIVE: why it was sent, because the status changed or the interval passed.
     why: str = ""
     message: Optional[Answer] = None
 
@@ -147,7 +147,7 @@ class Ending:
 
 
 @dataclass
-class Owned:
+class OwnerRow:
     """The line numbers of a packet's transaction and message (their first lines, or 0), and the transactions that it
     ends."""
 
@@ -176,8 +176,8 @@ class Lines:
         return lines
 
 
-# The values for lines without a transaction, and without ends of transactions. They are not to be modified.
-NOTHING = Owned()
+# The values for a line without a transaction, and for a line that ends none. Do not modify them.
+NOTHING = OwnerRow()
 NO_ENDINGS: List[Ending] = []
 
 
@@ -202,14 +202,14 @@ class Owners:
             self.last = int(block[-1][0])
         return self.rows.get(line)
 
-    def of(self, number: int) -> Owned:
+    def of(self, number: int) -> OwnerRow:
         """Returns the transaction of a line, not to be modified; call it with rising line numbers."""
         row, before = self.find_row(number), self.before
         if row is None:
             return NOTHING
         transaction, message = int(row[1]), int(row[2])
         words = self.endings(row) if len(row) > 3 else NO_ENDINGS
-        return Owned(transaction and transaction + before, message and message + before, words)
+        return OwnerRow(transaction and transaction + before, message and message + before, words)
 
     def ends(self, number: int) -> List[Ending]:
         """Returns the transactions that a line ends, not to be modified; call it with rising line numbers."""
@@ -274,7 +274,7 @@ class Transactions:
         if at > self.now:
             self.now = at
 
-    def host(self, line: int, at: int, packet: bytes, owned: Owned) -> None:
+    def handle_host_packet(self, line: int, at: int, packet: bytes, owned: OwnerRow) -> None:
         """Processes a packet of a host."""
         self.advance_time(at)
         self.packets += 1
@@ -282,16 +282,16 @@ class Transactions:
         self.input = entry
         entry.transaction = self.open.get(owned.transaction)
         if packet[4] == 0x80 | CANCEL:
-            self.cancel(entry)
+            self.handle_cancel(entry)
         elif packet[4] & 0x80:
-            self.begin(entry)
+            self.begin_transaction(entry)
         else:
-            self.go_on(entry, owned)
+            self.continue_message(entry, owned)
         self.entries.append(entry)
         if owned.words:
-            self.take_words(entry, owned.words)
+            self.end_transactions(entry, owned.words)
 
-    def device(self, line: int, packet: bytes, owned: Owned) -> None:
+    def handle_device_packet(self, line: int, packet: bytes, owned: OwnerRow) -> None:
         """Processes a packet of the device."""
         self.packets += 1
         self.answers += 1
@@ -299,26 +299,26 @@ class Transactions:
         channel = int.from_bytes(packet[:4], "big")
         entry.transaction = self.open.get(owned.transaction)
         if packet[4] < 0x80:
-            self.go_on_answering(entry, owned, channel)
+            self.continue_answer(entry, owned, channel)
         else:
             if self.answering:
                 self.answering.pop(channel, None)
-            self.answer(entry, channel)
+            self.begin_answer(entry, channel)
         self.entries.append(entry)
         if owned.words:
-            self.take_words(entry, owned.words)
+            self.end_transactions(entry, owned.words)
 
-    def passed(self, line: int, words: List[Ending]) -> None:
+    def handle_reply(self, line: int, words: List[Ending]) -> None:
         """Processes a tick or a reply."""
-        self.take_words(Entry(line, True, self.now, b""), words)
+        self.end_transactions(Entry(line, True, self.now, b""), words)
 
-    def cancel(self, entry: Entry) -> None:
+    def handle_cancel(self, entry: Entry) -> None:
         """Processes a CANCEL."""
         entry.part = "cancel"
         if entry.transaction is not None:
             entry.transaction.cancelled, entry.transaction.cancelled_at = entry.line, entry.at
 
-    def begin(self, entry: Entry) -> None:
+    def begin_transaction(self, entry: Entry) -> None:
         """Processes an initialization packet of a host, which begins a transaction."""
         packet = entry.packet
         channel, length = int.from_bytes(packet[:4], "big"), packet[5] << 8 | packet[6]
@@ -328,7 +328,7 @@ class Transactions:
         self.open[entry.line] = begun
         self.count += 1
 
-    def go_on(self, entry: Entry, owned: Owned) -> None:
+    def continue_message(self, entry: Entry, owned: OwnerRow) -> None:
         """Processes a continuation packet of a host."""
         owner = entry.transaction
         if owner is None:
@@ -340,7 +340,7 @@ class Transactions:
             owner.add(entry.packet[5:], entry.line)
             owner.times.append(self.now)
 
-    def answer(self, entry: Entry, channel: int) -> None:
+    def begin_answer(self, entry: Entry, channel: int) -> None:
         """Processes an initialization packet of the device."""
         packet, owner = entry.packet, entry.transaction
         command = packet[4] & 0x7F
@@ -362,7 +362,7 @@ class Transactions:
         if owner is not None:
             owner.answer, owner.end, owner.by = answer, "answered", entry.line
 
-    def go_on_answering(self, entry: Entry, owned: Owned, channel: int) -> None:
+    def continue_answer(self, entry: Entry, owned: OwnerRow, channel: int) -> None:
         """Processes a continuation packet of the device."""
         answer, entry.part = self.answering.get(channel), "stray"
         if answer is None or answer.line != owned.message:
@@ -373,15 +373,15 @@ class Transactions:
         if answer.received == answer.length:
             del self.answering[channel]
 
-    def take_words(self, entry: Entry, words: List[Ending]) -> None:
+    def end_transactions(self, entry: Entry, words: List[Ending]) -> None:
         """Processes the transactions that a line ends."""
         for word in words:
             if word.letter == LATE:
-                self.leave_late(word.line)
+                self.remove_late_packet(word.line)
             elif word.line in self.open:
-                self.ended(self.open.pop(word.line), word, entry)
+                self.end_transaction(self.open.pop(word.line), word, entry)
 
-    def ended(self, owner: Transaction, word: Ending, entry: Entry) -> None:
+    def end_transaction(self, owner: Transaction, word: Ending, entry: Entry) -> None:
         """Ends a transaction."""
         if word.letter == BY_ERROR:
             owner.end, owner.code, owner.by = "refused", word.number, entry.line
@@ -390,7 +390,7 @@ class Transactions:
         elif word.letter not in ANSWERED:
             owner.end, owner.by = ENDS[word.letter], word.number or entry.line
 
-    def leave_late(self, line: int) -> None:
+    def remove_late_packet(self, line: int) -> None:
         """Removes the last input, a continuation packet that came after the timeout of its message."""
         entry = self.input
         if entry is None or entry.line != line or entry.transaction is None:

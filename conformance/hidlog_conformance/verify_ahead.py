@@ -60,7 +60,7 @@ class Process:
         assert self.process.stdout is not None
         line = self.process.stdout.readline().strip()
         if len(line) != count:
-            raise OSError("the process ended")
+            raise OSError("the process that verifies signatures ended")
         return [digit == ord("1") for digit in line]
 
     def close(self) -> None:

@@ -19,13 +19,14 @@ from hidlog_conformance.walk_steps import ID_FRONT, ID_LENGTH, Block
 
 # Seconds for one step of a device in real time.
 STEP_SECONDS = 60.0
-# The maximum of milliseconds between the steps of a shortened walk, and of replays to shorten it.
+# The maximum number of milliseconds between the steps of a shortened walk, and the maximum number of replays to shorten
+# it.
 MAX_PAUSE, MAX_REPLAYS = 50, 400
 ANY = "Any history of valid and invalid requests has the responses that the standard requires."
 
 
 @dataclass
-class Walked:
+class WalkResult:
     """The steps of a walk, and the violation that ended it, if any."""
 
     blocks: List[Block]
@@ -92,7 +93,7 @@ class WalkPlayer(Player):
         return None
 
 
-def play_blocks(device: Device, device_info: DeviceInfo, blocks: Iterable[Block]) -> Walked:
+def play_blocks(device: Device, device_info: DeviceInfo, blocks: Iterable[Block]) -> WalkResult:
     """Plays steps to a device until it violates a rule; the next step may depend on the responses so far."""
     player, played = WalkPlayer(device, device_info), []
     player.begin()
@@ -101,8 +102,8 @@ def play_blocks(device: Device, device_info: DeviceInfo, blocks: Iterable[Block]
             played.append(block)
             outcome = player.play_block(block)
             if outcome is not None:
-                return Walked(played, outcome)
-        return Walked(played)
+                return WalkResult(played, outcome)
+        return WalkResult(played)
     finally:
         device.close()
 
@@ -116,7 +117,7 @@ class Walk:
         self.player = WalkPlayer(device, device_info)
         self.blocks: List[Block] = []
 
-    def run(self, count: int) -> Walked:
+    def run(self, count: int) -> WalkResult:
         """Plays steps until one violates a rule."""
         self.player.begin()
         began = time.monotonic()
@@ -129,13 +130,13 @@ class Walk:
                 self.blocks.append(block)
                 outcome = self.player.play_block(block)
                 if outcome is not None:
-                    return Walked(self.blocks, outcome)
-            return Walked(self.blocks)
+                    return WalkResult(self.blocks, outcome)
+            return WalkResult(self.blocks)
         finally:
             self.device.close()
 
 
-def walk(device: Device, device_info: DeviceInfo, seed: int, count: int) -> Walked:
+def walk(device: Device, device_info: DeviceInfo, seed: int, count: int) -> WalkResult:
     """Plays generated steps to a device until it violates a rule."""
     return Walk(device, device_info, seed).run(count)
 
@@ -161,9 +162,9 @@ def move_line(text: str, by: int) -> str:
     return " ".join([kind, str(int(at) + by), *rest])
 
 
-def shrink(device: Device, device_info: DeviceInfo, whole: Walked) -> Walked:
+def shrink(device: Device, device_info: DeviceInfo, whole: WalkResult) -> WalkResult:
     """Returns the shortest walk found that fails in the same way: removes blocks of steps, the largest first."""
-    best = Walked(retime(whole.blocks), whole.outcome)
+    best = WalkResult(retime(whole.blocks), whole.outcome)
     size, replays = max(1, len(best.blocks) // 2), 0
     while size and replays < MAX_REPLAYS:
         end = len(best.blocks)

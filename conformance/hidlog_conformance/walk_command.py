@@ -19,7 +19,7 @@ from hidlog_conformance.quantity import quantity
 from hidlog_conformance.report import TITLES
 from hidlog_conformance.fault_text import describe_fault
 from hidlog_conformance.sanitize import escape_text
-from hidlog_conformance.walk import ANY, Walk, Walked, shrink
+from hidlog_conformance.walk import ANY, Walk, WalkResult, shrink
 
 STEPS = 500
 
@@ -53,7 +53,7 @@ def check_walk_device(device: Device, options: argparse.Namespace) -> None:
         raise ValueError("walk needs power cycles: use --persistent if the command keeps its state")
 
 
-def format_session(walked: Walked, seed: int) -> str:
+def format_session(walked: WalkResult, seed: int) -> str:
     """Returns a session file of the steps."""
     assert walked.outcome is not None
     rule = TITLES.get(walked.outcome.broken, walked.outcome.session.head["rule"])
@@ -62,7 +62,7 @@ def format_session(walked: Walked, seed: int) -> str:
     return "\n".join([*head, *needs, *(line for block in walked.blocks for line in block.lines)]) + "\n"
 
 
-def print_violation(walked: Walked, seed: int, path: str) -> None:
+def print_violation(walked: WalkResult, seed: int, path: str) -> None:
     """Prints the violation."""
     outcome = walked.outcome
     assert outcome is not None
@@ -85,7 +85,7 @@ def run_walk(options: argparse.Namespace) -> int:
             print(f"failed at step {len(walked.blocks)}; shortening the walk", file=sys.stderr)
             walked = shrink(device, device_info, walked)
     except KeyboardInterrupt:
-        interrupts.hold()
+        interrupts.ignore_signals()
         kill_running()
         print(f"interrupted after {quantity(len(walk.blocks), 'step')} with the seed {options.seed}")
         return interrupts.INTERRUPTED

@@ -29,7 +29,7 @@ from hidlog_conformance.judged_settings import (
 from hidlog_conformance.known_answers import MAKES
 from hidlog_conformance.walk_steps import NEW_TOKEN, PIN_LENGTH, RPS, Block, Steps
 
-# The maximum of minPINLength in walks, and the timeout of a sample in milliseconds.
+# The maximum minPINLength in walks, and the timeout of a sample in milliseconds.
 LONGEST_PIN, SAMPLE_TIME = 12, 10000
 FINGERPRINT, NAMES = 1, ("left", "right", "thumb")
 

@@ -25,7 +25,7 @@ NEW_TOKEN = 9
 PIN_LENGTH = 6
 # Milliseconds between steps; a longer wait, and a wait that ends pending assertions.
 PAUSES, LONG, LONGER = (1, 5, 40), 3000, 31000
-# The number of credentials after which the device is reset, and the maximum of entries in a list.
+# The number of credentials after which the device is reset, and the maximum number of entries in a list.
 FULL, MAX_LISTED = 20, 3
 
 
@@ -225,8 +225,8 @@ class Steps:
         return [{"id": identity, "type": KIND} for identity in dict.fromkeys(chosen)][:count]
 
     def make_auth_param(self, key: int) -> Dict[int, Any]:
-        """Returns pinUvAuthParam, with this key, and its protocol: by the last token, by the token before it, or
-        truncated."""
+        """Returns pinUvAuthParam under this key, and the protocol under the next: by the last token, by the token
+        before it, or truncated."""
         kind = self.random.choice((b"=token:", b"=token:", b"=token:", b"=former:", b"=cut:"))
         length = self.random.choice((1, 4, 8, 15, 16 if self.protocol == 2 else 12))
         word = kind + (b"%d:" % length if kind == b"=cut:" else b"")
@@ -356,7 +356,7 @@ class Steps:
         return block.ask(self.pin_request(GET_RETRIES))
 
     def block_pin(self) -> Block:
-        """Tries wrong PINs until the PIN is blocked, which only a reset ends: not a power cycle, nor the right PIN."""
+        """Tries wrong PINs until the PIN is blocked. Only a reset unblocks it, not a power cycle or the right PIN."""
         pin = self.secrets.pin
         if not pin or not self.happens(0.5):
             return self.ask_retries()

@@ -90,7 +90,7 @@ def compare_rps(same: Any) -> Any:
 def find_hidden(key: Any, asked: Any) -> Any:
     """Without an allow list, also finds credentials that are not discoverable."""
     listed = asked.item.get(3)
-    return [one for one in key.list_of_rp(asked.item[1]) if not listed or key.named(listed, one)]
+    return [one for one in key.list_of_rp(asked.item[1]) if not listed or key.is_listed(listed, one)]
 
 
 def find_none_without_list(key: Any, old: Any, asked: Any) -> Any:
@@ -242,7 +242,7 @@ ANSWER_MUTANTS: List[Mutant] = [
         "next_of_one",
         NEXT,
         "After a sign-in with a single credential an assertion is pending.",
-        change_result("first", lambda key, answer, asked, found: leave_single_pending(key, answer, asked, found)),
+        change_result("sign_first", lambda key, answer, asked, found: leave_single_pending(key, answer, asked, found)),
     ),
     Mutant(
         "next_flags",
@@ -250,24 +250,24 @@ ANSWER_MUTANTS: List[Mutant] = [
         "Flag UP is always set in further assertions.",
         wrap_next(lambda key, old, at, channel: set_up_in_next(key, old, at, channel)),
     ),
-    Mutant("number_missing", GET, "numberOfCredentials is missing.", change_result("first", drop_number)),
+    Mutant("number_missing", GET, "numberOfCredentials is missing.", change_result("sign_first", drop_number)),
     Mutant(
         "number_of_all",
         GET,
         "numberOfCredentials also counts credentials of other RPs.",
-        change_result("first", count_all_rps),
+        change_result("sign_first", count_all_rps),
     ),
     Mutant(
         "number_of_one",
         GET,
         "numberOfCredentials is 1 for a single credential.",
-        change_result("first", add_number_of_one),
+        change_result("sign_first", add_number_of_one),
     ),
     Mutant(
         "number_with_list",
         GET,
         "numberOfCredentials is returned with an allow list.",
-        wrap_method("first", leave_list_pending),
+        wrap_method("sign_first", leave_list_pending),
     ),
     Mutant(
         "oldest_first",
@@ -294,20 +294,22 @@ ANSWER_MUTANTS: List[Mutant] = [
         "hidden_found",
         GET,
         "Non-discoverable credentials are found without an allow list.",
-        replace_method("applicable", find_hidden),
+        replace_method("list_applicable", find_hidden),
     ),
     Mutant(
         "none_found_alone",
         GET,
         "No credential is found without an allow list.",
-        wrap_method("applicable", find_none_without_list),
+        wrap_method("list_applicable", find_none_without_list),
     ),
     Mutant("user_missing", GET, "The user is missing.", change_member("assertion", 4, None)),
     Mutant("user_without_id", GET, "The user has no ID.", change_user(lambda found: {"name": "x"})),
     Mutant(
         "user_names", GET, "The user's names are returned without user verification.", change_user(lambda found: found)
     ),
-    Mutant("user_id_cut", GET, "User IDs are truncated to 32 bytes.", wrap_method("made", truncate_user_id)),
+    Mutant(
+        "user_id_cut", GET, "User IDs are truncated to 32 bytes.", wrap_method("create_credential", truncate_user_id)
+    ),
     Mutant(
         "user_id_longer",
         GET,
@@ -356,11 +358,16 @@ ANSWER_MUTANTS: List[Mutant] = [
     Mutant(
         "counter_constant", GET, "The counter is always 1.", replace_method("increment_counter", lambda key, one: 1)
     ),
-    Mutant("present_always", GET, "Flag UP is set without a touch.", wrap_method("first", set_user_presence)),
+    Mutant("present_always", GET, "Flag UP is set without a touch.", wrap_method("sign_first", set_user_presence)),
     Mutant("asks_always", GET, "A touch is requested although up is false.", wrap_method("get", always_request_touch)),
     Mutant("asks_never", GET, "Sign-ins need no touch.", wrap_method("get", never_request_touch)),
-    Mutant("consent_not_asked", MAKE, "No touch is requested.", replace_method("consent", skip_touch)),
-    Mutant("denial_is_consent", MAKE, "A denial counts as user presence.", replace_method("consent", accept_any_reply)),
+    Mutant("consent_not_asked", MAKE, "No touch is requested.", replace_method("request_touch", skip_touch)),
+    Mutant(
+        "denial_is_consent",
+        MAKE,
+        "A denial counts as user presence.",
+        replace_method("request_touch", accept_any_reply),
+    ),
     Mutant(
         "rk_option_taken",
         GET,
@@ -439,13 +446,13 @@ ANSWER_MUTANTS: List[Mutant] = [
         "exclude_before_touch",
         MAKE,
         "An excluded registration is refused before the touch.",
-        replace_method("exclude", lambda key, asked: refuse_excluded_without_touch(key, asked)),
+        replace_method("refuse_excluded", lambda key, asked: refuse_excluded_without_touch(key, asked)),
     ),
     Mutant(
         "exclude_denied",
         MAKE,
         "An excluded registration has another status after a denial.",
-        replace_method("exclude", lambda key, asked: refuse_excluded_by_reply(key, asked)),
+        replace_method("refuse_excluded", lambda key, asked: refuse_excluded_by_reply(key, asked)),
     ),
     Mutant("info_versions", INFO, "The versions are missing.", change_member("info", 1, None)),
     Mutant("info_extensions", INFO, "The extensions are a text string.", change_member("info", 2, "credProtect")),
@@ -490,7 +497,7 @@ ANSWER_MUTANTS: List[Mutant] = [
         "11.2.9.1.4",
         "Messages of maxMsgSize bytes are refused.",
         wrap_method(
-            "transport.take",
+            "transport.begin_message",
             lambda key, old, channel, command, length, data: refuse_long_messages(
                 key, old, channel, command, length, data
             ),
@@ -536,14 +543,14 @@ def ignore_selection_reply(key: Any, old: Any, at: int, channel: int, command: i
 def refuse_excluded_without_touch(key: Any, asked: Any) -> Any:
     """Refuses an excluded registration without a touch."""
     yield from ()
-    if key.excluded(asked):
+    if key.is_excluded(asked):
         raise RequestError(0x19)
 
 
 def refuse_excluded_by_reply(key: Any, asked: Any) -> Any:
     """Refuses an excluded registration with a status that depends on the user's reply."""
-    if key.excluded(asked):
-        yield from key.consent()
+    if key.is_excluded(asked):
+        yield from key.request_touch()
         raise RequestError(0x19)
 
 

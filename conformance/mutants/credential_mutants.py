@@ -51,7 +51,7 @@ def compare_allow_list_ids(same: Any) -> Any:
     def named(key: Any, listed: List[Dict[str, Any]], one: Any) -> bool:
         return any(entry["type"] == "public-key" and same(entry["id"], one.id) for entry in listed)
 
-    return replace_method("named", named)
+    return replace_method("is_listed", named)
 
 
 def compare_exclude_list(same: Any) -> Any:
@@ -62,7 +62,7 @@ def compare_exclude_list(same: Any) -> Any:
         rp, listed = asked.item[2]["id"], asked.item.get(5, [])
         return any(same(entry, one, rp) for entry in listed for one in key.credentials)
 
-    return replace_method("excluded", excluded)
+    return replace_method("is_excluded", excluded)
 
 
 def is_excluded_entry(entry: Dict[str, Any], one: Any, rp: str) -> bool:
@@ -205,7 +205,7 @@ CREDENTIAL_MUTANTS: List[Mutant] = [
         "aaguid_differs",
         MAKE,
         "The AAGUID differs from that of getInfo.",
-        change_result("attested", lambda key, data, new: bytes(16) + data[16:]),
+        change_result("attested_data", lambda key, data, new: bytes(16) + data[16:]),
     ),
     Mutant("flag_reserved_1", MAKE, "Bit 1 of the flags is set.", change_flags(lambda found: found | 0x02)),
     Mutant("flag_reserved_5", MAKE, "Bit 5 of the flags is set.", change_flags(lambda found: found | 0x20)),
@@ -242,21 +242,21 @@ CREDENTIAL_MUTANTS: List[Mutant] = [
         "list_of_any_type",
         GET,
         "The type of a descriptor is ignored.",
-        replace_method("named", lambda key, listed, one: any(entry["id"] == one.id for entry in listed)),
+        replace_method("is_listed", lambda key, listed, one: any(entry["id"] == one.id for entry in listed)),
     ),
     Mutant(
         "list_first_only",
         GET,
         "Only the first entry of an allow list is used.",
         replace_method(
-            "named", lambda key, listed, one: listed[0]["type"] == "public-key" and listed[0]["id"] == one.id
+            "is_listed", lambda key, listed, one: listed[0]["type"] == "public-key" and listed[0]["id"] == one.id
         ),
     ),
     Mutant(
         "other_types_as_none",
         GET,
         "An allow list without the type public-key is treated as missing.",
-        wrap_method("applicable", accept_list_without_public_key),
+        wrap_method("list_applicable", accept_list_without_public_key),
     ),
     Mutant(
         "ids_in_a_row", MAKE, "Credential IDs are consecutive numbers.", replace_method("new_id", make_sequential_id)
@@ -321,9 +321,11 @@ CREDENTIAL_MUTANTS: List[Mutant] = [
         "exclude_first_only",
         MAKE,
         "Only the first entry of an exclude list is used.",
-        replace_method("excluded", check_first_entry_only),
+        replace_method("is_excluded", check_first_entry_only),
     ),
-    Mutant("exclude_never", MAKE, "The exclude list is ignored.", replace_method("excluded", lambda key, asked: False)),
+    Mutant(
+        "exclude_never", MAKE, "The exclude list is ignored.", replace_method("is_excluded", lambda key, asked: False)
+    ),
     Mutant(
         "full_overwrites",
         GET,
@@ -378,27 +380,33 @@ CREDENTIAL_MUTANTS: List[Mutant] = [
         "key_with_more",
         MAKE,
         "The COSE key has an additional member.",
-        change_result("attested", lambda key, data, new: data[: 18 + len(new.id)] + encode({**new.cose(), 2: b"x"})),
+        change_result(
+            "attested_data", lambda key, data, new: data[: 18 + len(new.id)] + encode({**new.cose(), 2: b"x"})
+        ),
     ),
     Mutant(
         "key_off_curve",
         MAKE,
         "The public key is not on the curve.",
         change_result(
-            "attested", lambda key, data, new: data[: 18 + len(new.id)] + encode({**new.cose(), -2: bytes(32)})
+            "attested_data", lambda key, data, new: data[: 18 + len(new.id)] + encode({**new.cose(), -2: bytes(32)})
         ),
     ),
     Mutant(
         "key_other_alg",
         MAKE,
         "The COSE key has another alg.",
-        change_result("attested", lambda key, data, new: data[: 18 + len(new.id)] + encode({**new.cose(), 3: -35})),
+        change_result(
+            "attested_data", lambda key, data, new: data[: 18 + len(new.id)] + encode({**new.cose(), 3: -35})
+        ),
     ),
     Mutant(
         "id_length_wrong",
         MAKE,
         "credentialIdLength is too great by one.",
-        change_result("attested", lambda key, data, new: data[:16] + (len(new.id) + 1).to_bytes(2, "big") + data[18:]),
+        change_result(
+            "attested_data", lambda key, data, new: data[:16] + (len(new.id) + 1).to_bytes(2, "big") + data[18:]
+        ),
     ),
     Mutant(
         "reset_keeps_discoverable",

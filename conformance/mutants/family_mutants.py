@@ -78,7 +78,7 @@ def authorize_without(check: str, code: str = "config") -> Change:
 
 def refuse_kind(key: Any, item: Dict[int, Any]) -> None:
     """Refuses the value 2 of enterpriseAttestation."""
-    Authenticator.enterprise(key, item)
+    Authenticator.check_enterprise(key, item)
     if item.get(10) == 2:
         raise RequestError(INVALID_PARAMETER)
 
@@ -90,7 +90,7 @@ def take_any_kind(key: Any, item: Dict[int, Any]) -> None:
 
 
 def never_block(key: Any) -> None:
-    """Refuses a PIN without retries as a wrong one, and gives one more."""
+    """Refuses any PIN as wrong once no retries are left, and allows one more try."""
     try:
         Pin.check_not_blocked(key.pin)
     except RequestError as refused:
@@ -115,7 +115,7 @@ def count_no_samples(key: Any) -> Any:
 def rename_nothing(key: Any, asked: Dict[int, Any]) -> Any:
     """Does not rename."""
     yield from ()
-    key.bio.named(asked)
+    key.bio.get_template(asked)
     return {}
 
 
@@ -134,11 +134,11 @@ def sign_for_any(key: Any, data: bytes) -> Any:
     """Finds key handles of any application."""
     handle = data[65 : 65 + data[64]]
     found = [one for one in key.credentials if one.id == handle]
-    return (True, found[0]) if found else U2f.found(key.u2f, data)
+    return (True, found[0]) if found else U2f.find_credential(key.u2f, data)
 
 
 def register_short(key: Any, at: int, data: bytes) -> bytes:
-    """Returns for a wrong length the status word of a missing touch."""
+    """Responds to a wrong length with the status word of a missing touch."""
     return bytes(NOT_SATISFIED if len(data) != 64 else U2f.register(key.u2f, at, data))
 
 
@@ -244,14 +244,14 @@ FAMILY_MUTANTS: List[Mutant] = [
         "enterprise_refused",
         MAKE,
         "Enabled enterprise attestation is refused.",
-        replace_method("enterprise", refuse_kind),
+        replace_method("check_enterprise", refuse_kind),
         CONFIGURABLE,
     ),
     Mutant(
         "enterprise_of_any_kind",
         MAKE,
         "Unknown values of enterpriseAttestation are accepted.",
-        replace_method("enterprise", take_any_kind),
+        replace_method("check_enterprise", take_any_kind),
         CONFIGURABLE,
     ),
     Mutant(
@@ -299,7 +299,7 @@ FAMILY_MUTANTS: List[Mutant] = [
         "any_template_named",
         BIO,
         "Unknown templates are accepted.",
-        replace_method("bio.named", name_any),
+        replace_method("bio.get_template", name_any),
         FINGERPRINTS,
     ),
     Mutant(
@@ -362,9 +362,11 @@ FAMILY_MUTANTS: List[Mutant] = [
         "u2f_for_any_application",
         CTAP1,
         "A key handle is accepted for any application.",
-        replace_method("u2f.found", sign_for_any),
+        replace_method("u2f.find_credential", sign_for_any),
     ),
-    Mutant("u2f_without_touch", CTAP1, "U2F needs no touch.", replace_method("u2f.present", lambda key, at: True)),
+    Mutant(
+        "u2f_without_touch", CTAP1, "U2F needs no touch.", replace_method("u2f.is_user_present", lambda key, at: True)
+    ),
     Mutant("u2f_short_accepted", CTAP1, "A wrong length returns 6985.", replace_method("u2f.register", register_short)),
     Mutant("u2f_signs_wrongly", CTAP1, "A U2F signature is wrong.", wrap_method("u2f.sign", sign_wrongly)),
     Mutant(

@@ -60,7 +60,7 @@ def excludes_requests_alone(key: Any, channel: int, command: int, length: int, d
     before = key.transport.locked
     if command in (1, LOCK_COMMAND):
         key.transport.locked = (channel, 0)
-    Transport.begin(key.transport, channel, command, length, data)
+    Transport.handle_initialization(key.transport, channel, command, length, data)
     if command == 1:
         key.transport.locked = before
 
@@ -141,7 +141,7 @@ LOCK_MUTANTS: List[Mutant] = [
         "lock_serves_others",
         LOCK,
         "During a lock PINGs and LOCKs of other channels are served.",
-        replace_method("transport.begin", excludes_requests_alone),
+        replace_method("transport.handle_initialization", excludes_requests_alone),
         LOCKING,
     ),
     Mutant(

@@ -42,14 +42,14 @@ def repeat_first_rp(key: Any, old: Any) -> Any:
 
 def change_user_id(key: Any, old: Any, asked: Dict[int, Any]) -> Any:
     """Also changes the user ID in an update."""
-    one = key.management.named(asked)
+    one = key.management.get_credential(asked)
     one.user = dict(asked[3])
     return {}
 
 
 def list_all_rps(key: Any, old: Any, asked: Dict[int, Any]) -> Any:
     """Lists the credentials of all RPs."""
-    key.management.left = key.management.stored()
+    key.management.left = key.management.list_stored()
     return {**key.management.next_of_rp(), 9: len(key.management.left) + 1}
 
 
@@ -94,7 +94,7 @@ def clear_verified(key: Any, old: Any, asked: Any, *words: Any) -> None:
 def grant_without_user(key: Any, old: Any, asked: Dict[int, Any]) -> Any:
     """Returns a token without user verification."""
     protocol = key.pin.protocol(asked, 1)
-    return key.pin.grant(protocol, protocol.shared(asked[3]), asked[9], asked.get(10, ""))
+    return key.pin.grant(protocol, protocol.compute_secret(asked[3]), asked[9], asked.get(10, ""))
     yield
 
 
@@ -118,8 +118,8 @@ def remove_key(found: Dict[Any, Any], key: Any) -> Dict[Any, Any]:
     return {name: value for name, value in found.items() if name != key}
 
 
-def change_listing_member(path: str, key: Any, value: Any) -> Any:
-    """Returns a change of a member in the response of an enumeration."""
+def change_management_member(path: str, key: Any, value: Any) -> Any:
+    """Returns a change of a member in the response of an authenticatorCredentialManagement subcommand."""
     return change_member(f"management.{path}", key, value)
 
 
@@ -128,13 +128,13 @@ MANAGEMENT_MUTANTS: List[Mutant] = [
         "manage_counts_all",
         MANAGE,
         "Non-discoverable credentials are counted.",
-        change_listing_member("metadata", 1, 6),
+        change_management_member("metadata", 1, 6),
     ),
     Mutant(
         "manage_no_rest",
         MANAGE,
         "maxPossibleRemainingResidentCredentialsCount is missing.",
-        change_listing_member("metadata", 2, None),
+        change_management_member("metadata", 2, None),
     ),
     Mutant(
         "manage_permits_all",
@@ -152,13 +152,13 @@ MANAGEMENT_MUTANTS: List[Mutant] = [
         "manage_not_verified",
         MANAGE,
         "Credential management does not verify pinUvAuthParam.",
-        replace_method("pin.verified", lambda key, *words: True),
+        replace_method("pin.is_authentic", lambda key, *words: True),
     ),
     Mutant(
         "manage_of_every_rp",
         MANAGE,
         "A token for one RP can manage all RPs.",
-        replace_method("management.of_token", lambda key, *words: True),
+        replace_method("management.is_permitted", lambda key, *words: True),
     ),
     Mutant("manage_rp_twice", MANAGE, "An RP is listed twice.", wrap_method("management.next_rp", repeat_first_rp)),
     Mutant(
@@ -171,26 +171,26 @@ MANAGEMENT_MUTANTS: List[Mutant] = [
         "manage_rp_hash",
         MANAGE,
         "The RP ID hash in the list of RPs is wrong.",
-        change_listing_member("next_rp", 4, bytes(32)),
+        change_management_member("next_rp", 4, bytes(32)),
     ),
     Mutant(
         "manage_rp_name",
         MANAGE,
         "The RP ID in the list of RPs is wrong.",
-        change_listing_member("next_rp", 3, {"id": "other.example"}),
+        change_management_member("next_rp", 3, {"id": "other.example"}),
     ),
     Mutant(
         "manage_rps_total",
         MANAGE,
         "totalRPs is too low by one.",
-        change_listing_member("first_rp", 5, lambda total: total - 1),
+        change_management_member("first_rp", 5, lambda total: total - 1),
     ),
-    Mutant("manage_rps_no_total", MANAGE, "totalRPs is missing.", change_listing_member("first_rp", 5, None)),
+    Mutant("manage_rps_no_total", MANAGE, "totalRPs is missing.", change_management_member("first_rp", 5, None)),
     Mutant(
         "manage_total",
         MANAGE,
         "totalCredentials is too low by one.",
-        change_listing_member("first_of_rp", 9, lambda item: item - 1),
+        change_management_member("first_of_rp", 9, lambda item: item - 1),
     ),
     Mutant(
         "manage_all_rps",
@@ -202,25 +202,25 @@ MANAGEMENT_MUTANTS: List[Mutant] = [
         "manage_no_user",
         MANAGE,
         "The list of credentials has no users.",
-        change_listing_member("next_of_rp", 6, {"id": b"nobody"}),
+        change_management_member("next_of_rp", 6, {"id": b"nobody"}),
     ),
     Mutant(
         "manage_other_key",
         MANAGE,
         "The list of credentials has another public key.",
-        change_listing_member("next_of_rp", 8, {1: 2, 3: -7}),
+        change_management_member("next_of_rp", 8, {1: 2, 3: -7}),
     ),
     Mutant(
         "manage_no_protection",
         MANAGE,
         "The list of credentials always has credProtect 1.",
-        change_listing_member("next_of_rp", 10, 1),
+        change_management_member("next_of_rp", 10, 1),
     ),
     Mutant(
         "manage_no_blob_key",
         MANAGE,
         "The list of credentials has no large blob keys.",
-        change_listing_member("next_of_rp", 11, None),
+        change_management_member("next_of_rp", 11, None),
     ),
     Mutant(
         "manage_empty_list",
@@ -272,7 +272,7 @@ USER_MUTANTS: List[Mutant] = [
         "user_hides_all",
         GET,
         "credProtect hides credentials despite user verification.",
-        replace_method("shown", lambda key, asked, one, listed: one.protection < 2),
+        replace_method("is_visible", lambda key, asked, one, listed: one.protection < 2),
         FINGERPRINT,
     ),
     Mutant(
@@ -340,7 +340,7 @@ ARRAY_MUTANTS: List[Mutant] = [
         "blobs_any_hash",
         BLOBS,
         "The hash of a new array is not checked.",
-        replace_method("large_blobs.whole", lambda key, array: True),
+        replace_method("large_blobs.is_whole", lambda key, array: True),
     ),
     Mutant(
         "blobs_at_once",
@@ -364,7 +364,7 @@ ARRAY_MUTANTS: List[Mutant] = [
         "blobs_any_size",
         BLOBS,
         "The length of a fragment is not checked.",
-        replace_method("large_blobs.longest", lambda key: 2**31),
+        replace_method("large_blobs.max_fragment_length", lambda key: 2**31),
     ),
     Mutant(
         "blobs_without_token",
@@ -382,7 +382,7 @@ ARRAY_MUTANTS: List[Mutant] = [
         "blobs_not_verified",
         BLOBS,
         "Writes do not verify pinUvAuthParam.",
-        replace_method("pin.verified", lambda key, *words: True),
+        replace_method("pin.is_authentic", lambda key, *words: True),
     ),
     Mutant(
         "blobs_lost", BLOBS, "Written arrays are not stored.", replace_method("large_blobs.commit", lambda key: None)

@@ -5,7 +5,7 @@ from __future__ import annotations
 import hashlib
 from typing import Any, Dict, List
 
-from hidlog_conformance.reference.asked import Pending
+from hidlog_conformance.reference.active_request import Pending
 from hidlog_conformance.reference.authenticator import Authenticator
 from hidlog_conformance.reference.credential import new_key
 from hidlog_conformance.reference.transport import Transport
@@ -70,7 +70,7 @@ def note_used(key: Any, one: Any, data: bytes) -> bytes:
 
 def keep_number(key: Any, asked: Any, found: Any) -> Any:
     """Signs in; numberOfCredentials is the maximum so far."""
-    answer = Authenticator.first(key, asked, found)
+    answer = Authenticator.sign_first(key, asked, found)
     if 5 in answer:
         key.most = answer[5] = max(answer[5], getattr(key, "most", 0))
     return answer
@@ -90,7 +90,7 @@ def start_over(key: Any, at: int, channel: int) -> Any:
 def exclude_any_rp(key: Any, asked: Any) -> bool:
     """Excludes credentials of all RPs after the tenth registration."""
     if count(key, "excludes") < 10:
-        return bool(Authenticator.excluded(key, asked))
+        return bool(Authenticator.is_excluded(key, asked))
     named = [entry["id"] for entry in asked.item.get(5, [])]
     return any(one.id in named for one in key.credentials)
 
@@ -151,7 +151,7 @@ def forget_signers(key: Any, before: Any, pin: Any) -> None:
 
 
 def set_up_forever(key: Any, asked: Any) -> int:
-    """Returns the flags; UP stays set at an RP once it was."""
+    """Returns the flags, with UP set at each RP where it was set before."""
     rps = key.__dict__.setdefault("present", set())
     flags = int(Authenticator.flags(key, asked))
     rp = asked.item.get(1)
@@ -223,7 +223,7 @@ MORE_STATE_MUTANTS: List[Mutant] = [
         "A credential that has signed signs for other RPs, too.",
         combine(replace_method("list_of_rp", find_used_ones), replace_method("sign", note_used)),
     ),
-    Mutant("number_of_most", GET, "numberOfCredentials never decreases.", replace_method("first", keep_number)),
+    Mutant("number_of_most", GET, "numberOfCredentials never decreases.", replace_method("sign_first", keep_number)),
     Mutant(
         "next_starts_over",
         NEXT,
@@ -234,7 +234,7 @@ MORE_STATE_MUTANTS: List[Mutant] = [
         "excludes_any_rp",
         MAKE,
         "After ten registrations exclude lists find credentials of other RPs.",
-        replace_method("excluded", exclude_any_rp),
+        replace_method("is_excluded", exclude_any_rp),
     ),
     Mutant(
         "counters_of_others",

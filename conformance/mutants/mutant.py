@@ -19,7 +19,7 @@ class Mutant(NamedTuple):
     change: Change
     # Traits that differ from those of the plain reference authenticator.
     traits: DeviceTraits = DeviceTraits()
-    # Why no case detects it, if none does.
+    # The reason why no case detects the mutant, if so.
     missed: str = ""
 
 
@@ -82,7 +82,7 @@ def combine(*changes: Change) -> Change:
 
 
 def with_traits(**traits: Any) -> Change:
-    """Returns a change of traits in the authenticator's behavior, but not in getInfo."""
+    """Returns a change that gives the authenticator other traits, which getInfo does not show."""
 
     def plant(authenticator: Authenticator) -> None:
         changed = DeviceTraits(**{**vars(authenticator.traits), **traits})

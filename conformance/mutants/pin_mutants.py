@@ -45,13 +45,13 @@ def reset_wrong_count(key: Any, old: Any) -> None:
 def grant_every_permission(
     key: Any, old: Any, protocol: Any, data: bytes, given: bytes, permission: int, rp: str
 ) -> None:
-    """Returns a token that also keeps the permissions of earlier ones."""
+    """Accepts a token for every permission."""
     key.pin.permissions |= permission
     old(protocol, data, given, permission, rp)
 
 
 def grant_every_rp(key: Any, old: Any, protocol: Any, data: bytes, given: bytes, permission: int, rp: str) -> None:
-    """Returns a token for whatever RP was requested before."""
+    """Accepts a token for every RP."""
     key.pin.rp = rp
     old(protocol, data, given, permission, rp)
 
@@ -69,7 +69,7 @@ def forget_old_pin(key: Any, old: Any, asked: Any) -> Any:
 
 
 PIN_MUTANTS: List[Mutant] = [
-    Mutant("pin_any", PIN, "Any PIN is accepted.", replace_method("pin.same", lambda key, given: True)),
+    Mutant("pin_any", PIN, "Any PIN is accepted.", replace_method("pin.is_same_pin", lambda key, given: True)),
     Mutant(
         "pin_short",
         PIN,
@@ -170,7 +170,7 @@ PIN_MUTANTS: List[Mutant] = [
         "token_not_verified",
         MAKE,
         "pinUvAuthParam is not verified.",
-        replace_method("pin.verified", lambda key, protocol, data, given: True),
+        replace_method("pin.is_authentic", lambda key, protocol, data, given: True),
     ),
     Mutant("token_without_uv", MAKE, "Flag UV is not set with a token.", wrap_method("verify", clear_verified)),
     Mutant(
@@ -201,13 +201,13 @@ PIN_MUTANTS: List[Mutant] = [
         "protect_hides_nothing",
         PROTECT,
         "credProtect has no effect.",
-        replace_method("shown", lambda key, asked, one, listed: True),
+        replace_method("is_visible", lambda key, asked, one, listed: True),
     ),
     Mutant(
         "protect_hides_alone",
         PROTECT,
         "Level 3 of credProtect has the effect of level 2.",
-        replace_method("shown", lambda key, asked, one, listed: listed or one.protection < 2),
+        replace_method("is_visible", lambda key, asked, one, listed: listed or one.protection < 2),
     ),
     Mutant(
         "blob_lost",

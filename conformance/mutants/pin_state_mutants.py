@@ -101,8 +101,8 @@ def set_and_keep_retries(key: Any, protocol: Any, secret: bytes, encrypted: byte
 def use_silently(key: Any, asked: Any, found: Any) -> Any:
     """Signs in; a sign-in without a touch clears the token's permissions, too."""
     if asked.verified:
-        key.pin.used()
-    return Authenticator.first(key, asked, found)
+        key.pin.clear_permissions()
+    return Authenticator.sign_first(key, asked, found)
 
 
 def check_rp_once(key: Any, protocol: Any, data: bytes, param: bytes, permission: int, rp: str) -> None:
@@ -184,7 +184,7 @@ PIN_STATE_MUTANTS: List[Mutant] = [
         "old_pin_too",
         PIN,
         "The PIN before a change is still accepted.",
-        combine(change_pin_method("same", same_as_old), change_pin_method("change", change_and_keep_old)),
+        combine(change_pin_method("is_same_pin", same_as_old), change_pin_method("change", change_and_keep_old)),
     ),
     Mutant(
         "first_pin_stays", PIN, "After a reset setPIN sets the former PIN.", change_pin_method("new_pin", set_former)
@@ -211,7 +211,7 @@ PIN_STATE_MUTANTS: List[Mutant] = [
         "silent_use_spends",
         EITHER,
         "A sign-in without a touch clears the token's permissions.",
-        replace_method("first", use_silently),
+        replace_method("sign_first", use_silently),
     ),
     Mutant(
         "token_rp_once",

@@ -53,7 +53,7 @@ def forget_rps(key: Any) -> None:
 
 def keep_removed(key: Any, asked: Dict[int, Any]) -> Any:
     """Removes a template, and remembers it."""
-    key.removed = {**getattr(key, "removed", {}), key.bio.named(asked): ""}
+    key.removed = {**getattr(key, "removed", {}), key.bio.get_template(asked): ""}
     return (yield from BioEnrollment.remove(key.bio, asked))
 
 

@@ -143,13 +143,13 @@ def use_previous_list(key: Any, asked: Any, place: int) -> None:
 def find_by_previous_list(key: Any, asked: Any) -> Any:
     """Finds credentials by the allow list of the previous sign-in."""
     use_previous_list(key, asked, 3)
-    return Authenticator.applicable(key, asked)
+    return Authenticator.list_applicable(key, asked)
 
 
 def exclude_by_previous_list(key: Any, asked: Any) -> bool:
     """Excludes by the list of the previous registration."""
     use_previous_list(key, asked, 5)
-    return bool(Authenticator.excluded(key, asked))
+    return bool(Authenticator.is_excluded(key, asked))
 
 
 def set_uv_forever(key: Any, asked: Any) -> int:
@@ -198,14 +198,15 @@ STATE_MUTANTS: List[Mutant] = [
         "pin_by_one_byte",
         PIN,
         "Only one byte of the PIN hash is compared.",
-        change_pin_method("same", lambda key, param: param[:1] == key.pin.hash[:1]),
+        change_pin_method("is_same_pin", lambda key, param: param[:1] == key.pin.hash[:1]),
     ),
     Mutant(
         "param_by_prefix",
         EITHER,
         "A prefix of pinUvAuthParam is accepted.",
         change_pin_method(
-            "verified", lambda key, protocol, data, param: protocol.authenticate(key.pin.token, data).startswith(param)
+            "is_authentic",
+            lambda key, protocol, data, param: protocol.authenticate(key.pin.token, data).startswith(param),
         ),
     ),
     Mutant(
@@ -239,13 +240,13 @@ STATE_MUTANTS: List[Mutant] = [
         "allow_list_stays",
         GET,
         "Without an allow list that of the previous sign-in is used.",
-        replace_method("applicable", find_by_previous_list),
+        replace_method("list_applicable", find_by_previous_list),
     ),
     Mutant(
         "exclude_list_stays",
         MAKE,
         "Without an exclude list that of the previous registration is used.",
-        replace_method("excluded", exclude_by_previous_list),
+        replace_method("is_excluded", exclude_by_previous_list),
     ),
     Mutant(
         "token_outlasts_power",

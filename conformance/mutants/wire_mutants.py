@@ -27,7 +27,7 @@ def change_packets(change: Any) -> Any:
 def change_init_response(place: int, new: bytes) -> Any:
     """Returns a change of bytes in the INIT response."""
     return change_result(
-        "transport.nonce_answer", lambda key, data, *words: data[:place] + new + data[place + len(new) :]
+        "transport.make_init_response", lambda key, data, *words: data[:place] + new + data[place + len(new) :]
     )
 
 
@@ -93,7 +93,7 @@ def use_kept_touch(key: Any, old: Any, reply: str = "") -> None:
 def keep_and_use_touch(authenticator: Any) -> None:
     """Keeps a touch that was not requested, and uses it for the next request."""
     wrap_method("transport.touch", keep_early_touch)(authenticator)
-    wrap_method("transport.work_on", use_kept_touch)(authenticator)
+    wrap_method("transport.run_request", use_kept_touch)(authenticator)
 
 
 def use_touch_twice(key: Any, old: Any, reply: str = "") -> None:
@@ -261,7 +261,7 @@ WIRE_MUTANTS: List[Mutant] = [
         PACKETS,
         "A length above the maximum is accepted.",
         wrap_method(
-            "transport.take",
+            "transport.begin_message",
             lambda key, old, channel, command, length, data: old(channel, command, min(length, len(data)), data),
         ),
     ),
@@ -290,13 +290,13 @@ WIRE_MUTANTS: List[Mutant] = [
         "no_cbor",
         INIT,
         "The capability CBOR is missing.",
-        change_result("transport.nonce_answer", lambda key, data, *words: data[:16] + bytes([data[16] & ~4])),
+        change_result("transport.make_init_response", lambda key, data, *words: data[:16] + bytes([data[16] & ~4])),
     ),
     Mutant(
         "init_short",
         INIT,
         "The INIT response has 16 bytes.",
-        change_result("transport.nonce_answer", lambda key, data, *words: data[:16]),
+        change_result("transport.make_init_response", lambda key, data, *words: data[:16]),
     ),
     Mutant(
         "init_keeps_all",
@@ -314,25 +314,25 @@ WIRE_MUTANTS: List[Mutant] = [
         "nmsg_lies",
         ERROR,
         "The capability NMSG is set, but MSG is supported.",
-        change_result("transport.nonce_answer", lambda key, data, *words: data[:16] + bytes([data[16] | 8])),
+        change_result("transport.make_init_response", lambda key, data, *words: data[:16] + bytes([data[16] | 8])),
     ),
     Mutant(
         "msg_lies",
         MSG,
         "MSG is not supported, but the capability NMSG is not set.",
-        change_result("transport.serves", lambda key, found, command: found and command != hid.MSG),
+        change_result("transport.is_supported", lambda key, found, command: found and command != hid.MSG),
     ),
     Mutant(
         "wink_lies",
         WINK,
         "The capability WINK is set, but WINK is not supported.",
-        change_result("transport.nonce_answer", lambda key, data, *words: data[:16] + bytes([data[16] | 1])),
+        change_result("transport.make_init_response", lambda key, data, *words: data[:16] + bytes([data[16] | 1])),
     ),
     Mutant(
         "wink_hidden",
         ERROR,
         "WINK is supported, but the capability WINK is not set.",
-        change_result("transport.serves", lambda key, found, command: found or command == hid.WINK),
+        change_result("transport.is_supported", lambda key, found, command: found or command == hid.WINK),
     ),
     Mutant("ping_cut", PING, "The response to a PING is truncated to 1024 bytes.", wrap_send(truncate_ping)),
     Mutant(
@@ -419,7 +419,7 @@ WIRE_MUTANTS: List[Mutant] = [
         "interrupted",
         BUSY,
         "A message on another channel aborts the transaction in progress.",
-        wrap_method("transport.begin", replace_other_channel),
+        wrap_method("transport.handle_initialization", replace_other_channel),
     ),
     Mutant("time_out_never", TIME, "An incomplete message never times out.", with_traits(time_out=10**9)),
     Mutant(
@@ -432,7 +432,7 @@ WIRE_MUTANTS: List[Mutant] = [
         "any_sequence",
         SEQUENCE,
         "Any sequence number is accepted.",
-        wrap_method("transport.go_on", accept_any_sequence),
+        wrap_method("transport.handle_continuation", accept_any_sequence),
     ),
     Mutant(
         "sequence_unheard",
@@ -444,21 +444,26 @@ WIRE_MUTANTS: List[Mutant] = [
         "sequence_of_any",
         SEQUENCE,
         "Continuation packets of other channels are accepted.",
-        wrap_method("transport.go_on", accept_packets_of_any_channel),
+        wrap_method("transport.handle_continuation", accept_packets_of_any_channel),
     ),
     Mutant(
         "stray_refused",
         SEQUENCE,
         "The device responds to a continuation packet outside any transaction.",
-        wrap_method("transport.go_on", respond_to_stray_packet),
+        wrap_method("transport.handle_continuation", respond_to_stray_packet),
     ),
     Mutant(
         "any_channel",
         CHANNELS,
         "An unallocated channel is served.",
-        wrap_method("transport.begin", accept_unallocated_channels),
+        wrap_method("transport.handle_initialization", accept_unallocated_channels),
     ),
-    Mutant("channel_zero", CHANNELS, "Channel 0 is served.", wrap_method("transport.begin", accept_channel_zero)),
+    Mutant(
+        "channel_zero",
+        CHANNELS,
+        "Channel 0 is served.",
+        wrap_method("transport.handle_initialization", accept_channel_zero),
+    ),
     Mutant(
         "channel_unheard",
         CHANNELS,
@@ -481,7 +486,7 @@ WIRE_MUTANTS: List[Mutant] = [
         "command_echoed",
         ERROR,
         "An unknown command is echoed.",
-        change_result("transport.serves", lambda key, found, command: True),
+        change_result("transport.is_supported", lambda key, found, command: True),
     ),
     Mutant(
         "cbor_as_msg",
@@ -495,7 +500,7 @@ WIRE_MUTANTS: List[Mutant] = [
         "cbor_empty_taken",
         COMMAND,
         "A CBOR message of length 0 gets no response.",
-        replace_method("transport.empty", lambda key, channel: None),
+        replace_method("transport.refuse_empty", lambda key, channel: None),
     ),
     Mutant(
         "cbor_status_alone",
@@ -510,7 +515,7 @@ WIRE_MUTANTS: List[Mutant] = [
         "touch_twice",
         GET,
         "A touch counts for the next request, too.",
-        wrap_method("transport.work_on", use_touch_twice),
+        wrap_method("transport.run_request", use_touch_twice),
     ),
     Mutant(
         "u2f_version",

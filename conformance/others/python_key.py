@@ -2,7 +2,7 @@
 """A small authenticator in Python, with python-fido2's CBOR and no code of this project's core.
 
 It was written from CTAP 2.1 before any test was run against it. Its errors are kept, and listed in python_key.failed.
-Reads and writes packets as lines of 128 hexadecimal digits; the line `touch` is a touch.
+Reads and writes packets as lines of 128 hexadecimal digits; the line `touch` means that the user touches the key.
 """
 
 from __future__ import annotations
@@ -135,7 +135,7 @@ class Key:
             raise RequestError(UNEXPECTED_TYPE)
         return item
 
-    def no_pin(self, item: Dict[Any, Any], param: int) -> Work:
+    def refuse_pin(self, item: Dict[Any, Any], param: int) -> Work:
         """Refuses pinUvAuthParam: PINs are not supported."""
         auth_param = member(item, param, bytes, False)
         if auth_param == b"":
@@ -154,7 +154,7 @@ class Key:
         member(user, "id", bytes)
         excluded = list_ids(item, 5) or []
         options = read_options(item, 7)
-        yield from self.no_pin(item, 8)
+        yield from self.refuse_pin(item, 8)
         if not [1 for kind in kinds if member(kind, "type", str) == "public-key" and member(kind, "alg", int) == -7]:
             raise RequestError(ALGORITHM)
         if options.get("up") is False:
@@ -165,9 +165,11 @@ class Key:
             yield
             raise RequestError(EXCLUDED)
         yield
-        return self.made(rp_id, user, options.get("rk", False), client_hash)
+        return self.make_credential_response(rp_id, user, options.get("rk", False), client_hash)
 
-    def made(self, rp_id: str, user: Dict[str, Any], discoverable: bool, client_hash: bytes) -> bytes:
+    def make_credential_response(
+        self, rp_id: str, user: Dict[str, Any], discoverable: bool, client_hash: bytes
+    ) -> bytes:
         """Returns the response with a new credential."""
         new = Credential(rp_id, user, discoverable)
         if discoverable:
@@ -185,7 +187,7 @@ class Key:
         """Serves authenticatorGetAssertion."""
         rp_id, client_hash = member(item, 1, str), member(item, 2, bytes)
         allowed, options = list_ids(item, 3), read_options(item, 5)
-        yield from self.no_pin(item, 6)
+        yield from self.refuse_pin(item, 6)
         if "rk" in options:
             raise RequestError(UNSUPPORTED)
         found = [one for one in reversed(self.credentials) if one.rp == rp_id]
@@ -201,9 +203,11 @@ class Key:
         self.pending, self.pending_hash = found[1:], client_hash
         self.pending_channel, self.pending_until = channel, at + 60000
         more = {5: len(found)} if len(found) > 1 else {}
-        return self.asserted(found[0], client_hash, present, not allowed, more)
+        return self.make_assertion_response(found[0], client_hash, present, not allowed, more)
 
-    def asserted(self, one: Credential, client_hash: bytes, present: bool, name: bool, more: Dict[int, int]) -> bytes:
+    def make_assertion_response(
+        self, one: Credential, client_hash: bytes, present: bool, name: bool, more: Dict[int, int]
+    ) -> bytes:
         """Returns an assertion."""
         one.counter += 1
         auth = hashlib.sha256(one.rp.encode()).digest() + bytes([present]) + struct.pack(">I", one.counter)
@@ -219,7 +223,7 @@ class Key:
             raise RequestError(NOT_ALLOWED)
         self.pending_until = at + 30000
         yield from ()
-        return self.asserted(self.pending.pop(0), self.pending_hash, True, True, {})
+        return self.make_assertion_response(self.pending.pop(0), self.pending_hash, True, True, {})
 
     def info(self) -> bytes:
         """Serves authenticatorGetInfo."""

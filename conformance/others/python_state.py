@@ -11,7 +11,7 @@ from cryptography.hazmat.primitives.asymmetric import ec
 from python_key import Credential
 
 
-def written(one: Credential) -> Dict[str, Any]:
+def to_json(one: Credential) -> Dict[str, Any]:
     """Converts a credential to JSON, with the private key in clear text."""
     pem = one.private.private_bytes(
         serialization.Encoding.PEM, serialization.PrivateFormat.PKCS8, serialization.NoEncryption()
@@ -43,4 +43,4 @@ def load(path: str) -> List[Credential]:
 def save(path: str, credentials: List[Credential]) -> None:
     """Writes the credentials."""
     with open(path, "w", encoding="utf-8") as file:
-        json.dump([written(one) for one in credentials], file)
+        json.dump([to_json(one) for one in credentials], file)

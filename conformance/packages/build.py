@@ -56,7 +56,7 @@ def list_files() -> Dict[str, bytes]:
     found = {f"hidlog_conformance/sessions/{name}.log": text.encode() for name, text in build_session_texts().items()}
     folders = {
         "hidlog_conformance": ".py",
-        "clients": ".session",
+        "clients": ".sessions",
         "fuzzed": ".log",
         "recorded": ".log",
     }

@@ -10,9 +10,12 @@ set -euo pipefail
 top=$(cd "$(dirname "${BASH_SOURCE[0]}")/../.." && pwd)
 system=${1:?usage: conformance/packages/clean.sh FOLDER}
 for tool in debootstrap dpkg-deb; do
-    command -v "$tool" >/dev/null || { echo "$tool is missing; nothing was run" >&2 && exit 3; }
+    command -v "$tool" >/dev/null || {
+        echo "conformance/packages/clean.sh: $tool is missing (apt-get install debootstrap dpkg); nothing was run" >&2
+        exit 3
+    }
 done
-[ "$(id -u)" = 0 ] || { echo "debootstrap needs root; nothing was run" >&2 && exit 3; }
+[ "$(id -u)" = 0 ] || { echo "conformance/packages/clean.sh: debootstrap needs root; nothing was run" >&2 && exit 3; }
 [ -d "$system/usr" ] || debootstrap --variant=minbase bookworm "$system" >"${system%/}.log" || exit 3
 python=$("$top/tests/with_fido2.sh" -c 'import sys; print(sys.executable)')
 rm -rf "$system/home/tester"

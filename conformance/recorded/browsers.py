@@ -66,8 +66,9 @@ class RecordedDevice(LiveDevice):
         return answers
 
 
-class Terminal:
-    """Runs the program on a terminal, one packet at a time, like a hidraw device."""
+class FakeHidraw:
+    """A pseudo-terminal that the browser opens as /dev/hidrawN. A thread passes its packets to the key and back, and
+    touches the key."""
 
     def __init__(self) -> None:
         self.master, self.slave = pty.openpty()
@@ -172,7 +173,7 @@ def compile_fake_udev(room: str) -> str:
 
 def record_browser(name: str, steps: str, room: str) -> List[str]:
     """Runs some steps in a browser; returns the recording."""
-    terminal = Terminal()
+    terminal = FakeHidraw()
     server: Any = ThreadingHTTPServer(("127.0.0.1", 0), Handler)
     server.done, server.result = threading.Event(), "it waits for a person"
     threading.Thread(target=server.serve_forever, daemon=True).start()

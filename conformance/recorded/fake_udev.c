@@ -44,7 +44,7 @@ static struct udev_device node = {false};
 static struct udev_device parent = {true};
 static struct udev_list_entry entry;
 
-static const char *setting(const char *name) {
+static const char *read_setting(const char *name) {
     const char *found = getenv(name);
     return found == NULL ? "" : found;
 }
@@ -89,7 +89,7 @@ int udev_enumerate_scan_devices(struct udev_enumerate *found) {
 }
 
 struct udev_list_entry *udev_enumerate_get_list_entry(struct udev_enumerate *found) {
-    snprintf(entry.path, sizeof entry.path, "%s/hidraw/hidraw0", setting("FAKE_SYSFS"));
+    snprintf(entry.path, sizeof entry.path, "%s/hidraw/hidraw0", read_setting("FAKE_SYSFS"));
     return found->wants_hidraw || !found->is_matched ? &entry : NULL;
 }
 
@@ -142,11 +142,12 @@ struct udev_device *udev_device_get_parent_with_subsystem_devtype(struct udev_de
 }
 
 const char *udev_device_get_devnode(struct udev_device *device) {
-    return device->is_parent ? NULL : setting("FAKE_HIDRAW");
+    return device->is_parent ? NULL : read_setting("FAKE_HIDRAW");
 }
 
 const char *udev_device_get_syspath(struct udev_device *device) {
-    return device->is_parent ? setting("FAKE_SYSFS") : udev_enumerate_get_list_entry(&(struct udev_enumerate){0})->path;
+    return device->is_parent ? read_setting("FAKE_SYSFS")
+                             : udev_enumerate_get_list_entry(&(struct udev_enumerate){0})->path;
 }
 
 const char *udev_device_get_sysname(struct udev_device *device) {
@@ -193,7 +194,7 @@ struct udev_list_entry *udev_device_get_properties_list_entry(struct udev_device
 
 const char *udev_device_get_property_value(struct udev_device *device, const char *name) {
     if (!device->is_parent) {
-        return strcmp(name, "DEVNAME") == 0 ? setting("FAKE_HIDRAW") : NULL;
+        return strcmp(name, "DEVNAME") == 0 ? read_setting("FAKE_HIDRAW") : NULL;
     }
     return strcmp(name, "HID_ID") == 0     ? "0003:00001209:00000001"
            : strcmp(name, "HID_NAME") == 0 ? "hidlog security key"
@@ -240,7 +241,7 @@ struct udev_device *udev_monitor_receive_device(struct udev_monitor *monitor) {
 // Reads the report descriptor; returns its size, or 0 if there is none.
 static size_t read_descriptor(unsigned char *to, size_t capacity) {
     char path[300];
-    snprintf(path, sizeof path, "%s/report_descriptor", setting("FAKE_SYSFS"));
+    snprintf(path, sizeof path, "%s/report_descriptor", read_setting("FAKE_SYSFS"));
     FILE *file = fopen(path, "rb");
     size_t len = file == NULL ? 0 : fread(to, 1, capacity, file);
     if (file != NULL) {
@@ -253,7 +254,7 @@ static size_t read_descriptor(unsigned char *to, size_t capacity) {
 static bool is_device(int file) {
     char path[64], found[256] = "";
     snprintf(path, sizeof path, "/proc/self/fd/%d", file);
-    return readlink(path, found, sizeof found - 1) > 0 && strcmp(found, setting("FAKE_HIDRAW")) == 0;
+    return readlink(path, found, sizeof found - 1) > 0 && strcmp(found, read_setting("FAKE_HIDRAW")) == 0;
 }
 
 int ioctl(int file, unsigned long request, ...) {

@@ -39,7 +39,7 @@ def interrupt(words: List[str], commands: int, number: int = signal.SIGINT) -> T
             seen |= list_commands(process)
         if process.poll() is not None:
             heard.seek(0)
-            raise AssertionError(f"ended too early: {heard.read()}")
+            raise AssertionError(f"the run ended too early: {heard.read()}")
         for _ in range(2):
             # As Ctrl-C does: to all processes of the group.
             os.killpg(process.pid, number)

@@ -49,11 +49,12 @@ def test_child_processes() -> None:
 TESTS: Dict[str, Test] = {
     "client/verdicts": check_detected(
         test_verdicts,
-        (client_runner.Conversation, "crash", lambda self: "refused the command ended"),
-        (client_runner.Conversation, "waiting", lambda self: "waits"),
+        (client_runner.Conversation, "describe_crash", lambda self: "refused the command ended"),
+        (client_runner.Conversation, "judge_silence", lambda self: "waits"),
     ),
     "client/refusal_by_crash": check_detected(
-        test_crash_is_no_refusal, (client_runner.Conversation, "crash", lambda self: "refused the command ended")
+        test_crash_is_no_refusal,
+        (client_runner.Conversation, "describe_crash", lambda self: "refused the command ended"),
     ),
     "client/children": test_child_processes,
 }

@@ -41,13 +41,13 @@ class OddKey:
         self.kept: List["tuple[int, bytes]"] = []
         self.due = 0
 
-    def say(self, packet: bytes) -> None:
+    def write_packet(self, packet: bytes) -> None:
         """Writes a packet."""
         print(packet.hex(), flush=True)
 
     def keepalive(self, channel: int, status: bytes = b"\1") -> None:
         """Writes a KEEPALIVE."""
-        self.say(hid.fragment_message(channel, hid.KEEPALIVE, status)[0])
+        self.write_packet(hid.fragment_message(channel, hid.KEEPALIVE, status)[0])
 
     def take(self, line: bytes) -> None:
         """Processes a line of the host."""
@@ -66,7 +66,7 @@ class OddKey:
             self.kept.append((now_ms() + WORK, packet))
             return
         if self.kind == "full" and is_cbor and packet[7] == 1:
-            self.say(hid.fragment_message(channel, hid.CBOR, b"\x28")[0])
+            self.write_packet(hid.fragment_message(channel, hid.CBOR, b"\x28")[0])
             return
         self.key.hid.packet(now_ms(), packet)
 
@@ -96,9 +96,9 @@ class OddKey:
                 packet = self.wrong_once(packet)
             if self.kind == "evil_text" and packet[4] == 0x80 | hid.CBOR and packet[5:8] != b"\0\1\0":
                 packet = packet[:8] + packet[8:].replace(b"FIDO_2_0", EVIL.encode()[:8].ljust(8, b"\1"))
-            self.say(packet)
+            self.write_packet(packet)
             if self.kind == "continues" and packet[4] == 0x80 | hid.PING:
-                self.say(packet[:4] + bytes(60))
+                self.write_packet(packet[:4] + bytes(60))
         self.key.hid.out.clear()
 
 

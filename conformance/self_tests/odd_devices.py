@@ -68,7 +68,7 @@ def test_busy_device() -> None:
 
 
 def never_asked(player: Player) -> None:
-    """Does not wait before the touch."""
+    """Touches without waiting."""
 
 
 def test_endless_keepalives() -> None:
@@ -85,7 +85,7 @@ def test_endless_keepalives() -> None:
 def test_line_without_newline() -> None:
     """A line without a newline is reported."""
     status, _, heard = run_command(make_device_arguments("no_line_feed"))
-    assert status == 2 and "a line without a newline" in heard, heard
+    assert status == 2 and "bytes without a newline" in heard, heard
 
 
 def test_flood() -> None:
@@ -95,9 +95,9 @@ def test_flood() -> None:
 
 
 def test_dev_zero() -> None:
-    """/dev/zero is reported as a device that never stops sending."""
+    """/dev/zero is reported as a device that sends packets without end."""
     status, _, heard = run_command(["--device", "/dev/zero"])
-    assert status == 2 and "never stops sending" in heard, heard
+    assert status == 2 and "sends packets without end" in heard, heard
 
 
 def test_full_device() -> None:
@@ -224,7 +224,7 @@ def test_listing() -> None:
 
 def first_message(device: Any, channel: int, nonce: bytes, seconds: float, until_asked: bool) -> Any:
     """Returns the first message of a channel as the response."""
-    collector = hid.Collector()
+    collector = hid.MessageReassembler()
     while True:
         packet = device.read(seconds)
         message = collector.feed(packet) if packet else None
@@ -232,7 +232,7 @@ def first_message(device: Any, channel: int, nonce: bytes, seconds: float, until
             return message
 
 
-def skips(self: Any, session: Session, device: Any, touch: bool, reset: bool) -> str:
+def give_long_reason(self: Any, session: Session, device: Any, touch: bool, reset: bool) -> str:
     """Returns a reason with the whole getInfo response."""
     return "" if self.has(session.uses[0]) else f"the device does not support: {session.uses[0]}\n{{1: {self.info}}}"
 
@@ -240,7 +240,9 @@ def skips(self: Any, session: Session, device: Any, touch: bool, reset: bool) ->
 TESTS: Dict[str, Test] = {
     "device/other_hosts": check_detected(test_other_hosts, (Player, "is_for_others", lambda self, packet: False)),
     "device/keepalive_first": check_detected(test_keepalive_first, (device_info, "read_message", first_message)),
-    "device/skip_reason": check_detected(test_skip_reason, (device_info.DeviceInfo, "find_skip_reason", skips)),
+    "device/skip_reason": check_detected(
+        test_skip_reason, (device_info.DeviceInfo, "find_skip_reason", give_long_reason)
+    ),
     "device/busy": check_detected(test_busy_device, (Player, "wait_for_touch_request", never_asked)),
     "device/for_ever": test_endless_keepalives,
     "device/without_line_feed": test_line_without_newline,

@@ -9,7 +9,7 @@ from contextlib import redirect_stderr
 from typing import Any, Dict, List, Optional, Tuple
 
 from hidlog_conformance import play_order, response_reader, run
-from hidlog_conformance.combined import Combined
+from hidlog_conformance.combined import CombinedCase
 from hidlog_conformance.device_info import DeviceInfo
 from hidlog_conformance.outcome import Outcome
 from hidlog_conformance.pin_user import PinUser
@@ -126,7 +126,7 @@ def test_pin() -> None:
         left = [one for one in device.authenticator.credentials if one.discoverable]
         assert len(played) >= least and not left, (len(played), [(one.rp, one.user) for one in left])
         pin = device.authenticator.pin
-        assert pin.same(hashlib.sha256(b"123456").digest()[:16]) and pin.retries == RETRIES, pin.retries
+        assert pin.is_same_pin(hashlib.sha256(b"123456").digest()[:16]) and pin.retries == RETRIES, pin.retries
         kind = "with alwaysUv" if always_uv else "with a PIN"
         print(f"{kind}: {len(played)} cases, nothing left, {device.touches} touches")
 
@@ -147,7 +147,7 @@ def test_wrong_pin() -> None:
         options = run.parse_options(["--device", "reference", "--touch", *words.split()])
         try:
             run.check_pin(device, options, DeviceInfo.ask(device, True))
-            raise AssertionError("the PIN is accepted")
+            raise AssertionError(f"{words}: the options are accepted")
         except ValueError as fault:
             assert reason in str(fault), str(fault)
     assert device.authenticator.pin.retries == RETRIES - 1
@@ -168,7 +168,7 @@ TESTS = {
     "spared/slow": check_detected(test_slow_person, (response_reader, "MAX_SHARE", 1)),
     "spared/combined": check_detected(test_combined_failure, (run, "play_one", pass_whole)),
     "spared/unexplained": check_detected(
-        test_unexplained_failure, (Combined, "add_part", lambda self, outcome: outcome)
+        test_unexplained_failure, (CombinedCase, "add_part", lambda self, outcome: outcome)
     ),
     "pin/played": check_detected(
         test_pin,

@@ -22,7 +22,7 @@ from hidlog_conformance.response_reader import GOES_ON
 from mutant import replace_method
 from trying import Test, check_detected, run_command
 
-# A fault occurs at one of this number of starts; and the number of times that a case is played.
+# A fault occurs once in this number of starts, and a case is played this number of times.
 ONE_IN, STARTS = 50, 150
 # The status and section of an error with data.
 WITH_DATA = ("not ok", "11.2.9.1.2")
@@ -36,7 +36,7 @@ def make_outcomes() -> List[Outcome]:
         {"status": "skip", "reason": "the device does not support: x"},
         {"status": "warn", "expected": "a", "actual": "b"},
         {"status": UNSTABLE, "expected": "a", "actual": "b"},
-        {"status": "not ok", "expected": "a counter above 1", "actual": "1", "line": 21, "broken": "6.2.2"},
+        {"status": "not ok", "expected": "a signature counter above 1", "actual": "1", "line": 21, "broken": "6.2.2"},
         {"status": "not ok", "expected": GOES_ON, "actual": "the command exited", "broken": "6.4"},
     ]
     return [Outcome(session, **row) for session, row in zip(sessions, rows)]
@@ -64,7 +64,7 @@ def test_members() -> None:
     """In JSON a failure has its file, line, expected and actual as members; others do not."""
     cases = json.loads(write_report("json", make_outcomes()))["cases"]
     found = [tuple(case.get(name) for name in ("file", "line", "expected", "actual")) for case in cases]
-    assert found[4] == (make_outcomes()[4].session.file, 21, "a counter above 1", "1"), found[4]
+    assert found[4] == (make_outcomes()[4].session.file, 21, "a signature counter above 1", "1"), found[4]
     assert found[:2] == [(None,) * 4] * 2 and found[4][0].endswith(".log"), found[:2]
 
 
@@ -80,7 +80,7 @@ def test_no_case() -> None:
 
 
 class RareFault(ReferenceDevice):
-    """Answers for another RP at each fiftieth start, while the runner is late."""
+    """Responds for another RP at each fiftieth start, while the runner is late."""
 
     late = 1.0
     starts = 0

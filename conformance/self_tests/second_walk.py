@@ -96,7 +96,7 @@ class Entry:
     # start, more, wrong number, stray, cancel; keepalive, error, answer.
     part: str = ""
     transaction: Optional[Transaction] = None
-    # Of a KEEPALIVE: whether its status changed, or the interval passed.
+    # For a KEEPALIVE: why it was sent, because the status changed or the interval passed.
     why: str = ""
     message: Optional[Answer] = None
 
@@ -107,9 +107,9 @@ class Channel:
 
     # An incomplete message, or a complete one without a response.
     held: Optional[Transaction] = None
-    # The last new message during `held`, which is neither refused nor accepted yet.
+    # The last message that began while `held` is unfinished, neither refused nor accepted yet.
     asked: Optional[Transaction] = None
-    # INITs without an end.
+    # INITs without a response so far.
     inits: List[Transaction] = field(default_factory=list)
     # Whether the host's last packet was a CANCEL, or a stray continuation packet.
     stray: bool = False
@@ -122,7 +122,7 @@ Message = TypeVar("Message", bound=Part)
 
 
 def may_send_keepalives(transaction: Optional[Transaction]) -> bool:
-    """Returns whether a key may send KEEPALIVEs for it: a complete message, except PING and INIT."""
+    """Returns whether a key may send KEEPALIVEs for a transaction: for a complete message, except PING and INIT."""
     return transaction is not None and transaction.whole and transaction.command not in (PING, INIT)
 
 
@@ -156,24 +156,24 @@ class Walk:
         """Advances the clock."""
         self.now = max(self.now, at)
 
-    def host(self, line: int, at: int, packet: bytes) -> Entry:
+    def handle_host_packet(self, line: int, at: int, packet: bytes) -> Entry:
         """Processes a packet of a host."""
         self.advance_time(at)
         entry = Entry(line, "host", self.now, packet)
         self.first, self.taken = entry, None
-        (self.start if packet[4] & 0x80 else self.more)(entry, self.channel(packet))
+        (self.start_message if packet[4] & 0x80 else self.continue_message)(entry, self.get_channel(packet))
         self.entries.append(entry)
         return entry
 
-    def device(self, line: int, packet: bytes) -> Entry:
+    def handle_device_packet(self, line: int, packet: bytes) -> Entry:
         """Processes a packet of the device."""
         entry = Entry(line, "device", self.now, packet)
-        self.answer_of(entry, self.channel(packet))
+        self.answer_of(entry, self.get_channel(packet))
         self.first = None
         self.entries.append(entry)
         return entry
 
-    def reply(self, line: int, at: int) -> Entry:
+    def handle_reply(self, line: int, at: int) -> Entry:
         """Processes a reply of the caller, which belongs to the pending CBOR message."""
         self.advance_time(at)
         entry = Entry(line, "reply", self.now)
@@ -187,17 +187,17 @@ class Walk:
         self.entries.append(entry)
         return entry
 
-    def channel(self, packet: bytes) -> Channel:
+    def get_channel(self, packet: bytes) -> Channel:
         """Returns the state of a packet's channel."""
         return self.channels.setdefault(packet[:4], Channel())
 
-    def message(self, entry: Entry, kind: Type[Message]) -> Message:
+    def make_message(self, entry: Entry, kind: Type[Message]) -> Message:
         """Returns the message that an initialization packet begins."""
         packet = entry.packet
         channel = int.from_bytes(packet[:4], "big")
         return kind(entry.line, channel, packet[4] & 0x7F, packet[5] << 8 | packet[6], [packet[7:]], [entry.line])
 
-    def start(self, entry: Entry, channel: Channel) -> None:
+    def start_message(self, entry: Entry, channel: Channel) -> None:
         """Processes an initialization packet of a host."""
         channel.stray = entry.packet[4] & 0x7F == CANCEL
         if channel.stray:
@@ -211,8 +211,8 @@ class Walk:
             if entry.transaction:
                 entry.transaction.cancelled = entry.line
             return
-        self.settle(channel)
-        begun = self.message(entry, Transaction)
+        self.accept_asked(channel)
+        begun = self.make_message(entry, Transaction)
         begun.began = begun.last = self.now
         self.transactions.append(begun)
         entry.part, entry.transaction, channel.asked = "start", begun, None
@@ -222,9 +222,9 @@ class Walk:
         elif channel.held:
             channel.asked, begun.after = begun, self.now - channel.held.last
         else:
-            self.hold(channel, begun)
+            self.set_current(channel, begun)
 
-    def more(self, entry: Entry, channel: Channel) -> None:
+    def continue_message(self, entry: Entry, channel: Channel) -> None:
         """Processes a continuation packet of a host."""
         open_one, asked = channel.held, channel.asked
         if asked and asked.command != INIT and entry.packet[4] == asked.next and not asked.whole:
@@ -242,34 +242,36 @@ class Walk:
         open_one.lines.append(entry.line)
         open_one.last = self.now
 
-    def hold(self, channel: Channel, transaction: Optional[Transaction]) -> None:
+    def set_current(self, channel: Channel, transaction: Optional[Transaction]) -> None:
         """Sets the channel's current message."""
         channel.held, channel.status = transaction, None
 
-    def ended(self, item: Transaction, how: str, code: Optional[int] = None, by: Optional[int] = None) -> None:
+    def end_transaction(
+        self, item: Transaction, how: str, code: Optional[int] = None, by: Optional[int] = None
+    ) -> None:
         """Ends a transaction."""
         item.end, item.code, item.by = how, code, by
 
-    def free(self, channel: Channel) -> None:
+    def drop_current(self, channel: Channel) -> None:
         """Drops the channel's current message; the last new one replaces it."""
         channel.held = None
-        self.settle(channel)
+        self.accept_asked(channel)
 
-    def settle(self, channel: Channel) -> None:
+    def accept_asked(self, channel: Channel) -> None:
         """Makes a new message that was not refused the current one."""
         asked, old = channel.asked, channel.held
         if asked is None or asked.command == INIT:
             return
         channel.asked = None
         if old:
-            self.ended(old, "dropped" if old.cancelled else "replaced", by=old.cancelled or asked.line)
+            self.end_transaction(old, "dropped" if old.cancelled else "replaced", by=old.cancelled or asked.line)
             asked.keepalives = [
                 item for item in old.keepalives if may_send_keepalives(asked) and item.line > asked.lines[-1]
             ]
             old.keepalives = old.keepalives[: len(old.keepalives) - len(asked.keepalives)]
             for keepalive in asked.keepalives:
                 keepalive.transaction = asked
-        self.hold(channel, asked)
+        self.set_current(channel, asked)
 
     def answer_of(self, entry: Entry, channel: Channel) -> None:
         """Processes a packet of the device."""
@@ -287,18 +289,18 @@ class Walk:
         elif command == ERROR:
             entry.part, entry.transaction = "error", self.error(entry, channel, entry.packet[7])
         else:
-            channel.answering = entry.message = self.message(entry, Answer)
+            channel.answering = entry.message = self.make_message(entry, Answer)
             entry.message.at = self.now
-            entry.part, entry.transaction = "answer", self.answer(channel, entry.message)
+            entry.part, entry.transaction = "answer", self.find_answered(channel, entry.message)
             entry.message.request = entry.transaction
             if entry.transaction:
                 entry.transaction.answer = entry.message
-                self.ended(entry.transaction, "answered", by=entry.line)
+                self.end_transaction(entry.transaction, "answered", by=entry.line)
 
     def keepalive(self, entry: Entry, channel: Channel) -> Optional[Transaction]:
         """Returns the transaction of a KEEPALIVE."""
         if may_send_keepalives(channel.asked) and not may_send_keepalives(channel.held):
-            self.settle(channel)
+            self.accept_asked(channel)
         held = channel.held
         if held is None or not may_send_keepalives(held):
             return None
@@ -311,13 +313,13 @@ class Walk:
         """Returns the transaction that an ERROR ends."""
         asked, held = channel.asked, channel.held
         if code == TIMED_OUT and asked and not asked.whole and held and (held.whole or asked.after < NO_TIME_OUT):
-            self.settle(channel)
+            self.accept_asked(channel)
         held = channel.held
         if code == TIMED_OUT and held:
-            self.leave_late(held)
+            self.remove_late_packet(held)
             if not held.whole:
-                self.ended(held, "timed out", code, entry.line)
-                self.free(channel)
+                self.end_transaction(held, "timed out", code, entry.line)
+                self.drop_current(channel)
                 return held
         found = next((init for init in channel.inits if init.length != 8 and code == INVALID_LENGTH), channel.asked)
         if found and may_refuse(code, found):
@@ -325,15 +327,15 @@ class Walk:
         if channel.stray and (held is None or (held.keepalives and code in NOT_SERVED)):
             return None
         if held:
-            self.free(channel)
+            self.drop_current(channel)
         elif channel.inits:
             held = channel.inits.pop()
             channel.asked = None
         if held:
-            self.ended(held, "timed out" if code == TIMED_OUT else "refused", code, entry.line)
+            self.end_transaction(held, "timed out" if code == TIMED_OUT else "refused", code, entry.line)
         return held
 
-    def leave_late(self, held: Transaction) -> None:
+    def remove_late_packet(self, held: Transaction) -> None:
         """Removes a continuation packet from a message that had timed out before."""
         first = self.first
         if not first or first.transaction is not held or first.part not in ("more", "wrong number"):
@@ -349,33 +351,33 @@ class Walk:
     def refuse(self, entry: Entry, channel: Channel, found: Transaction, code: int) -> Transaction:
         """Ends a refused message, and the message that it interrupted."""
         held = channel.held
-        self.ended(found, "refused", code, entry.line)
+        self.end_transaction(found, "refused", code, entry.line)
         if channel.asked is found:
             channel.asked = None
         if found.command == INIT and found in channel.inits:
             channel.inits.remove(found)
         cause = INVALID_LENGTH if found.command == INIT else INVALID_SEQUENCE
         if held and not held.whole and held.line < found.line and code == cause:
-            self.ended(held, "dropped" if found.command == INIT else "replaced", by=found.line)
-            self.free(channel)
+            self.end_transaction(held, "dropped" if found.command == INIT else "replaced", by=found.line)
+            self.drop_current(channel)
         return found
 
-    def answer(self, channel: Channel, answer: Answer) -> Optional[Transaction]:
+    def find_answered(self, channel: Channel, answer: Answer) -> Optional[Transaction]:
         """Returns the transaction that a message of the device ends."""
         if answer.command == INIT:
-            return self.greeting(channel, answer)
+            return self.find_init(channel, answer)
         asked, held = channel.asked, channel.held
         if asked and asked.whole and asked.command == answer.command != INIT:
             late = held and held.whole and held.cancelled and held.command == CBOR
             if not (late and answer.parts[0][0] == CANCELLED):
-                self.settle(channel)
+                self.accept_asked(channel)
                 held = asked
         if held is None or not held.whole or held.command != answer.command:
             return None
-        self.free(channel)
+        self.drop_current(channel)
         return held
 
-    def greeting(self, channel: Channel, answer: Answer) -> Optional[Transaction]:
+    def find_init(self, channel: Channel, answer: Answer) -> Optional[Transaction]:
         """Returns the INIT of a response; except on the broadcast channel, it ends the current message."""
         nonce = answer.parts[0][:8]
         found = next((init for init in channel.inits if init.length == 8 and init.parts[0][:8] == nonce), None)
@@ -385,8 +387,8 @@ class Walk:
         if channel.asked is found:
             channel.asked = None
         if answer.channel != BROADCAST and channel.held and channel.held.line < found.line:
-            self.ended(channel.held, "dropped", by=found.line)
-            self.free(channel)
+            self.end_transaction(channel.held, "dropped", by=found.line)
+            self.drop_current(channel)
         return found
 
 
@@ -403,12 +405,12 @@ def handle_line(walk: Walk, number: int, line: bytes) -> Optional[Entry]:
     """Processes a line of a log."""
     word, _, rest = line.partition(b" ")
     if word == b"<" and len(rest) == 128:
-        return walk.device(number, bytes.fromhex(rest.decode()))
+        return walk.handle_device_packet(number, bytes.fromhex(rest.decode()))
     moment, _, words = rest.partition(b" ")
     if word == b">":
-        return walk.host(number, int(moment), bytes.fromhex(words.decode()))
+        return walk.handle_host_packet(number, int(moment), bytes.fromhex(words.decode()))
     if word in (b"p", b"k", b"s"):
-        return walk.reply(number, int(moment))
+        return walk.handle_reply(number, int(moment))
     if word == b"t":
         walk.advance_time(int(moment))
     return None

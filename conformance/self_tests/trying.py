@@ -41,7 +41,7 @@ def is_failing(test: Test) -> bool:
 def check_detected(test: Test, *undone: Undone) -> Test:
     """Returns a test that also checks that `test` fails with each replacement."""
 
-    def both() -> None:
+    def check_both() -> None:
         test()
         for owner, name, other in undone:
             before = getattr(owner, name)
@@ -51,4 +51,4 @@ def check_detected(test: Test, *undone: Undone) -> Test:
             finally:
                 setattr(owner, name, before)
 
-    return both
+    return check_both

@@ -12,14 +12,15 @@ from typing import Any, Dict, List, Set, Tuple
 
 import proved_walk
 from hidlog import logs
-from hidlog_conformance.judged_log import Recording, split_at_power_cycles, walked
+from hidlog_conformance.judged_log import Recording, split_at_power_cycles, pad_truncated_packets
 from hidlog_conformance.transactions import Entry, Lines, Owners, Transactions
 from second_walk import walk_log
 from trying import check_detected
 
 TOP = os.path.join(os.path.dirname(os.path.abspath(__file__)), "..", "..")
 FOLDERS = ("examples", "examples/failing", "tests/captures/data", "conformance/recorded", "conformance/clients/logs")
-# By the first line of a transaction: its end, the line that ended it, the line of a CANCEL, and its lines.
+# For the first line of each transaction: the transaction's end, the line that ended it, the line of a CANCEL, and the
+# lines that belong to it.
 Ends = Dict[int, Tuple[str, int, int, List[int]]]
 OPEN = ("", "unanswered", "not whole")
 
@@ -79,8 +80,10 @@ def test_both_walks_agree() -> None:
     count = 0
     for path, log in list_recorded_logs():
         for part in split_at_power_cycles(log):
-            ends, unsure = list_proved_ends(walked(part))
-            assert ends == list_second_ends(walked(part), unsure), f"{path}: the two implementations differ"
+            ends, unsure = list_proved_ends(pad_truncated_packets(part))
+            assert ends == list_second_ends(
+                pad_truncated_packets(part), unsure
+            ), f"{path}: the two implementations differ"
             count += len(ends)
     assert count > 300, f"only {count} transactions were compared"
 
@@ -100,9 +103,9 @@ def test_block_sizes() -> None:
 TESTS = {
     "walks/agree": check_detected(
         test_both_walks_agree,
-        (Transactions, "leave_late", lambda *words: None),
-        (Transactions, "ended", lambda *words: None),
-        (Transactions, "cancel", lambda *words: None),
+        (Transactions, "remove_late_packet", lambda *words: None),
+        (Transactions, "end_transaction", lambda *words: None),
+        (Transactions, "handle_cancel", lambda *words: None),
     ),
     "walks/pieces": test_block_sizes,
 }

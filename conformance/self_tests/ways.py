@@ -6,6 +6,7 @@ and the kernel's driver are not tested.
 
 from __future__ import annotations
 
+import fnmatch
 import glob
 import io
 import os
@@ -24,15 +25,17 @@ from typing import List
 
 
 from hidlog_conformance import run
+from hidlog_conformance.client_runner import client_sessions
 from hidlog_conformance.device_info import DeviceInfo
 from hidlog_conformance.devices import LiveDevice, PipeDevice
 from hidlog_conformance.outcome import UNSTABLE
 from hidlog_conformance.outline import count_touches
-from hidlog_conformance.paths import CLIENTS
 from hidlog_conformance.session_cache import sessions_folder
 from python_key import Key
 
 HERE = os.path.join(os.path.dirname(os.path.abspath(__file__)), "..")
+# A case in the table of requirements, or several by a pattern.
+CASE_NAME = re.compile(r"`([a-z]+/[a-z0-9_*]+)`")
 
 
 class Terminal:
@@ -129,13 +132,16 @@ def test_sentence_table() -> None:
     words = [sys.executable, os.path.join(HERE, "make.py"), "--sentences"]
     output = subprocess.run(words, capture_output=True, check=True, text=True).stdout
     lines = [line for line in output.splitlines() if line.startswith("|")]
+    client_names = [session.name for session, _ in client_sessions()]
     count = 0
     for line in lines:
         before, _, of_clients = line.partition("client: ")
-        for text, pattern in ((before, f"{sessions_folder()}/{{}}.log"), (of_clients, f"{CLIENTS}/{{}}.session")):
-            for name in re.findall(r"`([a-z]+/[a-z0-9_*]+)`", text):
-                assert glob.glob(pattern.format(name)), f"the table names {name}"
-                count += 1
+        for name in CASE_NAME.findall(before):
+            assert glob.glob(f"{sessions_folder()}/{name}.log"), f"the table names {name}"
+            count += 1
+        for name in CASE_NAME.findall(of_clients):
+            assert fnmatch.filter(client_names, name), f"the table names client: {name}"
+            count += 1
     assert count > 100, "the table's names"
     print(f"the table names {count} cases, all exist")
 
@@ -146,7 +152,7 @@ def test_invalid_devices() -> None:
         "./nothing": "No such file",
         "yes": "b'y', expected 128 hexadecimal digits",
         "false": "the command exited",
-        "sleep 39": "no packet came (a command must flush each line)",
+        "sleep 39": "no packet was received; a command must flush each line",
         "": "--device is empty",
         "/dev/null": "cannot be read",
     }
@@ -166,7 +172,7 @@ def test_help() -> None:
 
 
 def test_order() -> None:
-    """Cases that need no touch run before the first request for one."""
+    """Cases that need no touch run before all cases that need one."""
     sessions = run.all_sessions()
     asking, alone = (run.parse_options(["--device", "x", *words]) for words in (["--touch"], ["--touch-line", "touch"]))
     with redirect_stderr(io.StringIO()):

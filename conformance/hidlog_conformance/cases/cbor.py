@@ -97,7 +97,7 @@ def nest_item(item: bytes, level: int) -> bytes:
 
 
 def list_kinds() -> List[Tuple[str, bytes, str, Dict[str, str]]]:
-    """Returns each kind's name, bytes, expectation and level."""
+    """Returns the name, the bytes, the expectation and the further attributes of each invalid item."""
     found: List[Tuple[str, bytes, str, Dict[str, str]]] = []
     found += [(name, bytes.fromhex(text), "refused 12", {}) for name, text in MALFORMED.items()]
     found += [(name, bytes.fromhex(text), "status 12", {"level": "should"}) for name, text in NOT_CANONICAL.items()]
@@ -108,7 +108,7 @@ def list_kinds() -> List[Tuple[str, bytes, str, Dict[str, str]]]:
 
 
 def refusal_cases() -> List[Case]:
-    """Returns cases about each kind of error: at levels 2, 3 and 4, and in place of the parameters."""
+    """Returns cases about each invalid item: at nesting levels 2, 3 and 4, and in place of the parameters."""
     cases = []
     for name, item, answer, more in list_kinds():
         says = f"An item that is not canonical CBOR ({name.replace('_', ' ')}, {item.hex()}) is refused"

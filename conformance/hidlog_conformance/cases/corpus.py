@@ -200,5 +200,5 @@ class Case:
 
 
 def count_bytes(length: int) -> bytes:
-    """Returns `length` different bytes."""
+    """Returns `length` bytes in which neighboring bytes differ."""
     return bytes((7 * number + number // 251 + 1) % 256 for number in range(length))

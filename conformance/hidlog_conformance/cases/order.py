@@ -17,7 +17,7 @@ STATES: Dict[str, Callable[[Case], Case]] = {
     "other_work": lambda case: case.make(2).expect("keepalive 02 on 2"),
 }
 
-# The words of a requirement about states, packets, and the transactions that continue.
+# Texts for a case's requirement: the state of the device, the packet, and the transaction that continues.
 STATE_TEXTS = {
     "idle": "",
     "own_message": " during a message of its channel",
@@ -51,7 +51,7 @@ PACKET_TEXTS = {
 }
 ENDS = {"message": ", and the message continues", "work": ", and the request continues", "": ""}
 
-# State, packet, response (empty for none), the transaction that continues, whether the standard defines it, section.
+# State, packet, response (empty if none), the transaction that continues, whether the standard defines this, section.
 Row = Tuple[str, str, str, str, bool, str]
 ROWS: List[Row] = [
     ("own_work", "cancel", "status 2d", "", True, "cancel"),
@@ -139,7 +139,7 @@ def add_packet(case: Case, what: str) -> None:
 
 
 def expect_afterwards(case: Case, state: str, goes_on: str) -> None:
-    """Adds the expectation that a message continues after the packet, or that none does."""
+    """Adds expectations that the message or the request continues after the packet, or that nothing follows."""
     channel = 2 if state.startswith("other") else 1
     if goes_on == "message":
         case.go_on(channel).expect(f"echo on {channel}")

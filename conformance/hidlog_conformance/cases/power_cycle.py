@@ -60,7 +60,7 @@ def kept_cases() -> List[Case]:
 
 
 def not_kept_cases() -> List[Case]:
-    """Returns cases about removed credentials, and those that were never made."""
+    """Returns cases about credentials that were removed, and credentials that were never created."""
     cases = []
     case = Case(
         "power/replaced_stays_replaced", "get", "A replaced credential stays gone after a power cycle.", **FOUND

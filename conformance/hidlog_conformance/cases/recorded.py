@@ -184,7 +184,7 @@ def build_case(recorded: RecordedSession) -> Case:
     more: Dict[str, Any] = {"needs": recorded.needs, "uses": recorded.uses, "profile": recorded.profile}
     case = Case(f"recorded/{recorded.name}", recorded.section, recorded.requirement, **more)
     case.comment("client: " + recorded.client)
-    collector, expects = hid.Collector(of_host=True), list(recorded.expects)
+    collector, expects = hid.MessageReassembler(of_host=True), list(recorded.expects)
     due = ""
     for line in read_lines(recorded.name):
         if line.startswith("> "):

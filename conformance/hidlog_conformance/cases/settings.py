@@ -169,7 +169,7 @@ def refusal_cases(protocol: int) -> List[Case]:
 
 
 def block_pin(case: PinCase) -> PinCase:
-    """Sends wrong PINs until it is blocked, and power cycles the device."""
+    """Sends wrong PINs until the PIN is blocked, and power cycles the device."""
     for number in range(1, RETRIES + 1):
         # The status of the last try, and of the last before a power cycle.
         status = "32" if number == RETRIES else "34" if number % IN_A_ROW == 0 else "31"

@@ -1,4 +1,4 @@
-"""Cases about similar IDs, state that a request must not leave, long requests, algorithms and capabilities."""
+"""Cases about similar IDs, state that a request must not leave behind, long requests, algorithms and capabilities."""
 
 from __future__ import annotations
 
@@ -43,7 +43,7 @@ def similar_id_cases() -> List[Case]:
 
 
 def state_cases() -> List[Case]:
-    """Returns cases about state that a request must not leave."""
+    """Returns cases about state that a request must not leave behind."""
     cases = []
     case = Case("next/after_reset", "next", "After a reset nothing is pending.", **EMPTY)
     case.allocate().register(1, rk=True, p3=user(1)).register(2, rk=True, p3=user(2))

@@ -41,7 +41,7 @@ STEPS: Dict[str, List[Tuple[str, str]]] = {
 
 
 def find_step(section: str, name: str) -> str:
-    """Returns the step that a case tests, or empty."""
+    """Returns the step that a case tests, or an empty string."""
     for patterns, step in STEPS.get(section, []):
         if any(fnmatchcase(name, pattern) for pattern in patterns.split()):
             return step

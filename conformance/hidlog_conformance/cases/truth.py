@@ -1,4 +1,5 @@
-"""Cases about the truth of getInfo (6.4): commands are refused if their option is missing, and numbers are right."""
+"""Cases that compare getInfo with the device's behavior (6.4): a command without its option in getInfo is refused, and
+getInfo's numbers are right."""
 
 from __future__ import annotations
 

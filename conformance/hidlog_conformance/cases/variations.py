@@ -1,4 +1,4 @@
-"""Second cases for rules that have one elsewhere, with another list, RP, number or order."""
+"""Further cases for rules that other files also test, with another list, RP, number or order."""
 
 from __future__ import annotations
 

@@ -1,6 +1,6 @@
 """Runs the reference authenticator: python3 -m hidlog_conformance.reference [--pin PIN] [--fingerprint]
 
-Reads and writes packets as lines of 128 hexadecimal digits. The line `touch` is a touch.
+Reads and writes packets as lines of 128 hexadecimal digits. The line `touch` means that the user touches the key.
 """
 
 from __future__ import annotations

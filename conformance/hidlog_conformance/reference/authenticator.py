@@ -12,7 +12,7 @@ from typing import Any, Dict, List, Optional
 from hidlog_conformance.answers import is_before_ctap_2_1
 from hidlog_conformance.ctap_cbor import encode
 from hidlog_conformance.reference import requests
-from hidlog_conformance.reference.asked import Asked, Pending
+from hidlog_conformance.reference.active_request import ActiveRequest, Pending
 from hidlog_conformance.reference.bio import BioEnrollment
 from hidlog_conformance.reference.config import Config
 from hidlog_conformance.reference.credential import Attestor, Credential, new_key
@@ -112,7 +112,7 @@ class Authenticator:
         if command == 13 and self.traits.config:
             return self.config.serve(self.requests.read(data, requests.MANAGE))
         if command == 11 and self.traits.selection:
-            yield from self.consent(TIMEOUT)
+            yield from self.request_touch(TIMEOUT)
             return {}
         if VENDOR <= command <= LAST_VENDOR and command != PREVIEW and self.traits.vendor:
             return {}
@@ -126,11 +126,11 @@ class Authenticator:
             return self.pin.get_user_retries(asked)
         return self.pin.serve(asked)
 
-    def asked(self, at: int, channel: int, item: Dict[Any, Any], place: int) -> Asked:
+    def asked(self, at: int, channel: int, item: Dict[Any, Any], place: int) -> ActiveRequest:
         """Returns a request with its options."""
-        return Asked(at, channel, item, item.get(place, {}))
+        return ActiveRequest(at, channel, item, item.get(place, {}))
 
-    def consent(self, late: int = DENIED) -> Work:
+    def request_touch(self, late: int = DENIED) -> Work:
         """Requests a touch, and raises `RequestError` without it."""
         reply = yield
         if reply != "granted":
@@ -140,7 +140,7 @@ class Authenticator:
     # getInfo (6.4).
 
     @property
-    def protected(self) -> bool:
+    def is_protected(self) -> bool:
         """Returns whether user verification is configured."""
         return bool(self.pin.hash) or self.traits.built_in_uv
 
@@ -200,7 +200,7 @@ class Authenticator:
 
     # Registrations (6.1.2).
 
-    def make(self, asked: Asked) -> Any:
+    def make(self, asked: ActiveRequest) -> Any:
         """Serves authenticatorMakeCredential."""
         item = asked.item
         if len(item[1]) != 32 or len(item[3]["id"]) > 64:
@@ -210,37 +210,37 @@ class Authenticator:
         algorithm = self.algorithm(item[4])
         self.make_options(asked)
         self.require_make_verification(asked)
-        self.enterprise(item)
+        self.check_enterprise(item)
         self.verify(asked, 8, 9, MAKE, item[2]["id"])
-        self.extensions.first(asked)
-        yield from self.exclude(asked)
+        self.extensions.check_before_touch(asked)
+        yield from self.refuse_excluded(asked)
         if not asked.present:
-            yield from self.consent()
+            yield from self.request_touch()
         asked.present = True
         self.use_token(asked)
-        return self.made(asked, algorithm)
+        return self.create_credential(asked, algorithm)
 
-    def enterprise(self, item: Dict[int, Any]) -> None:
+    def check_enterprise(self, item: Dict[int, Any]) -> None:
         """Refuses enterprise attestation that is not enabled, and unknown kinds of it (6.1.2, step 9)."""
         if 10 in item and not self.config.is_enterprise:
             raise RequestError(INVALID_PARAMETER)
         if 10 in item and item[10] not in (1, 2):
             raise RequestError(INVALID_OPTION)
 
-    def use_token(self, asked: Asked) -> None:
+    def use_token(self, asked: ActiveRequest) -> None:
         """Clears the token's permissions after a user presence test (6.1.2, step 14; 6.2.2, step 9), except in CTAP
         2.0."""
         if asked.verified and not is_before_ctap_2_1(list(self.traits.versions)):
-            self.pin.used()
+            self.pin.clear_permissions()
 
-    def respond_to_empty_param(self, asked: Asked, key: int) -> Work:
+    def respond_to_empty_param(self, asked: ActiveRequest, key: int) -> Work:
         """Responds to an empty pinUvAuthParam after a touch: the status says whether a PIN is set."""
         if asked.item.get(key) == b"" and self.traits.has_pin:
-            yield from self.consent()
+            yield from self.request_touch()
             raise RequestError(0x31 if self.pin.hash else NOT_SET)
         return b""
 
-    def check_pin_protocol(self, asked: Asked, key: int, protocol: int) -> None:
+    def check_pin_protocol(self, asked: ActiveRequest, key: int, protocol: int) -> None:
         """Refuses a pinUvAuthParam with an unsupported protocol."""
         if key in asked.item:
             if not self.traits.has_pin:
@@ -254,7 +254,7 @@ class Authenticator:
                 return int(entry["alg"])
         raise RequestError(ALGORITHM)
 
-    def make_options(self, asked: Asked) -> None:
+    def make_options(self, asked: ActiveRequest) -> None:
         """Refuses unsupported and invalid options."""
         if asked.options.get("uv") and not self.traits.built_in_uv:
             raise RequestError(INVALID_OPTION)
@@ -263,19 +263,19 @@ class Authenticator:
         if asked.options.get("up") is False:
             raise RequestError(INVALID_OPTION)
 
-    def require_make_verification(self, asked: Asked) -> None:
+    def require_make_verification(self, asked: ActiveRequest) -> None:
         """Refuses a registration without user verification if it is required."""
         without = 8 not in asked.item and not asked.options.get("uv")
         if without and self.config.always_uv:
             raise RequestError(PIN_REQUIRED)
         needed = bool(asked.options.get("rk")) or not self.traits.make_without_uv
-        if without and self.protected and needed:
+        if without and self.is_protected and needed:
             raise RequestError(PIN_REQUIRED)
 
-    def verify(self, asked: Asked, key: int, protocol: int, permission: int, rp: str) -> None:
+    def verify(self, asked: ActiveRequest, key: int, protocol: int, permission: int, rp: str) -> None:
         """Verifies the user by a token, or by built-in user verification."""
         if key in asked.item and self.traits.has_pin:
-            if not self.protected:
+            if not self.is_protected:
                 raise RequestError(AUTH_INVALID)
             found = self.pin.protocol(asked.item, protocol)
             param = asked.item[1] if permission == MAKE else asked.item[2]
@@ -286,14 +286,14 @@ class Authenticator:
         elif asked.options.get("uv"):
             asked.verified = True
 
-    def exclude(self, asked: Asked) -> Work:
+    def refuse_excluded(self, asked: ActiveRequest) -> Work:
         """Refuses an excluded registration, after a touch."""
-        if self.excluded(asked):
+        if self.is_excluded(asked):
             yield
             raise RequestError(EXCLUDED)
         return b""
 
-    def excluded(self, asked: Asked) -> bool:
+    def is_excluded(self, asked: ActiveRequest) -> bool:
         """Returns whether the exclude list has a visible credential of the RP."""
         named = [entry["id"] for entry in asked.item.get(5, []) if entry["type"] == "public-key"]
         found = [one for one in self.credentials if one.rp == asked.item[2]["id"] and one.id in named]
@@ -307,7 +307,7 @@ class Authenticator:
         """Returns a new private key."""
         return new_key(algorithm)
 
-    def made(self, asked: Asked, algorithm: int) -> Dict[int, Any]:
+    def create_credential(self, asked: ActiveRequest, algorithm: int) -> Dict[int, Any]:
         """Makes a credential, stores it and attests it."""
         item = asked.item
         rp, user, discoverable = item[2]["id"], dict(item[3]), bool(asked.options.get("rk"))
@@ -315,7 +315,7 @@ class Authenticator:
         outputs = self.extensions.run_make(asked, new)
         self.is_enterprise = item.get(10) == 2
         self.store(new)
-        auth = self.data(asked, new, self.start_counter(new), self.attested(new), outputs)
+        auth = self.data(asked, new, self.start_counter(new), self.attested_data(new), outputs)
         return self.attestation(new, auth, item[1])
 
     def store(self, new: Credential) -> None:
@@ -329,15 +329,17 @@ class Authenticator:
         """Returns whether a new credential replaces an old one."""
         return new.discoverable and old.discoverable and new.rp == old.rp and new.user["id"] == old.user["id"]
 
-    def attested(self, new: Credential) -> bytes:
+    def attested_data(self, new: Credential) -> bytes:
         """Returns the attested credential data."""
         return self.traits.aaguid + len(new.id).to_bytes(2, "big") + new.id + encode(new.cose())
 
-    def flags(self, asked: Asked) -> int:
+    def flags(self, asked: ActiveRequest) -> int:
         """Returns the flags of a response."""
         return self.traits.flags | (UP if asked.present else 0) | (UV if asked.verified else 0)
 
-    def data(self, asked: Asked, one: Credential, counter: int, attested: bytes, outputs: Dict[str, Any]) -> bytes:
+    def data(
+        self, asked: ActiveRequest, one: Credential, counter: int, attested: bytes, outputs: Dict[str, Any]
+    ) -> bytes:
         """Returns authenticator data."""
         flags = self.flags(asked) | (AT if attested else 0) | (ED if outputs else 0)
         start = hashlib.sha256(one.rp.encode()).digest() + bytes([flags]) + counter.to_bytes(4, "big")
@@ -375,7 +377,7 @@ class Authenticator:
         one.counter += 1
         return one.counter
 
-    def get(self, asked: Asked) -> Any:
+    def get(self, asked: ActiveRequest) -> Any:
         """Serves authenticatorGetAssertion."""
         item = asked.item
         if len(item[2]) != 32:
@@ -385,32 +387,32 @@ class Authenticator:
         self.get_options(asked)
         self.require_get_verification(asked)
         self.verify(asked, 6, 7, GET, item[1])
-        found = self.applicable(asked)
+        found = self.list_applicable(asked)
         if not found:
             if self.traits.touch_before_none and asked.options.get("up", True):
-                yield from self.consent()
+                yield from self.request_touch()
             raise RequestError(NO_CREDENTIALS)
         if asked.options.get("up", True):
             if not asked.present:
-                yield from self.consent()
+                yield from self.request_touch()
             asked.present = True
             self.use_token(asked)
-        return self.first(asked, found)
+        return self.sign_first(asked, found)
 
-    def get_options(self, asked: Asked) -> None:
+    def get_options(self, asked: ActiveRequest) -> None:
         """Refuses unsupported and invalid options."""
         if asked.options.get("uv") and not self.traits.built_in_uv:
             raise RequestError(INVALID_OPTION)
         if "rk" in asked.options:
             raise RequestError(UNSUPPORTED)
 
-    def require_get_verification(self, asked: Asked) -> None:
+    def require_get_verification(self, asked: ActiveRequest) -> None:
         """Refuses a sign-in without user verification if it is required."""
         without = 6 not in asked.item and not asked.options.get("uv")
         if self.config.always_uv and without and asked.options.get("up", True):
             raise RequestError(PIN_REQUIRED)
 
-    def named(self, listed: List[Dict[str, Any]], one: Credential) -> bool:
+    def is_listed(self, listed: List[Dict[str, Any]], one: Credential) -> bool:
         """Returns whether a list has a credential."""
         return any(entry["type"] == "public-key" and entry["id"] == one.id for entry in listed)
 
@@ -419,21 +421,21 @@ class Authenticator:
         found = [one for one in self.credentials if one.rp == rp]
         return found if self.traits.oldest_first else found[::-1]
 
-    def applicable(self, asked: Asked) -> List[Credential]:
+    def list_applicable(self, asked: ActiveRequest) -> List[Credential]:
         """Returns the credentials that may sign: those of the list, or the discoverable ones."""
         listed = asked.item.get(3)
         found = self.list_of_rp(asked.item[1])
         if listed:
-            found = [one for one in found if self.named(listed, one)]
+            found = [one for one in found if self.is_listed(listed, one)]
         else:
             found = [one for one in found if one.discoverable]
-        return [one for one in found if self.shown(asked, one, bool(listed))]
+        return [one for one in found if self.is_visible(asked, one, bool(listed))]
 
-    def shown(self, asked: Asked, one: Credential, listed: bool) -> bool:
+    def is_visible(self, asked: ActiveRequest, one: Credential, listed: bool) -> bool:
         """Returns whether credProtect permits the use of a credential."""
         return asked.verified or one.protection < (3 if listed else 2)
 
-    def first(self, asked: Asked, found: List[Credential]) -> Dict[int, Any]:
+    def sign_first(self, asked: ActiveRequest, found: List[Credential]) -> Dict[int, Any]:
         """Signs with the first credential; without an allow list the others become pending."""
         listed = bool(asked.item.get(3))
         if listed and not self.traits.number_with_list:
@@ -449,11 +451,11 @@ class Authenticator:
             self.pending = Pending(asked, found[1:], self.transport.at)
         return answer
 
-    def user(self, asked: Asked, one: Credential) -> Dict[str, Any]:
+    def user(self, asked: ActiveRequest, one: Credential) -> Dict[str, Any]:
         """Returns the user entity of an assertion: names only with user verification."""
         return dict(one.user) if asked.verified and self.traits.user_names else {"id": one.user["id"]}
 
-    def assertion(self, asked: Asked, one: Credential, listed: bool) -> Dict[int, Any]:
+    def assertion(self, asked: ActiveRequest, one: Credential, listed: bool) -> Dict[int, Any]:
         """Returns an assertion."""
         outputs = self.extensions.run_get(asked, one)
         auth = self.data(asked, one, self.increment_counter(one), b"", outputs)
@@ -487,7 +489,7 @@ class Authenticator:
         """Serves authenticatorReset."""
         if at > RESET_TIME and not self.traits.display:
             raise RequestError(NOT_ALLOWED)
-        yield from self.consent(TIMEOUT)
+        yield from self.request_touch(TIMEOUT)
         self.forget()
         return {}
 

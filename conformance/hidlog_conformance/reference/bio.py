@@ -51,7 +51,7 @@ class BioEnrollment:
         if asked[2] == CANCEL:
             self.coming = b""
             return {}
-        served = {BEGIN: self.begin, NEXT_SAMPLE: self.go_on, ENUMERATE: self.enumerate}
+        served = {BEGIN: self.begin, NEXT_SAMPLE: self.take_next_sample, ENUMERATE: self.enumerate}
         served.update({RENAME: self.rename, REMOVE: self.remove})
         if asked[2] not in served:
             raise RequestError(INVALID_SUBCOMMAND)
@@ -65,7 +65,7 @@ class BioEnrollment:
         pin = self.authenticator.pin
         protocol = pin.protocol(asked, 4)
         data = bytes([FINGERPRINT, asked[2]]) + (encode(asked[3]) if 3 in asked else b"")
-        if not pin.hash or not pin.verified(protocol, data, asked[5]) or not pin.permissions & ENROLL:
+        if not pin.hash or not pin.is_authentic(protocol, data, asked[5]) or not pin.permissions & ENROLL:
             raise RequestError(AUTH_INVALID)
 
     def sample(self) -> Any:
@@ -87,7 +87,7 @@ class BioEnrollment:
         self.coming, self.remaining = os.urandom(8), SAMPLES
         return (yield from self.sample())
 
-    def go_on(self, asked: Dict[int, Any]) -> Any:
+    def take_next_sample(self, asked: Dict[int, Any]) -> Any:
         """Takes a further sample."""
         if asked.get(1) is None:
             raise RequestError(MISSING)
@@ -102,7 +102,7 @@ class BioEnrollment:
             raise RequestError(INVALID_OPTION)
         return {7: [{1: one, 2: name} if name else {1: one} for one, name in self.templates.items()]}
 
-    def named(self, asked: Dict[int, Any]) -> bytes:
+    def get_template(self, asked: Dict[int, Any]) -> bytes:
         """Returns the template of a request."""
         if 1 not in asked:
             raise RequestError(MISSING)
@@ -113,11 +113,11 @@ class BioEnrollment:
     def rename(self, asked: Dict[int, Any]) -> Any:
         """Sets a template's name."""
         yield from ()
-        self.templates[self.named(asked)] = asked.get(2, "")
+        self.templates[self.get_template(asked)] = asked.get(2, "")
         return {}
 
     def remove(self, asked: Dict[int, Any]) -> Any:
         """Removes a template."""
         yield from ()
-        del self.templates[self.named(asked)]
+        del self.templates[self.get_template(asked)]
         return {}

@@ -56,13 +56,13 @@ class Config:
     def authorize(self, asked: Dict[int, Any]) -> None:
         """Refuses a request without a token with the permission acfg."""
         pin = self.authenticator.pin
-        if not self.authenticator.protected:
+        if not self.authenticator.is_protected:
             return
         if 4 not in asked:
             raise RequestError(PIN_REQUIRED)
         protocol = pin.protocol(asked, 3)
         data = b"\xff" * 32 + bytes([COMMAND, asked[1]]) + (encode(asked[2]) if 2 in asked else b"")
-        if not pin.verified(protocol, data, asked[4]) or not pin.permissions & CONFIGURE:
+        if not pin.is_authentic(protocol, data, asked[4]) or not pin.permissions & CONFIGURE:
             raise RequestError(AUTH_INVALID)
 
     def enable_enterprise(self, asked: Dict[int, Any]) -> None:

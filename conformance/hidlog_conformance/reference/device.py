@@ -1,4 +1,4 @@
-"""The reference authenticator as a device under test in this process, which runs by the log's clock."""
+"""The reference authenticator as a device under test in this process. Its time is the log's."""
 
 from __future__ import annotations
 

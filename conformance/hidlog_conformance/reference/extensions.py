@@ -11,7 +11,7 @@ from hidlog_conformance.reference.credential import Credential
 from hidlog_conformance.reference.pin import AUTH_INVALID, INVALID_PARAMETER, MISSING, RequestError
 
 if TYPE_CHECKING:
-    from hidlog_conformance.reference.asked import Asked
+    from hidlog_conformance.reference.active_request import ActiveRequest
     from hidlog_conformance.reference.authenticator import Authenticator
 
 LONGEST_BLOB, INVALID_OPTION = 32, 0x2C
@@ -23,12 +23,12 @@ class Extensions:
     def __init__(self, authenticator: Authenticator) -> None:
         self.authenticator = authenticator
 
-    def list_requested(self, asked: Asked, place: int) -> Dict[str, Any]:
+    def list_requested(self, asked: ActiveRequest, place: int) -> Dict[str, Any]:
         """Returns the supported extensions of a request."""
         inputs = asked.item.get(place, {})
         return {name: value for name, value in inputs.items() if name in self.authenticator.traits.extensions}
 
-    def run_make(self, asked: Asked, new: Credential) -> Dict[str, Any]:
+    def run_make(self, asked: ActiveRequest, new: Credential) -> Dict[str, Any]:
         """Runs the extensions of a registration; returns their outputs."""
         inputs, outputs = self.list_requested(asked, 6), {}
         level = self.authenticator.traits.default_protection
@@ -47,7 +47,7 @@ class Extensions:
             new.blob_key = self.new_blob_key()
         return outputs
 
-    def first(self, asked: Asked) -> None:
+    def check_before_touch(self, asked: ActiveRequest) -> None:
         """Checks largeBlobKey before the touch, if the device has this trait."""
         inputs = self.list_requested(asked, 6)
         if self.authenticator.traits.blob_key_first and "largeBlobKey" in inputs:
@@ -62,7 +62,7 @@ class Extensions:
         """Returns a new large blob key."""
         return os.urandom(32)
 
-    def blob_key_of(self, asked: Asked, one: Credential) -> Optional[bytes]:
+    def blob_key_of(self, asked: ActiveRequest, one: Credential) -> Optional[bytes]:
         """Returns a credential's large blob key, if a sign-in requests it."""
         inputs = self.list_requested(asked, 4)
         if "largeBlobKey" not in inputs:
@@ -83,7 +83,7 @@ class Extensions:
         new.blob = blob if fits else None
         return fits
 
-    def run_get(self, asked: Asked, one: Credential) -> Dict[str, Any]:
+    def run_get(self, asked: ActiveRequest, one: Credential) -> Dict[str, Any]:
         """Runs the extensions of a sign-in; returns their outputs."""
         inputs, outputs = self.list_requested(asked, 4), {}
         if inputs.get("credBlob") is True:
@@ -92,14 +92,14 @@ class Extensions:
             outputs["hmac-secret"] = self.secret(asked, one, inputs["hmac-secret"])
         return outputs
 
-    def secret(self, asked: Asked, one: Credential, inputs: Dict[int, Any]) -> bytes:
+    def secret(self, asked: ActiveRequest, one: Credential, inputs: Dict[int, Any]) -> bytes:
         """Returns the secrets of one or two salts, encrypted."""
         if not asked.present:
             raise RequestError(0x2B)
         if not all(key in inputs for key in (1, 2, 3)):
             raise RequestError(MISSING)
         protocol = self.authenticator.pin.protocol({1: inputs.get(4, 1)}, 1)
-        key = protocol.shared(inputs[1])
+        key = protocol.compute_secret(inputs[1])
         if not self.is_salt_authentic(protocol, key, inputs):
             raise RequestError(AUTH_INVALID)
         salts = protocol.decrypt(key, inputs[2])
@@ -115,6 +115,6 @@ class Extensions:
         """Returns whether saltAuth is right."""
         return bool(protocol.verify(key, inputs[2], inputs[3]))
 
-    def random(self, asked: Asked, one: Credential) -> bytes:
+    def random(self, asked: ActiveRequest, one: Credential) -> bytes:
         """Returns CredRandom, which differs with user verification."""
         return one.random_verified if asked.verified else one.random

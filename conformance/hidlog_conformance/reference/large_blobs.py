@@ -35,7 +35,7 @@ class LargeBlobs:
         self.coming = b""
         self.expected = 0
 
-    def longest(self) -> int:
+    def max_fragment_length(self) -> int:
         """Returns the maximum length of a fragment."""
         return max(self.authenticator.traits.longest_message, 1024) - AROUND
 
@@ -49,7 +49,7 @@ class LargeBlobs:
         """Returns a fragment of the array."""
         if LENGTH in asked or PARAM in asked or PROTOCOL in asked:
             raise RequestError(INVALID_PARAMETER)
-        if asked[READ] > self.longest():
+        if asked[READ] > self.max_fragment_length():
             raise RequestError(INVALID_LENGTH)
         return {1: self.piece(asked[OFFSET], asked[READ])}
 
@@ -61,7 +61,7 @@ class LargeBlobs:
 
     def write(self, asked: Dict[int, Any]) -> Dict[int, Any]:
         """Writes a fragment of a new array; the last one replaces the old array."""
-        if len(asked[SET]) > self.longest():
+        if len(asked[SET]) > self.max_fragment_length():
             raise RequestError(INVALID_LENGTH)
         self.begin(asked)
         if asked[OFFSET] != len(self.coming):
@@ -91,24 +91,24 @@ class LargeBlobs:
     def authorize(self, asked: Dict[int, Any]) -> None:
         """Refuses a fragment without a token with the permission lbw, if user verification is configured."""
         authenticator = self.authenticator
-        if not authenticator.protected and not authenticator.traits.always_uv:
+        if not authenticator.is_protected and not authenticator.traits.always_uv:
             return
         if PARAM not in asked:
             raise RequestError(PIN_REQUIRED)
         protocol = authenticator.pin.protocol(asked, PROTOCOL)
         data = FRONT + asked[OFFSET].to_bytes(4, "little") + hashlib.sha256(asked[SET]).digest()
-        verified = authenticator.pin.verified(protocol, data, asked[PARAM])
+        verified = authenticator.pin.is_authentic(protocol, data, asked[PARAM])
         if not verified or not authenticator.pin.permissions & WRITE:
             raise RequestError(AUTH_INVALID)
 
     def commit(self) -> None:
         """Replaces the old array by the new one, if its hash is right."""
         whole, self.coming, self.expected = self.coming, b"", 0
-        if not self.whole(whole):
+        if not self.is_whole(whole):
             raise RequestError(INTEGRITY)
         self.stored = whole
 
-    def whole(self, array: bytes) -> bool:
+    def is_whole(self, array: bytes) -> bool:
         """Returns whether an array ends with its hash."""
         return append_hash(array[:-HASH]) == array
 

@@ -32,7 +32,7 @@ class Management:
         self.rps: List[str] = []
         self.left: List[Credential] = []
 
-    def stored(self) -> List[Credential]:
+    def list_stored(self) -> List[Credential]:
         """Returns the discoverable credentials."""
         return [one for one in self.authenticator.credentials if one.discoverable]
 
@@ -58,27 +58,27 @@ class Management:
         pin = self.authenticator.pin
         protocol = pin.protocol(asked, 3)
         data = bytes([asked[1]]) + (encode(asked[2]) if 2 in asked else b"")
-        if not self.authenticator.protected or not pin.verified(protocol, data, asked[4]):
+        if not self.authenticator.is_protected or not pin.is_authentic(protocol, data, asked[4]):
             raise RequestError(AUTH_INVALID)
-        if not pin.permissions & MANAGE or not self.of_token(asked[1], asked.get(2, {}), pin.rp):
+        if not pin.permissions & MANAGE or not self.is_permitted(asked[1], asked.get(2, {}), pin.rp):
             raise RequestError(AUTH_INVALID)
 
-    def of_token(self, command: int, asked: Dict[int, Any], rp: str) -> bool:
+    def is_permitted(self, command: int, asked: Dict[int, Any], rp: str) -> bool:
         """Returns whether the token's RP ID permits the subcommand: a token for an RP may only manage that RP."""
         if not rp or command in (METADATA, RPS):
             return not rp
         if command == OF_RP:
             return asked.get(1) in (None, hashlib.sha256(rp.encode()).digest())
         named = asked[2].get("id") if isinstance(asked.get(2), dict) else None
-        return all(one.rp == rp for one in self.stored() if one.id == named)
+        return all(one.rp == rp for one in self.list_stored() if one.id == named)
 
     def metadata(self, asked: Dict[int, Any]) -> Dict[int, Any]:
         """Returns the number of stored credentials, and the remaining capacity."""
-        return {1: len(self.stored()), 2: self.authenticator.traits.capacity - len(self.authenticator.credentials)}
+        return {1: len(self.list_stored()), 2: self.authenticator.traits.capacity - len(self.authenticator.credentials)}
 
     def first_rp(self, asked: Dict[int, Any]) -> Dict[int, Any]:
         """Returns the first RP, and the total."""
-        self.rps = list(dict.fromkeys(one.rp for one in self.stored()))
+        self.rps = list(dict.fromkeys(one.rp for one in self.list_stored()))
         if not self.rps:
             raise RequestError(NO_CREDENTIALS)
         return {**self.next_rp(), 5: len(self.rps) + 1}
@@ -94,7 +94,7 @@ class Management:
         """Returns the first credential of an RP, and the total."""
         if 1 not in asked:
             raise RequestError(MISSING)
-        self.left = [one for one in self.stored() if hashlib.sha256(one.rp.encode()).digest() == asked[1]]
+        self.left = [one for one in self.list_stored() if hashlib.sha256(one.rp.encode()).digest() == asked[1]]
         if not self.left:
             raise RequestError(NO_CREDENTIALS)
         return {**self.next_of_rp(), 9: len(self.left) + 1}
@@ -110,23 +110,23 @@ class Management:
             found[11] = one.blob_key
         return found
 
-    def named(self, asked: Dict[int, Any]) -> Credential:
+    def get_credential(self, asked: Dict[int, Any]) -> Credential:
         """Returns the credential of a request."""
         if not isinstance(asked.get(2), dict) or "id" not in asked[2]:
             raise RequestError(MISSING)
-        for one in self.stored():
+        for one in self.list_stored():
             if one.id == asked[2]["id"]:
                 return one
         raise RequestError(NO_CREDENTIALS)
 
     def delete(self, asked: Dict[int, Any]) -> Dict[int, Any]:
         """Removes a credential."""
-        self.authenticator.credentials.remove(self.named(asked))
+        self.authenticator.credentials.remove(self.get_credential(asked))
         return {}
 
     def update(self, asked: Dict[int, Any]) -> Dict[int, Any]:
         """Updates the user information of a credential."""
-        one = self.named(asked)
+        one = self.get_credential(asked)
         if not isinstance(asked.get(3), dict) or asked[3].get("id") != one.user["id"]:
             raise RequestError(INVALID_PARAMETER)
         one.user = dict(asked[3])

@@ -54,7 +54,7 @@ class Protocol:
         """Makes a new key agreement key."""
         self.private = ec.generate_private_key(ec.SECP256R1())
 
-    def shared(self, peer: Any) -> bytes:
+    def compute_secret(self, peer: Any) -> bytes:
         """Returns the shared secret: one key, or the HMAC and AES keys joined."""
         try:
             x, y = int.from_bytes(peer[-2], "big"), int.from_bytes(peer[-3], "big")
@@ -119,7 +119,7 @@ class Pin:
         for protocol in self.protocols.values():
             protocol.renew()
 
-    def used(self) -> None:
+    def clear_permissions(self) -> None:
         """Clears all permissions of the token except lbw (6.5.2.1)."""
         self.permissions &= WRITE
 
@@ -132,14 +132,14 @@ class Pin:
             raise RequestError(INVALID_PARAMETER)
         return found
 
-    def needed(self, asked: Dict[int, Any], *keys: int) -> None:
+    def require_parameters(self, asked: Dict[int, Any], *keys: int) -> None:
         """Refuses missing parameters."""
         if any(key not in asked for key in keys):
             raise RequestError(MISSING)
 
     def serve(self, asked: Dict[int, Any]) -> Dict[int, Any]:
         """Serves authenticatorClientPIN."""
-        self.needed(asked, 2)
+        self.require_parameters(asked, 2)
         served = {1: self.get_retries, 2: self.agree, 3: self.set, 4: self.change, 5: self.old_token, 9: self.new_token}
         if asked[2] not in served:
             raise RequestError(INVALID_SUBCOMMAND)
@@ -174,10 +174,10 @@ class Pin:
     def set(self, asked: Dict[int, Any]) -> Dict[int, Any]:
         """Sets the first PIN."""
         protocol = self.protocol(asked, 1)
-        self.needed(asked, 3, 4, 5)
+        self.require_parameters(asked, 3, 4, 5)
         if self.hash:
             raise RequestError(AUTH_INVALID)
-        key = protocol.shared(asked[3])
+        key = protocol.compute_secret(asked[3])
         if not protocol.verify(key, asked[5], asked[4]):
             raise RequestError(AUTH_INVALID)
         self.new_pin(protocol, key, asked[5])
@@ -186,9 +186,9 @@ class Pin:
     def change(self, asked: Dict[int, Any]) -> Dict[int, Any]:
         """Changes the PIN."""
         protocol = self.protocol(asked, 1)
-        self.needed(asked, 3, 4, 5, 6)
+        self.require_parameters(asked, 3, 4, 5, 6)
         self.check_not_blocked()
-        key = protocol.shared(asked[3])
+        key = protocol.compute_secret(asked[3])
         if not protocol.verify(key, asked[5] + asked[6], asked[4]):
             raise RequestError(AUTH_INVALID)
         self.compare(protocol, key, asked[6])
@@ -208,7 +208,7 @@ class Pin:
     def compare(self, protocol: Protocol, key: bytes, encrypted: bytes) -> None:
         """Compares a PIN; a wrong one decrements the retries and renews the key agreement key."""
         self.retries -= 1
-        if not self.same(protocol.decrypt(key, encrypted)):
+        if not self.is_same_pin(protocol.decrypt(key, encrypted)):
             protocol.renew()
             self.in_a_row += 1
             if not self.retries:
@@ -216,7 +216,7 @@ class Pin:
             raise RequestError(AUTH_BLOCKED if self.in_a_row >= IN_A_ROW else PIN_INVALID)
         self.retries, self.in_a_row = RETRIES, 0
 
-    def same(self, param: bytes) -> bool:
+    def is_same_pin(self, param: bytes) -> bool:
         """Returns whether a hash is the stored PIN hash."""
         return hmac.compare_digest(param, self.hash)
 
@@ -229,11 +229,11 @@ class Pin:
     def old_token(self, asked: Dict[int, Any]) -> Dict[int, Any]:
         """getPinToken: returns a token for registrations and sign-ins."""
         protocol = self.protocol(asked, 1)
-        self.needed(asked, 3, 6)
+        self.require_parameters(asked, 3, 6)
         if 9 in asked or 10 in asked:
             raise RequestError(INVALID_PARAMETER)
         self.check_not_blocked()
-        key = protocol.shared(asked[3])
+        key = protocol.compute_secret(asked[3])
         self.compare(protocol, key, asked[6])
         self.check_unchanged()
         return self.grant(protocol, key, MAKE | GET, "")
@@ -246,10 +246,10 @@ class Pin:
     def new_token(self, asked: Dict[int, Any]) -> Dict[int, Any]:
         """getPinUvAuthTokenUsingPinWithPermissions: returns a token with permissions."""
         protocol = self.protocol(asked, 1)
-        self.needed(asked, 3, 6, 9)
+        self.require_parameters(asked, 3, 6, 9)
         self.check_permissions(asked)
         self.check_not_blocked()
-        key = protocol.shared(asked[3])
+        key = protocol.compute_secret(asked[3])
         self.compare(protocol, key, asked[6])
         self.check_unchanged()
         return self.grant(protocol, key, asked[9], asked.get(10, ""))
@@ -265,9 +265,9 @@ class Pin:
     def user_token(self, asked: Dict[int, Any]) -> Generator[None, str, Dict[int, Any]]:
         """getPinUvAuthTokenUsingUvWithPermissions: returns a token after built-in user verification."""
         protocol = self.protocol(asked, 1)
-        self.needed(asked, 3, 9)
+        self.require_parameters(asked, 3, 9)
         self.check_permissions(asked)
-        key = protocol.shared(asked[3])
+        key = protocol.compute_secret(asked[3])
         if not self.user_retries:
             raise RequestError(USER_BLOCKED)
         reply = yield
@@ -291,13 +291,13 @@ class Pin:
 
     def check(self, protocol: Protocol, data: bytes, param: bytes, permission: int, rp: str) -> None:
         """Refuses a request with a wrong pinUvAuthParam, or whose token lacks the permission or RP ID."""
-        if not self.verified(protocol, data, param):
+        if not self.is_authentic(protocol, data, param):
             raise RequestError(AUTH_INVALID)
         if not self.permissions & permission or (self.rp and rp and self.rp != rp):
             raise RequestError(AUTH_INVALID)
         if not self.rp and rp:
             self.rp = rp
 
-    def verified(self, protocol: Protocol, data: bytes, param: bytes) -> bool:
+    def is_authentic(self, protocol: Protocol, data: bytes, param: bytes) -> bool:
         """Returns whether a request has the right pinUvAuthParam."""
         return protocol.verify(self.token, data, param)

@@ -105,19 +105,19 @@ class Requests:
             raise RequestError(self.traits.wrong_type)
         for key, (kind, _) in types.items():
             if key in item:
-                self.typed(item[key], kind)
-        self.inside(item, types)
+                self.check_type(item[key], kind)
+        self.check_members(item, types)
         if any(needed and key not in item for key, (_, needed) in types.items()):
             raise RequestError(MISSING)
         return item
 
-    def typed(self, value: Any, kind: type) -> Any:
+    def check_type(self, value: Any, kind: type) -> Any:
         """Returns a value of a type, or refuses the request."""
         if not isinstance(value, kind) or kind is int and isinstance(value, bool):
             raise RequestError(self.traits.wrong_type)
         return value
 
-    def inside(self, item: Dict[Any, Any], types: Types) -> None:
+    def check_members(self, item: Dict[Any, Any], types: Types) -> None:
         """Checks the members of parameters that are maps: first their types, then that required members are present."""
         entities: List[Tuple[int, Dict[str, type], Tuple[str, ...]]] = []
         lists: List[Tuple[int, Dict[str, type], Tuple[str, ...]]] = []
@@ -132,20 +132,20 @@ class Requests:
             lists = [(3, descriptor, ("id", "type"))]
         missing = False
         for key, kinds, needed in entities:
-            missing = self.entity(item.get(key), kinds, needed) or missing
+            missing = self.check_entity(item.get(key), kinds, needed) or missing
         for key, kinds, needed in lists:
             for entry in item.get(key, []):
-                missing = self.entity(self.typed(entry, dict), kinds, needed) or missing
+                missing = self.check_entity(self.check_type(entry, dict), kinds, needed) or missing
         if missing:
             raise RequestError(MISSING)
 
-    def entity(self, value: Optional[Dict[Any, Any]], kinds: Dict[str, type], needed: Tuple[str, ...]) -> bool:
+    def check_entity(self, value: Optional[Dict[Any, Any]], kinds: Dict[str, type], needed: Tuple[str, ...]) -> bool:
         """Checks the types of a map's members; returns whether a required one is missing."""
         if value is None:
             return False
         for name, kind in kinds.items():
             if name in value:
-                self.typed(value[name], kind)
+                self.check_type(value[name], kind)
         for transport in value.get("transports", []):
-            self.typed(transport, str)
+            self.check_type(transport, str)
         return any(name not in value for name in needed)

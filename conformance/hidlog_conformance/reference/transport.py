@@ -73,11 +73,11 @@ class Transport:
         self.tick(at)
         channel = int.from_bytes(packet[:4], "big")
         if packet[4] & 0x80:
-            self.begin(channel, packet[4] & 0x7F, int.from_bytes(packet[5:7], "big"), packet[7:])
+            self.handle_initialization(channel, packet[4] & 0x7F, int.from_bytes(packet[5:7], "big"), packet[7:])
         else:
-            self.go_on(channel, packet[4], packet[5:])
+            self.handle_continuation(channel, packet[4], packet[5:])
 
-    def go_on(self, channel: int, sequence: int, data: bytes) -> None:
+    def handle_continuation(self, channel: int, sequence: int, data: bytes) -> None:
         """Processes a continuation packet; ignored outside any message."""
         now = self.now
         if now is None or now.work is not None or now.channel != channel:
@@ -89,9 +89,9 @@ class Transport:
         now.sequence += 1
         now.latest = self.at
         now.data += data
-        self.whole(now)
+        self.handle_message(now)
 
-    def begin(self, channel: int, command: int, length: int, data: bytes) -> None:
+    def handle_initialization(self, channel: int, command: int, length: int, data: bytes) -> None:
         """Processes an initialization packet."""
         if command == CANCEL:
             self.cancel(channel)
@@ -109,7 +109,7 @@ class Transport:
             self.now = None
             self.error(channel, INVALID_SEQUENCE)
         else:
-            self.take(channel, command, length, data)
+            self.begin_message(channel, command, length, data)
 
     def is_locked_out(self, channel: int) -> bool:
         """Returns whether another channel has the lock."""
@@ -126,24 +126,24 @@ class Transport:
             self.locked = (channel, self.at + 1000 * data[0])
             self.send(channel, LOCK, b"")
 
-    def serves(self, command: int) -> bool:
+    def is_supported(self, command: int) -> bool:
         """Returns whether a command is supported."""
         optional = {MSG: self.traits.u2f, WINK: self.traits.wink, LOCK: self.traits.lock}
         return command in (PING, CBOR) or optional.get(command, command >= VENDOR and self.traits.vendor)
 
-    def take(self, channel: int, command: int, length: int, data: bytes) -> None:
+    def begin_message(self, channel: int, command: int, length: int, data: bytes) -> None:
         """Processes the first packet of an acceptable message."""
         self.now = None
-        if not self.serves(command):
+        if not self.is_supported(command):
             self.error(channel, INVALID_COMMAND)
         elif length > min(LONGEST, max(self.traits.longest_message, 1024)):
             self.error(channel, INVALID_LENGTH)
         else:
             self.now = Transaction(channel, command, length, self.at)
             self.now.data = data
-            self.whole(self.now)
+            self.handle_message(self.now)
 
-    def nonce_answer(self, nonce: bytes, channel: int) -> bytes:
+    def make_init_response(self, nonce: bytes, channel: int) -> bytes:
         """Returns the INIT response."""
         capabilities = 0x04 | (0x01 if self.traits.wink else 0) | (0 if self.traits.u2f else 0x08)
         return nonce + channel.to_bytes(4, "big") + b"\2" + self.traits.version_bytes + bytes([capabilities])
@@ -163,20 +163,20 @@ class Transport:
         elif channel != BROADCAST:
             if self.now is not None and self.now.channel == channel:
                 self.now = None
-            self.send(channel, INIT, self.nonce_answer(nonce, channel))
+            self.send(channel, INIT, self.make_init_response(nonce, channel))
         elif len(self.channels) >= self.traits.channels:
             self.error(channel, OTHER)
         else:
             new = self.new_channel()
             self.channels.append(new)
-            self.send(BROADCAST, INIT, self.nonce_answer(nonce, new))
+            self.send(BROADCAST, INIT, self.make_init_response(nonce, new))
 
     def cancel(self, channel: int) -> None:
         """Cancels the pending request on a channel, if any."""
         if self.now is not None and self.now.channel == channel and self.now.work is not None:
             self.finish(bytes([CANCELLED]))
 
-    def whole(self, now: Transaction) -> None:
+    def handle_message(self, now: Transaction) -> None:
         """Processes a complete message."""
         if len(now.data) < now.length:
             return
@@ -192,7 +192,7 @@ class Transport:
             self.send(now.channel, MSG, self.serve_message(self.at, data))
         elif not data:
             self.now = None
-            self.empty(now.channel)
+            self.refuse_empty(now.channel)
         else:
             now.work = self.serve(self.at, now.channel, data)
             now.began = self.at
@@ -201,16 +201,16 @@ class Transport:
             if self.traits.work_time:
                 now.ready_at, now.alive_at = self.at + self.traits.work_time, self.at
             else:
-                self.work_on()
+                self.run_request()
 
-    def empty(self, channel: int) -> None:
+    def refuse_empty(self, channel: int) -> None:
         """Refuses a CBOR message without a command."""
         if self.traits.empty_cbor_status:
             self.send(channel, CBOR, bytes([self.traits.empty_cbor_status]))
         else:
             self.error(channel, INVALID_LENGTH)
 
-    def work_on(self, reply: str = "") -> None:
+    def run_request(self, reply: str = "") -> None:
         """Runs the request until it requests a touch or has a response."""
         assert self.now is not None and self.now.work is not None
         try:
@@ -234,7 +234,7 @@ class Transport:
         """Processes a touch, if one was requested."""
         self.tick(at)
         if self.now is not None and self.now.work is not None and self.now.ready_at is None:
-            self.work_on(reply)
+            self.run_request(reply)
 
     def tick(self, at: int) -> None:
         """Handles timeouts, and sends KEEPALIVEs."""
@@ -250,7 +250,7 @@ class Transport:
         elif now.ready_at is not None:
             self.work_slowly(now, now.ready_at)
         elif self.at - now.began >= self.traits.patience:
-            self.work_on("timeout")
+            self.run_request("timeout")
         elif self.at - now.alive_at >= self.traits.keepalive:
             now.alive_at = self.at
             self.send(now.channel, KEEPALIVE, b"\2")
@@ -259,7 +259,7 @@ class Transport:
         """Sends KEEPALIVEs until a slow authenticator serves the request, and then serves it."""
         if self.at >= ready_at:
             now.ready_at = None
-            self.work_on()
+            self.run_request()
         elif self.at - now.alive_at >= self.traits.keepalive:
             now.alive_at = self.at
             self.send(now.channel, KEEPALIVE, b"\1")

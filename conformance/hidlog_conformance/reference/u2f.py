@@ -23,7 +23,7 @@ class U2f:
         self.authenticator = authenticator
         self.touched = -RECENT
 
-    def present(self, at: int) -> bool:
+    def is_user_present(self, at: int) -> bool:
         """Returns whether the user touched recently; each touch counts once."""
         recent = at - self.touched < RECENT
         self.touched = -RECENT
@@ -49,7 +49,7 @@ class U2f:
         """Registers: challenge and application of 32 bytes each."""
         if len(data) != 64:
             return WRONG_LENGTH
-        if not self.present(at):
+        if not self.is_user_present(at):
             return NOT_SATISFIED
         new = Credential(os.urandom(64), data[32:].hex(), {"id": b""}, False, ES256, new_key(ES256))
         self.authenticator.credentials.append(new)
@@ -59,7 +59,7 @@ class U2f:
         signature = attestor.sign(b"\0" + data[32:] + data[:32] + new.id + point)
         return b"\5" + point + bytes([len(new.id)]) + new.id + attestor.certificate + signature + OK
 
-    def found(self, data: bytes) -> Tuple[bool, Credential]:
+    def find_credential(self, data: bytes) -> Tuple[bool, Credential]:
         """Returns the credential of a request, if any."""
         handle = data[65 : 65 + data[64]]
         for one in self.authenticator.credentials:
@@ -71,10 +71,10 @@ class U2f:
         """Signs; with check-only, returns whether the key handle is known."""
         if len(data) < 66:
             return WRONG_LENGTH
-        there, one = self.found(data)
+        there, one = self.find_credential(data)
         if not there:
             return WRONG_DATA
-        if control == 7 or not self.present(at):
+        if control == 7 or not self.is_user_present(at):
             return NOT_SATISFIED
         start = b"\1" + self.authenticator.increment_counter(one).to_bytes(4, "big")
         return start + signed(one.private, ES256, data[32:64] + start + data[:32]) + OK
