@@ -24,7 +24,7 @@ name=hidlog-portable-$version
 tar -C "$work" --sort=name --owner=0 --group=0 --numeric-owner --mtime="@$SOURCE_DATE_EPOCH" -cf - "$name" |
     gzip -9n >"$to/$name.tar.gz"
 
-# Builds the program and the library for Windows, and copies the documents to the same directory.
+# Builds the program and the library for Windows, and packs them with the documents into a zip.
 build_windows() {
     local folder=$work/windows/hidlog-$version file
     local flags=(-std=c11 -O2 -s "-Wl,--no-insert-timestamp")
@@ -44,5 +44,5 @@ if command -v x86_64-w64-mingw32-gcc >/dev/null; then
     (build_windows)
     [ $# = 1 ] || cp "$work/windows/hidlog-$version/hidlog.dll" "$2"
 else
-    echo "portable: mingw is missing, skipping the zip for Windows (apt-get install gcc-mingw-w64-x86-64)" >&2
+    echo "bindings/c/build.sh: mingw is missing, skipping the zip for Windows (apt-get install gcc-mingw-w64-x86-64)" >&2
 fi

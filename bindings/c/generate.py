@@ -4,7 +4,7 @@
 Writes to DIR:
 
     hidlog_module.h    the module's functions and data, for hidlog.c
-    hidlog.def         the functions of a DLL, those of hidlog.h beside the module
+    hidlog.def         the list of the functions that a DLL exports: those of hidlog.h
 
 machine.h replaces the runtime of wasm2c. The output depends only on the module and the version of wabt. Needs wasm2c of
 wabt, tested with 1.0.32 of Debian 12. Exits with 3 if wasm2c is missing.

@@ -69,7 +69,7 @@ static void release_instance(struct instance *instance) {
 // closed.
 enum { MEMORY_WINDOW = 1, KEY_WINDOW = 2, FIRST_BUFFER = 3, LAST_BUFFER = 14 };
 #define ADDRESS_OF(window) ((u64)(window) << WINDOW_BITS)
-#define KEY ADDRESS_OF(KEY_WINDOW)
+#define KEY_ADDRESS ADDRESS_OF(KEY_WINDOW)
 
 // The layout of struct hidlog_key in the module.
 struct module_key {
@@ -113,14 +113,14 @@ static void open_window(struct call *call, u32 number, const void *bytes, u64 le
 }
 
 // Returns the number of bytes that fit into the free windows.
-static u64 windows_capacity(const struct call *call) {
+static u64 free_windows_len(const struct call *call) {
     return ADDRESS_OF(LAST_BUFFER + 1 - call->next_window);
 }
 
 // Maps a buffer into the module's address space. Returns the buffer's address there.
 static u64 map_buffer(struct call *call, const void *buffer, u64 len) {
     u64 address = ADDRESS_OF(call->next_window), offset = 0;
-    if (len > windows_capacity(call) || call->next_window > LAST_BUFFER) {
+    if (len > free_windows_len(call) || call->next_window > LAST_BUFFER) {
         call->is_too_long = 1;
         return 0;
     }
@@ -134,8 +134,8 @@ static u64 map_buffer(struct call *call, const void *buffer, u64 len) {
 // Like map_buffer, for the output buffer, which must be mapped last. A buffer larger than the free windows (at least
 // 256 MiB) is used in part, and *out_cap is reduced.
 static u64 map_output(struct call *call, void *out, size_t *out_cap) {
-    if (*out_cap > windows_capacity(call)) {
-        *out_cap = (size_t)windows_capacity(call);
+    if (*out_cap > free_windows_len(call)) {
+        *out_cap = (size_t)free_windows_len(call);
     }
     return map_buffer(call, out, *out_cap);
 }
@@ -261,10 +261,10 @@ static int32_t end_key_call(struct call *call, struct hidlog_key *key, u32 retur
     return (int32_t)returned;
 }
 
-#define BEGIN_KEY_CALL                              \
-    struct call call;                               \
-    if (!begin_key_call(&call, key)) {              \
-        return HIDLOG_KEY_ERR_BUFFER_TOO_SMALL;     \
+#define BEGIN_KEY_CALL                                                                                                 \
+    struct call call;                                                                                                  \
+    if (!begin_key_call(&call, key)) {                                                                                 \
+        return HIDLOG_KEY_ERR_BUFFER_TOO_SMALL;                                                                        \
     }
 
 int32_t hidlog_key_init(struct hidlog_key *key, const uint8_t aaguid[16], uint64_t now_ms, const uint8_t *snapshot,
@@ -274,41 +274,42 @@ int32_t hidlog_key_init(struct hidlog_key *key, const uint8_t aaguid[16], uint64
     if (call.is_too_long) {
         return end_key_call(&call, key, (u32)HIDLOG_KEY_ERR_NOT_A_SNAPSHOT);
     }
-    u32 returned = w2c_hidlog_key_init(call.module, KEY, aaguid_at, now_ms, snapshot_at, snapshot_len);
+    u32 returned = w2c_hidlog_key_init(call.module, KEY_ADDRESS, aaguid_at, now_ms, snapshot_at, snapshot_len);
     return end_key_call(&call, key, returned);
 }
 
 int32_t hidlog_key_destroy(struct hidlog_key *key) {
     BEGIN_KEY_CALL
-    return end_key_call(&call, key, w2c_hidlog_key_destroy(call.module, KEY));
+    return end_key_call(&call, key, w2c_hidlog_key_destroy(call.module, KEY_ADDRESS));
 }
 
 int32_t hidlog_key_write_packet(struct hidlog_key *key, uint64_t now_ms, const uint8_t packet[64]) {
     BEGIN_KEY_CALL
     u64 packet_at = map_buffer(&call, packet, 64);
-    return end_key_call(&call, key, w2c_hidlog_key_write_packet(call.module, KEY, now_ms, packet_at));
+    return end_key_call(&call, key, w2c_hidlog_key_write_packet(call.module, KEY_ADDRESS, now_ms, packet_at));
 }
 
 int32_t hidlog_key_tick(struct hidlog_key *key, uint64_t now_ms) {
     BEGIN_KEY_CALL
-    return end_key_call(&call, key, w2c_hidlog_key_tick(call.module, KEY, now_ms));
+    return end_key_call(&call, key, w2c_hidlog_key_tick(call.module, KEY_ADDRESS, now_ms));
 }
 
 int32_t hidlog_key_provide_presence(struct hidlog_key *key, uint64_t now_ms, uint32_t presence) {
     BEGIN_KEY_CALL
-    return end_key_call(&call, key, w2c_hidlog_key_provide_presence(call.module, KEY, now_ms, presence));
+    return end_key_call(&call, key, w2c_hidlog_key_provide_presence(call.module, KEY_ADDRESS, now_ms, presence));
 }
 
 int32_t hidlog_key_provide_key_pair(struct hidlog_key *key, uint64_t now_ms, const uint8_t id[32], const uint8_t x[32],
                                     const uint8_t y[32]) {
     BEGIN_KEY_CALL
     u64 id_at = map_buffer(&call, id, 32), x_at = map_buffer(&call, x, 32), y_at = map_buffer(&call, y, 32);
-    return end_key_call(&call, key, w2c_hidlog_key_provide_key_pair(call.module, KEY, now_ms, id_at, x_at, y_at));
+    return end_key_call(&call, key,
+                        w2c_hidlog_key_provide_key_pair(call.module, KEY_ADDRESS, now_ms, id_at, x_at, y_at));
 }
 
 int32_t hidlog_key_refuse_key_pair(struct hidlog_key *key, uint64_t now_ms) {
     BEGIN_KEY_CALL
-    return end_key_call(&call, key, w2c_hidlog_key_refuse_key_pair(call.module, KEY, now_ms));
+    return end_key_call(&call, key, w2c_hidlog_key_refuse_key_pair(call.module, KEY_ADDRESS, now_ms));
 }
 
 int32_t hidlog_key_provide_signature(struct hidlog_key *key, uint64_t now_ms, const uint8_t *signature,
@@ -318,82 +319,82 @@ int32_t hidlog_key_provide_signature(struct hidlog_key *key, uint64_t now_ms, co
     if (call.is_too_long) {
         return end_key_call(&call, key, (u32)HIDLOG_KEY_ERR_INVALID_ARGUMENT);
     }
-    return end_key_call(&call, key,
-                        w2c_hidlog_key_provide_signature(call.module, KEY, now_ms, signature_at, signature_len));
+    return end_key_call(
+        &call, key, w2c_hidlog_key_provide_signature(call.module, KEY_ADDRESS, now_ms, signature_at, signature_len));
 }
 
 int32_t hidlog_key_refuse_signature(struct hidlog_key *key, uint64_t now_ms) {
     BEGIN_KEY_CALL
-    return end_key_call(&call, key, w2c_hidlog_key_refuse_signature(call.module, KEY, now_ms));
+    return end_key_call(&call, key, w2c_hidlog_key_refuse_signature(call.module, KEY_ADDRESS, now_ms));
 }
 
 int32_t hidlog_key_queued_packets(struct hidlog_key *key) {
     BEGIN_KEY_CALL
-    return end_key_call(&call, key, w2c_hidlog_key_queued_packets(call.module, KEY));
+    return end_key_call(&call, key, w2c_hidlog_key_queued_packets(call.module, KEY_ADDRESS));
 }
 
 int32_t hidlog_key_read_packet(struct hidlog_key *key, uint8_t packet[64]) {
     BEGIN_KEY_CALL
     u64 packet_at = map_buffer(&call, packet, 64);
-    return end_key_call(&call, key, w2c_hidlog_key_read_packet(call.module, KEY, packet_at));
+    return end_key_call(&call, key, w2c_hidlog_key_read_packet(call.module, KEY_ADDRESS, packet_at));
 }
 
 int32_t hidlog_key_get_need(struct hidlog_key *key, struct hidlog_need *need) {
     BEGIN_KEY_CALL
     u64 need_at = map_buffer(&call, need, sizeof *need);
-    return end_key_call(&call, key, w2c_hidlog_key_get_need(call.module, KEY, need_at));
+    return end_key_call(&call, key, w2c_hidlog_key_get_need(call.module, KEY_ADDRESS, need_at));
 }
 
 int32_t hidlog_key_cause(struct hidlog_key *key, uint32_t which, struct hidlog_cause *cause, uint8_t *out,
                          size_t out_cap) {
     BEGIN_KEY_CALL
     u64 cause_at = map_buffer(&call, cause, sizeof *cause), out_at = map_output(&call, out, &out_cap);
-    return end_key_call(&call, key, w2c_hidlog_key_cause(call.module, KEY, which, cause_at, out_at, out_cap));
+    return end_key_call(&call, key, w2c_hidlog_key_cause(call.module, KEY_ADDRESS, which, cause_at, out_at, out_cap));
 }
 
 int32_t hidlog_key_credential_count(struct hidlog_key *key) {
     BEGIN_KEY_CALL
-    return end_key_call(&call, key, w2c_hidlog_key_credential_count(call.module, KEY));
+    return end_key_call(&call, key, w2c_hidlog_key_credential_count(call.module, KEY_ADDRESS));
 }
 
 int32_t hidlog_key_get_credential(struct hidlog_key *key, size_t index, struct hidlog_credential *credential) {
     BEGIN_KEY_CALL
     u64 credential_at = map_buffer(&call, credential, sizeof *credential);
-    return end_key_call(&call, key, w2c_hidlog_key_get_credential(call.module, KEY, index, credential_at));
+    return end_key_call(&call, key, w2c_hidlog_key_get_credential(call.module, KEY_ADDRESS, index, credential_at));
 }
 
 int32_t hidlog_key_add_credential(struct hidlog_key *key, uint64_t now_ms, const struct hidlog_credential *credential) {
     BEGIN_KEY_CALL
     u64 credential_at = map_buffer(&call, credential, sizeof *credential);
-    return end_key_call(&call, key, w2c_hidlog_key_add_credential(call.module, KEY, now_ms, credential_at));
+    return end_key_call(&call, key, w2c_hidlog_key_add_credential(call.module, KEY_ADDRESS, now_ms, credential_at));
 }
 
 int32_t hidlog_key_remove_credential(struct hidlog_key *key, uint64_t now_ms, const uint8_t id[32]) {
     BEGIN_KEY_CALL
     u64 id_at = map_buffer(&call, id, 32);
-    return end_key_call(&call, key, w2c_hidlog_key_remove_credential(call.module, KEY, now_ms, id_at));
+    return end_key_call(&call, key, w2c_hidlog_key_remove_credential(call.module, KEY_ADDRESS, now_ms, id_at));
 }
 
 int32_t hidlog_key_clear_credentials(struct hidlog_key *key, uint64_t now_ms) {
     BEGIN_KEY_CALL
-    return end_key_call(&call, key, w2c_hidlog_key_clear_credentials(call.module, KEY, now_ms));
+    return end_key_call(&call, key, w2c_hidlog_key_clear_credentials(call.module, KEY_ADDRESS, now_ms));
 }
 
 int32_t hidlog_key_save_snapshot(struct hidlog_key *key, uint8_t *out, size_t out_cap) {
     BEGIN_KEY_CALL
     u64 out_at = map_output(&call, out, &out_cap);
-    return end_key_call(&call, key, w2c_hidlog_key_save_snapshot(call.module, KEY, out_at, out_cap));
+    return end_key_call(&call, key, w2c_hidlog_key_save_snapshot(call.module, KEY_ADDRESS, out_at, out_cap));
 }
 
 int32_t hidlog_key_pending_assertions(struct hidlog_key *key) {
     BEGIN_KEY_CALL
-    return end_key_call(&call, key, w2c_hidlog_key_pending_assertions(call.module, KEY));
+    return end_key_call(&call, key, w2c_hidlog_key_pending_assertions(call.module, KEY_ADDRESS));
 }
 
 int32_t hidlog_key_get_stats(struct hidlog_key *key, struct hidlog_stats *stats) {
     BEGIN_KEY_CALL
     u64 stats_at = map_buffer(&call, stats, sizeof *stats);
-    return end_key_call(&call, key, w2c_hidlog_key_get_stats(call.module, KEY, stats_at));
+    return end_key_call(&call, key, w2c_hidlog_key_get_stats(call.module, KEY_ADDRESS, stats_at));
 }
 
 int32_t hidlog_key_replay_lines(struct hidlog_key *key, const uint8_t *log, size_t log_len, uint8_t *out,
@@ -405,7 +406,7 @@ int32_t hidlog_key_replay_lines(struct hidlog_key *key, const uint8_t *log, size
         set_error(result, HIDLOG_ERR_TOO_MANY_LINES);
         return end_key_call(&call, key, HIDLOG_LOG_ERROR);
     }
-    u32 status = w2c_hidlog_key_replay_lines(call.module, KEY, log_at, log_len, out_at, out_cap, result_at);
+    u32 status = w2c_hidlog_key_replay_lines(call.module, KEY_ADDRESS, log_at, log_len, out_at, out_cap, result_at);
     return end_key_call(&call, key, status);
 }
 
@@ -437,10 +438,10 @@ int64_t hidlog_client_request(uint32_t ceremony, const uint8_t *options, size_t 
     if (call.is_too_long) {
         return end_client_call(&call, (u64)HIDLOG_CLIENT_TOO_SMALL);
     }
-    return end_client_call(&call, w2c_hidlog_client_request(call.module, ceremony, at.options, options_len,
-                                                            at.mediation, mediation_len, at.origin, origin_len,
-                                                            at.suffix, suffix_len, abilities, at.report, out_at,
-                                                            out_cap));
+    return end_client_call(&call,
+                           w2c_hidlog_client_request(call.module, ceremony, at.options, options_len, at.mediation,
+                                                     mediation_len, at.origin, origin_len, at.suffix, suffix_len,
+                                                     abilities, at.report, out_at, out_cap));
 }
 
 int64_t hidlog_client_response(uint32_t ceremony, const uint8_t *options, size_t options_len, const uint8_t *mediation,

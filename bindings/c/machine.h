@@ -1,7 +1,7 @@
-// The WebAssembly memory and operations that hidlog_module.h uses. An address has 32 bits, of which the highest four
-// select one of 16 windows of 256 MiB. The first window is the module's own memory. The others are mapped to buffers of
-// the caller, which the module reads and writes in place. An access outside its window ends the process, as does a
-// division by zero; the proof excludes both.
+// The WebAssembly memory and operations that hidlog_module.h uses. The highest four of an address's 32 bits select one
+// of 16 windows of 256 MiB. The first window is the module's own memory. The others are mapped to buffers of the
+// caller, which the module reads and writes in place. An access outside its window ends the process, as does a division
+// by zero; the proof excludes both.
 #ifndef HIDLOG_MACHINE_H
 #define HIDLOG_MACHINE_H
 

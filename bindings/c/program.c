@@ -166,7 +166,7 @@ static void call_command(const struct options *options, struct bytes log, struct
 
 // Returns the length of the output that is valid after a read error: without the final line, which summarizes the whole
 // log.
-static size_t output_before_error(const char *command, struct bytes out, size_t written) {
+static size_t output_len_before_error(const char *command, struct bytes out, size_t written) {
     if (strcmp(command, "check") == 0) {
         return 0;
     }
@@ -201,7 +201,7 @@ static int run_command(const struct options *options, FILE *file, struct bytes s
         }
         result.status = HIDLOG_LOG_ERROR;
         result.error = 4; // a read error of the program
-        written = output_before_error(options->command, out, written);
+        written = output_len_before_error(options->command, out, written);
     }
     if (file_name != NULL && written > 0) {
         printf("%s: ", file_name);

@@ -9,7 +9,7 @@ import (
 	"strings"
 )
 
-// maxCalls is the number of calls that a key remembers for its report: the last ones.
+// maxCalls is the maximum number of calls in a report. Older calls are dropped.
 const maxCalls = 40
 
 // Flags of authenticator data (WebAuthn Level 2, section 6.1).
@@ -19,7 +19,8 @@ const (
 	flagBackedUp       = 0x10
 )
 
-// browserCall is a call of Create or Get, and its result. faults are the changes that faults made.
+// browserCall is a call of Create or Get, and its result. faults describes what injected faults changed in the
+// response.
 type browserCall struct {
 	kind         ceremony
 	origin       string
@@ -49,9 +50,9 @@ func (k *SecurityKey) ReportOnFailure(t TestingT) {
 	})
 }
 
-// Report describes the last calls of the key's browsers, for the output of a failed test: created credentials, signed
-// assertions, and who refused what and why, each with the options and the faults that took effect, and then the faults
-// that are enabled. It is empty if there were no calls and no fault is enabled.
+// Report describes the last calls of the key's browsers, for the output of a failed test. For each call, it has the
+// result (a created credential, a signed assertion, or who refused the call and why), the options, and the faults that
+// changed the response. The enabled faults follow. The report is empty if there were no calls and no fault is enabled.
 func (k *SecurityKey) Report() string {
 	held := map[string]Credential{}
 	for _, credential := range k.Credentials() {
@@ -95,7 +96,8 @@ func (k *SecurityKey) addCall(call browserCall) {
 	}
 }
 
-// parseOptions returns the options, or their member publicKey. Invalid options have no members.
+// parseOptions returns the decoded options, or their member publicKey if present. It returns nil if the JSON is
+// invalid.
 func (c browserCall) parseOptions() map[string]any {
 	var options map[string]any
 	_ = json.Unmarshal(c.options, &options)
@@ -166,7 +168,7 @@ func (k *SecurityKey) describeCall(index int, held map[string]Credential) string
 	return fmt.Sprintf("%s for %s at %s: %s", what, user, c.origin, strings.Join(details, ", "))
 }
 
-// describeRefusal returns who refused a call, or "failed" if the error is not that of a browser.
+// describeRefusal returns who refused a call, or "failed" if neither the key nor the browser refused it.
 func (c browserCall) describeRefusal() string {
 	_, isDOMError := c.err.(*DOMError)
 	switch {
@@ -243,7 +245,7 @@ func (c credentialJSON) describeFlags() []string {
 	return append(details, fmt.Sprintf("counter %d", binary.BigEndian.Uint32(data[33:])))
 }
 
-// reportedOptions are the options that decide the result of a call, as paths.
+// reportedOptions are the paths of the options that the report shows for a call.
 var reportedOptions = map[ceremony][]string{
 	createCeremony: {"rp.id", "user.id", "authenticatorSelection.residentKey", "authenticatorSelection.requireResidentKey",
 		"authenticatorSelection.userVerification", "authenticatorSelection.authenticatorAttachment", "attestation", "timeout",
@@ -254,7 +256,7 @@ var reportedOptions = map[ceremony][]string{
 // rareOptions are left out of the report if the page did not pass them.
 var rareOptions = map[string]bool{"requireResidentKey": true, "authenticatorAttachment": true, "attestation": true, "timeout": true}
 
-// describeOptions returns the options that decide the result of a call, as the page passed them.
+// describeOptions returns the options that the report shows for a call, as the page passed them.
 func describeOptions(kind ceremony, options map[string]any) string {
 	found := []string{}
 	for _, path := range reportedOptions[kind] {
@@ -308,7 +310,7 @@ func describeOption(path string, value any) string {
 	}
 }
 
-// shorten returns the first letters of bytes in base64url.
+// shorten returns the first eight characters of a longer text, followed by two dots.
 func shorten(text string) string {
 	if len(text) <= 8 {
 		return text

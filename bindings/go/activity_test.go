@@ -8,7 +8,7 @@ import (
 	"cogtzil.example/hidlog"
 )
 
-// failingTest is a test that failed, and collects what is logged.
+// failingTest is a TestingT that has failed. It collects what is logged.
 type failingTest struct {
 	atEnd  []func()
 	logged []string
@@ -21,7 +21,7 @@ func (f *failingTest) Logf(format string, args ...any) {
 	f.logged = append(f.logged, fmt.Sprintf(format, args...))
 }
 
-func TestReportSaysWhatBrowsersDid(t *testing.T) {
+func TestReportDescribesCalls(t *testing.T) {
 	key := newKey(t)
 	browser := key.Browser(origin)
 	registered, err := browser.Create(create)
@@ -79,7 +79,7 @@ func TestReportSaysWhatBrowsersDid(t *testing.T) {
 	}
 }
 
-func TestReportSaysWhyCredentialIsGone(t *testing.T) {
+func TestReportExplainsMissingCredential(t *testing.T) {
 	key := newKey(t)
 	browser := key.Browser(origin)
 	empty := strings.Replace(string(create), "{", `{"excludeCredentials": [], `, 1)
@@ -91,7 +91,7 @@ func TestReportSaysWhyCredentialIsGone(t *testing.T) {
 	why := ", no longer on the key (replaced by a later credential for the same user ID), credential "
 	got := strings.Split(key.Report(), "\n")
 	if !strings.Contains(got[0], why) || !strings.HasSuffix(got[1], ", excludeCredentials empty") {
-		t.Errorf("expected %q and an empty list, got %q", why, got[:2])
+		t.Errorf("expected a line with %q and a line that ends with \", excludeCredentials empty\", got %q", why, got[:2])
 	}
 	if !strings.Contains(got[2], ", discoverable, credential ") {
 		t.Errorf("expected a discoverable credential, got %q", got[2])

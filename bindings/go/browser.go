@@ -43,7 +43,7 @@ func (b *Browser) Get(optionsJSON []byte) ([]byte, error) {
 	return b.call(getCeremony, optionsJSON)
 }
 
-// call makes a call, and adds it to the key's report.
+// call runs Create or Get, and adds the call with its result to the key's report.
 func (b *Browser) call(kind ceremony, options []byte) ([]byte, error) {
 	call := browserCall{kind: kind, origin: b.origin, options: clone(options)}
 	call.credential, call.err = b.perform(&call)
@@ -51,7 +51,8 @@ func (b *Browser) call(kind ceremony, options []byte) ([]byte, error) {
 	return call.credential, call.err
 }
 
-// perform makes a call, and adds details for the report to it.
+// perform runs a call, and returns the credential as JSON. It stores in call what the report says about faults and
+// refusals.
 func (b *Browser) perform(call *browserCall) ([]byte, error) {
 	c := newClientCall(call.kind, call.options, b.origin, b.Mediation, b.key.Options)
 	request, err := c.buildRequest()

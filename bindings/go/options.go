@@ -42,7 +42,7 @@ func (o AuthenticatorOptions) abilities() C.uint32_t {
 	return abilities
 }
 
-// backupFlags returns the flags of a new credential.
+// backupFlags returns the flags BE and BS of a new credential.
 func (o AuthenticatorOptions) backupFlags() byte {
 	flags := byte(0)
 	if o.BackupEligible {

@@ -24,7 +24,7 @@ const (
 // Faults are injected into responses, to test how a service handles invalid responses. The faults are injected outside
 // the authenticator, so its recordings still pass `hidlog check`.
 type Faults struct {
-	// Status, if not 0, is the response to every request.
+	// Status, if not 0, is the status of every response.
 	Status byte
 	// BadSignature, if true, signs with a different private key.
 	BadSignature bool
@@ -36,8 +36,9 @@ type Faults struct {
 	TruncateBy int
 }
 
-// SecurityKey is an authenticator with private keys and a simulated user. Clients send messages to it. Its methods must
-// not be called concurrently.
+// SecurityKey is an authenticator with private keys and a simulated user. Clients send messages to it. Use it
+// and its browsers from one goroutine at a time: unlike those of the embedded Authenticator, its methods aren't all
+// synchronized.
 type SecurityKey struct {
 	*Authenticator
 	// Presence is the sequence of what the user does when the key asks for a touch. The last element is repeated. If the
@@ -48,7 +49,7 @@ type SecurityKey struct {
 	// Options are the properties that browsers report or depend on.
 	Options AuthenticatorOptions
 
-	mutex       sync.Mutex
+	mutex       sync.Mutex // held during Exchange, and while a call is added
 	poweredUp   time.Time
 	privateKeys map[CredentialID]*ecdsa.PrivateKey
 	channel     [4]byte
@@ -163,7 +164,7 @@ func sign(privateKey *ecdsa.PrivateKey, toSign []byte) ([]byte, error) {
 }
 
 // provideNeeds provides what the authenticator needs until it needs nothing, and returns all packets sent. The
-// parameters are the results of the input.
+// parameters are the packets and the error that the last input returned.
 func (k *SecurityKey) provideNeeds(sent []Packet, err error) ([]Packet, error) {
 	for err == nil {
 		var more []Packet

@@ -34,7 +34,7 @@ FILES = {
 }
 
 
-def check_release(processor: str, name: str) -> Path:
+def find_release_file(processor: str, name: str) -> Path:
     """Returns the path of a file of the release."""
     for path in (TOP / "prebuilt" / processor / name, TOP / FILES[processor][name]):
         if path.is_file():
@@ -42,7 +42,7 @@ def check_release(processor: str, name: str) -> Path:
     raise SystemExit(f"bindings/python: {name} not found in prebuilt/{processor} or at {FILES[processor][name]}")
 
 
-def read_build_info() -> Path:
+def find_build_info() -> Path:
     """Returns the path of the file with the version and the sources of the release."""
     found = [place for place in (TOP / "prebuilt" / "BUILD", TOP.parents[1] / "release" / "BUILD") if place.is_file()]
     if not found:
@@ -58,7 +58,7 @@ def list_corpus_files() -> list[Path]:
     raise SystemExit(f"bindings/python: {CORPUS} not found in prebuilt or ../../conformance")
 
 
-def read_page_script() -> Path:
+def find_page_script() -> Path:
     """Returns the key's script for pages, which `hidlog webdriver` uses."""
     for path in (TOP / "prebuilt" / PAGE_SCRIPT, TOP.parent / "web" / "dist" / PAGE_SCRIPT):
         if path.is_file():
@@ -76,7 +76,7 @@ def find_dissector() -> Path:
 
 def version() -> str:
     """Returns the version of the release."""
-    lines = read_build_info().read_text(encoding="utf-8").splitlines()
+    lines = find_build_info().read_text(encoding="utf-8").splitlines()
     return next(line[len("version: ") :] for line in lines if line.startswith("version: "))
 
 
@@ -154,11 +154,11 @@ def link_library(archive: Path, folder: Path) -> Path:
 def list_sdist_files(folder: Path) -> dict[Path, str]:
     """Returns the sdist's files that are not sources, with their paths in the sdist. The portable library's sources are
     generated in the folder."""
-    files = {read_build_info(): "prebuilt/BUILD", read_page_script(): f"prebuilt/{PAGE_SCRIPT}"}
+    files = {find_build_info(): "prebuilt/BUILD", find_page_script(): f"prebuilt/{PAGE_SCRIPT}"}
     files[find_dissector()] = f"prebuilt/{DISSECTOR}"
     files.update({path: f"prebuilt/{CORPUS}/{path.name}" for path in list_corpus_files()})
     for processor, names in FILES.items():
-        files.update({check_release(processor, name): f"prebuilt/{processor}/{name}" for name in names})
+        files.update({find_release_file(processor, name): f"prebuilt/{processor}/{name}" for name in names})
     try:
         portable = find_portable_sources(folder)
     except SystemExit as error:
@@ -178,15 +178,15 @@ def is_source(path: Path) -> bool:
 def list_wheel_files(processor: str, folder: Path) -> dict[Path, str]:
     """Returns the wheel's files that are not sources, with their paths in the wheel. The linked or compiled library is
     written to the folder."""
-    files = {read_build_info(): "hidlog/BUILD", read_page_script(): f"hidlog/webdriver/{PAGE_SCRIPT}"}
+    files = {find_build_info(): "hidlog/BUILD", find_page_script(): f"hidlog/webdriver/{PAGE_SCRIPT}"}
     files[find_dissector()] = f"hidlog/captures/{DISSECTOR}"
     files.update({path: f"hidlog/corpus/{CORPUS}/{path.name}" for path in list_corpus_files()})
     if processor == "aarch64":
-        files[link_library(check_release(processor, "libhidlog.a"), folder)] = f"hidlog/{LIBRARY}"
-        files[check_release(processor, "hidlog")] = "hidlog/hidlog"
+        files[link_library(find_release_file(processor, "libhidlog.a"), folder)] = f"hidlog/{LIBRARY}"
+        files[find_release_file(processor, "hidlog")] = "hidlog/hidlog"
     elif processor not in FILES:
         library = compile_library(processor, folder)
         files[library] = f"hidlog/{library.name}"
     else:
-        files.update({check_release(processor, name): f"hidlog/{name}" for name in FILES[processor]})
+        files.update({find_release_file(processor, name): f"hidlog/{name}" for name in FILES[processor]})
     return files

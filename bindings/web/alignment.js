@@ -5,7 +5,7 @@
 (() => {
     const { COMMANDS: { CBOR, ERROR, KEEPALIVE }, KIND } = globalThis.hidlogLog;
     // Maximum number of lines of each log that are aligned at once. The time grows with the product of both numbers.
-    const MAX_ALIGNED = 400;
+    const MAX_ALIGNED_LINES = 400;
     const COMMANDS_WITH_CODE = [CBOR, ERROR, KEEPALIVE];
     const TIME = /^([>pks]) \d+ /;
     const INITIALIZATION = 0x80;
@@ -17,7 +17,7 @@
      */
 
     /**
-     * The shape of a line: a packet's sender, command and code, or a reply.
+     * The shape and the group of a line. The shape of a packet has its sender, command and code.
      * @param {Viewer.Line} line
      */
     const findShape = (line) => {
@@ -52,7 +52,7 @@
      * @param {Compared} one
      * @param {Compared} other
      */
-    const comparePair = (one, other) => {
+    const describeDifference = (one, other) => {
         if (one.text === other.text) {
             return "";
         }
@@ -72,11 +72,12 @@
     };
 
     /**
-     * The best total scores for the ends of two lists, by the indexes at which the ends begin.
+     * For each pair of indexes, the best total score for pairing the lines from these indexes to the ends of both
+     * lists.
      * @param {Compared[]} ones
      * @param {Compared[]} others
      */
-    const scoreSuffixes = (ones, others) => {
+    const scoreRemainders = (ones, others) => {
         const width = others.length + 1;
         const best = new Uint32Array((ones.length + 1) * width);
         for (let at = ones.length - 1; at >= 0; at -= 1) {
@@ -96,14 +97,14 @@
      * @returns {Viewer.Pair[]}
      */
     const alignPart = (ones, others) => {
-        const best = scoreSuffixes(ones, others);
+        const best = scoreRemainders(ones, others);
         const pairs = [];
         let [at, by] = [0, 0];
         while (at < ones.length || by < others.length) {
             const [one, other] = [ones[at], others[by]];
             const rated = one && other ? scorePair(one, other) : 0;
             if (rated && best(at, by) === rated + best(at + 1, by + 1)) {
-                pairs.push({ one: one.place, other: other.place, word: comparePair(one, other) });
+                pairs.push({ one: one.place, other: other.place, word: describeDifference(one, other) });
                 [at, by] = [at + 1, by + 1];
             } else if (one && (!other || best(at, by) === best(at + 1, by))) {
                 pairs.push({ one: one.place, other: null, word: "first only" });
@@ -129,9 +130,9 @@
             pairs.push({ one: ones[same].place, other: others[same].place, word: "" });
             same += 1;
         }
-        for (let from = same; from < Math.max(ones.length, others.length); from += MAX_ALIGNED) {
+        for (let from = same; from < Math.max(ones.length, others.length); from += MAX_ALIGNED_LINES) {
             yield from;
-            const [part, otherPart] = [ones, others].map((lines) => lines.slice(from, from + MAX_ALIGNED));
+            const [part, otherPart] = [ones, others].map((lines) => lines.slice(from, from + MAX_ALIGNED_LINES));
             pairs.push(...alignPart(part, otherPart));
         }
         return pairs;

@@ -1,7 +1,7 @@
 #!/usr/bin/env bash
-# Generates the scripts of this folder: wasm.js with the WebAssembly module, since a page opened from a file cannot
-# fetch it, and the bundles of dist/: the key, the code that the key shares with the viewer, and the code of the page
-# and of its worker, with the rules of `judge`.
+# Generates the scripts of this folder: wasm.js with the example log, since a page opened from a file cannot fetch it,
+# key/version.js, and the bundles of dist/: the key with the WebAssembly module, the code that the key shares with the
+# viewer, and the code of the page and of its worker, with the rules of `judge`.
 #
 #     bindings/web/build.sh            writes them
 #     bindings/web/build.sh --check exits with 1 if one of them is out of date
@@ -55,7 +55,7 @@ rules=(quantity hid_packets ctap_cbor curve sanitize skipped certificates answer
     cat bindings/web/rules/python.js bindings/web/rules/python_calls.js bindings/web/rules/keys.js
     python3 bindings/web/rules/translate.py conformance/hidlog_conformance "${rules[@]}"
 } >"$work/dist/judge.js"
-# The code of the page, minified, which is needed to save the page and to start its worker. Names of classes are kept,
+# The minified code of the page, which the page needs to save itself and to start its worker. Class names are kept,
 # since the rules print them.
 sources=(
     index.html viewer.css dist/bytes.js captures.js file_kinds.js pasted_text.js file_input.js core.js log.js

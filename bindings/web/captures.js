@@ -13,8 +13,8 @@
     const LINK_USBPCAP = 249;
     const TRANSFER_INTERRUPT = 1;
     const PACKET_BYTES = 64;
-    // A tick is inserted before a packet of the key if the packet came at least this many milliseconds after the
-    // previous line.
+    // A tick is inserted before a packet of the key if the packet came at least this many milliseconds after the last
+    // line with a timestamp.
     const TICK_MS = 100;
     const decoder = new TextDecoder("utf-8");
 
@@ -165,7 +165,7 @@
      * The devices to which a host sends INIT. If there are none, the devices to which a host sends any report.
      * @param {Report[]} reports
      */
-    const findKeys = (reports) => {
+    const findDevices = (reports) => {
         const initialized = new Set(reports.filter(isInit).map((report) => report.where));
         const sent = new Set(reports.filter((report) => report.isSent).map((report) => report.where));
         return initialized.size ? [...initialized] : [...sent];
@@ -175,7 +175,7 @@
      * The log of the reports of a device.
      * @param {Report[]} reports
      */
-    const writeLog = (reports) => {
+    const formatLog = (reports) => {
         const start = reports[0].at;
         let now = 0;
         const lines = [
@@ -241,13 +241,13 @@
             return [{ name: "exported", bytes: readEmbeddedLog(frames) }];
         }
         const reports = /** @type {Report[]} */ (frames.map(findReport).filter((report) => report !== null));
-        const keys = findKeys(reports);
+        const keys = findDevices(reports);
         if (!keys.length) {
             throw new Error("no security key with complete packets found; try hidlog import, which reads more formats");
         }
         return keys.map((where) => ({
             name: where,
-            bytes: writeLog(reports.filter((report) => report.where === where)),
+            bytes: formatLog(reports.filter((report) => report.where === where)),
         }));
     };
 

@@ -56,7 +56,7 @@
                 playLines(key, part, add);
             }
         } catch (error) {
-            console.info(`the causes after these are unknown: ${error instanceof Error ? error.message : error}`);
+            console.info(`the causes of later rejections are unknown: ${error instanceof Error ? error.message : error}`);
         } finally {
             core.updateViews();
         }

@@ -6,9 +6,9 @@
     const { toHex } = globalThis.hidlogBytes;
     const MAX_DEPTH = 8;
     const [UNSIGNED, NEGATIVE, BYTES, TEXT, ARRAY, MAP, TAG] = Array(7).keys();
-    const FLOAT_TEXTS = new Map([[20, "false"], [21, "true"], [22, "null"], [23, "undefined"]]);
+    const SIMPLE_VALUE_TEXTS = new Map([[20, "false"], [21, "true"], [22, "null"], [23, "undefined"]]);
 
-    /** Reads CBOR items from an offset on. */
+    /** Reads CBOR items, starting at an offset. */
     class SpanReader {
         /**
          * @param {Uint8Array} bytes
@@ -68,7 +68,7 @@
     }
 
     /**
-     * An item that is not a map or array, in diagnostic notation (RFC 8949, section 8).
+     * An item in diagnostic notation (RFC 8949, section 8), or the number of entries of an array or map.
      * @param {Uint8Array} bytes
      * @param {Viewer.Span} span
      */
@@ -88,7 +88,7 @@
             case MAP:
                 return `map of ${argument}`;
             default:
-                return FLOAT_TEXTS.get(argument) ?? `simple(${argument})`;
+                return SIMPLE_VALUE_TEXTS.get(argument) ?? `simple(${argument})`;
         }
     };
 

@@ -25,7 +25,7 @@
      * Lets Ctrl+C copy what `read` returns, if it is not null and the user has selected no text.
      * @param {() => string | null} read
      */
-    const listen = (read) => document.addEventListener("copy", (event) => {
+    const copyOnShortcut = (read) => document.addEventListener("copy", (event) => {
         const isSelected = waiting === null && String(document.getSelection() ?? "") !== "";
         const text = waiting ?? (isSelected ? null : read());
         if (text !== null && event.clipboardData) {
@@ -34,5 +34,5 @@
         }
     });
 
-    globalThis.hidlogCopying = { copyText, listen };
+    globalThis.hidlogCopying = { copyText, copyOnShortcut };
 })();

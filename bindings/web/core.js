@@ -181,7 +181,7 @@
     /** @type {Promise<Viewer.Core> | null} */
     let made = null;
 
-    /** The core, of which one instance is shared, since calls keep no state. */
+    /** Loads the core. All callers share one instance, since calls keep no state. */
     const load = () => (made ??= instantiate());
 
     globalThis.hidlog = { load, formatError };

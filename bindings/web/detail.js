@@ -6,7 +6,7 @@
     const { makeAllFields } = globalThis.hidlogFields;
     const { FieldTree } = globalThis.hidlogFieldTree;
     const { HexPane, readRanges } = globalThis.hidlogHexPane;
-    const { copyText, listen } = globalThis.hidlogCopying;
+    const { copyText, copyOnShortcut } = globalThis.hidlogCopying;
     const { escapeInvisible } = globalThis.hidlogShown;
     /**
      * @param {string} id
@@ -92,7 +92,7 @@
     const KEYS = { c: "copy-text", b: "copy-bytes", l: "copy-lines" };
 
     /**
-     * Copies the text or the bytes, as selected by a button's ID, and reports how much was copied.
+     * Copies the text, the bytes or the lines, as selected by a button's ID, and reports how much was copied.
      * @param {keyof typeof READERS} id
      * @param {(text: string) => void} tell
      */
@@ -117,7 +117,7 @@
                 copy(id, tell);
             }
         });
-        listen(() => (getElement("detail").contains(document.activeElement) ? readText() : null));
+        copyOnShortcut(() => (getElement("detail").contains(document.activeElement) ? readText() : null));
         globalThis.addEventListener("resize", () => pane.fit());
     };
 

@@ -4,7 +4,7 @@
 
 (() => {
     const { COMMANDS: { CBOR } } = globalThis.hidlogLog;
-    const { describeEnd, describeKind, isDone, isUserCommand } = globalThis.hidlogStory;
+    const { describeEnd, describeKind, isSuccessful, isUserCommand } = globalThis.hidlogStory;
     const { explainFinding, findMissing } = globalThis.hidlogIncomplete;
     // Causes of enum hidlog_cause_code (release/hidlog.h).
     const CAUSE = {
@@ -18,11 +18,11 @@
         caller: [CAUSE.NO_KEY, CAUSE.KEY_ID, CAUSE.NO_SIGNATURE],
         key: [CAUSE.NO_CHANNEL_LEFT, CAUSE.FULL, CAUSE.COUNTER],
     };
-    // Statuses (standard/statuses.tsv) that are caused by the user, not by the host.
+    // Statuses (standard/statuses.tsv). Those in USER_STATUSES are caused by the user.
     const [KEEPALIVE_CANCEL, KEY_STORE_FULL] = [0x2d, 0x28];
     const USER_STATUSES = [0x27, 0x2f, 0x3a];
     /** @type {Record<Viewer.Side, string>} */
-    const WHO = {
+    const SIDE_NAMES = {
         host: "The host", key: "The key", user: "The user", caller: "The caller", capture: "The capture",
         none: "Nobody",
     };
@@ -83,7 +83,7 @@
      * @param {Viewer.Finding} finding
      */
     const formatFinding = ({ line, side, level, rule, expected, actual }) =>
-        `Line ${line}: ${WHO[side].toLowerCase()} violates ${level.toUpperCase()}: ${rule}.`
+        `Line ${line}: ${SIDE_NAMES[side].toLowerCase()} violates ${level.toUpperCase()}: ${rule}.`
             + ` Expected: ${expected}. Actual: ${actual}.`;
 
     /** @param {Viewer.Finding} finding */
@@ -210,7 +210,7 @@
     const isResolved = (session, { place, channel }) => {
         for (let at = place + 1; at < session.transactions; at += 1) {
             const later = session.transaction(at);
-            if (isUserCommand(later) && later.channel === channel && isDone(later)) {
+            if (isUserCommand(later) && later.channel === channel && isSuccessful(later)) {
                 return true;
             }
         }
@@ -239,7 +239,7 @@
      * The last rejected request that was not repeated successfully, or null.
      * @param {Viewer.Session} session
      */
-    const findRejected = (session) => {
+    const findRejectedTransaction = (session) => {
         for (let place = session.transactions - 1; place >= 0; place -= 1) {
             const transaction = session.transaction(place);
             if (isRejected(transaction) && !isResolved(session, transaction)) {
@@ -298,14 +298,14 @@
 
     // Number of transactions at the end of a log that are searched for an open one. A host waits for a response before
     // it sends the next request.
-    const MAX_OPEN = 16;
+    const MAX_SEARCHED = 16;
 
     /**
      * Describes the request that has no response yet, if any.
      * @param {Viewer.Session} session
      */
-    const describeOpen = (session) => {
-        const last = Array.from({ length: Math.min(MAX_OPEN, session.transactions) }, (_, at) =>
+    const describeOpenRequest = (session) => {
+        const last = Array.from({ length: Math.min(MAX_SEARCHED, session.transactions) }, (_, at) =>
             session.transaction(session.transactions - 1 - at));
         const open = last.find(({ end }) => end === "unanswered" || end === "not whole");
         return open ? [`The log ends before the response to the ${describeKind(open)} of line ${open.line.number}.`] : [];
@@ -320,7 +320,7 @@
         level: "none", side: "none", line: 0, title: "is at fault",
         why: session.transactions
             ? ["No rule of CTAP 2.1 is violated, and no request was rejected without a later success.",
-                ...describeOpen(session)]
+                ...describeOpenRequest(session)]
             : ["The log has no request."],
         advice: "",
     });
@@ -338,13 +338,14 @@
     };
 
     /**
-     * A sentence on the first violation by another side.
+     * A list with a sentence on the first MUST violation by a side other than the verdict's, or an empty list.
      * @param {Viewer.Checked} examined
      * @param {Viewer.Verdict} verdict
      */
     const describeOtherViolations = ({ findings }, { side }) => {
         const other = findings.find((finding) => finding.level === "must" && finding.side !== side);
-        return other && side !== "capture" ? [`${WHO[other.side]} also violates a rule, in line ${other.line}.`] : [];
+        return other && side !== "capture"
+            ? [`${SIDE_NAMES[other.side]} also violates a rule, in line ${other.line}.`] : [];
     };
 
     /**
@@ -395,11 +396,11 @@
             const verdict = judgeFinding(examined, finding, session);
             return { ...verdict, why: [...verdict.why, ...describeOtherViolations(examined, verdict)] };
         }
-        const rejected = findRejected(session);
+        const rejected = findRejectedTransaction(session);
         return rejected ? judgeRejected(examined, rejected, session, shown) : judgeFaultless(session);
     };
 
     globalThis.hidlogDiagnosis = {
-        WHO, assignFindings, decide, describeMatch, formatFinding, judgeFile, judgeUnreadable,
+        SIDE_NAMES, assignFindings, decide, describeMatch, formatFinding, judgeFile, judgeUnreadable,
     };
 })();

@@ -4,19 +4,19 @@
 
 (() => {
     const {
-        ROW_HEIGHT, afterExplaining, currentSession, formatMegabytes, getElement, prepareView, refresh, rowAt,
+        ROW_HEIGHT, runAfterExplaining, getCurrentSession, formatMegabytes, getElement, prepareView, refresh, rowAt,
         selectRow, setView, showDetail, showProgress, finishReading, state,
     } = globalThis.hidlogViewer;
     const {
-        WHO, assignFindings, decide, describeMatch, formatFinding, judgeFile, judgeUnreadable,
+        SIDE_NAMES, assignFindings, decide, describeMatch, formatFinding, judgeFile, judgeUnreadable,
     } = globalThis.hidlogDiagnosis;
     const { escapeInvisible } = globalThis.hidlogShown;
     const { isUserCommand } = globalThis.hidlogStory;
     const { runInWorker } = globalThis.hidlogBackground;
     const difference = globalThis.hidlogDifference;
-    // Logs with more bytes show progress, and the first results before the rules are checked.
+    // For logs with more bytes, the card shows progress, and the first results before the rules are checked.
     const MAX_QUICK_BYTES = 256 * 1024;
-    const MAX_LISTED = 200;
+    const MAX_LISTED_FINDINGS = 200;
     const MISMATCH = 3;
 
     /**
@@ -31,7 +31,7 @@
         return made;
     };
 
-    /** If the window is lower than the page, scrolls to the selected row, but keeps the card's title visible. */
+    /** If the window is shorter than the page, scrolls to the selected row, but keeps the card's title visible. */
     const scrollPage = () => {
         const row = getElement("space").querySelector("[aria-selected=true]");
         const below = row ? row.getBoundingClientRect().bottom + ROW_HEIGHT - globalThis.innerHeight : 0;
@@ -41,7 +41,7 @@
         }
     };
 
-    /** Selects the first request that involves the user, so that its detail is shown. */
+    /** Selects the first request that involves the user, or else the first transaction, so that its detail is shown. */
     const selectRequest = () => {
         /** @param {number} place */
         const getTransaction = (place) => rowAt(place)?.transaction;
@@ -59,7 +59,7 @@
      * @param {number} number
      */
     const goToLine = (number) => {
-        const line = currentSession().line(number - 1);
+        const line = getCurrentSession().line(number - 1);
         if (line?.transaction) {
             state.unfolded.add(line.transaction.place);
         }
@@ -106,7 +106,7 @@
     };
 
     /** @param {Viewer.Verdict} verdict */
-    const makeTitle = ({ side, title, line }) => `${WHO[side]} ${title}${line ? `, line ${line}` : ""}.`;
+    const makeTitle = ({ side, title, line }) => `${SIDE_NAMES[side]} ${title}${line ? `, line ${line}` : ""}.`;
 
     /**
      * @param {Viewer.Examined} examined
@@ -115,7 +115,7 @@
     const makeDetails = ({ findings, notes, total }, view) => {
         const details = document.createElement("details");
         const list = document.createElement("ol");
-        list.append(...findings.slice(0, MAX_LISTED).map((finding) => {
+        list.append(...findings.slice(0, MAX_LISTED_FINDINGS).map((finding) => {
             const entry = document.createElement("li");
             const text = escapeInvisible(formatFinding(finding)).replace(/^Line \d+: /, "");
             entry.append(makeLineButton(finding.line, view), ` ${text}`);
@@ -135,9 +135,10 @@
         ["side", "level", "line"].forEach((name) => delete card.dataset[name]);
     };
 
-    /** Whether the user has selected a row or scrolled while a long log was examined. */
-    const hasMoved = () =>
-        state.bytes.length > MAX_QUICK_BYTES && (state.chosen >= 0 || getElement("scroller").scrollTop > 0);
+    /** Whether the user has searched, selected a row or scrolled while a long log was examined. */
+    const hasUserActed = () => state.bytes.length > MAX_QUICK_BYTES
+        && (state.chosen >= 0 || getElement("scroller").scrollTop > 0
+            || [getElement("search"), getElement("channel")].some(({ value }) => value !== ""));
 
     /**
      * Shows a verdict, and goes to the verdict's line. `examined` is null if the log was not examined.
@@ -163,9 +164,9 @@
         if (examined) {
             card.append(makeDetails(examined, view));
         }
-        if (verdict.line && currentSession() && !hasMoved()) {
+        if (verdict.line && getCurrentSession() && !hasUserActed()) {
             goToLine(verdict.line);
-        } else if (!verdict.line && state.chosen < 0 && currentSession()?.log.bytes.length <= MAX_QUICK_BYTES) {
+        } else if (!verdict.line && state.chosen < 0 && getCurrentSession()?.log.bytes.length <= MAX_QUICK_BYTES) {
             selectRequest();
         }
     };
@@ -181,7 +182,8 @@
     };
 
     /**
-     * Whether the log also has a rejection at a difference. If so, missing credentials are not the reason.
+     * Whether the log also reports at the difference that no credential matches. If so, missing credentials are not the
+     * reason for the difference.
      * @param {Difference} found
      */
     const isRejection = ({ explained: [own] }) => own.some((text) => text.includes("CTAP2_ERR_NO_CREDENTIALS"));
@@ -194,7 +196,7 @@
     const findDifference = (outcome, done) => prepareView("replayed", () => {
         const { recorded, replayed } = state.sessions;
         const found = /** @type {Viewer.KeyDifference} */ (difference.find(recorded, replayed, outcome));
-        afterExplaining([recorded, replayed], () => {
+        runAfterExplaining([recorded, replayed], () => {
             found.explained = difference.explain(found, state.shown);
             found.sentence = difference.toSentence(found);
             found.isRejection = isRejection(found);
@@ -208,9 +210,9 @@
      * Shows the results of an examination.
      * @param {Viewer.Examined} found
      */
-    const showExamined = (found) => {
+    const showResults = (found) => {
         const examined = assignFindings(found);
-        const session = currentSession();
+        const session = getCurrentSession();
         /** @param {Viewer.KeyDifference | null} differing */
         const end = (differing) => {
             showVerdict(decide(examined, { session, shown: state.shown, difference: differing }), examined);
@@ -220,7 +222,7 @@
         if (examined.isOwn && status === 1 && errorCode === MISMATCH) {
             findDifference(examined.outcome, end);
         } else {
-            afterExplaining([session], () => end(null));
+            runAfterExplaining([session], () => end(null));
         }
     };
 
@@ -229,14 +231,15 @@
      * @param {Viewer.Compared} compared
      * @param {() => boolean} isCurrent
      */
-    const showCompared = (compared, isCurrent) => {
+    const showFirstResults = (compared, isCurrent) => {
         const { status, errorCode } = compared.outcome;
         const rest = "The rules of CTAP 2.1 are still being checked.";
         if (compared.isOwn && status === 1 && errorCode === MISMATCH) {
             const known = { ...compared, findings: [], notes: [], lostFrom: null };
             findDifference(compared.outcome, (differing) => {
                 if (isCurrent()) {
-                    showVerdict(decide(known, { session: currentSession(), shown: state.shown, difference: differing }), null);
+                    const log = { session: getCurrentSession(), shown: state.shown, difference: differing };
+                    showVerdict(decide(known, log), null);
                     getElement("diagnosis").append(makeElement("p", rest));
                 }
             });
@@ -249,7 +252,7 @@
      * Shows below the first results that the examination was cancelled.
      * @param {string} name
      */
-    const showCancelled = (name) => {
+    const showCancellation = (name) => {
         const button = makeElement("button", "Examine it", { id: "examine" });
         button.addEventListener("click", examine);
         const text = makeElement("p", `The examination of ${name} was cancelled. `);
@@ -259,7 +262,7 @@
     };
 
     /**
-     * Shows the progress of the examination, unless the log is short.
+     * Shows the stage of the examination, and the fraction of the stage that is done.
      * @param {Viewer.Progress} progress
      * @param {number} length
      */
@@ -288,7 +291,7 @@
             if (isCurrent()) {
                 isOver = true;
                 job.end();
-                showCancelled(name);
+                showCancellation(name);
             }
         };
         /** @param {Viewer.Progress} progress */
@@ -296,7 +299,7 @@
             if (isCurrent() && !isQuick) {
                 showStage(progress, log.length);
                 if (progress.compared) {
-                    showCompared(progress.compared, isCurrent);
+                    showFirstResults(progress.compared, isCurrent);
                 }
             }
         };
@@ -314,7 +317,7 @@
         state.diagnosing = job;
         /** @param {Error} error */
         const showError = (error) => showText(`${name} was not examined: ${error.message}.`);
-        job.outcome.then(finish(showExamined), finish(showError));
+        job.outcome.then(finish(showResults), finish(showError));
     };
 
     /**
@@ -329,8 +332,8 @@
             const text = globalThis.hidlog.formatError(outcome);
             showVerdict(judgeUnreadable(outcome, reason, `${text[0].toUpperCase()}${text.slice(1)}`), null);
         } else {
-            // The diagnosis starts after all rows have names, so that both do not compete for the processor and memory.
-            afterExplaining([currentSession()], examine);
+            // The diagnosis starts after all rows are explained, since both need much processor time and memory.
+            runAfterExplaining([getCurrentSession()], examine);
         }
     };
 

@@ -18,7 +18,7 @@
 
     /**
      * Whether a log was recorded with this key. Either the log matches what the key sends, or it has lines of this
-     * project's recorders, and its INIT responses, if any, are the key's.
+     * project's recorders, and one of its INIT responses, if any, is the key's.
      * @param {Viewer.Core} core
      * @param {Uint8Array} log
      * @param {Uint8Array} snapshot

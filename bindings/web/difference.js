@@ -96,7 +96,7 @@
     };
 
     /**
-     * A packet line in which the digits are marked that differ from the other packet.
+     * A packet line, with marks on the digits that differ from the other packet.
      * @param {string} text
      * @param {string} other
      */
@@ -117,7 +117,7 @@
     };
 
     /**
-     * The lines, where lines that are missing on the other side are marked.
+     * The lines, with marks on those that are missing on the other side.
      * @param {string[]} lines
      * @param {string[]} others
      */
@@ -158,7 +158,7 @@
         other.join().includes(NO_CREDENTIALS) && !own.join().includes(NO_CREDENTIALS);
 
     /**
-     * The explanations of both packets, or a text if these are not known yet.
+     * The explanations of both packets, empty for a missing packet.
      * @param {DifferingLines} found
      * @param {Viewer.LineTexts} shown
      */

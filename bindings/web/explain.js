@@ -55,7 +55,7 @@
     /** The explanations of a log's lines, as far as they are known. */
     class Explained {
         /**
-         * `isLast` tells that no further output follows.
+         * `isLast` is whether no further output follows.
          * @param {Viewer.OutputIndex} index
          * @param {boolean} isLast
          */
@@ -64,7 +64,7 @@
         }
 
         /**
-         * Whether a line's explanation is final: known, or known not to follow.
+         * Whether a line's explanation is final: it is known, or no further output follows.
          * @param {number} place
          * @this {Viewer.Explained}
          */
@@ -100,7 +100,7 @@
             const number = `${place + 1} `;
             /** @type {Viewer.Words} */
             const words = { head: "", below: [] };
-            // Without a later line, its index is undefined, for which linesAt() returns no lines.
+            // If no later line continues the explanation, the index is undefined, and linesAt() returns no lines.
             const lines = [place, /** @type {number} */ (this.later.get(place))]
                 .flatMap((index) => this.linesAt(index));
             for (const line of lines.filter((line) => line.startsWith(number))) {
@@ -141,7 +141,7 @@
     const explainFirst = (core, bytes) => /** @type {Viewer.Explained} */ (
         new Explained(indexOutput(core.run("show", bytes.subarray(0, FIRST_BYTES)), true), false));
 
-    // The constructor of Explained assigns its properties by Object.assign.
+    // The cast is needed since the constructor of Explained assigns its properties with Object.assign.
     globalThis.hidlogExplained = /** @type {typeof hidlogExplained} */ (
         { Explained, explain, explainFirst, indexOutput });
 })();

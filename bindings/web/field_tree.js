@@ -10,15 +10,15 @@
 
     let made = 0;
 
-    // Number of hexadecimal digits after which a line may break.
-    const DIGITS = /(?<=(?:[0-9a-f]{8})+)(?=[0-9a-f]{8})/g;
+    // The positions at which a long row of hexadecimal digits may break: after every eight digits.
+    const DIGIT_BREAKS = /(?<=(?:[0-9a-f]{8})+)(?=[0-9a-f]{8})/g;
 
     /**
      * A text that may break within long rows of hexadecimal digits.
      * @param {string} text
      */
     const makeBreakable = (text) => text.split(/([0-9a-f]{16,})/).flatMap((part, at) =>
-        (at % 2 ? part.split(DIGITS).flatMap((digits) => [document.createElement("wbr"), digits]) : [part]));
+        (at % 2 ? part.split(DIGIT_BREAKS).flatMap((digits) => [document.createElement("wbr"), digits]) : [part]));
 
     /** The tree, as an element of the page. */
     class FieldTree {

@@ -162,11 +162,11 @@
      * @param {number} level
      * @returns {Viewer.Field[]}
      */
-    const makeInner = (bytes, span, level) => span.inner.map((inner, at) => ({
+    const makeInnerFields = (bytes, span, level) => span.inner.map((inner, at) => ({
         text: "  ".repeat(level - 1) + escapeInvisible(`${inner.key ?? `[${at}]`}: ${formatItem(bytes.data, inner)}`),
         level,
         ranges: bytes.ranges(inner.keyFrom ?? inner.from, inner.to),
-        inner: makeInner(bytes, inner, level + 1),
+        inner: makeInnerFields(bytes, inner, level + 1),
         isOpen: false,
     }));
 
@@ -218,22 +218,22 @@
             (open.at(-1)?.field.inner ?? fields).push(field);
             open.push({ field, part: part || { from: 0, to: 0 } });
         }
-        addInner(bytes, fields, span);
+        addInnerFields(bytes, fields, span);
         return { fields, packets: bytes.packets, size: bytes.size };
     };
     /**
-     * Adds the inner fields of members that are maps or arrays without own lines.
+     * Adds inner fields, read from the CBOR, to the members whose maps or arrays the explanation shows on one line.
      * @param {MessageBytes} bytes
      * @param {Viewer.Field[]} fields
      * @param {Viewer.Span | null} span
      */
-    const addInner = (bytes, fields, span) => {
+    const addInnerFields = (bytes, fields, span) => {
         const members = fields.find(({ level, text }) => level === 1 && /^(request|answer) /.test(text))?.inner ?? [];
         for (const member of members.filter(({ inner }) => !inner.length)) {
             const name = MEMBER.exec(member.text)?.[1];
             const entry = span?.inner.find(({ key }) => key === name);
             if (entry && [ARRAY, MAP].includes(entry.major)) {
-                Object.assign(member, { inner: makeInner(bytes, entry, member.level + 1), isOpen: false });
+                Object.assign(member, { inner: makeInnerFields(bytes, entry, member.level + 1), isOpen: false });
             }
         }
     };

@@ -7,7 +7,7 @@
     const { toHex } = globalThis.hidlogBytes;
     const { isCapture, readLogs } = globalThis.hidlogCaptures;
     const { findKindError } = globalThis.hidlogFileKinds;
-    const { tidy } = globalThis.hidlogPastedText;
+    const { restoreLog } = globalThis.hidlogPastedText;
     const [LINE_FEED, CARRIAGE_RETURN] = [10, 13];
     const UTF8_MARK = "efbbbf";
     /** @type {Record<string, string>} */
@@ -90,7 +90,7 @@
         if (error) {
             throw error;
         }
-        const tidied = tidy(plain.bytes);
+        const tidied = restoreLog(plain.bytes);
         return { logs: readLogs(tidied.bytes), changes: [...packing, ...plain.changes, ...tidied.changes] };
     };
 

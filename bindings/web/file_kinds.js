@@ -8,7 +8,7 @@
     const OPEN_LOG = "Open a session log or a USB capture.";
     const OPEN_SOURCE = "Open the log from which it was made.";
     /** @type {[front: string, name: string][]} */
-    const BINARIES = [
+    const BINARY_FORMATS = [
         ["504b0304", "a ZIP archive: unpack it first"], ["89504e47", "a picture"], ["ffd8ff", "a picture"],
         ["47494638", "a picture"], ["25504446", "a PDF document"], ["7f454c46", "a program"], ["4d5a", "a program"],
         ["0061736d", "a WebAssembly module"], ["1f9d", "packed by compress: unpack it first"],
@@ -17,7 +17,7 @@
     ];
     // Texts that `hidlog import` converts (docs/use/CAPTURES.md).
     /** @type {[pattern: RegExp, name: string][]} */
-    const IMPORTABLE = [
+    const IMPORTABLE_FORMATS = [
         [/^fido_[rt]x: /m, "the output of libfido2's FIDO_DEBUG"],
         [/\bfido2\.\w+.*\b(?:SEND|RECV): [0-9a-f]/m, "python-fido2's logging"],
         [/^[0-9a-f]{4,16} \d+ [SCE] [CBIZ][io]:/m, "usbmon's text"],
@@ -25,7 +25,7 @@
         [/\bFIDO\b.*(?:<-|->) /m, "Chromium's device log"],
     ];
     /** @type {[pattern: RegExp, name: string, advice: string][]} */
-    const OTHERS = [
+    const TEXT_FORMATS = [
         [/^\s*\{"kind":"format"/, "the output of hidlog show --json", OPEN_SOURCE],
         [/^\s*[{[]\s*["{[\]}\d]/, "JSON; a page's key returns its log by key.log() and key.recordings()",
             "Save what key.log() returns as a text file."],
@@ -36,7 +36,7 @@
     ];
 
     // The comments at the start of a log, and the first other line.
-    const LOG_FRONT = /^(?:(?:#.*)?\n)*[<>tpks=] /;
+    const LOG_START = /^(?:(?:#.*)?\n)*[<>tpks=] /;
 
     /**
      * The error for a file that cannot be opened, with advice. `isImportable` is whether `hidlog import` may convert
@@ -74,19 +74,19 @@
      * @param {Uint8Array} bytes
      */
     const findKindError = (bytes) => {
-        const binary = BINARIES.find(([front]) => toHex(bytes.subarray(0, front.length / 2)) === front);
+        const binary = BINARY_FORMATS.find(([front]) => toHex(bytes.subarray(0, front.length / 2)) === front);
         if (binary) {
             return new UnreadableFileError(`the file is ${binary[1]}`);
         }
         const text = readText(bytes);
-        if (text === null || LOG_FRONT.test(text)) {
+        if (text === null || LOG_START.test(text)) {
             return null;
         }
-        const other = OTHERS.find(([pattern]) => pattern.test(text));
+        const other = TEXT_FORMATS.find(([pattern]) => pattern.test(text));
         if (other) {
             return new UnreadableFileError(`the file is ${other[1]}`, other[2]);
         }
-        const importable = IMPORTABLE.find(([pattern]) => pattern.test(text));
+        const importable = IMPORTABLE_FORMATS.find(([pattern]) => pattern.test(text));
         return importable ? new UnreadableFileError(`the file is ${importable[1]}`, "", true) : null;
     };
 
@@ -109,7 +109,7 @@
     };
 
     /**
-     * The number of empty lines and comments at the start of a file.
+     * The number of empty lines and comments before the first other line of a file, or 0 if there is no other line.
      * @param {Uint8Array} bytes
      */
     const countComments = (bytes) => {

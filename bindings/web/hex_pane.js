@@ -85,7 +85,7 @@
         }
 
         /**
-         * Shows packets in which no bytes are marked.
+         * Shows packets, without marked bytes.
          * @param {Viewer.Packet[]} packets
          */
         show(packets) {
@@ -145,7 +145,7 @@
         }
 
         /**
-         * Marks ranges, and reports their positions.
+         * Marks ranges, and scrolls to the first one if `isScrolling`.
          * @param {Viewer.ByteRange[]} ranges
          * @param {boolean} [isScrolling]
          */

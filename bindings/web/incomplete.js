@@ -6,7 +6,7 @@
     const { KIND, COMMANDS: { ERROR, INIT } } = globalThis.hidlogLog;
     // The ERROR code for an invalid channel, and the broadcast channel.
     const [ERR_INVALID_CHANNEL, BROADCAST] = [0x0b, 0xffffffff];
-    // The text of the rule on requests on a channel that was not allocated (judged_host.py).
+    // What the rule on requests on a channel that was not allocated expects (judged_host.py).
     const INVALID_CHANNEL = "error 0b";
     // Data bytes of an initialization and of a continuation packet; packets and bytes of the longest message (CTAP 2.1,
     // 11.2.4).
@@ -18,7 +18,7 @@
      * Whether the packet at a line index is an initialization packet. Here and below, `place` is the line index of a
      * packet.
      */
-    const isFirst = (/** @type {Viewer.Log} */ log, /** @type {number} */ place) => log.byte(place, 4) >= 0x80;
+    const isInitialization = (/** @type {Viewer.Log} */ log, /** @type {number} */ place) => log.byte(place, 4) >= 0x80;
 
     const isPacket = (/** @type {Viewer.Session} */ session, /** @type {number} */ place) =>
         session.kindAt(place) <= KIND.KEY && place < session.size;
@@ -34,7 +34,7 @@
         /** @param {number} at */
         const isHere = (at) => isPacket(session, at) && log.channelAt(at) === channel;
         /** @param {number} at */
-        const isBegin = (at) => isHere(at) && session.kindAt(at) === KIND.HOST && isFirst(log, at);
+        const isBegin = (at) => isHere(at) && session.kindAt(at) === KIND.HOST && isInitialization(log, at);
         let from = place;
         while (from >= Math.max(0, place - MAX_LINES) && !isBegin(from)) {
             from -= 1;
@@ -72,7 +72,7 @@
         let [received, next, hasGap] = [FIRST_BYTES, 0, isVerified];
         for (const at of others) {
             if (session.kindAt(at) === KIND.KEY) {
-                const isResponse = isFirst(log, at) && (log.byte(at, 4) & 0x7f) !== ERROR;
+                const isResponse = isInitialization(log, at) && (log.byte(at, 4) & 0x7f) !== ERROR;
                 return isResponse && hasGap && received < length && length <= MAX_LENGTH;
             }
             hasGap ||= log.byte(at, 4) > next;
@@ -106,7 +106,7 @@
         /** @param {number} place */
         const isAllocation = (place) => {
             const bytes = [15, 16, 17, 18].map((at) => log.byte(place, at));
-            return isFirst(log, place) && (log.byte(place, 4) & 0x7f) === INIT
+            return isInitialization(log, place) && (log.byte(place, 4) & 0x7f) === INIT
                 && bytes.reduce((sum, byte) => sum * 256 + byte, 0) === channel;
         };
         /** @param {number} place */

@@ -75,7 +75,7 @@
         while (from + length < log.length) {
             const part = log.subarray(from, findLineEnd(log, from + length - 1));
             const count = findLastIdleLine(findTransactions(core, part, before));
-            const quiet = globalThis.hidlogLog.firstLines(part, count);
+            const quiet = globalThis.hidlogLog.takeFirstLines(part, count);
             length = quiet.length ? PART_BYTES : 2 * length;
             if (quiet.length) {
                 report(from / log.length);

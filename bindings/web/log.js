@@ -4,10 +4,10 @@
 "use strict";
 
 (() => {
-    const FIRST_LENGTH = 1024;
+    const INITIAL_LENGTH = 1024;
     const PACKET_DIGITS = 128;
     // Numbers with more digits may not be exact.
-    const EXACT_DIGITS = 15;
+    const MAX_EXACT_DIGITS = 15;
     const MAX_MESSAGE = 7609;
     const KIND_NAMES = ["host", "key", "tick", "presence", "new key", "signature", "comment", "need", "count", "empty"];
     const [HOST, KEY, TICK, PRESENCE, NEW_KEY, SIGNATURE, COMMENT, NEED, COUNT, EMPTY] = KIND_NAMES.keys();
@@ -26,7 +26,7 @@
     class Column {
         /** @param {Viewer.NumbersConstructor} Type */
         constructor(Type) {
-            this.values = new Type(FIRST_LENGTH);
+            this.values = new Type(INITIAL_LENGTH);
             this.length = 0;
         }
 
@@ -77,7 +77,7 @@
         if (at === from) {
             return null;
         }
-        const isExact = at - from <= EXACT_DIGITS;
+        const isExact = at - from <= MAX_EXACT_DIGITS;
         return { at: isExact ? value : BigInt(decoder.decode(bytes.subarray(from, at))), next: at };
     };
 
@@ -445,7 +445,7 @@
      * @param {Uint8Array} bytes
      * @param {number} count
      */
-    const firstLines = (bytes, count) => {
+    const takeFirstLines = (bytes, count) => {
         let [end, found] = [0, 0];
         while (found < count && end < bytes.length) {
             const next = bytes.indexOf(NEWLINE, end);
@@ -489,7 +489,7 @@
     };
 
     globalThis.hidlogLog = {
-        NEWLINE, firstLines, hasMatch, iterateTexts, Log, KeyMessage, Column, Transaction, digits, readTimestamp, PACKET_DIGITS,
+        NEWLINE, takeFirstLines, hasMatch, iterateTexts, Log, KeyMessage, Column, Transaction, digits, readTimestamp, PACKET_DIGITS,
         KIND: { HOST, KEY, TICK, PRESENCE, NEW_KEY, SIGNATURE, COMMENT, NEED, COUNT, EMPTY },
         END: { ANSWERED, REFUSED, TIMED_OUT, REPLACED, DROPPED, FORGOTTEN, UNKNOWN },
         // CTAPHID commands (CTAP 2.1, section 11.2.9).

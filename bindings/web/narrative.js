@@ -18,7 +18,7 @@
         0x26: "unsupported algorithm", 0x2b: "unsupported option", 0x2c: "invalid option",
         0x14: "missing parameter", 0x11: "wrong parameter type", 0x12: "invalid CBOR", 0x36: "PIN required",
     };
-    const DENIED = 0x27;
+    const OPERATION_DENIED = 0x27;
     // The meaning of OPERATION_DENIED for each user reply, since the code is the same.
     /** @type {Record<string, string>} */
     const DENIAL_TEXTS = {
@@ -62,7 +62,7 @@
     };
 
     /**
-     * The word of the last presence reply in a transaction.
+     * The word of the last presence reply in a transaction, or "none".
      * @param {Viewer.Transaction} transaction
      */
     const findPresenceWord = ({ all }) => all.filter((line) => line.kind === "presence").at(-1)?.says ?? "none";
@@ -78,7 +78,8 @@
         }
         if (answer) {
             const status = answer.command === CBOR && answer.length ? answer.byteAt(0) : 0;
-            const ending = status === DENIED ? DENIAL_TEXTS[findPresenceWord(transaction)] : describeStatus(status);
+            const ending =
+                status === OPERATION_DENIED ? DENIAL_TEXTS[findPresenceWord(transaction)] : describeStatus(status);
             return answer.isWhole ? ending : "incomplete response";
         }
         /** @type {Record<string, string>} */
@@ -94,7 +95,7 @@
      * Whether a transaction succeeded.
      * @param {Viewer.Transaction} transaction
      */
-    const isDone = (transaction) => describeEnd(transaction) === STATUS_TEXTS[0];
+    const isSuccessful = (transaction) => describeEnd(transaction) === STATUS_TEXTS[0];
 
     /**
      * Whether a transaction is a registration, a sign-in, a reset or a selection.
@@ -107,7 +108,7 @@
      * @param {number} count
      * @param {string} word
      */
-    const plural = (count, word) => `${count.toLocaleString("en")} ${word}${count === 1 ? "" : "s"}`;
+    const formatCount = (count, word) => `${count.toLocaleString("en")} ${word}${count === 1 ? "" : "s"}`;
 
     /**
      * Counts the end of a transaction by its command, if it is a registration, sign-in or another user command.
@@ -134,10 +135,11 @@
         for (const [word, ends] of counts) {
             const all = [...ends.values()].reduce((sum, count) => sum + count, 0);
             const listed = [...ends].map(([end, many]) => (ends.size > 1 ? `${many.toLocaleString("en")} ${end}` : end));
-            sentences.push(`${plural(all, word)}: ${listed.join(", ")}.`);
+            sentences.push(`${formatCount(all, word)}: ${listed.join(", ")}.`);
         }
         const more = refused ? `, ${refused.toLocaleString("en")} rejected` : "";
-        sentences.push(`${plural(transactions, "transaction")} on ${plural(channelCount, "channel")}${more}.`);
+        const channels = formatCount(channelCount, "channel");
+        sentences.push(`${formatCount(transactions, "transaction")} on ${channels}${more}.`);
         const timeMs = size ? log.line(size - 1).timeMs : 0;
         return [...sentences, `${timeMs.toLocaleString("en")} ms.`].join(" ");
     };
@@ -163,5 +165,5 @@
         return toSentences(counts, session, refused);
     };
 
-    globalThis.hidlogStory = { describeKind, describeEnd, isDone, isUserCommand, summarize };
+    globalThis.hidlogStory = { describeKind, describeEnd, isSuccessful, isUserCommand, summarize };
 })();

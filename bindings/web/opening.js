@@ -4,7 +4,7 @@
 
 (() => {
     const {
-        MAX_BYTES_AT_ONCE, MAX_BYTES, decoder, getElement, firstLines, hasResponses, formatMegabytes, readSession,
+        MAX_BYTES_AT_ONCE, MAX_BYTES, decoder, getElement, takeFirstLines, hasResponses, formatMegabytes, readSession,
         readInSlices, refresh, finishReading, setView, state, showNotice, runWithProgressBar,
     } = globalThis.hidlogViewer;
     const { LineReader } = globalThis.hidlogSession;
@@ -48,8 +48,8 @@
     };
 
     /** @param {number} number */
-    const readLine = (number) => {
-        const from = firstLines(state.bytes, number - 1).length;
+    const findLineRange = (number) => {
+        const from = takeFirstLines(state.bytes, number - 1).length;
         const end = state.bytes.indexOf(10, from);
         return { from, to: end < 0 ? state.bytes.length : end, isCut: end < 0 };
     };
@@ -58,11 +58,11 @@
      * Throws if the first line of a file after the comments is not a log line.
      * @param {Uint8Array} bytes
      */
-    const checkFirst = (bytes) => {
+    const rejectIfNotLog = (bytes) => {
         const front = bytes.subarray(0, FRONT_BYTES);
         const number = countComments(front) + 1;
-        const before = firstLines(front, number - 1).length;
-        const outcome = state.core.run("replay", firstLines(front.subarray(before, before + FIRST_LINE_BYTES), 1));
+        const before = takeFirstLines(front, number - 1).length;
+        const outcome = state.core.run("replay", takeFirstLines(front.subarray(before, before + FIRST_LINE_BYTES), 1));
         checkFirstLine(bytes, { ...outcome, line: outcome.line ? number : 0 });
     };
 
@@ -71,7 +71,7 @@
      * @param {number} number
      */
     const findReason = (number) => {
-        const { from, to, isCut } = readLine(number);
+        const { from, to, isCut } = findLineRange(number);
         if (isCut) {
             return `The file is truncated: its last line ends after ${to - from} characters.`;
         }
@@ -83,8 +83,8 @@
      * @param {Viewer.Fault} outcome
      * @returns {Viewer.Line}
      */
-    const getInvalidLine = (outcome) => {
-        const { from, to } = readLine(outcome.line);
+    const makeInvalidLine = (outcome) => {
+        const { from, to } = findLineRange(outcome.line);
         return /** @type {Viewer.Line} */ (/** @type {unknown} */ ({
             number: outcome.line, place: outcome.line - 1,
             text: decoder.decode(state.bytes.subarray(from, Math.min(to, from + 200))),
@@ -95,7 +95,7 @@
 
     // What was converted in the file of the shown log, and the other logs in the file.
     let notes = "";
-    const tell = (/** @type {string} */ text, isFault = false) => showNotice(`${text}${notes}`, isFault);
+    const showResult = (/** @type {string} */ text, isFault = false) => showNotice(`${text}${notes}`, isFault);
 
     /**
      * Reports the result of replaying the log.
@@ -103,16 +103,16 @@
      */
     const reportOutcome = (outcome) => {
         if (outcome.status === 2) {
-            tell(`The snapshot was rejected (${outcome.errorCode}).`, true);
+            showResult(`The snapshot was rejected (${outcome.errorCode}).`, true);
         } else if (outcome.status === 1) {
             const text = globalThis.hidlog.formatError(outcome);
             const words = outcome.line
                 ? "The log is shown up to its first invalid line" : "The log cannot be played completely";
-            tell(`${words}: ${text}.`, true);
+            showResult(`${words}: ${text}.`, true);
         } else {
             const from = state.snapshotName ? `, with the credentials of ${state.snapshotName}` : "";
             const count = state.sessions.recorded.length;
-            tell(`${state.name}: ${count} line${count === 1 ? "" : "s"}${from}.`);
+            showResult(`${state.name}: ${count} line${count === 1 ? "" : "s"}${from}.`);
         }
     };
 
@@ -125,7 +125,7 @@
         state.sessions = { recorded };
         const isInvalid = outcome.line > 0 && outcome.status === 1;
         if (isInvalid) {
-            state.sessions.recorded.invalidLine = getInvalidLine(outcome);
+            state.sessions.recorded.invalidLine = makeInvalidLine(outcome);
         }
         enableTools(true);
         setView("recorded");
@@ -137,7 +137,7 @@
         const { bytes } = state;
         setView("replayed", () => {
             if (bytes === state.bytes && !Object.keys(getElement("diagnosis").dataset).length) {
-                tell(`${state.name} has only inputs. They are shown with the packets that the key sends.`);
+                showResult(`${state.name} has only inputs. They are shown with the packets that the key sends.`);
                 card.start(outcome, "");
             }
         });
@@ -152,11 +152,11 @@
         }
     };
 
-    const playAtOnce = () => {
+    const replayAtOnce = () => {
         dropOtherSnapshot();
         const outcome = state.core.run("replay", state.bytes, state.snapshot);
         const isFaulty = outcome.status === 1 && outcome.line > 0;
-        const valid = isFaulty ? firstLines(state.bytes, outcome.line - 1) : state.bytes;
+        const valid = isFaulty ? takeFirstLines(state.bytes, outcome.line - 1) : state.bytes;
         state.texts = { recorded: valid, replayed: outcome.text };
         showSession(readSession(valid, state.core), outcome);
     };
@@ -176,14 +176,14 @@
     };
 
     /** Reads a long log, and shows its first lines while reading. */
-    const playInWorker = () => {
+    const readLongLog = () => {
         const { bytes } = state;
         showNotice(`${state.name}: reading ${formatMegabytes(bytes.length)}.`);
         /** @param {Viewer.Reader} reader */
         const first = (reader) => {
             state.sessions = { recorded: reader.soFar() };
             showEmpty(false);
-            // The names of all rows are determined in the meantime.
+            // All lines are explained in the meantime.
             state.shown.ready([reader.log]);
             const { job } = state;
             state.job = { end: () => { job.end(); state.shown.endAll(); } };
@@ -191,7 +191,7 @@
         };
         runWithProgressBar(readInSlices(bytes), `Reading ${state.name} …`, (reader) => {
             const error = findError(/** @type {Viewer.Reader & { outcome: Viewer.Fault }} */ (reader));
-            state.texts = { recorded: error.line ? firstLines(bytes, error.line - 1) : bytes };
+            state.texts = { recorded: error.line ? takeFirstLines(bytes, error.line - 1) : bytes };
             showSession(reader.session(error.line ? error.line - 1 : undefined), error);
             const { error: unread } = /** @type {Viewer.FoundTransactions} */ (reader.outcome);
             if (unread) {
@@ -209,12 +209,12 @@
         Object.assign(state, { difference: null, view: "recorded", sessions: {}, texts: {} });
     };
 
-    const play = () => {
+    const replay = () => {
         forgetLog();
         if (state.bytes.length > MAX_BYTES_AT_ONCE) {
-            playInWorker();
+            readLongLog();
         } else {
-            playAtOnce();
+            replayAtOnce();
         }
     };
 
@@ -226,7 +226,7 @@
         Object.assign(state, { snapshot: bytes, snapshotName: name });
         showNotice(`Logs are now played with the credentials of ${name}.`);
         if (state.bytes) {
-            play();
+            replay();
         }
     };
 
@@ -236,14 +236,14 @@
      * @param {{ logs: Viewer.NamedLog[], changes: string[] }} file
      */
     const openLogs = (name, { logs: [log, ...others], changes }) => {
-        checkFirst(log.bytes);
+        rejectIfNotLog(log.bytes);
         Object.assign(state, { name, bytes: log.bytes });
         const also = others.map((other) => other.name).join(", ");
         notes = [
             changes.length ? ` Converted from ${changes.join(", ")}.` : "",
             also ? ` Showing ${log.name}; the capture also has ${also}.` : "",
         ].join("");
-        play();
+        replay();
     };
 
     /**
@@ -296,10 +296,10 @@
      * @param {Uint8Array} part
      */
     const showFirstLines = (name, part) => {
-        const bytes = firstLines(part, FIRST_LINES);
+        const bytes = takeFirstLines(part, FIRST_LINES);
         const reader = new LineReader(bytes);
         reader.readUntil(Infinity);
-        if (!reader.invalidLineNumber && state.core.run("replay", firstLines(bytes, 1)).status !== 1) {
+        if (!reader.invalidLineNumber && state.core.run("replay", takeFirstLines(bytes, 1)).status !== 1) {
             forgetLog();
             Object.assign(state, { name, bytes, sessions: { recorded: reader.soFar() } });
             showEmpty(false);
@@ -350,7 +350,7 @@
      * Opens a file. Returns whether that succeeded.
      * @param {File} file
      */
-    const openOne = async (file) => {
+    const openSingleFile = async (file) => {
         const name = cleanName(file.name);
         try {
             return await openBytes(name, await readBytes(file, (part) => showFirstLines(name, part)));
@@ -372,7 +372,7 @@
         }
         try {
             const { logs: [log] } = await globalThis.hidlogFileInput.readFile(await readBytes(file), MAX_BYTES);
-            checkFirst(log.bytes);
+            rejectIfNotLog(log.bytes);
             twoLogs.compare(name, log.bytes);
         } catch (error) {
             showNotice(`Cannot compare with ${name}: ${/** @type {Error} */ (error).message}.`, true);
@@ -396,12 +396,12 @@
     const openFiles = (files) => enqueue(async () => {
         const marks = files.length > 1 ? await Promise.all(files.map(isSnapshotFile)) : [false];
         for (const file of files.filter((_, at) => marks[at])) {
-            await openOne(file);
+            await openSingleFile(file);
         }
         const logs = files.filter((_, at) => !marks[at]);
         const left = [];
         let file = logs.shift();
-        while (file && !await openOne(file)) {
+        while (file && !await openSingleFile(file)) {
             left.push(file);
             file = logs.shift();
         }
@@ -420,7 +420,7 @@
     const openFile = (file) => openFiles([file]);
 
     /** @param {File} file */
-    const openOther = (file) => enqueue(() => compareWith(file));
+    const openOtherLog = (file) => enqueue(() => compareWith(file));
 
-    globalThis.hidlogOpening = { cleanName, enqueue, openBytes, openFile, openFiles, openOther, waitFor };
+    globalThis.hidlogOpening = { cleanName, enqueue, openBytes, openFile, openFiles, openOtherLog, waitFor };
 })();

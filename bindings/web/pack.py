@@ -1,7 +1,8 @@
 """Compresses bytes for scripts: DEFLATE in base64, which bindings/web/key/inflate.js unpacks.
 
-    pack.py FILE EXISTING    prints a module with the packed file as its default export. If EXISTING, a script, has the same
-                             data packed, those bytes are kept: each zlib packs otherwise
+    pack.py FILE EXISTING    prints a module with the packed file as its default export. If the script EXISTING
+                             has the same data packed, its bytes are kept, since the output of zlib differs
+                             between versions
 """
 
 from __future__ import annotations
@@ -18,7 +19,7 @@ LABEL_PATTERN = re.compile(r"(?<![A-Za-z0-9])[A-Z]+(?=[0-9]+(?![A-Za-z0-9]))")
 LINES_PATTERN = re.compile(r'\[\s*((?:"[A-Za-z0-9+/=]+",?\s*)+)\]\.join\(""\)')
 
 
-def base64_lines(data: bytes) -> str:
+def to_base64_lines(data: bytes) -> str:
     """Returns an expression of many lines for bytes in base64.
 
     Lines are split within text that looks like a label, such as `/A1/`, so that a search of the sources for labels
@@ -36,7 +37,7 @@ def base64_lines(data: bytes) -> str:
 
 
 def unpack(packed: bytes) -> bytes:
-    """Returns the bytes that pack compressed, or nothing if the bytes are not compressed data."""
+    """Returns the data that `pack` compressed, or empty bytes if the input is not compressed data."""
     try:
         return zlib.decompress(packed[4:], -zlib.MAX_WBITS)
     except zlib.error:
@@ -49,16 +50,16 @@ def pack(data: bytes) -> bytes:
     return len(data).to_bytes(4, "big") + packer.compress(data) + packer.flush()
 
 
-def packed_lines(data: bytes, existing: Path) -> str:
+def pack_to_lines(data: bytes, existing: Path) -> str:
     """Returns compressed bytes in base64. If a script already has the same data, its bytes are kept, since the output
     of zlib differs between versions."""
     text = existing.read_text(encoding="utf-8") if existing.exists() else ""
     for lines in LINES_PATTERN.findall(text):
         packed = base64.b64decode("".join(re.findall(r'"([^"]*)"', lines)))
         if unpack(packed) == data:
-            return base64_lines(packed)
-    return base64_lines(pack(data))
+            return to_base64_lines(packed)
+    return to_base64_lines(pack(data))
 
 
 if __name__ == "__main__":
-    print(f"export default {packed_lines(Path(sys.argv[1]).read_bytes(), Path(sys.argv[2]))};")
+    print(f"export default {pack_to_lines(Path(sys.argv[1]).read_bytes(), Path(sys.argv[2]))};")

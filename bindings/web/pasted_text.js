@@ -7,15 +7,15 @@
     const MAX_BYTES = 4 * 1024 * 1024;
     // A valid form of a log line: a comment, totals, an empty line, or an input or packet with single spaces between
     // words.
-    const PLAIN = /^(?:[#=].*|[<>tpks](?: [^\s\u00a0]+)+)?$/;
-    const QUOTED = /^>(?: ?$| [<>tpks#=])/;
+    const LOG_LINE = /^(?:[#=].*|[<>tpks](?: [^\s\u00a0]+)+)?$/;
+    const QUOTED_LINE = /^>(?: ?$| [<>tpks#=])/;
     const FENCE = /^\s*(?:```|~~~)/;
 
     /**
-     * The lines inside the first code fence, if there is one.
+     * The lines inside the first code fence, or all lines if there is no fence.
      * @param {string[]} lines
      */
-    const openFence = (lines) => {
+    const takeFencedLines = (lines) => {
         const from = lines.findIndex((line) => FENCE.test(line));
         if (from < 0) {
             return lines;
@@ -26,25 +26,25 @@
     };
 
     /** @param {string} line */
-    const removeBlanks = (line) => (PLAIN.test(line) ? line : line.replace(/[\s\u00a0]+/g, " ").trim());
+    const normalizeBlanks = (line) => (LOG_LINE.test(line) ? line : line.replace(/[\s\u00a0]+/g, " ").trim());
 
     /**
      * Restores the log in a text. Returns the bytes and a description of the changes. Valid log lines are not changed.
      * @param {Uint8Array} bytes
      * @returns {{ bytes: Uint8Array, changes: string[] }}
      */
-    const tidy = (bytes) => {
+    const restoreLog = (bytes) => {
         const unchanged = { bytes, changes: [] };
         const text = bytes.length > MAX_BYTES ? "" : new TextDecoder().decode(bytes);
         const lines = text.split("\n");
-        const inside = openFence(lines);
-        const hasQuotes = inside.some(Boolean) && inside.every((line) => !line.trim() || QUOTED.test(line));
-        if (!hasQuotes && lines.every((line) => PLAIN.test(line))) {
+        const inside = takeFencedLines(lines);
+        const hasQuotes = inside.some(Boolean) && inside.every((line) => !line.trim() || QUOTED_LINE.test(line));
+        if (!hasQuotes && lines.every((line) => LOG_LINE.test(line))) {
             return unchanged;
         }
         const unquoted = hasQuotes ? inside.map((line) => line.replace(/^> ?/, "")) : inside;
-        const made = unquoted.map(removeBlanks);
-        const isLog = PLAIN.test(made[0]);
+        const made = unquoted.map(normalizeBlanks);
+        const isLog = LOG_LINE.test(made[0]);
         const changes = [
             inside !== lines ? "a code fence" : "", hasQuotes ? "a quotation" : "",
             made.some((line, at) => line !== unquoted[at]) ? "other blanks" : "",
@@ -52,5 +52,5 @@
         return isLog && changes.length ? { bytes: new TextEncoder().encode(made.join("\n")), changes } : unchanged;
     };
 
-    globalThis.hidlogPastedText = { tidy };
+    globalThis.hidlogPastedText = { restoreLog };
 })();

@@ -25,7 +25,7 @@
      * @param {Viewer.Session} session
      * @param {number} place
      */
-    const isShownUnfolded = (session, place) => place >= session.size || !isQuietKind(session.kindAt(place));
+    const isShownAmongFolded = (session, place) => place >= session.size || !isQuietKind(session.kindAt(place));
 
     /**
      * Makes the rows in steps of this generator. If `ready` is a promise, the promise is awaited before rows are
@@ -43,7 +43,7 @@
             if (place % BATCH_SIZE === BATCH_SIZE - 1) {
                 yield { rows, place };
             }
-            if (!isFolded || (transaction < 0 && isShownUnfolded(session, place))) {
+            if (!isFolded || (transaction < 0 && isShownAmongFolded(session, place))) {
                 rows.push(place);
             } else if (transaction >= 0 && session.startOf(transaction) === place) {
                 rows.push(makeFoldedRow(transaction));

@@ -138,11 +138,11 @@
     }
 
     /**
-     * The colour behind a row.
+     * The name of the colour behind a row.
      * @param {Viewer.Row} row
      * @param {boolean} isChosen
      */
-    const rowColour = (row, isChosen) => {
+    const getRowColour = (row, isChosen) => {
         if (row.differs) {
             return "fault-paper";
         }
@@ -295,7 +295,7 @@
      * @param {Viewer.Lifelines} lanes
      * @param {number} scale
      */
-    const drawHeads = (pen, lanes, scale) => {
+    const drawLifelineHeads = (pen, lanes, scale) => {
         pen.to.fillStyle = pen.colour("raised");
         pen.to.fillRect(0, 0, pen.width, HEAD_HEIGHT);
         pen.line(0, HEAD_HEIGHT, pen.width, HEAD_HEIGHT, "line");
@@ -331,7 +331,7 @@
             if (pause.isCut) {
                 drawPause(pen, lanes, pause, y);
             }
-            pen.behind = rowColour(row, at === chosen);
+            pen.behind = getRowColour(row, at === chosen);
             if (pen.behind !== "paper") {
                 pen.to.fillStyle = pen.colour(pen.behind);
                 pen.to.fillRect(0, y, pen.width, rowHeight);
@@ -339,7 +339,7 @@
             (row.transaction ? drawTransaction : drawRow)(pen, lanes, row, y + rowHeight / 2);
             drawMark(pen, row.mark, y + rowHeight / 2);
         }
-        drawHeads(pen, lanes, layout.scale);
+        drawLifelineHeads(pen, lanes, layout.scale);
     };
 
     globalThis.hidlogDrawing = { draw, HEAD_HEIGHT };

@@ -9,7 +9,7 @@
     const SPACE = 32;
     const MAX_LINE = 255;
     const BROADCAST = "ffffffff";
-    // Channels to list.
+    // Maximum number of channels that are listed.
     const MAX_CHANNELS = 200;
     // Number of lines to read before the clock is checked again.
     const BATCH_SIZE = 512;

@@ -1,4 +1,4 @@
-// Formats the explanations of `hidlog show` for rows and details. Sets `globalThis.hidlogShown`.
+// Formats the explanations of `hidlog show --explain` for rows and details. Sets `globalThis.hidlogShown`.
 "use strict";
 
 (() => {
@@ -6,7 +6,7 @@
     const COMMANDS_WITH_NAMES = [0x3b, 0x3f];
     const PACKET = /^(?:> \d+|<) [0-9a-f]{8} /;
     const LAST_WORD = / {2}(\w+)$/;
-    // A string in diagnostic notation: quotes and backslashes are escaped with a backslash.
+    // The RP ID in an explained request, a string in diagnostic notation: a backslash escapes quotes and backslashes.
     const RP_ID = /^ {2}(?:1 rpId: |2 rp: \{"id": )"((?:[^"\\]|\\.)*)"/;
     const ESCAPE = /\\(["\\])/g;
     const { Explained, explain, explainFirst } = globalThis.hidlogExplained;
@@ -222,7 +222,7 @@
         }
 
         /**
-         * The lines of a message's explanation. If the members have own lines, the CBOR item is left out.
+         * The lines of a message's explanation. If the members have lines of their own, the CBOR item is left out.
          * @param {Viewer.Message} message
          * @this {Viewer.LineTexts}
          */
@@ -247,7 +247,7 @@
         }
     }
 
-    // The constructor of LineTexts assigns its properties by Object.assign.
+    // The cast is needed since the constructor of LineTexts assigns its properties with Object.assign.
     globalThis.hidlogShown = /** @type {typeof hidlogShown} */ (
         { LineTexts, escapeInvisible });
 })();

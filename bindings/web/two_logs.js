@@ -62,7 +62,7 @@
     };
 
     /** @param {number} place */
-    const makePair = (place) => {
+    const makePairRow = (place) => {
         const { word } = two.pairs[place];
         const made = document.createElement("div");
         made.className = word ? "pair differing" : "pair";
@@ -82,7 +82,7 @@
         const height = getRowHeight();
         const first = Math.max(0, Math.floor(scroller.scrollTop / height));
         const last = Math.min(two.pairs.length, first + Math.ceil(scroller.clientHeight / height) + 1);
-        const rows = Array.from({ length: Math.max(0, last - first) }, (_, at) => makePair(first + at));
+        const rows = Array.from({ length: Math.max(0, last - first) }, (_, at) => makePairRow(first + at));
         getElement("two-space").style.height = `${two.pairs.length * height}px`;
         getElement("two-space").replaceChildren(...rows);
         const isInSight = two.chosen >= first && two.chosen < last;
@@ -163,7 +163,7 @@
     };
 
     /** Describes where two logs first differ. */
-    const describeFirst = () => {
+    const describeFirstDifference = () => {
         const differing = two.pairs.filter(({ word }) => word);
         const [first] = differing;
         if (!first) {
@@ -199,7 +199,7 @@
             getElement("two-tab").hidden = false;
             const names = [state.name, "", name].map((text) => makeCell("columnheader", "", text));
             getElement("two-names").replaceChildren(...names);
-            getElement("two-summary").textContent = describeFirst();
+            getElement("two-summary").textContent = describeFirstDifference();
             getElement("two-scroller").setAttribute("aria-rowcount", String(pairs.length));
             showNotice(`${state.name} beside ${name}.`);
             setShown(true);

@@ -1,12 +1,12 @@
-// Handles user input: navigation, views, saving, and opening files (opening.js).
+// Loads the core, and handles user input: navigation, views, saving, and opening files (opening.js).
 "use strict";
 
 (() => {
     const {
-        EXPLAIN_OPTIONS, ROW_HEIGHT, getElement, selectRow, refresh, render, finishReading, rowAt, currentSession, setView,
+        EXPLAIN_OPTIONS, ROW_HEIGHT, getElement, selectRow, refresh, render, finishReading, rowAt, getCurrentSession, setView,
         scrollToRow, state, showNotice, placeRows,
     } = globalThis.hidlogViewer;
-    const { cleanName, enqueue, openBytes, openFile, openFiles, openOther, waitFor } = globalThis.hidlogOpening;
+    const { cleanName, enqueue, openBytes, openFile, openFiles, openOtherLog, waitFor } = globalThis.hidlogOpening;
     const { LineTexts } = globalThis.hidlogShown;
     const detail = globalThis.hidlogDetail;
     const twoLogs = globalThis.hidlogTwoLogs;
@@ -78,7 +78,7 @@
         }
     };
 
-    const setTheme = () => {
+    const toggleTheme = () => {
         const isDark = getComputedStyle(document.body).backgroundColor === "rgb(20, 23, 28)";
         document.documentElement.dataset.theme = isDark ? "light" : "dark";
         render();
@@ -87,12 +87,12 @@
     /** @param {string} view */
     const changeView = (view) => setView(view, () => {
         if (view === "quiet") {
-            const count = currentSession().log.sources.size;
+            const count = getCurrentSession().log.sources.size;
             showNotice(count ? `The key ignores ${count} inputs; ticks replace them.` : "The key ignores no input.");
         }
     });
 
-    const nextView = () => {
+    const showNextView = () => {
         const views = ["recorded", "replayed", "quiet"];
         changeView(views[(views.indexOf(state.view) + 1) % views.length]);
     };
@@ -110,7 +110,7 @@
         ArrowLeft: () => setFolded(true),
         "/": () => getElement("search").focus(),
         f: () => detail.shown.tree?.element.focus(),
-        v: nextView,
+        v: showNextView,
         t: () => setDiagramShown(!state.isDrawn),
         d: download,
         s: savePage,
@@ -122,7 +122,7 @@
         globalThis.hidlogCard.cancel();
         finishReading();
         const isPartly = state.bytes && !state.texts.recorded;
-        const shown = isPartly ? ` The first ${currentSession()?.length ?? 0} lines are shown; open it again to read all.` : "";
+        const shown = isPartly ? ` The first ${getCurrentSession()?.length ?? 0} lines are shown; open it again to read all.` : "";
         showNotice(`${state.name}: cancelled.${shown}`);
     };
 
@@ -211,7 +211,7 @@
      * @param {"file" | "other-file"} id
      * @param {(file: File) => unknown} open
      */
-    const openChosen = (id, open) => {
+    const openChosenFile = (id, open) => {
         const [file] = /** @type {FileList} */ (getElement(id).files);
         if (file) {
             open(file);
@@ -240,12 +240,12 @@
          * @param {(event: Viewer.On<Event>) => void} call
          */
         const on = (id, name, call) => getElement(id).addEventListener(name, /** @type {EventListener} */ (call));
-        on("file", "change", () => openChosen("file", openFile));
+        on("file", "change", () => openChosenFile("file", openFile));
         on("example", "click", openExample);
         on("view", "change", () => changeView(getElement("view").value));
         on("download", "click", download);
         on("save", "click", savePage);
-        on("theme", "click", setTheme);
+        on("theme", "click", toggleTheme);
         on("keys", "click", () => getElement("keys-dialog").showModal());
         on("keys-close", "click", () => getElement("keys-dialog").close());
         on("cancel", "click", cancel);
@@ -254,7 +254,7 @@
         on("drawing-tab", "click", () => setDiagramShown(true));
         on("two-tab", "click", () => twoLogs.setShown(true));
         on("compare", "click", () => getElement("other-file").click());
-        on("other-file", "change", () => openChosen("other-file", openOther));
+        on("other-file", "change", () => openChosenFile("other-file", openOtherLog));
         on("scroller", "scroll", () => requestAnimationFrame(render));
         on("space", "click", (event) => {
             const place = Number(/** @type {HTMLElement | null} */ (event.target.closest(".row"))?.dataset.place ?? -1);

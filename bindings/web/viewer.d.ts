@@ -160,7 +160,7 @@ declare var hidlogLog: {
     Log: new (bytes: Uint8Array) => Viewer.Log, Column: new (Type: Viewer.NumbersConstructor) => Viewer.Column,
     Transaction: new (log: Viewer.Log, place: number) => Viewer.Transaction,
     KeyMessage: new (log: Viewer.Log, place: number) => Viewer.KeyMessage, digits: Uint8Array,
-    firstLines(bytes: Uint8Array, count: number): Uint8Array, hasMatch(bytes: Uint8Array, pattern: RegExp): boolean,
+    takeFirstLines(bytes: Uint8Array, count: number): Uint8Array, hasMatch(bytes: Uint8Array, pattern: RegExp): boolean,
     iterateTexts(bytes: Uint8Array): Iterable<Viewer.TextPart>,
     readTimestamp(bytes: Uint8Array, from: number, to: number): { at: Viewer.Milliseconds, next: number } | null,
 };
@@ -188,7 +188,7 @@ declare var hidlogFileKinds: {
     countComments(bytes: Uint8Array): number,
     findKindError(bytes: Uint8Array): Error | null,
 };
-declare var hidlogPastedText: { tidy(bytes: Uint8Array): { bytes: Uint8Array, changes: string[] } };
+declare var hidlogPastedText: { restoreLog(bytes: Uint8Array): { bytes: Uint8Array, changes: string[] } };
 declare var hidlogFileInput: {
     readFile(bytes: Uint8Array, most: number): Promise<{ logs: Viewer.NamedLog[], changes: string[] }>,
 };
@@ -262,7 +262,7 @@ declare var hidlogHexPane: {
     describeRanges(ranges: Viewer.ByteRange[], packets: Viewer.Packet[]): string,
     readRanges(ranges: Viewer.ByteRange[], packets: Viewer.Packet[]): string,
 };
-declare var hidlogCopying: { copyText(text: string): boolean, listen(read: () => string | null): void };
+declare var hidlogCopying: { copyText(text: string): boolean, copyOnShortcut(read: () => string | null): void };
 declare var hidlogDetail: {
     makeTree(row: Viewer.Row, texts: Viewer.LineTexts, isMarked?: (line: string) => boolean): HTMLElement,
     show(row: Viewer.Row, texts: Viewer.LineTexts, before: string): void,
@@ -297,7 +297,7 @@ declare var hidlogDifference: {
     toSentence(found: Difference): string,
 };
 declare var hidlogDiagnosis: {
-    WHO: Record<Viewer.Side, string>, assignFindings(examined: Viewer.Examined): Viewer.Examined,
+    SIDE_NAMES: Record<Viewer.Side, string>, assignFindings(examined: Viewer.Examined): Viewer.Examined,
     decide(examined: Viewer.Checked, shown: Viewer.ShownLog): Viewer.Verdict,
     describeMatch(compared: Viewer.Compared): string, formatFinding(finding: Viewer.Finding): string,
     judgeFile(why: string, advice?: string): Viewer.Verdict,
@@ -340,23 +340,23 @@ declare namespace Viewer {
 }
 declare var hidlogStory: {
     describeKind(transaction: Viewer.Transaction): string, describeEnd(transaction: Viewer.Transaction): string,
-    isDone(transaction: Viewer.Transaction): boolean, isUserCommand(transaction: Viewer.Transaction): boolean,
+    isSuccessful(transaction: Viewer.Transaction): boolean, isUserCommand(transaction: Viewer.Transaction): boolean,
     summarize(session: Viewer.Session): Generator<Map<string, Map<string, number>>, string, any>,
 };
 declare var hidlogViewer: {
     MAX_BYTES_AT_ONCE: number, MAX_BYTES: number, ROW_HEIGHT: number, EXPLAIN_OPTIONS: Viewer.TextOptions,
     Row: new (line: Viewer.Line, transaction?: Viewer.Transaction | null) => Viewer.Row, state: Viewer.State,
     decoder: TextDecoder, getElement: Viewer.GetElement,
-    firstLines(bytes: Uint8Array, count: number): Uint8Array, hasResponses(): boolean,
+    takeFirstLines(bytes: Uint8Array, count: number): Uint8Array, hasResponses(): boolean,
     readSession(bytes: Uint8Array, core: Viewer.Core): Viewer.Session, formatMegabytes(bytes: number): string,
-    rowAt(place: number): Viewer.Row | null, currentSession(): Viewer.Session, markTab(): void, placeRows(): void,
+    rowAt(place: number): Viewer.Row | null, getCurrentSession(): Viewer.Session, markTab(): void, placeRows(): void,
     scrollToRow(isMiddle?: boolean): void,
     render(): void, showDetail(): void, selectRow(place: number, isMiddle?: boolean): void,
     refresh(after?: () => void): void,
     showNotice(text: string, isFault?: boolean): void, showProgress(text: string, job: Viewer.Job): void,
     finishReading(): void, setView(view: string, after?: () => void): void,
     prepareView(view: string, done: () => void): void,
-    afterExplaining(sessions: Viewer.Session[], done: () => void): void,
+    runAfterExplaining(sessions: Viewer.Session[], done: () => void): void,
     readInSlices: Viewer.ReadInSlices, runWithProgressBar: Viewer.RunReading,
 };
 declare var hidlogCard: {
@@ -367,7 +367,7 @@ declare var hidlogOpening: {
     cleanName(name: string): string, enqueue(open: () => unknown): Promise<unknown>,
     openBytes(name: string, bytes: Uint8Array): Promise<boolean>,
     openFile(file: File): Promise<unknown>, openFiles(files: File[]): Promise<unknown>,
-    openOther(file: File): Promise<unknown>,
+    openOtherLog(file: File): Promise<unknown>,
     waitFor(promise: Promise<unknown>): void,
 };
 declare var hidlogTwoLogs: {

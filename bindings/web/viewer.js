@@ -15,12 +15,12 @@
     const SHOWN_KINDS = ["host", "key", "comment", "need"];
     /** @type {Record<string, string>} */
     const ARROWS = { host: "→", key: "←", caller: "⇠", need: "?", time: "·", comment: "#", fault: "!" };
-    const { KIND, firstLines } = globalThis.hidlogLog;
+    const { KIND, takeFirstLines } = globalThis.hidlogLog;
     const { LineReader, readSession } = globalThis.hidlogSession;
     const { TableFiller } = globalThis.hidlogTransactions;
     const { makeRows } = globalThis.hidlogRows;
     const { runGenerator, runInWorker } = globalThis.hidlogBackground;
-    const { describeKind, describeEnd, isDone, summarize } = globalThis.hidlogStory;
+    const { describeKind, describeEnd, isSuccessful, summarize } = globalThis.hidlogStory;
     const { draw, HEAD_HEIGHT } = globalThis.hidlogDrawing;
     const difference = globalThis.hidlogDifference;
     const { EvenLayout, TimedLayout, findPauses } = globalThis.hidlogLayout;
@@ -42,7 +42,7 @@
     };
 
     const formatMegabytes = (/** @type {number} */ bytes) => `${(bytes / 1024 / 1024).toFixed(1)} MB`;
-    const currentSession = () => state.sessions[state.view];
+    const getCurrentSession = () => state.sessions[state.view];
 
     // ---- rows and details
 
@@ -63,14 +63,14 @@
             this.differs = isMarked && !transaction;
         }
 
-        /** @this {Viewer.Row} What was found in its line, or in a line of its transaction, in words; or "". */
+        /** @this {Viewer.Row} The finding in the row's line, or in a line of its transaction, in words; or "". */
         get mark() {
             const { line, transaction } = this;
             if (!transaction) {
                 return state.marks.get(line.number) ?? "";
             }
             const isOwn = (/** @type {number} */ number) =>
-                currentSession().transactionAt(number - 1) === transaction.place;
+                getCurrentSession().transactionAt(number - 1) === transaction.place;
             const [number, words] = [...state.marks].find(([marked]) => isOwn(marked)) ?? [];
             return number ? `${words}, line ${number}` : "";
         }
@@ -81,7 +81,7 @@
                 return `${this.outcome}  ·  ${state.shown.title(transaction)}  (${transaction.count} lines)`;
             }
             if (SHOWN_KINDS.includes(line.kind) && !line.isFault) {
-                const isStray = line.isPacket && currentSession().transactions > 0 && !this.line.transaction;
+                const isStray = line.isPacket && getCurrentSession().transactions > 0 && !this.line.transaction;
                 return `${state.shown.says(line).replace(/^# ?/, "")}${isStray ? "  (outside any transaction)" : ""}`;
             }
             return CALLER_KINDS.includes(line.kind) ? `${line.kind}: ${line.says}` : escapeInvisible(line.says);
@@ -95,7 +95,7 @@
 
         /** @this {Viewer.Row} Whether it is a transaction that did not succeed. */
         get isRefused() {
-            return Boolean(this.transaction) && !isDone(/** @type {Viewer.Transaction} */ (this.transaction));
+            return Boolean(this.transaction) && !isSuccessful(/** @type {Viewer.Transaction} */ (this.transaction));
         }
 
         /** @this {Viewer.Row} The messages of a transaction, or that of a packet, if any. */
@@ -128,9 +128,9 @@
 
     /** Returns the row of a line index, or of a folded transaction if the number is negative. */
     const makeRowFromNumber = (/** @type {number} */ number) => {
-        const transaction = number < 0 ? currentSession().transaction(-1 - number) : null;
+        const transaction = number < 0 ? getCurrentSession().transaction(-1 - number) : null;
         return /** @type {Viewer.Row} */ (
-            new Row(transaction ? transaction.line : currentSession().line(number), transaction));
+            new Row(transaction ? transaction.line : getCurrentSession().line(number), transaction));
     };
 
     const rowAt = (/** @type {number} */ place) =>
@@ -197,7 +197,7 @@
         if (state.isDrawn && state.bytes) {
             draw(getElement("drawing"), {
                 count: state.rows.length, rowAt, first, layout, scrollTop: scroller.scrollTop, rowHeight: ROW_HEIGHT,
-                channels: currentSession().channels, chosen: state.chosen,
+                channels: getCurrentSession().channels, chosen: state.chosen,
             });
         }
     };
@@ -284,26 +284,26 @@
         const chosen = state.rows[state.chosen];
         state.rows = rows;
         state.chosen = isPart ? -1 : rows.indexOf(chosen);
-        getElement("count").textContent = `${rows.length} of ${currentSession().length} lines`;
+        getElement("count").textContent = `${rows.length} of ${getCurrentSession().length} lines`;
         showDetail();
         placeRows();
     };
 
     /** Updates the rows, and then calls `after`. */
     const refresh = (after = () => {}) => {
-        if (!state.bytes || !currentSession()) {
+        if (!state.bytes || !getCurrentSession()) {
             return;
         }
         state.making.end();
         const words = getElement("search").value.trim().toLowerCase();
         const channel = getElement("channel").value;
-        const isFolded = getElement("fold").checked && currentSession().transactions > 0;
+        const isFolded = getElement("fold").checked && getCurrentSession().transactions > 0;
         const isFound = words || channel
             ? (/** @type {number} */ number) => makeRowFromNumber(number).has(words, channel) : null;
-        const ready = words ? state.shown.ready(listLogs(currentSession())) : null;
-        const steps = makeRows(currentSession(), { isFolded, unfolded: state.unfolded, isFound, ready });
+        const ready = words ? state.shown.ready(listLogs(getCurrentSession())) : null;
+        const steps = makeRows(getCurrentSession(), { isFolded, unfolded: state.unfolded, isFound, ready });
         const part = (/** @type {{ rows: number[], place: number }} */ { rows, place }) => {
-            getElement("count").textContent = `${rows.length} found, at line ${place} of ${currentSession().length}`;
+            getElement("count").textContent = `${rows.length} found, at line ${place} of ${getCurrentSession().length}`;
         };
         state.making = runGenerator(steps, part, (rows) => {
             setRows(rows);
@@ -420,7 +420,7 @@
         });
     };
 
-    /** Makes the session of a view, unless it exists. */
+    /** Makes the session of a view, unless it exists, and then calls `done`. */
     const prepareView = (/** @type {string} */ view, /** @type {() => void} */ done) => {
         if (state.sessions[view]) {
             done();
@@ -446,11 +446,12 @@
 
     const setView = (/** @type {string} */ view, after = () => {}) => prepareView(view, () => {
         state.view = view;
-        state.shown.keep(listLogs(currentSession()), Object.values(state.sessions).map(({ log }) => log));
+        state.shown.keep(listLogs(getCurrentSession()), Object.values(state.sessions).map(({ log }) => log));
         getElement("view").value = view;
         state.unfolded.clear();
-        const { channels, many } = /** @type {Viewer.Session & { many: number }} */ (currentSession());
-        const all = many > channels.length ? `All channels (the first ${channels.length} are listed)` : "All channels";
+        const { channels, channelCount } = getCurrentSession();
+        const all = channelCount > channels.length
+            ? `All channels (the first ${channels.length} are listed)` : "All channels";
         getElement("channel").replaceChildren(new Option(all, ""), ...channels.map((channel) => new Option(channel, channel)));
         getElement("scroller").scrollTop = 0;
         state.chosen = -1;
@@ -460,7 +461,7 @@
 
     const showSummary = () => {
         state.summing.end();
-        state.summing = runGenerator(summarize(currentSession()), () => {}, (summary) => {
+        state.summing = runGenerator(summarize(getCurrentSession()), () => {}, (summary) => {
             getElement("story").hidden = false;
             getElement("story").textContent = summary;
         }, isLong() ? undefined : Infinity);
@@ -471,8 +472,8 @@
         return recorded.find((place) => recorded.kindAt(place) === KIND.KEY) >= 0;
     };
 
-    /** Calls `done` once two sessions are explained, if the log is still the same. */
-    const afterExplaining = (/** @type {Viewer.Session[]} */ sessions, /** @type {() => void} */ done) => {
+    /** Calls `done` once all lines of sessions are explained, if the log is still the same. */
+    const runAfterExplaining = (/** @type {Viewer.Session[]} */ sessions, /** @type {() => void} */ done) => {
         const { bytes } = state;
         const ready = state.shown.ready(sessions.flatMap(listLogs));
         if (!ready) {
@@ -500,9 +501,9 @@
     };
 
     globalThis.hidlogViewer = /** @type {typeof hidlogViewer} */ ({
-        MAX_BYTES_AT_ONCE, EXPLAIN_OPTIONS, MAX_BYTES, ROW_HEIGHT, getElement, selectRow, decoder, firstLines,
-        hasResponses, formatMegabytes, readSession, readInSlices, finishReading, refresh, render, rowAt, currentSession,
-        setView, showDetail, showProgress, state, showNotice, runWithProgressBar, prepareView, afterExplaining, markTab,
+        MAX_BYTES_AT_ONCE, EXPLAIN_OPTIONS, MAX_BYTES, ROW_HEIGHT, getElement, selectRow, decoder, takeFirstLines,
+        hasResponses, formatMegabytes, readSession, readInSlices, finishReading, refresh, render, rowAt, getCurrentSession,
+        setView, showDetail, showProgress, state, showNotice, runWithProgressBar, prepareView, runAfterExplaining, markTab,
         placeRows, scrollToRow, Row,
     });
 })();

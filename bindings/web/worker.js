@@ -176,7 +176,7 @@
      * @param {Uint8Array} snapshot
      * @returns {Reply}
      */
-    const runHere = (core, command, log, snapshot) => {
+    const runInThisThread = (core, command, log, snapshot) => {
         if (EXTRA_SCRIPTS[command]) {
             throw new Error("this browser cannot start a worker");
         }
@@ -213,7 +213,7 @@
             const task = { wasm: globalThis.HIDLOG_WASM, command, length: log.length, snapshot };
             postLog(worker, log, task).catch(fail);
         });
-        const outcome = replied.catch(() => runHere(core, command, log, snapshot)).then((reply) => {
+        const outcome = replied.catch(() => runInThisThread(core, command, log, snapshot)).then((reply) => {
             if (reply.error) {
                 throw new Error(reply.error);
             }

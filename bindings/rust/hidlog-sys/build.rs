@@ -1,5 +1,6 @@
-//! Links the static library for the target; if HIDLOG_LIBRARY_FOLDER is set, from that folder. If there is no library
-//! for the target, or HIDLOG_PORTABLE is set, compiles the portable library with the C compiler $CC [default: cc].
+//! Links the static library for the target, from the folder HIDLOG_LIBRARY_FOLDER if that is set. If there is no
+//! library for the target, or HIDLOG_PORTABLE is set, compiles the portable library with the C compiler $CC [default:
+//! cc].
 
 use std::env::var;
 use std::path::{Path, PathBuf};
@@ -15,7 +16,7 @@ fn main() {
     println!("cargo:rustc-link-lib=static=hidlog");
 }
 
-/// Returns the folder of the prebuilt static library for the target, if there is one.
+/// Returns the folder of the prebuilt static library for the target, if any.
 fn find_prebuilt() -> Option<PathBuf> {
     let (system, processor) = (var("CARGO_CFG_TARGET_OS").unwrap(), var("CARGO_CFG_TARGET_ARCH").unwrap());
     if let Ok(folder) = var("HIDLOG_LIBRARY_FOLDER") {

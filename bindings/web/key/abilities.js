@@ -3,10 +3,10 @@
 // options are attestation, algorithms, extensions, and whether autofill selects an account.
 import { ALGORITHMS, ES256 } from "./algorithms.js";
 import { checkType, checkMembers, checkName } from "./argument_checks.js";
-import { makeNotAllowed } from "./errors.js";
+import { makeNotAllowedError } from "./errors.js";
 
 export const TRANSPORTS = ["usb", "nfc", "ble", "smart-card", "hybrid", "internal"];
-// The protocols that a page sees. The core always uses CTAP 2.1.
+// Values of the option `protocol`, the protocol version that a page sees. The core always uses CTAP 2.1.
 const U2F = "ctap1/u2f";
 const CTAP_2_1 = "ctap2_1";
 const PROTOCOLS = [U2F, "ctap2", CTAP_2_1];
@@ -30,18 +30,18 @@ const DEFAULTS = {
     extensions: [],
 };
 /** @type {Record<string, string[]>} */
-const WORDS = { transport: TRANSPORTS, protocol: PROTOCOLS, attestation: ATTESTATIONS, autofill: AUTOFILLS };
+const OPTION_VALUES = { transport: TRANSPORTS, protocol: PROTOCOLS, attestation: ATTESTATIONS, autofill: AUTOFILLS };
 /** @type {Record<string, readonly unknown[]>} */
-const LISTS = { algorithms: ALGORITHMS, extensions: EXTENSIONS };
+const LIST_VALUES = { algorithms: ALGORITHMS, extensions: EXTENSIONS };
 export const AUTHENTICATOR_OPTION_NAMES = Object.keys(DEFAULTS);
 
 /** @param {string} name @param {unknown} value */
 const checkOption = (name, value) => {
-    if (WORDS[name]) {
-        checkName(name, /** @type {string} */ (value), WORDS[name]);
-    } else if (LISTS[name]) {
-        const isValid = Array.isArray(value) && value.every((item) => LISTS[name].includes(item));
-        checkType(name, value, isValid, `an array of ${LISTS[name].join(", ")}`);
+    if (OPTION_VALUES[name]) {
+        checkName(name, /** @type {string} */ (value), OPTION_VALUES[name]);
+    } else if (LIST_VALUES[name]) {
+        const isValid = Array.isArray(value) && value.every((item) => LIST_VALUES[name].includes(item));
+        checkType(name, value, isValid, `an array of ${LIST_VALUES[name].join(", ")}`);
     } else if (name === "aaguid") {
         checkType(name, value, UUID.test(String(value)), "a UUID in lowercase");
     } else {
@@ -51,7 +51,7 @@ const checkOption = (name, value) => {
 
 /** @param {Record<string, any>} options */
 const checkCombination = ({ protocol, hasResidentKey, hasUserVerification, isUserVerified, algorithms }) => {
-    checkType("algorithms", algorithms, algorithms.includes(ES256), `an array with ${ES256}, which the core has`);
+    checkType("algorithms", algorithms, algorithms.includes(ES256), `an array that includes ${ES256} (ES256)`);
     checkType("isUserVerified", isUserVerified, hasUserVerification || !isUserVerified,
         "false: the key has no user verification, unless hasUserVerification is true");
     for (const [name, value] of Object.entries({ hasResidentKey, hasUserVerification })) {
@@ -108,7 +108,7 @@ export class AuthenticatorOptions {
         return this.#values.transport === "internal" ? "platform" : "cross-platform";
     }
 
-    /** Whether it is a platform authenticator with user verification. */
+    /** Whether the key is a platform authenticator with user verification. */
     get isVerifyingPlatform() {
         return this.attachment === "platform" && this.#values.hasUserVerification;
     }
@@ -175,7 +175,7 @@ export class AuthenticatorOptions {
     /** Verifies the user. Throws NotAllowedError if user verification fails. */
     verifyUser() {
         if (!this.#values.isUserVerified) {
-            throw makeNotAllowed("user verification failed (isUserVerified is false)");
+            throw makeNotAllowedError("user verification failed (isUserVerified is false)");
         }
     }
 }

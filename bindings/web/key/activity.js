@@ -4,20 +4,20 @@ import { getPageOrigin } from "./allowed_origins.js";
 import { checkType } from "./argument_checks.js";
 import { decodeBase64url, isBuffer, toBase64url, toHex } from "./bytes.js";
 import { BE, BS, UV } from "./credential_metadata.js";
-import { isOfKey, shortenMessage } from "./errors.js";
+import { isKeyError, shortenMessage } from "./errors.js";
 import { formatStatus } from "./statuses.js";
 
-// Number of calls that are kept: the last ones.
+// Maximum number of calls in a report. Older calls are dropped.
 const MAX_CALLS = 40;
 const BACKUP_FLAGS = { "backup eligible": BE, "backed up": BS };
 const RP_ID_HASH_BYTES = 32;
 const FLAGS_OFFSET = 32;
 const SIGN_COUNT_OFFSET = 33;
-// Number of characters of IDs and challenges.
+// Number of characters that are shown of IDs and challenges.
 const SHOWN_CHARACTERS = 8;
-const MADE = { create: "created a credential", get: "signed an assertion" };
-const REFUSED = { create: "create a credential", get: "sign an assertion" };
-// The options that decide the result of a call, as paths.
+const SUCCESS_TEXTS = { create: "created a credential", get: "signed an assertion" };
+const REFUSAL_TEXTS = { create: "create a credential", get: "sign an assertion" };
+// The paths of the options that the report shows for a call.
 const SELECTION = "authenticatorSelection.";
 const OPTIONS = {
     create: ["rp.id", "user.id", "authenticatorSelection.residentKey", "authenticatorSelection.requireResidentKey",
@@ -25,9 +25,9 @@ const OPTIONS = {
         "timeout", "challenge", "excludeCredentials"],
     get: ["rpId", "userVerification", "timeout", "challenge", "allowCredentials"],
 };
-const LISTS = ["excludeCredentials", "allowCredentials"];
+const LIST_OPTIONS = ["excludeCredentials", "allowCredentials"];
 // Options that are left out if the page did not pass them.
-const RARE = ["requireResidentKey", "authenticatorAttachment", "attestation", "timeout"];
+const RARE_OPTIONS = ["requireResidentKey", "authenticatorAttachment", "attestation", "timeout"];
 const FAULT_LINE = /^# fault: (.*)$/gm;
 
 /** @typedef {{ name: "create" | "get", origin: string, options: any, credential?: any, error?: any }} Call */
@@ -46,11 +46,11 @@ const encodeBuffer = (buffer) => {
 const describeValue = (value) => (isBuffer(value) ? shorten(encodeBuffer(value)) : String(value)) || "empty";
 
 /** @param {any} options @param {string} path names with dots */
-const find = (options, path) => path.split(".").reduce((value, name) => value?.[name], options);
+const getOption = (options, path) => path.split(".").reduce((value, name) => value?.[name], options);
 
 /** @param {string} path @param {any} publicKey */
 const describeOption = (path, publicKey) => {
-    const value = find(publicKey, path);
+    const value = getOption(publicKey, path);
     if (value === undefined) {
         // The defaults of WebAuthn Level 3, sections 5.4.4 and 5.5.
         if (path.endsWith("residentKey")) {
@@ -58,19 +58,19 @@ const describeOption = (path, publicKey) => {
         }
         return path.endsWith("userVerification") ? "absent (preferred)" : "absent";
     }
-    if (LISTS.includes(path) && typeof value?.[Symbol.iterator] === "function") {
+    if (LIST_OPTIONS.includes(path) && typeof value?.[Symbol.iterator] === "function") {
         return Array.from(value, (/** @type {any} */ item) => describeValue(item?.id)).join(" ") || "empty";
     }
     return describeValue(value);
 };
 
 /**
- * The options that decide the result of a call, as the page passed them.
+ * The options that the report shows for a call, as the page passed them.
  * @param {Call} call
  */
 const describeOptions = ({ name, options }) => OPTIONS[name]
     .map((path) => ({ path, label: path.replace(SELECTION, "") }))
-    .filter(({ path, label }) => find(options?.publicKey, path) !== undefined || !RARE.includes(label))
+    .filter(({ path, label }) => getOption(options?.publicKey, path) !== undefined || !RARE_OPTIONS.includes(label))
     .map(({ path, label }) => `${label} ${describeOption(path, options?.publicKey)}`).join(", ");
 
 /**
@@ -78,8 +78,8 @@ const describeOptions = ({ name, options }) => OPTIONS[name]
  * @param {Call} call
  */
 const getAccount = ({ options, credential }) => {
-    const { residentKey, requireResidentKey } = find(options, "publicKey.authenticatorSelection") ?? {};
-    const userId = find(options, "publicKey.user.id");
+    const { residentKey, requireResidentKey } = getOption(options, "publicKey.authenticatorSelection") ?? {};
+    const userId = getOption(options, "publicKey.user.id");
     const isDiscoverable = ["required", "preferred"].includes(residentKey ?? (requireResidentKey ? "required" : ""));
     if (!isDiscoverable || !isBuffer(userId)) {
         return null;
@@ -100,7 +100,7 @@ const explainMissing = (call, calls) => {
 };
 
 /**
- * What a service sees of a credential: flags, counter, user handle, and the beginning of the ID.
+ * What a service sees of a credential: flags, signature counter, user handle, and the beginning of the ID.
  * @param {Call} call @param {Call[]} calls @param {Credential | undefined} held
  */
 const describeCredential = (call, calls, held) => {
@@ -120,11 +120,11 @@ const describeCredential = (call, calls, held) => {
 };
 
 /**
- * Who refused a call, or "failed" if the error is not that of a browser.
+ * Who refused a call, or "failed" if neither the key nor the browser refused it.
  * @param {any} error
  */
 const describeRefusal = (error) => {
-    if (isOfKey(error)) {
+    if (isKeyError(error)) {
         return "the key refused";
     }
     const isOfBrowser = error instanceof DOMException || error instanceof TypeError || error instanceof RangeError;
@@ -137,20 +137,20 @@ const describeRefusal = (error) => {
  */
 const describeCall = (call, calls, credentials) => {
     const { name, origin, options, credential, error } = call;
-    const user = find(options, "publicKey.user.name");
+    const user = getOption(options, "publicKey.user.name");
     if (!credential) {
-        const what = `${describeRefusal(error)} to ${REFUSED[name]}${user ? ` for ${user}` : ""}`;
+        const what = `${describeRefusal(error)} to ${REFUSAL_TEXTS[name]}${user ? ` for ${user}` : ""}`;
         return `${what} at ${origin}: ${error?.name}: ${shortenMessage(String(error?.message))}`;
     }
     const { id } = credential;
     const held = credentials.find(({ credentialId }) => credentialId === id);
     const creation = calls.find((other) => other.name === "create" && other.credential?.id === id);
-    const who = user || held?.userName || find(creation, "options.publicKey.user.name") || "a user without a name";
-    return `${MADE[name]} for ${who} at ${origin}: ${describeCredential(call, calls, held)}`;
+    const who = user || held?.userName || getOption(creation, "options.publicKey.user.name") || "a user without a name";
+    return `${SUCCESS_TEXTS[name]} for ${who} at ${origin}: ${describeCredential(call, calls, held)}`;
 };
 
 /**
- * The faults that took effect, each once with the number of times.
+ * The faults that took effect, each with the number of times it did.
  * @param {string[]} logs
  */
 const describeEffects = (logs) => {

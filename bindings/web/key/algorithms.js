@@ -91,7 +91,7 @@ export const exportPublicKey = async (subtle, algorithm, key) => {
  * Returns authenticator data with another public key and AAGUID, which follow the flags and the signature counter.
  * @param {Uint8Array} data @param {{ aaguid: Uint8Array, cose?: Uint8Array }} parts
  */
-export const withAttestedData = (data, { aaguid, cose }) => {
+export const replaceAttestedData = (data, { aaguid, cose }) => {
     const [aaguidAt, lengthAt, idAt] = [37, 53, 55];
     const idEnd = idAt + data[lengthAt] * 256 + data[lengthAt + 1];
     return concatBytes(data.subarray(0, aaguidAt), aaguid, data.subarray(lengthAt, idEnd), cose ?? data.subarray(idEnd));

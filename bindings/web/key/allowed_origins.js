@@ -1,7 +1,7 @@
 // Restricts the pages in which a key can be installed to those of tests, so that the key never replaces a real
 // authenticator by accident.
 import { checkType } from "./argument_checks.js";
-import { makeNotAllowed } from "./errors.js";
+import { makeNotAllowedError } from "./errors.js";
 
 const TEST_HOSTS = ["localhost", "127.0.0.1"];
 const TEST_DOMAINS = [".localhost", ".test", ".example"];
@@ -25,7 +25,7 @@ export const getPageOrigin = () => {
 export const readOrigin = (option) => {
     const origin = option ?? getPageOrigin();
     if (origin === "null" && globalThis.location.protocol === "about:") {
-        throw makeNotAllowed("this frame has an opaque origin");
+        throw makeNotAllowedError("this frame has an opaque origin");
     }
     checkType("origin", origin, typeof origin === "string" && /^https?:\/\/./.test(origin),
         "an http or https origin, such as https://example.com; without a page, use the option origin of install");
@@ -89,7 +89,8 @@ export const checkPage = (allowed = [], origin = undefined) => {
     }
     const list = /** @type {string[]} */ (allowed);
     const { protocol } = globalThis.location;
-    // Browsers give no credentials to an opaque origin.
+    // Pages opened from files are allowed, and so are frames with an opaque origin, to which browsers give no
+    // credentials.
     if (protocol !== "file:" && !(protocol === "about:" && page === "null")) {
         checkOrigin(page, list);
     }

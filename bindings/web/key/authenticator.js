@@ -1,7 +1,7 @@
 // Sends CTAP2 requests over CTAPHID to the verified core, provides what the core needs, and returns the responses.
 import { concatBytes, toHex } from "./bytes.js";
 import { changeResponse } from "./ctap_response.js";
-import { Collector } from "./packets.js";
+import { MessageReassembler } from "./packets.js";
 import { throwIfAborted, clearInterval, sleepUnlessAborted, setInterval, raceWithSignal } from "./platform.js";
 import { Recordings } from "./recordings.js";
 import { BROADCAST, CANCEL, CBOR, INIT, KEEPALIVE_MS } from "./standard.js";
@@ -21,7 +21,7 @@ const NONCE = Uint8Array.of(0, 1, 2, 3, 4, 5, 6, 7);
  * @property {() => Promise<string>} ask asks the user
  * @property {(id: Uint8Array) => void} made is called with the ID of a new key pair
  * @property {boolean} isVerified whether the user is verified
- * @property {import("./departures.js").Departures} departures what it has outside the core
+ * @property {import("./core_additions.js").CoreAdditions} additions its features outside the core
  * @property {() => Promise<void>} enter is called before the credentials change, and may start another session
  */
 
@@ -36,7 +36,7 @@ export class CtapError extends Error {
 }
 
 export class Authenticator {
-    #collector = new Collector(CHANNEL);
+    #collector = new MessageReassembler(CHANNEL);
     #recordings;
     /** @type {import("./ctap_response.js").Change | null} the change to apply to the next response */
     #change = null;
@@ -71,7 +71,7 @@ export class Authenticator {
     begin(snapshot) {
         this.#cancel();
         this.#recordings.begin(snapshot);
-        this.#collector = new Collector(CHANNEL);
+        this.#collector = new MessageReassembler(CHANNEL);
     }
 
     /**
@@ -81,7 +81,7 @@ export class Authenticator {
     take(kept, snapshot) {
         this.#cancel();
         this.#recordings.take(kept, snapshot);
-        this.#collector = new Collector(CHANNEL);
+        this.#collector = new MessageReassembler(CHANNEL);
     }
 
     /**
@@ -176,10 +176,10 @@ export class Authenticator {
      * @param {PageRequest} turn
      */
     async #provide(turn) {
-        const { signal, made, departures } = turn;
+        const { signal, made, additions } = turn;
         const { need } = this.session;
         if (need.kind === "key") {
-            const pair = await raceWithSignal(this.privateKeys.make(departures.algorithm), signal);
+            const pair = await raceWithSignal(this.privateKeys.make(additions.algorithm), signal);
             throwIfAborted(signal);
             made(pair.id);
             return this.session.provideKeyPair(pair);
@@ -196,13 +196,13 @@ export class Authenticator {
      * Signs for the core, and prepares the change that the response needs.
      * @param {import("./wasm_key.js").Need} need @param {PageRequest} turn
      */
-    async #sign({ id, toSign }, { departures, isVerified }) {
+    async #sign({ id, toSign }, { additions, isVerified }) {
         const privateKey = this.privateKeys.get(id);
         if (!privateKey) {
             return null;
         }
         const original = toSign.slice(0, -HASH_BYTES);
-        const { data: changed, comments } = await departures.alter(id, original, isVerified);
+        const { data: changed, comments } = await additions.alter(id, original, isVerified);
         comments.forEach((text) => this.session.recording.addComment(`outside of the core: ${text}`));
         const { data, texts } = await this.faults.alterData(id, changed);
         const signed = concatBytes(data, toSign.subarray(-HASH_BYTES));
@@ -210,7 +210,7 @@ export class Authenticator {
         if (badSignature) {
             this.session.recording.addComment("fault: signed with a different private key");
         }
-        const own = await departures.complete(id, signed, badSignature);
+        const own = await additions.complete(id, signed, badSignature);
         this.#change = { original, data, faults: texts, ...own };
         return badSignature ? this.privateKeys.signWithNewKey(signed) : this.privateKeys.sign(privateKey, signed);
     }

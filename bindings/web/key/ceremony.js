@@ -3,9 +3,9 @@
 import { ES256 } from "./algorithms.js";
 import { equalBytes, fromHex, toBase64url } from "./bytes.js";
 import { ClientCall, MAX_BUFFER_BYTES } from "./client.js";
-import { makeNotAllowed, markAsOfKey } from "./errors.js";
+import { makeNotAllowedError, markAsKeyError } from "./errors.js";
 import { encodeClientData, makeCrossOriginMembers } from "./frames.js";
-import { renameCredentials, dropListInputs } from "./key_extensions.js";
+import { replaceCredentialIds, dropListInputs } from "./key_extensions.js";
 
 const PUBLIC_KEY = "public-key";
 const LISTS = { create: "excludeCredentials", get: "allowCredentials" };
@@ -24,7 +24,7 @@ const DISCOVERABLE_END = fromHex("07a162726bf5");
  * Returns a request with another hash of the client data.
  * @param {Uint8Array} message @param {Uint8Array} hash
  */
-const withHash = (message, hash) => {
+const replaceHash = (message, hash) => {
     // The first match is the hash, since only heads and an RP ID, which has no spaces, may precede it.
     const at = message.findIndex((byte, index) => byte === HASH_HEAD[0] && message[index + 1] === HASH_HEAD[1]);
     const changed = message.slice();
@@ -115,7 +115,8 @@ export class Ceremony {
         if (this.#isNarrowed) {
             return dropListInputs(extensions);
         }
-        return extensions.prf ? { ...extensions, prf: renameCredentials(extensions.prf, this.ids, ids) } : extensions;
+        return extensions.prf
+            ? { ...extensions, prf: replaceCredentialIds(extensions.prf, this.ids, ids) } : extensions;
     }
 
     /** Whether a registration requests a discoverable credential. */
@@ -158,7 +159,7 @@ export class Ceremony {
             this.#checked = this.#call.request();
         }
         const { message } = this.#checked;
-        return this.#ownClientData ? withHash(message, await hash(this.#ownClientData)) : message;
+        return this.#ownClientData ? replaceHash(message, await hash(this.#ownClientData)) : message;
     }
 
     /**
@@ -183,8 +184,10 @@ export class Ceremony {
             this.#call.response(Uint8Array.of(status));
         } catch (error) {
             const { name } = /** @type {Error} */ (error);
-            return markAsOfKey(name === "NotAllowedError" ? makeNotAllowed(message) : /** @type {Error} */ (error));
+            return markAsKeyError(
+                name === "NotAllowedError" ? makeNotAllowedError(message) : /** @type {Error} */ (error),
+            );
         }
-        return markAsOfKey(new Error(message));
+        return markAsKeyError(new Error(message));
     }
 }

@@ -4,8 +4,9 @@ import { decodeBase64url, toBase64url } from "./bytes.js";
 
 export const CORE_ID_BYTES = 32;
 export const MAX_ID_BYTES = 1023;
-// Maximum length of an unknown ID in a request. A longer ID is replaced by its hash, so that 64 IDs fit into a message.
-const MAX_SENT_IDS = 64;
+// Maximum length in bytes of an ID that the key does not know. In requests, a longer ID is replaced by its hash, so
+// that 64 IDs fit into a message.
+const MAX_SENT_ID_BYTES = 64;
 // Flags of the authenticator data (WebAuthn Level 3, section 6.1).
 const FLAGS = { UV: 0x04, BE: 0x08, BS: 0x10 };
 export const { UV, BE, BS } = FLAGS;
@@ -22,7 +23,7 @@ const NO_BACKUP = { eligibility: false, state: false };
 export const formatFlags = (flags) =>
     Object.entries(FLAGS).filter(([, bit]) => flags & bit).map(([name]) => name).join(", ");
 
-/** IDs and backup flags, by the core's IDs in base64url. */
+/** IDs, backup flags and extension data, by the core's IDs in base64url. */
 export class CredentialMetadata {
     /** @type {Map<string, string>} */
     #pages = new Map();
@@ -81,7 +82,7 @@ export class CredentialMetadata {
      * @param {Uint8Array[]} pageIds @param {(bytes: Uint8Array) => Promise<Uint8Array>} hash SHA-256
      */
     sentIds(pageIds, hash) {
-        return Promise.all(pageIds.map(this.coreId, this).map((id) => (id.length > MAX_SENT_IDS ? hash(id) : id)));
+        return Promise.all(pageIds.map(this.coreId, this).map((id) => (id.length > MAX_SENT_ID_BYTES ? hash(id) : id)));
     }
 
     /**

@@ -7,21 +7,21 @@ export const makeDomError = (name, text) => new DOMException(text, name);
  * Returns a NotAllowedError, whose message does not disclose the reason to pages.
  * @param {string} why the reason, for readers of a test
  */
-export const makeNotAllowed = (why) => makeDomError(
+export const makeNotAllowedError = (why) => makeDomError(
     "NotAllowedError",
     `The operation either timed out or was not allowed (${why}). `
         + "See: https://www.w3.org/TR/webauthn-2/#sctn-privacy-considerations-client.",
 );
 
-/** @type {WeakSet<object>} errors for a status of the key */
-const errorsOfKey = new WeakSet();
+/** @type {WeakSet<object>} errors that a status of the key caused */
+const keyErrors = new WeakSet();
 
 /**
- * Marks an error as that for a status of the key, and returns it.
+ * Marks an error as caused by a status of the key, and returns the error.
  * @template {object} T @param {T} error
  */
-export const markAsOfKey = (error) => {
-    errorsOfKey.add(error);
+export const markAsKeyError = (error) => {
+    keyErrors.add(error);
     return error;
 };
 
@@ -29,7 +29,7 @@ export const markAsOfKey = (error) => {
  * Returns whether the key, and not the browser, refused the request.
  * @param {any} error
  */
-export const isOfKey = (error) => errorsOfKey.has(error);
+export const isKeyError = (error) => keyErrors.has(error);
 
 /**
  * Returns the reason in the message of a NotAllowedError, or another message unchanged.
@@ -38,9 +38,9 @@ export const isOfKey = (error) => errorsOfKey.has(error);
 export const shortenMessage = (message) => /^The operation either .*? \((.*)\)\. See: [^ ]*$/s.exec(message)?.[1] ?? message;
 
 /** @param {string} text */
-export const makeNotSupported = (text) => makeDomError("NotSupportedError", text);
+export const makeNotSupportedError = (text) => makeDomError("NotSupportedError", text);
 
-export const makeBusy = () => makeDomError("OperationError", "A request is already pending.");
+export const makeBusyError = () => makeDomError("OperationError", "A request is already pending.");
 
 const INVALID_DOMAIN = "This is an invalid domain.";
 const MISSING_PARAMETERS = "Required parameters missing in `options.publicKey`.";
@@ -59,7 +59,6 @@ const MESSAGES = {
         "a resident key is required, but hasResidentKey is false",
     "userVerification is required, and the key has no user verification":
         "userVerification is required, but the key has none: set hasUserVerification and isUserVerified",
-    "the key's answer can't be read": "the authenticator's response is not CBOR in canonical form, or lacks members",
     "User handle exceeds 64 bytes": "User handle exceeds 64 bytes.",
     "there are no parameters of the type public-key": MISSING_PARAMETERS,
     "must be one of the three credential protection policies": MISSING_PARAMETERS,
@@ -92,6 +91,7 @@ const MESSAGES = {
         "The relying party ID is not a registrable domain suffix of, nor equal to the current domain.",
     "This is an invalid domain: the host is an IP address; serve the page at http://localhost": INVALID_DOMAIN,
     "the extension's URL isn't over https": INVALID_DOMAIN,
+    "the page isn't served over https": INVALID_DOMAIN,
     "the extension's URL belongs to another site": INVALID_DOMAIN,
     "the key holds a credential of excludeCredentials": "The user attempted to register an authenticator that contains"
         + " one of the credentials already registered with the relying party.",
@@ -106,9 +106,9 @@ const CLIENT_ERRORS = {
     "-1": (text) => new TypeError(text),
     "-2": (text) => makeDomError("EncodingError", text),
     "-3": (text) => new RangeError(text),
-    "-4": makeNotSupported,
+    "-4": makeNotSupportedError,
     "-5": (text) => makeDomError("SecurityError", text),
-    "-6": makeNotAllowed,
+    "-6": makeNotAllowedError,
     "-7": (text) => makeDomError("InvalidStateError", text),
     "-8": (text) => makeDomError("SyntaxError", text),
 };

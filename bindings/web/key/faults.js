@@ -52,10 +52,10 @@ const parseStatus = (value) => {
 };
 
 /**
- * Checks the value of a fault, and returns it.
+ * Checks the value of a fault, and returns it. The name of a status is returned as its number.
  * @param {string} name @param {any} value
  */
-const checkFault = (name, value) => {
+const parseFault = (name, value) => {
     checkName("fault", name, Object.keys(FAULTS_OFF));
     if (name === "status") {
         return parseStatus(value);
@@ -91,7 +91,7 @@ export class Faults {
         const clear = () => Object.assign(this.values, FAULTS_OFF);
         return new Proxy(this.values, {
             get: (values, name) => (name === "clear" ? clear : Reflect.get(values, toCurrentName(name))),
-            set: (values, name, value) => Reflect.set(values, toCurrentName(name), checkFault(String(toCurrentName(name)), value)),
+            set: (values, name, value) => Reflect.set(values, toCurrentName(name), parseFault(String(toCurrentName(name)), value)),
         });
     }
 

@@ -140,7 +140,7 @@ export const getType = (name) => {
  * Defines the members of an interface and its parents, once.
  * @param {string} name
  */
-const complete = (name) => {
+const defineMembers = (name) => {
     for (const type of listTypes(name)) {
         const { prototype } = getType(type);
         if (!completed.has(prototype)) {
@@ -152,14 +152,14 @@ const complete = (name) => {
 };
 
 /** Defines the members of all interfaces. */
-export const completeAll = () => INTERFACE_NAMES.forEach(complete);
+export const defineAllMembers = () => INTERFACE_NAMES.forEach(defineMembers);
 
 /**
  * Makes an object of an interface.
  * @param {string} type @param {Record<string, any>} members the values of its attributes, and its operations
  */
 export const makeObject = (type, members) => {
-    complete(type);
+    defineMembers(type);
     const object = Object.create(getType(type).prototype);
     made.set(object, { types: listTypes(type), members });
     return object;

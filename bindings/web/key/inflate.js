@@ -11,7 +11,7 @@ const DISTANCE_BASES = [1, 2, 3, 4, 5, 7, 9, 13, 17, 25, 33, 49, 65, 97, 129, 19
     3073, 4097, 6145, 8193, 12289, 16385, 24577];
 const DISTANCE_BITS = [0, 0, 0, 0, 1, 1, 2, 2, 3, 3, 4, 4, 5, 5, 6, 6, 7, 7, 8, 8, 9, 9, 10, 10, 11, 11, 12, 12, 13, 13];
 // The order of the lengths of the code length codes in a dynamic block (RFC 1951, section 3.2.7).
-const ORDER = [16, 17, 18, 0, 8, 7, 9, 6, 10, 5, 11, 4, 12, 3, 13, 2, 14, 1, 15];
+const CODE_LENGTH_ORDER = [16, 17, 18, 0, 8, 7, 9, 6, 10, 5, 11, 4, 12, 3, 13, 2, 14, 1, 15];
 
 /** @typedef {{ counts: Uint16Array, symbols: Uint16Array }} Code the number of codes of each length, and their symbols */
 
@@ -105,10 +105,10 @@ const FIXED_CODES = [
  * Reads the codes of a dynamic block.
  * @param {BitReader} reader
  */
-const readCodes = (reader) => {
+const readDynamicCodes = (reader) => {
     const [literals, distances, own] = [reader.bits(5) + 257, reader.bits(5) + 1, reader.bits(4) + 4];
-    const ownLengths = new Uint8Array(ORDER.length);
-    ORDER.slice(0, own).forEach((symbol) => {
+    const ownLengths = new Uint8Array(CODE_LENGTH_ORDER.length);
+    CODE_LENGTH_ORDER.slice(0, own).forEach((symbol) => {
         ownLengths[symbol] = reader.bits(3);
     });
     const ownCode = makeCode(ownLengths);
@@ -159,7 +159,7 @@ class Output {
 }
 
 /** @param {BitReader} reader @param {Output} output */
-const readStored = (reader, output) => {
+const readStoredBlock = (reader, output) => {
     reader.align();
     const count = reader.bits(16);
     if (reader.bits(16) !== (count ^ 0xffff)) {
@@ -171,7 +171,7 @@ const readStored = (reader, output) => {
 };
 
 /** @param {BitReader} reader @param {Output} output @param {Code[]} codes */
-const readCompressed = (reader, output, [literals, distances]) => {
+const readCompressedBlock = (reader, output, [literals, distances]) => {
     for (let symbol = reader.symbol(literals); symbol !== END_OF_BLOCK; symbol = reader.symbol(literals)) {
         if (symbol < END_OF_BLOCK) {
             output.push(symbol);
@@ -196,9 +196,9 @@ export const unpack = (packed) => {
         isLast = reader.bits(1) === 1;
         const kind = reader.bits(2);
         if (kind === STORED) {
-            readStored(reader, output);
+            readStoredBlock(reader, output);
         } else if (kind === FIXED || kind === DYNAMIC) {
-            readCompressed(reader, output, kind === FIXED ? FIXED_CODES : readCodes(reader));
+            readCompressedBlock(reader, output, kind === FIXED ? FIXED_CODES : readDynamicCodes(reader));
         } else {
             fail();
         }

@@ -1,9 +1,9 @@
 // Installs and uninstalls a key: replaces functions of navigator.credentials and PublicKeyCredential, and restores
 // them.
 import { warnRenamed } from "./argument_checks.js";
-import { makeNotSupported } from "./errors.js";
+import { makeNotSupportedError } from "./errors.js";
 import { checkPage, warnOfTestKey } from "./allowed_origins.js";
-import { completeAll, getType, isOwnObject } from "./idl_objects.js";
+import { defineAllMembers, getType, isOwnObject } from "./idl_objects.js";
 import { SecurityKey } from "./security_key.js";
 import { makeStaticMethods } from "./static_methods.js";
 
@@ -30,7 +30,7 @@ const replaceProperty = (object, name, value) => {
 };
 
 /** Defines the WebAuthn types that a platform such as node lacks. Returns functions that remove them. */
-const defineMissing = () => {
+const defineMissingTypes = () => {
     const missing = WEBAUTHN_TYPES.filter((name) => !(/** @type {any} */ (globalThis)[name]));
     const parts = missing.map((name) => replaceProperty(globalThis, name, getType(name)));
     if (!globalThis.navigator) {
@@ -60,15 +60,15 @@ const wrapMethod = (name, key, native, checkOthers) => ({
             return key[name](options);
         }
         if (!native) {
-            throw makeNotSupported(ONE_TYPE_ERROR);
+            throw makeNotSupportedError(ONE_TYPE_ERROR);
         }
         return native.apply(this, args);
     },
 }[name]);
 
-const rejectOthers = (/** @type {any} */ options) => {
+const rejectOtherTypes = (/** @type {any} */ options) => {
     if (options.password !== undefined || options.federated !== undefined) {
-        throw makeNotSupported(ONE_TYPE_ERROR);
+        throw makeNotSupportedError(ONE_TYPE_ERROR);
     }
 };
 
@@ -81,7 +81,7 @@ const wrapStore = (native) => ({
     /** @this {unknown} @param {any[]} args */
     async store(...args) {
         if (isOwnObject(args[0])) {
-            throw makeNotSupported("Store operation not permitted for PublicKey credentials.");
+            throw makeNotSupportedError("Store operation not permitted for PublicKey credentials.");
         }
         return native.apply(this, args);
     },
@@ -92,10 +92,10 @@ const wrapStore = (native) => ({
  * @param {InstalledKey} key
  */
 const replaceFunctions = (key) => {
-    const undo = defineMissing();
-    completeAll();
+    const undo = defineMissingTypes();
+    defineAllMembers();
     const { prototype } = globalThis.CredentialsContainer;
-    undo.push(replaceProperty(prototype, "create", wrapMethod("create", key, prototype.create, rejectOthers)));
+    undo.push(replaceProperty(prototype, "create", wrapMethod("create", key, prototype.create, rejectOtherTypes)));
     undo.push(replaceProperty(prototype, "get", wrapMethod("get", key, prototype.get, () => {})));
     if (prototype.store) {
         undo.push(replaceProperty(prototype, "store", wrapStore(prototype.store)));

@@ -32,7 +32,7 @@ export const dropListInputs = ({ prf, largeBlob, ...inputs }) => ({
  * Returns the inputs of the extension prf with other IDs of the same credentials.
  * @param {any} prf @param {Uint8Array[]} ids @param {Uint8Array[]} others
  */
-export const renameCredentials = ({ evalByCredential, ...prf }, ids, others) => {
+export const replaceCredentialIds = ({ evalByCredential, ...prf }, ids, others) => {
     const rename = (/** @type {string} */ name) => {
         const id = fromBase64url(name);
         const place = id ? ids.findIndex((other) => equalBytes(id, other)) : -1;
@@ -58,7 +58,7 @@ const selectProtection = ({ residentKey, requireResidentKey, userVerification } 
  * @param {any} options @param {AuthenticatorOptions} abilities @param {boolean} isDiscoverable
  * @returns {KeptExtensions}
  */
-export const keepExtensions = ({ extensions = {}, authenticatorSelection }, abilities, isDiscoverable) => {
+export const makeExtensionData = ({ extensions = {}, authenticatorSelection }, abilities, isDiscoverable) => {
     const { prf, hmacCreateSecret, largeBlob, credBlob, credentialProtectionPolicy: policy } = extensions;
     const byDefault = isDiscoverable ? selectProtection(authenticatorSelection ?? {}) : 0;
     const level = policy === undefined ? byDefault : POLICIES.indexOf(policy) + 1;
@@ -103,7 +103,7 @@ export const encodeSignInOutputs = ({ credBlob = "" }, { getCredBlob }, abilitie
 
 /**
  * Evaluates the PRF of a credential. The secret is derived from the core's public key, so the results stay the same if
- * the credential is added to another key.
+ * an ES256 credential is added to another key.
  * @param {PrivateKeys} privateKeys @param {Uint8Array} id @param {any} inputs first, and perhaps second
  */
 const evaluatePrf = async (privateKeys, id, inputs) => {

@@ -109,7 +109,7 @@ export class KeyState {
     async #write() {
         const { recordings } = this.authenticator;
         if (await this.#store.write(() => ({ state: this.export(), recordings: recordings.kept(this.#snapshot) }))) {
-            recordings.wasKept();
+            recordings.markAsStored();
         }
     }
 

@@ -80,13 +80,16 @@ const credentialCreation = dictionary("CredentialCreationOptions", {
 });
 const credentialRequest = dictionary("CredentialRequestOptions", { publicKey: optional(requestOptions), ...shared });
 
-const errorPrefix = (/** @type {string} */ name, /** @type {string} */ type) => `Failed to execute '${name}' on '${type}': `;
+const makeErrorPrefix = (/** @type {string} */ name, /** @type {string} */ type) =>
+    `Failed to execute '${name}' on '${type}': `;
 
 /** @param {unknown} options of navigator.credentials.create */
-export const readCreation = (options) => credentialCreation(options, errorPrefix("create", "CredentialsContainer"));
+export const readCreationOptions = (options) =>
+    credentialCreation(options, makeErrorPrefix("create", "CredentialsContainer"));
 
 /** @param {unknown} options of navigator.credentials.get */
-export const readRequest = (options) => credentialRequest(options, errorPrefix("get", "CredentialsContainer"));
+export const readRequestOptions = (options) =>
+    credentialRequest(options, makeErrorPrefix("get", "CredentialsContainer"));
 
 /** @param {unknown[]} args the arguments @param {string} where the prefix of an error message */
 const requireFirstArgument = (args, where) => {
@@ -98,12 +101,12 @@ const requireFirstArgument = (args, where) => {
 
 /** @param {unknown[]} args the arguments of PublicKeyCredential.parseCreationOptionsFromJSON */
 export const readCreationJson = (args) => {
-    const where = errorPrefix("parseCreationOptionsFromJSON", "PublicKeyCredential");
+    const where = makeErrorPrefix("parseCreationOptionsFromJSON", "PublicKeyCredential");
     return { where, options: creationJson(requireFirstArgument(args, where), where) };
 };
 
 /** @param {unknown[]} args the arguments of PublicKeyCredential.parseRequestOptionsFromJSON */
 export const readRequestJson = (args) => {
-    const where = errorPrefix("parseRequestOptionsFromJSON", "PublicKeyCredential");
+    const where = makeErrorPrefix("parseRequestOptionsFromJSON", "PublicKeyCredential");
     return { where, options: requestJson(requireFirstArgument(args, where), where) };
 };

@@ -28,7 +28,7 @@ export const fragmentMessage = (channel, command, bytes) => {
 };
 
 /** Reassembles the messages on a channel, without KEEPALIVEs. */
-export class Collector {
+export class MessageReassembler {
     /** @param {number} channel */
     constructor(channel) {
         this.channel = channel;

@@ -1,9 +1,9 @@
 // Runs the requests of a page one at a time. A request ends with the response, an abort signal, the timeout, or a
 // request that replaces it.
-import { makeBusy, makeDomError, makeNotAllowed } from "./errors.js";
+import { makeBusyError, makeDomError, makeNotAllowedError } from "./errors.js";
 import { clearTimeout, setTimeout } from "./platform.js";
 
-// Chromium's maximum timeout.
+// The timeout of a request that has none: Chromium's maximum.
 const DEFAULT_TIMEOUT_MS = 600_000;
 const MAX_TIMER_MS = 2 ** 31 - 1;
 
@@ -17,7 +17,7 @@ const MAX_TIMER_MS = 2 ** 31 - 1;
 
 /** @typedef {{ end: (reason: unknown) => void, isConditional: boolean }} Current */
 
-export class Requests {
+export class RequestRunner {
     /** @type {Current | null} */
     #current = null;
 
@@ -27,18 +27,18 @@ export class Requests {
      */
     async run({ signal, timeout = DEFAULT_TIMEOUT_MS, isConditional }, serve) {
         if (this.#current && (isConditional || !this.#current.isConditional)) {
-            throw makeBusy();
+            throw makeBusyError();
         }
         this.#current?.end(makeDomError("AbortError", "Another request took over."));
         if (timeout === 0 && !isConditional) {
-            throw makeNotAllowed("the request's timeout is 0");
+            throw makeNotAllowedError("the request's timeout is 0");
         }
         const ending = new AbortController();
         /** @type {Current} */
         const current = { isConditional, end: (reason) => this.#end(current, ending, reason) };
         this.#current = current;
         const abort = () => current.end(signal?.reason);
-        const late = () => current.end(makeNotAllowed(`no user action within ${timeout} ms`));
+        const late = () => current.end(makeNotAllowedError(`no user action within ${timeout} ms`));
         const timer = isConditional ? undefined : setTimeout(late, Math.min(timeout, MAX_TIMER_MS));
         signal?.addEventListener("abort", abort);
         try {

@@ -208,7 +208,7 @@ export class PrivateKeys {
      * Signs bytes with a P-256 private key in PKCS #8 that belongs to no credential. The signature is in DER.
      * @param {Uint8Array} pkcs8 @param {Uint8Array} toSign
      */
-    async signAs(pkcs8, toSign) {
+    async signWithPkcs8(pkcs8, toSign) {
         return this.#signWith(await this.crypto().subtle.importKey("pkcs8", pkcs8, P256, false, ["sign"]), toSign);
     }
 

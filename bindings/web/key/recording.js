@@ -25,7 +25,7 @@ const formatNeed = ({ kind, id, toSign }) => {
  */
 const formatComment = (text) =>
     text.split("\n").flatMap((line) => {
-        // Comments that begin with these words are written by the key.
+        // Only the key's own comments begin with these words, so another space is inserted before them.
         const shown = (/^(need|signed) /.test(line) ? ` ${line}` : line).replace(/[^\x20-\x7e]/g, "?");
         return shown.match(new RegExp(`.{1,${MAX_LINE - 2}}`, "g"))?.map((part) => `# ${part}`) ?? ["#"];
     });

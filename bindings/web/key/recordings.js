@@ -164,7 +164,8 @@ export class Recordings {
     }
 
     /**
-     * Drops the oldest recordings if all together are too long for memory.
+     * Starts a new session if the current one is too long for memory, and then drops the oldest ended sessions, so that
+     * all of them fit.
      * @param {() => Uint8Array} snapshot
      */
     bound(snapshot) {
@@ -191,7 +192,7 @@ export class Recordings {
     }
 
     /** Marks all recorded lines as stored. */
-    wasKept() {
+    markAsStored() {
         this.#kept = this.session.recording.size;
         this.#ended.forEach((recording) => {
             recording.isKept = true;

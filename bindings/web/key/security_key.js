@@ -8,17 +8,17 @@ import { Authenticator, CtapError } from "./authenticator.js";
 import { Ceremony } from "./ceremony.js";
 import { checkType, checkMembers, checkName, renameOptions, warnRenamed } from "./argument_checks.js";
 import { checkAccountSelector, Selections } from "./account_selection.js";
-import { Departures } from "./departures.js";
+import { CoreAdditions } from "./core_additions.js";
 import { Credentials } from "./credentials.js";
 import { makeDomError } from "./errors.js";
 import { Faults } from "./faults.js";
 import { checkPolicy } from "./frames.js";
 import { KeyState } from "./key_state.js";
-import { readCreation, readRequest } from "./options.js";
+import { readCreationOptions, readRequestOptions } from "./options.js";
 import { CredentialMetadata } from "./credential_metadata.js";
 import { throwIfAborted, raceWithSignal, getWebCrypto } from "./platform.js";
 import { PrivateKeys } from "./private_keys.js";
-import { Requests } from "./pending_request.js";
+import { RequestRunner } from "./pending_request.js";
 import { SignIn } from "./sign_in.js";
 import { checkState, readRows } from "./state.js";
 import { User } from "./user_presence.js";
@@ -43,7 +43,7 @@ export class SecurityKey extends EventTarget {
     #origin;
     #metadata = new CredentialMetadata();
     #privateKeys;
-    #requests = new Requests();
+    #requests = new RequestRunner();
     #state;
     #user;
 
@@ -171,13 +171,13 @@ export class SecurityKey extends EventTarget {
 
     /** @param {any} options */
     async #create(options) {
-        const { publicKey, signal, mediation } = readCreation(options);
+        const { publicKey, signal, mediation } = readCreationOptions(options);
         throwIfAborted(signal);
         const ceremony = this.#begin("create", publicKey, mediation);
         return this.#requests.run({ signal, timeout: publicKey.timeout, isConditional: false }, (ending) =>
             this.#during(ceremony, ending, async (turn) => {
                 const json = ceremony.read(await this.#send(ceremony, turn));
-                await turn.departures.adapt(json);
+                await turn.additions.adapt(json);
                 const credential = makeCredential(json);
                 this.#dispatchFor("credentialAdded", credential.id);
                 return credential;
@@ -194,14 +194,14 @@ export class SecurityKey extends EventTarget {
 
     /** @param {any} options */
     async #get(options) {
-        const { publicKey, signal, mediation } = readRequest(options);
+        const { publicKey, signal, mediation } = readRequestOptions(options);
         throwIfAborted(signal);
         const ceremony = this.#begin("get", publicKey, mediation);
         const isConditional = mediation === "conditional";
         return this.#requests.run({ signal, timeout: publicKey.timeout, isConditional }, (ending) =>
             this.#during(ceremony, ending, async (turn) => {
                 const json = await this.#makeSignIn(turn).run(ceremony, isConditional);
-                await turn.departures.adapt(json);
+                await turn.additions.adapt(json);
                 const credential = makeCredential(json);
                 this.#dispatchFor("credentialAsserted", credential.id);
                 return credential;
@@ -251,10 +251,10 @@ export class SecurityKey extends EventTarget {
             signal,
             isVerified: false,
             ask: () => this.#user.answer(ceremony.question, signal),
-            departures: new Departures(ceremony, this.#authenticatorOptions, this.#metadata, this.#privateKeys),
+            additions: new CoreAdditions(ceremony, this.#authenticatorOptions, this.#metadata, this.#privateKeys),
             made: (id) => {
                 this.#credentials.setLabel(id, ceremony.label);
-                turn.departures.made(id);
+                turn.additions.made(id);
             },
             enter: async () => {
                 release = await this.#state.lock();

@@ -1,7 +1,7 @@
 // Signs in with one of the matching credentials: the account that a test selects, or the first credential.
 import { findAccount } from "./account_selection.js";
 import { decodeBase64url, toBase64url } from "./bytes.js";
-import { makeNotAllowed } from "./errors.js";
+import { makeNotAllowedError } from "./errors.js";
 import { isUsable } from "./key_extensions.js";
 import { raceWithSignal } from "./platform.js";
 
@@ -70,7 +70,7 @@ export class SignIn {
         }
         if (!left.length) {
             const needed = isListed ? "user verification" : "user verification, or its ID in allowCredentials";
-            throw makeNotAllowed(`each credential's protection policy (credProtect) requires ${needed}`);
+            throw makeNotAllowedError(`each credential's protection policy (credProtect) requires ${needed}`);
         }
         return ceremony.withCredentials(left);
     }
@@ -122,7 +122,7 @@ export class SignIn {
     async #signInWith(ceremony, selector) {
         const accounts = await this.#listAccounts(ceremony);
         if (this.#parts.isAutomatic && !accounts.length) {
-            throw makeNotAllowed("no discoverable credential can sign in");
+            throw makeNotAllowedError("no discoverable credential can sign in");
         }
         const account = await findAccount(accounts, selector);
         const chosen = ceremony.withCredentials([decodeBase64url(account.credentialId)]);

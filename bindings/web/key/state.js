@@ -46,8 +46,11 @@ const isObject = (/** @type {unknown} */ value) => typeof value === "object" && 
 const isText = (/** @type {unknown} */ value) => typeof value === "string";
 const isCount = (/** @type {any} */ value) => Number.isSafeInteger(value) && value >= 0;
 
-/** @param {string} name @param {unknown} text @param {number} least @param {number} most */
-const checkBytes = (name, text, least, most) => {
+/**
+ * Decodes a member in base64url. Throws if the text is invalid or has another number of bytes.
+ * @param {string} name @param {unknown} text @param {number} least @param {number} most
+ */
+const decodeBytes = (name, text, least, most) => {
     const bytes = isText(text) ? fromBase64url(/** @type {string} */ (text)) : null;
     const isValid = bytes !== null && bytes.length >= least && bytes.length <= most;
     checkType(name, text, isValid, `base64url of ${least === most ? least : `${least} to ${most}`} bytes`);
@@ -64,21 +67,21 @@ const checkExtensions = (extensions) => {
     const { prf = true, credProtect = 1, largeBlob = "", credBlob = "" } = extensions;
     checkType("extensions.prf", prf, prf === true, "true");
     checkType("extensions.credProtect", credProtect, [1, 2, 3].includes(credProtect), "1 to 3");
-    checkBytes("extensions.largeBlob", largeBlob, 0, Infinity);
-    checkBytes("extensions.credBlob", credBlob, 0, MAX_CRED_BLOB_BYTES);
+    decodeBytes("extensions.largeBlob", largeBlob, 0, Infinity);
+    decodeBytes("extensions.credBlob", credBlob, 0, MAX_CRED_BLOB_BYTES);
 };
 
 /** @param {any} credential */
 const checkCredential = (credential) => {
     checkType("each credential", credential, isObject(credential), "an object");
     const kept = completeCredential(credential);
-    checkBytes("credentialId", kept.credentialId, 1, MAX_ID_BYTES);
-    checkBytes("coreId", kept.coreId, CORE_ID_BYTES, CORE_ID_BYTES);
-    checkBytes("rpIdHash", kept.rpIdHash, HASH_BYTES, HASH_BYTES);
-    checkBytes("userHandle", kept.userHandle, 0, MAX_TEXT_BYTES);
-    checkBytes("privateKey", kept.privateKey, 1, MAX_PRIVATE_KEY_BYTES);
+    decodeBytes("credentialId", kept.credentialId, 1, MAX_ID_BYTES);
+    decodeBytes("coreId", kept.coreId, CORE_ID_BYTES, CORE_ID_BYTES);
+    decodeBytes("rpIdHash", kept.rpIdHash, HASH_BYTES, HASH_BYTES);
+    decodeBytes("userHandle", kept.userHandle, 0, MAX_TEXT_BYTES);
+    decodeBytes("privateKey", kept.privateKey, 1, MAX_PRIVATE_KEY_BYTES);
     const coreKey = kept.coreKey ?? kept.privateKey;
-    const pkcs8 = checkBytes("coreKey", coreKey, 1, MAX_PRIVATE_KEY_BYTES);
+    const pkcs8 = decodeBytes("coreKey", coreKey, 1, MAX_PRIVATE_KEY_BYTES);
     checkType("privateKey", coreKey, isPkcs8P256(pkcs8), "a P-256 key in PKCS #8, as from key.state()");
     checkExtensions(kept.extensions ?? {});
     checkType("rpId", kept.rpId, isText(kept.rpId), "a string");

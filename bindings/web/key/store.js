@@ -20,7 +20,7 @@ export const checkStorage = (storage) => {
 };
 
 /**
- * Whether tabs share a storage.
+ * Whether a storage is localStorage, which tabs share.
  * @param {StateStorage | undefined} storage
  */
 const isLocalStorage = (storage) => {
@@ -49,10 +49,10 @@ const acquireLock = (name, mode) => new Promise((done) => {
 });
 
 /**
- * A parsed state without recordings.
+ * Returns a parsed state without its recordings.
  * @param {any} parsed
  */
-const withoutRecordings = (parsed) => {
+const omitRecordings = (parsed) => {
     if (typeof parsed !== "object" || parsed === null || Array.isArray(parsed)) {
         return parsed;
     }
@@ -100,7 +100,7 @@ export class Store {
         try {
             const parsed = JSON.parse(text);
             const recordings = this.#parts?.read(parsed?.recordings);
-            const stored = recordings === undefined ? withoutRecordings(parsed) : { ...parsed, recordings };
+            const stored = recordings === undefined ? omitRecordings(parsed) : { ...parsed, recordings };
             checkState(stored);
             this.#version = Math.max(this.#version, stored.version ?? 0);
             return stored;
@@ -203,7 +203,7 @@ export class Store {
         for (let polls = 0; this.#storedVersion() < newest && polls < MAX_POLLS; polls += 1) {
             await sleep(POLL_MS);
         }
-        // If a page has cleared the storage, the value never appears.
+        // After a page has cleared the storage, the stored version never reaches `newest`.
         this.#version = Math.max(this.#version, newest);
     }
 

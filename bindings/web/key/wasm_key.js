@@ -1,6 +1,6 @@
-// The verified key in the memory of a WebAssembly instance (release/hidlog.h). Each call passes an input, and returns
-// packets. The cost of a call does not depend on the number of preceding calls. Used by the page's key, and by the
-// viewer to find causes.
+// The verified key in the memory of a WebAssembly instance (release/hidlog.h). A call that passes an input returns the
+// packets that the key sends. The cost of a call does not depend on the number of preceding calls. Used by the page's
+// key, and by the viewer to find causes.
 import { copyBytes, decodeUtf8 } from "./bytes.js";
 import { PACKET_SIZE } from "./standard.js";
 import { growMemory } from "./wasm_memory.js";

@@ -51,7 +51,7 @@
 
     // ---- DER
 
-    /** The DER element at an offset: the tag, the content and the end. */
+    /** The DER element at an offset: its tag, its content, and all of its bytes. */
     const readElement = (data, at) => {
         const short = data[at + 1];
         const more = short > 0x80 ? short - 0x80 : 0;
@@ -131,7 +131,10 @@
 
     const ALGORITHMS = [-7, -8, -257];
 
-    /** Whether a signature is valid, or null if this browser doesn't support the algorithm. */
+    /**
+     * Whether a signature is valid, or null if this browser doesn't support the algorithm. A signature whose algorithm
+     * this script doesn't support counts as valid.
+     */
     const verifySignature = async ({ cose, certificate, alg, signed, signature }) => {
         try {
             const found = await (certificate ? readCertificateKey(certificate) : readCoseKey(cose));

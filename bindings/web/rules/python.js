@@ -159,7 +159,8 @@
     };
 
     const pairs = (dict) => [...dict.kept.values()];
-    const toText = (text) => Array.from(text);
+    /** The characters of a string. */
+    const listCharacters = (text) => Array.from(text);
     const bytes = (data) => new Bytes(Uint8Array.from(data));
 
     const parseHex = (digits) => {
@@ -189,7 +190,7 @@
             return value.data;
         }
         if (typeof value === "string") {
-            return toText(value);
+            return listCharacters(value);
         }
         if (value === null || typeof value !== "object" || !value[Symbol.iterator]) {
             throw makeTypeError(`'${getTypeName(value)}' object is not iterable`);
@@ -205,7 +206,7 @@
             return value.data.length;
         }
         if (typeof value === "string") {
-            return toText(value).length;
+            return listCharacters(value).length;
         }
         if (Array.isArray(value)) {
             return value.length;
@@ -339,7 +340,7 @@
     const makeSetOperation = (choose) => (a, b) =>
         (a instanceof PySet && b instanceof PySet ? makeSet(choose([...iter(a)], b)) : undefined);
     const shared = makeSetOperation((items, b) => items.filter((value) => contains(b, value)));
-    const none = () => NaN;
+    const noQuickResult = () => NaN;
     const makeBitOperation = (quick) => (a, b) => (a >= 0 && b >= 0 && a < 2 ** 31 && b < 2 ** 31 ? quick(a, b) : NaN);
     const floorDiv = (a, b) => a / b - ((a % b !== 0n && (a < 0n) !== (b < 0n)) ? 1n : 0n);
 
@@ -347,10 +348,10 @@
         add: makeOperation("+", (a, b) => a + b, (a, b) => a + b, concatBytes),
         sub: makeOperation("-", (a, b) => a - b, (a, b) => a - b, makeSetOperation((items, b) => items.filter((value) => !contains(b, value)))),
         mul: makeOperation("*", (a, b) => a * b, (a, b) => a * b, multiply),
-        floorDiv: makeOperation("//", none, floorDiv, undefined),
-        mod: makeOperation("%", none, (a, b) => a - b * floorDiv(a, b), undefined),
-        pow: makeOperation("**", none, (a, b) => a ** b, undefined),
-        shiftLeft: makeOperation("<<", none, (a, b) => a << b, undefined),
+        floorDiv: makeOperation("//", noQuickResult, floorDiv, undefined),
+        mod: makeOperation("%", noQuickResult, (a, b) => a - b * floorDiv(a, b), undefined),
+        pow: makeOperation("**", noQuickResult, (a, b) => a ** b, undefined),
+        shiftLeft: makeOperation("<<", noQuickResult, (a, b) => a << b, undefined),
         shiftRight: makeOperation(">>", makeBitOperation((a, b) => (b < 31 ? a >> b : 0)), (a, b) => a >> b, undefined),
         and: makeOperation("&", makeBitOperation((a, b) => a & b), (a, b) => a & b, shared),
         or: makeOperation("|", makeBitOperation((a, b) => a | b), (a, b) => a | b, makeSetOperation((items, b) => [...items, ...iter(b)])),
@@ -382,7 +383,7 @@
         if (!isInteger(place)) {
             throw makeTypeError(`${getTypeName(holder)} indices must be integers or slices, not ${getTypeName(place)}`);
         }
-        const items = typeof holder === "string" ? toText(holder) : holder instanceof Bytes ? holder.data : holder;
+        const items = typeof holder === "string" ? listCharacters(holder) : holder instanceof Bytes ? holder.data : holder;
         const at = toIndex(items.length, toInteger(place));
         if (at < 0) {
             throw new IndexError("index out of range");
@@ -397,7 +398,7 @@
             return new Bytes(holder.data.slice(from, to));
         }
         if (typeof holder === "string") {
-            return toText(holder).slice(from, to).join("");
+            return listCharacters(holder).slice(from, to).join("");
         }
         if (!Array.isArray(holder)) {
             throw makeTypeError(`'${getTypeName(holder)}' object is not subscriptable`);
@@ -432,7 +433,7 @@
     globalThis.hidlogPython = {
         ...numbers, AttributeError, Bytes, Dict, IndexError, KeyError, Match, Object: PyObject, PyException, PySet,
         Tuple, Type, TypeError: TypeError_, UnicodeDecodeError, ValueError, bytes, makeDict, eq, contains, parseHex,
-        isTruthy, isInteger, getItem, iter, toKey, toLatin1, le, len, toText, lt, getTypeName, pairs, toIndex, setItem,
+        isTruthy, isInteger, getItem, iter, toKey, toLatin1, le, len, listCharacters, lt, getTypeName, pairs, toIndex, setItem,
         defineError, deleteItem, makeSet, getSlice, toSmallNumber, unpackItems, toInteger, makeTypeError,
     };
 })();

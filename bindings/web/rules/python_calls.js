@@ -5,7 +5,7 @@
     const $ = globalThis.hidlogPython;
     const {
         Bytes, Dict, Match, Object: PyObject, PyException, PySet, Tuple, Type, bytes, makeDict, eq, parseHex, isTruthy,
-        isInteger, getItem, iter, toKey, toLatin1, len, toText, lt, getTypeName, pairs, toIndex, setItem, defineError,
+        isInteger, getItem, iter, toKey, toLatin1, len, listCharacters, lt, getTypeName, pairs, toIndex, setItem, defineError,
         makeSet, getSlice, toSmallNumber, toInteger, makeTypeError, AttributeError, IndexError, KeyError,
         UnicodeDecodeError, ValueError,
     } = $;
@@ -70,7 +70,7 @@
         return bytes([...value.data, ...new Uint8Array(rest).fill(filler.data[0])]);
     };
 
-    const parseInteger = (text) => {
+    const parseHexText = (text) => {
         const digits = text.replace(/\s/g, "");
         if (digits.length % 2 || /[^0-9a-fA-F]/.test(digits)) {
             throw new ValueError("non-hexadecimal number found in fromhex()");
@@ -82,7 +82,7 @@
         ? value.data.reduce((sum, byte) => sum * 256 + byte, 0)
         : toSmallNumber(BigInt(`0x0${value.digits}`)));
 
-    const splitAt = (value, mark, make) => {
+    const partition = (value, mark, make) => {
         const at = value.indexOf(mark);
         const parts = at < 0 ? [value, "", ""] : [value.slice(0, at), mark, value.slice(at + mark.length)];
         return Tuple.from(parts.map(make));
@@ -97,7 +97,7 @@
         return order === "little" ? bytes([...made.data].reverse()) : made;
     };
 
-    const toPlainValue = (value) => value;
+    const keepValue = (value) => value;
     const sortItems = (items, key) => {
         const keyed = [...items].map((value) => [key ? apply(key, [value]) : value, value]);
         return keyed.sort(([a], [b]) => (lt(a, b) ? -1 : lt(b, a) ? 1 : 0)).map(([, value]) => value);
@@ -152,7 +152,7 @@
         str: {
             join: (self, parts) => [...iter(parts)].join(self),
             split: (self, mark) => self.split(mark),
-            partition: (self, mark) => splitAt(self, mark, toPlainValue),
+            partition: (self, mark) => partition(self, mark, keepValue),
             startswith: (self, front) => self.startsWith(front),
             endswith: (self, end) => self.endsWith(end),
             lower: (self) => self.toLowerCase(),
@@ -165,7 +165,7 @@
             startswith: (self, front) => eq(getSlice(self, 0, front.data.length), front),
             ljust: (self, width, filler) => pad(self, width, filler),
             split: (self, mark) => fromLatin(self).split(fromLatin(mark)).map(toLatin1),
-            partition: (self, mark) => splitAt(fromLatin(self), fromLatin(mark), toLatin1),
+            partition: (self, mark) => partition(fromLatin(self), fromLatin(mark), toLatin1),
             join: (self, parts) => toLatin1([...iter(parts)].map(fromLatin).join(fromLatin(self))),
         },
         int: { to_bytes: toBytes },
@@ -174,7 +174,7 @@
 
     // ---- calls
 
-    /** Appends keyword arguments to the positional arguments. */
+    /** Adds keyword arguments to the positional arguments, at the positions of their parameters. */
     const bindArguments = (names, words, named) => {
         const found = [...words];
         for (const [name, value] of Object.entries(named)) {
@@ -221,7 +221,8 @@
         return (...words) => found(object, ...words);
     };
 
-    const method = (object, name) => {
+    /** The parameter names of a method, for keyword arguments. */
+    const findParameters = (object, name) => {
         let owner = object.constructor;
         while (!owner.$names?.[name]) {
             owner = Object.getPrototypeOf(owner);
@@ -234,7 +235,7 @@
             if (typeof object[name] !== "function") {
                 return apply(getMember(object, name), words, named);
             }
-            return object[name](...(named ? bindArguments(method(object, name), words, named) : words));
+            return object[name](...(named ? bindArguments(findParameters(object, name), words, named) : words));
         }
         if (object instanceof PyObject || object instanceof Type || object?.$isModule) {
             return apply(object.$isModule || object instanceof PyObject ? object[name] : object.statics[name], words, named);
@@ -266,12 +267,12 @@
         set: new Type("set", (value = []) => makeSet(iter(value))),
     };
     Object.assign(made.int, { statics: { from_bytes: fromBytes } });
-    Object.assign(made.bytes, { statics: { fromhex: parseInteger } });
+    Object.assign(made.bytes, { statics: { fromhex: parseHexText } });
 
-    const makeExtremum = (isBetter) => (...words) => {
+    const makeExtremum = (name, isBetter) => (...words) => {
         const items = words.length === 1 ? [...iter(words[0])] : words;
         if (!items.length) {
-            throw new ValueError("max() arg is an empty sequence");
+            throw new ValueError(`${name}() arg is an empty sequence`);
         }
         return items.reduce((found, value) => (isBetter(value, found) ? value : found));
     };
@@ -332,8 +333,8 @@
         Exception: PyException,
         any: anyItem,
         all: allItems,
-        max: makeExtremum((a, b) => lt(b, a)),
-        min: makeExtremum((a, b) => lt(a, b)),
+        max: makeExtremum("max", (a, b) => lt(b, a)),
+        min: makeExtremum("min", (a, b) => lt(a, b)),
         sum: (items) => [...iter(items)].reduce((sum, value) => $.add(sum, value), 0),
         next: takeFirst,
         map: (f, items) => [...iter(items)].map((value) => apply(f, [value])),

@@ -17,13 +17,13 @@ if TYPE_CHECKING:
     from .key import SecurityKey
 
 Json = dict[str, Any]
-# Maximum number of events, and of effects of faults between two events; the last ones are kept.
+# Maximum number of events, and of effects of faults between two events. The latest ones are kept.
 _MAX_EVENTS = 40
-_MADE = {"create": "created a credential", "get": "signed an assertion"}
-_REFUSED = {"create": "create a credential", "get": "sign an assertion"}
+_SUCCESS_TEXTS = {"create": "created a credential", "get": "signed an assertion"}
+_REFUSAL_TEXTS = {"create": "create a credential", "get": "sign an assertion"}
 _UV = 0x04
 _FLAGS = {_UV: "user verified", 0x08: "backup eligible", 0x10: "backed up"}
-# The options that decide the result of a call, as paths.
+# The paths of the options that the report shows for a call.
 _OPTIONS = {
     "create": ["rp.id", "user.id", "authenticatorSelection.residentKey", "authenticatorSelection.requireResidentKey"],
     "get": ["rpId", "userVerification", "timeout", "challenge", "allowCredentials"],
@@ -31,10 +31,10 @@ _OPTIONS = {
 _OPTIONS["create"] += ["authenticatorSelection.userVerification", "authenticatorSelection.authenticatorAttachment"]
 _OPTIONS["create"] += ["attestation", "timeout", "challenge", "excludeCredentials"]
 # Options that are left out if the page did not pass them.
-_RARE = ("requireResidentKey", "authenticatorAttachment", "attestation", "timeout")
-# Options that are bytes in base64url. As of credential IDs, the report has their first letters.
-_BYTES = ("user.id", "challenge")
-_LISTS = ("excludeCredentials", "allowCredentials")
+_OMITTED_IF_ABSENT = ("requireResidentKey", "authenticatorAttachment", "attestation", "timeout")
+# Options that are base64url strings. The report has only their first letters, as for credential IDs.
+_BASE64URL_OPTIONS = ("user.id", "challenge")
+_LIST_OPTIONS = ("excludeCredentials", "allowCredentials")
 _SHOWN_LETTERS = 8
 _MAX_SHOWN = 80
 _ABSENT = object()
@@ -61,7 +61,7 @@ class _Call(NamedTuple):
     @property
     def user_name(self) -> str:
         """The user name of the options, or ""."""
-        return _find_text(self.public_key, "user.name")
+        return _get_text_option(self.public_key, "user.name")
 
     @property
     def created_id(self) -> str:
@@ -78,16 +78,16 @@ def drop_zeros(summary: str) -> str:
     return _ZERO_LINE.sub("", summary).rstrip("\n")
 
 
-def _find(options: Any, path: str) -> Any:
+def _get_option(options: Any, path: str) -> Any:
     """Returns an option, or _ABSENT. The path has the names of the members, with dots."""
     for name in path.split("."):
         options = options.get(name, _ABSENT) if isinstance(options, Mapping) else _ABSENT
     return options
 
 
-def _find_text(options: Any, path: str) -> str:
+def _get_text_option(options: Any, path: str) -> str:
     """Returns an option that is a text, or ""."""
-    value = _find(options, path)
+    value = _get_option(options, path)
     return value if isinstance(value, str) else ""
 
 
@@ -164,16 +164,18 @@ class Activity:
 
 def _get_account(call: _Call) -> tuple[bytes, str] | None:
     """Returns the RP ID hash and the user ID of a new credential that is discoverable, otherwise None."""
-    selection = _find(call.public_key, "authenticatorSelection")
-    kind = _find_text(selection, "residentKey") or (_find(selection, "requireResidentKey") is True and "required")
+    selection = _get_option(call.public_key, "authenticatorSelection")
+    kind = _get_text_option(selection, "residentKey") or (
+        _get_option(selection, "requireResidentKey") is True and "required"
+    )
     if kind not in ("required", "preferred"):
         return None
     data = b64url_decode(call.result["response"]["authenticatorData"])
-    return data[:32], _find_text(call.public_key, "user.id")
+    return data[:32], _get_text_option(call.public_key, "user.id")
 
 
 def _explain_missing(calls: list[_Call]) -> dict[str, str]:
-    """Returns why the key has a created credential no longer, by ID. It may still have it."""
+    """Returns a text for each created credential, by ID, for use if the key no longer has the credential."""
     found, later = {}, set()
     for call in reversed(calls):
         if call.created_id:
@@ -186,7 +188,7 @@ def _explain_missing(calls: list[_Call]) -> dict[str, str]:
 
 
 def _shorten(text: str) -> str:
-    """Returns the first letters of bytes in base64url."""
+    """Returns the first letters of a base64url string."""
     return text if len(text) <= _SHOWN_LETTERS else f"{text[:_SHOWN_LETTERS]}.."
 
 
@@ -195,22 +197,22 @@ def _format_value(path: str, value: Any, options: Any) -> str:
     if value is _ABSENT:
         # The defaults of WebAuthn Level 3, sections 5.4.4 and 5.5.
         if path.endswith("residentKey"):
-            is_required = _find(options, "authenticatorSelection.requireResidentKey") is True
+            is_required = _get_option(options, "authenticatorSelection.requireResidentKey") is True
             return f"absent ({'required' if is_required else 'discouraged'})"
         return "absent (preferred)" if path.endswith("userVerification") else "absent"
-    if path in _LISTS and isinstance(value, (list, tuple)):
-        return " ".join(_shorten(_find_text(item, "id")) or describe(item) for item in value) or "empty"
+    if path in _LIST_OPTIONS and isinstance(value, (list, tuple)):
+        return " ".join(_shorten(_get_text_option(item, "id")) or describe(item) for item in value) or "empty"
     if not isinstance(value, str) or not value.isprintable() or len(value) > _MAX_SHOWN:
         return describe(value)
-    return _shorten(value) if path in _BYTES else value or "empty"
+    return _shorten(value) if path in _BASE64URL_OPTIONS else value or "empty"
 
 
 def _format_options(call: _Call) -> str:
-    """Returns the options that decide the result of a call, as the page passed them."""
+    """Returns the options that the report shows for a call, as the page passed them."""
     found = []
     for path in _OPTIONS[call.ceremony]:
-        value, name = _find(call.public_key, path), path.replace("authenticatorSelection.", "")
-        if value is not _ABSENT or name not in _RARE:
+        value, name = _get_option(call.public_key, path), path.replace("authenticatorSelection.", "")
+        if value is not _ABSENT or name not in _OMITTED_IF_ABSENT:
             found.append(f"{name} {_format_value(path, value, call.public_key)}")
     return ", ".join(found)
 
@@ -245,9 +247,9 @@ def _format_call(call: _Call, names: Mapping[str, str], kinds: Mapping[str, str]
     ceremony, result, user = call.ceremony, call.result, call.user_name
     if isinstance(result, Mapping):
         who = user or names.get(result["id"]) or "a user without a name"
-        line = f"{_MADE[ceremony]} for {who} at {call.origin}: {_format_details(ceremony, result, kinds)}"
+        line = f"{_SUCCESS_TEXTS[ceremony]} for {who} at {call.origin}: {_format_details(ceremony, result, kinds)}"
     else:
-        what = f"{_format_refusal(result)} to {_REFUSED[ceremony]}" + (f" for {user}" if user else "")
+        what = f"{_format_refusal(result)} to {_REFUSAL_TEXTS[ceremony]}" + (f" for {user}" if user else "")
         line = f"{what} at {call.origin}: {getattr(result, 'name', type(result).__name__)}: {result}"
     effects = [f"    {text}" for text in _format_effects(call.effects)]
     return [line, f"    options: {_format_options(call)}", *effects]

@@ -35,7 +35,8 @@ def get_algorithm(private: AnyKey) -> int:
 
 
 def make_other_key(algorithm: int, random: Callable[[int], bytes]) -> OtherKey:
-    """Generates a private key: for EdDSA from 32 bytes of `random`, for RS256 always with primes from the system."""
+    """Generates a private key: for EdDSA from 32 bytes of `random`, for RS256 always with the system's random
+    source."""
     if algorithm == EDDSA:
         return ed25519.Ed25519PrivateKey.from_private_bytes(random(32))
     return rsa.generate_private_key(_RSA_EXPONENT, _RSA_BITS)
@@ -45,7 +46,7 @@ def load_other_key(encoded: bytes) -> OtherKey:
     """Returns a private key of an algorithm other than ES256 from PKCS #8 in DER."""
     private = private_keys.parse_private_key(encoded)
     if not isinstance(private, _OTHER_KEYS):
-        raise ArgumentError("the private key must be of Ed25519 or RSA")
+        raise ArgumentError("the private key must be an Ed25519 or RSA key")
     return private
 
 
@@ -57,7 +58,7 @@ def load_any_key(value: object) -> AnyKey:
     try:
         return private_keys.load_private_key(private)
     except ArgumentError:
-        raise ArgumentError("the private key must be on P-256 (ES256), or of Ed25519 or RSA") from None
+        raise ArgumentError("the private key must be a P-256 (ES256), Ed25519 or RSA key") from None
 
 
 def sign_with_other_key(private: OtherKey, data: bytes) -> bytes:

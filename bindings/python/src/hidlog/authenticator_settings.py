@@ -133,7 +133,7 @@ class AuthenticatorSettings:
     def algorithms(self, algorithms: Iterable[int]) -> None:
         listed = _check_list("an algorithm", algorithms, ALGORITHMS)
         if ES256 not in listed:
-            raise ArgumentError(f"algorithms is {describe(algorithms)}; it must have {ES256}, which the core has")
+            raise ArgumentError(f"algorithms is {describe(algorithms)}; it must include {ES256} (ES256)")
         self._algorithms = listed
 
     @property

@@ -32,7 +32,7 @@ from .logs import check
 from .recording_files import snapshot_path
 
 # The outcome if a worker does not have the file, so that the data must be sent.
-_ELSEWHERE = "elsewhere"
+_FILE_MISSING = "elsewhere"
 # Number of tasks per worker thread, so that no thread waits for the next task, and the interval at which the number of
 # threads is read from a cluster.
 _TASKS_PER_WORKER = 2
@@ -101,7 +101,7 @@ def _check_recording(recorded: Recorded) -> CheckResult:
     path = recorded.path
     try:
         if recorded.stamp is not None and recorded.stamp != read_stamp(path):
-            return CheckResult(path, _ELSEWHERE, "the worker has another file of this name, or none")
+            return CheckResult(path, _FILE_MISSING, "the worker has another file of this name, or none")
         _, log, snapshot, _ = read_recording(path) if recorded.log is None else recorded
         assert log is not None
         return CheckResult(path, "match", check(log, snapshot or None).raise_for_fault().text.decode().strip())
@@ -209,12 +209,12 @@ class _CheckRun:
     def send_missing(self, work: _Batch, found: list[CheckResult]) -> list[CheckResult]:
         """Returns the results. Recordings whose files the worker does not have are left out, and are sent to a worker
         later."""
-        missing = [Recorded(result.path) for result in found if result.outcome == _ELSEWHERE]
+        missing = [Recorded(result.path) for result in found if result.outcome == _FILE_MISSING]
         if not missing:
             return found
         self.is_remote = True
         self.waiting.append(work._replace(block=missing, is_sent=True))
-        return [result for result in found if result.outcome != _ELSEWHERE]
+        return [result for result in found if result.outcome != _FILE_MISSING]
 
     def new_executor(self) -> Executor:
         """Returns a new executor after one broke."""
@@ -287,7 +287,7 @@ def check_many(
     """
     if not isinstance(executor, Executor) and not callable(executor):
         raise ArgumentTypeError(
-            f"executor must be an executor or a function that returns one, not {type(executor).__name__}"
+            f"executor must be an Executor or a function that returns one, not {type(executor).__name__}"
         )
     if isinstance(paths, (str, bytes, os.PathLike)):
         raise ArgumentTypeError("paths must be a list of paths; for a directory, use Path(directory).rglob('*.log')")

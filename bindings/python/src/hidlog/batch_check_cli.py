@@ -98,7 +98,8 @@ class _Checks:
             print("\r", end="", file=sys.stderr)
 
     def print_results(self, jobs: int, executor: str | None) -> None:
-        """Prints the results as they arrive. JUnit XML, which begins with their number, is printed at the end."""
+        """Prints the results as they arrive. JUnit XML begins with the number of results, so it is printed at the
+        end."""
         found = self.run(jobs, executor)
         if self._report == "junit":
             self._print_junit(found)
@@ -110,7 +111,8 @@ class _Checks:
                 print(f"{result.outcome:12} {_to_printable(result.path)}: {result.text}")
 
     def _print_junit(self, found: Iterator[CheckResult]) -> None:
-        """Prints the results as JUnit XML. Many are in a temporary file until their number is known."""
+        """Prints the results as JUnit XML. If there are many, they are kept in a temporary file until all have
+        arrived."""
         with tempfile.SpooledTemporaryFile(_MAX_IN_MEMORY, "w+", encoding="utf-8") as cases:
             for result in found:
                 cases.write(_to_test_case(result))
@@ -146,7 +148,9 @@ def check_many_command(args: Sequence[str]) -> int:
     paths = _iter_logs(options.paths)
     first = next(paths, None)
     if first is None or options.jobs < 1:
-        raise HidlogError("no *.log file found" if first is None else "--jobs must be at least 1")
+        raise HidlogError(
+            "no *.log file found" if first is None else f"--jobs is {options.jobs}; it must be at least 1"
+        )
     checks = _Checks(chain([first], paths), options.report)
     checks.print_results(options.jobs, options.executor)
     counts = {name: count for name, count in sorted(checks.counts.items()) if count}

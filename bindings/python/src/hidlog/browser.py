@@ -17,7 +17,7 @@ from typing import TYPE_CHECKING, Any, NamedTuple, Optional, Protocol, Union
 from . import cbor, signals, suggestions
 from .client import Client
 from .credentials import Credential
-from .departures import Departures, adapt_options
+from .core_additions import CoreAdditions, adapt_options
 from .errors import CtapError, InvalidChannelError, KeyTimeoutError, describe
 from .key_extensions import drop_list_inputs, is_usable, read_inputs
 from .packets import CBOR, GET_NEXT_ASSERTION
@@ -37,7 +37,7 @@ from .webauthn_json import b64url_decode, b64url_encode
 if TYPE_CHECKING:
     from .key import SecurityKey
 
-# A failed test shows the line that called the browser, and not these functions (pytest --full-trace does).
+# In the traceback of a failed test, pytest hides this module's functions unless called with --full-trace.
 __tracebackhide__ = True
 Json = dict[str, Any]
 # The account that signs in: an index in the list of accounts, a user name, a credential ID, or a function of the list.
@@ -45,9 +45,9 @@ Account = Union[int, str, bytes, Callable[[list[Credential]], Any]]
 _GET_NEXT_REQUEST = bytes([GET_NEXT_ASSERTION])
 _DESCRIPTOR_LISTS = ("allowCredentials", "excludeCredentials")
 # Length of an ID of 64 bytes in base64url. In requests to the core, longer IDs are replaced by their hashes.
-_SENT_LETTERS = 86
+_MAX_SENT_LETTERS = 86
 # The status and the first byte of a CBOR map with five members.
-_MAP_OF_FIVE = b"\x00\xa5"
+_SUCCESS_WITH_FIVE_MEMBERS = b"\x00\xa5"
 # The end of a request for a discoverable credential: the key 7 with the value {"rk": true}.
 _DISCOVERABLE_END = bytes.fromhex("07a162726bf5")
 
@@ -64,7 +64,7 @@ class _PendingCall(NamedTuple):
 
     call: ClientCall
     request: Request
-    departures: Optional[Departures]
+    additions: Optional[CoreAdditions]
 
 
 class Browser:
@@ -186,14 +186,14 @@ class Browser:
         if not departs:
             return _PendingCall(call, request, None)
         is_discoverable = request.message.endswith(_DISCOVERABLE_END)
-        departures = Departures(self._key, self._key._metadata, ceremony, dict(inner), is_discoverable)
-        return _PendingCall(call, request, departures)
+        additions = CoreAdditions(self._key, self._key._metadata, ceremony, dict(inner), is_discoverable)
+        return _PendingCall(call, request, additions)
 
     def _complete(self, started: _PendingCall, made: Json) -> Json:
         """Returns a credential's JSON, completed with the features outside the core."""
-        if started.departures is not None:
+        if started.additions is not None:
             core_id = self._key.core_id(b64url_decode(made["id"]))
-            started.departures.adapt(made, core_id, b"".join(public_point(self._key.private_keys[core_id])))
+            started.additions.adapt(made, core_id, b"".join(public_point(self._key.private_keys[core_id])))
         return made
 
     def _without_protected(self, started: _PendingCall, options: Any, signal: Signal | None) -> _PendingCall:
@@ -249,7 +249,7 @@ class Browser:
 
     def _to_core_id(self, page_id: Any) -> Any:
         """Returns the core's ID of a page's credential, both as base64url. Other values are returned unchanged."""
-        if not isinstance(page_id, str) or not (self._key.has_page_ids or len(page_id) > _SENT_LETTERS):
+        if not isinstance(page_id, str) or not (self._key.has_page_ids or len(page_id) > _MAX_SENT_LETTERS):
             return page_id
         try:
             data = b64url_decode(page_id)
@@ -261,16 +261,16 @@ class Browser:
     def _exchange(self, started: _PendingCall, message: bytes, ending: _Cancellation) -> bytes:
         """Sends a request, and returns the response. A status other than 0 raises the DOM's error."""
         try:
-            with self._key.departing(started.departures, started.request.is_verified):
+            with self._key.applying_additions(started.additions, started.request.is_verified):
                 response = self._transact(message, ending)
         except InvalidChannelError:
             raise
         except (KeyTimeoutError, CtapError) as error:
-            raise ending.reason(error, started.call) from error
+            raise ending.to_page_error(error, started.call) from error
         if response[:1] != b"\0":
             status = response[0] if response else 0x7F
             refused = CtapError(status, self._key.cause(status))
-            raise ending.reason(refused, started.call) from refused
+            raise ending.to_page_error(refused, started.call) from refused
         return response
 
     def _transact(self, message: bytes, ending: _Cancellation) -> bytes:
@@ -370,7 +370,7 @@ class _Cancellation:
     def _is_timed_out(self) -> bool:
         return self._key.time_ms - self._begun >= self._timeout
 
-    def reason(self, error: CtapError | KeyTimeoutError, call: ClientCall) -> WebAuthnError:
+    def to_page_error(self, error: CtapError | KeyTimeoutError, call: ClientCall) -> WebAuthnError:
         """Returns the error that a page gets."""
         if self._is_aborted():
             return AbortError("the signal cancelled the request")
@@ -395,7 +395,7 @@ def _drop_timeout(options: Any) -> Any:
 
 def _read_number_of_credentials(response: bytes) -> int:
     """Returns the member numberOfCredentials of an assertion response, or 1 if it is missing."""
-    if response[:2] != _MAP_OF_FIVE:
+    if response[:2] != _SUCCESS_WITH_FIVE_MEMBERS:
         return 1
     try:
         number = cbor.decode(response[1:]).get(5, 1)

@@ -130,7 +130,7 @@ class Process:
         has = options.get("hasUserVerification", self.key.verification != "none")
         is_verified = options.get("isUserVerified", self.key.verification == "verified")
         if is_verified and not has:
-            raise ArgumentError("isUserVerified needs hasUserVerification")
+            raise ArgumentError("isUserVerified is true; it needs hasUserVerification")
         self.key.verification = "none" if not has else "verified" if is_verified else "failed"
         self.key.attachment = _ATTACHMENTS[options["transport"]] if "transport" in options else self.key.attachment
         for name in set(options) & set(_OPTIONS):
@@ -170,7 +170,7 @@ class Process:
             )
         rp_id = credential.get("rpId")
         if not isinstance(rp_id, str) or not rp_id:
-            raise ArgumentError("rpId must be an RP ID")
+            raise ArgumentError(f'rpId is {json.dumps(rp_id)}; it must be an RP ID, such as "example.com"')
         identifier, private = credential.get("credentialId"), credential.get("privateKey")
         made = self.key.credentials.add(
             rp_id,

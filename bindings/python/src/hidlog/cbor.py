@@ -35,7 +35,7 @@ def encode(value: Any) -> bytes:
 def _encode(value: Any, level: int) -> bytes:
     """Returns the canonical encoding of a value at a nesting level."""
     if level > _MAX_LEVELS:
-        raise CborError(f"the value has more than {_MAX_LEVELS} levels")
+        raise CborError(f"the value is nested deeper than {_MAX_LEVELS} levels")
     encoder = _ENCODERS.get(type(value)) or _find_encoder(value)
     return encoder(value, level)
 
@@ -129,7 +129,7 @@ def _read_item(data: bytes, at: int, level: int) -> tuple[Any, int]:
     if major in (2, 3):
         return _read_text(data, at, major, number)
     if major in (4, 5) and level == _MAX_LEVELS:
-        raise CborError(f"the CBOR item has more than {_MAX_LEVELS} levels")
+        raise CborError(f"the CBOR item is nested deeper than {_MAX_LEVELS} levels")
     if major == 4:
         return _read_items(data, at, number, level + 1)
     if major == 5:
@@ -137,7 +137,7 @@ def _read_item(data: bytes, at: int, level: int) -> tuple[Any, int]:
     if major == 7 and number in _SIMPLE:
         return _SIMPLE[number], at
     if major > 1:
-        raise CborError(f"CBOR major type {major} with {number} is not supported")
+        raise CborError(f"CBOR major type {major} with the argument {number} is not supported")
     return -1 - number, at
 
 

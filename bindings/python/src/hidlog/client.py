@@ -70,7 +70,7 @@ class Client:
         self, sent: packets.Message, is_cancelled: Callable[[], bool], on_keepalive: Callable[[int], None]
     ) -> bytes:
         """Reads the response to a message, and returns its data."""
-        collector, has_cancelled, last = packets.Collector(), False, -1
+        collector, has_cancelled, last = packets.MessageReassembler(), False, -1
         while True:
             if not has_cancelled and is_cancelled():
                 cancel = packets.Message(sent.channel, packets.CANCEL, b"")

@@ -50,7 +50,7 @@ _DEFAULT_CAPACITY = 64
 # Values of enum hidlog_need_kind.
 _NEED_NAMES = ("nothing", "presence", "key", "signature")
 _NEED_SIGNATURE = 3
-# Argument `which` of hidlog_key_cause for the last input, and maximum length of a sentence.
+# Argument `which` of hidlog_key_cause for the last input, and the maximum length of a cause.
 _CAUSE_OF_INPUT = 1
 _MAX_SENTENCE = 160
 # hidlog_key_replay_lines writes at most 18,000 bytes for a line, of which 17,000 are for a response. Inputs are passed

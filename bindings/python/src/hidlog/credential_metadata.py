@@ -37,7 +37,7 @@ class CredentialMetadata:
     """Data of credentials that the core does not store, by the core's credential ID.
 
     others      private keys of other algorithms than the core's ES256.
-    extensions  what a credential keeps of its extensions (key_extensions.py).
+    extensions  extension data of credentials (key_extensions.py).
     """
 
     def __init__(self) -> None:

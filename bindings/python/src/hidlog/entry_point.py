@@ -129,7 +129,8 @@ def _handle_signals(before: Any, handler: Any = None) -> None:
 
 
 def restore_signals() -> None:
-    """Restores the signal handling that the program expects, since Python ignores SIGXFSZ. Both ignore SIGPIPE."""
+    """Restores the signal handling that the program expects, since Python ignores SIGXFSZ. SIGPIPE stays ignored, as
+    the program expects."""
     _handle_signals(_raise_stopped, signal.SIG_DFL)
     if hasattr(signal, "SIGXFSZ"):
         signal.signal(signal.SIGXFSZ, signal.SIG_DFL)
@@ -202,7 +203,7 @@ def _flush() -> None:
 
 
 def run_as_program(command: Callable[[], int]) -> int:
-    """Runs a command, within `run`, that exits as the program `hidlog` does, including on failures and signals."""
+    """Runs a command inside `run`, and exits as the program `hidlog` does, even on failures and signals."""
     restore_signals()
     try:
         return _run_and_flush(command)

@@ -116,7 +116,7 @@ def status_code(status: int | str) -> int:
     if isinstance(status, int) and not isinstance(status, bool) and 0 <= status <= 0xFF:
         return status
     raise ArgumentError(
-        f"unknown status {describe(status)}; it must be a number up to 0xFF, or one of {', '.join(numbers)}"
+        f"unknown status {describe(status)}; it must be a number from 0 to 0xFF, or one of {', '.join(numbers)}"
     )
 
 

@@ -16,7 +16,7 @@ from typing import Any, Union
 from .errors import ArgumentError
 
 _PRIVATE, _OF_UMASK = 0o600, 0o666
-# File names have at most 255 bytes, and characters at most 4.
+# A file name has at most 255 bytes, and a character at most 4.
 _MAX_NAME_BYTES = 40
 # Number of attempts to find a writer of a named pipe, and seconds between them.
 _TRIES, _PAUSE = 50, 0.1

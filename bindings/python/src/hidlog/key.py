@@ -70,7 +70,8 @@ class SecurityKey(Session):
     default_backup_eligibility, default_backup_state   the flags BE and BS of new credentials, also set outside the
                                                        core.
 
-    These, too, are outside of the core, in what a browser returns, each with a comment in the recording:
+    The following options are also implemented outside the core. They change what a browser returns, and each adds a
+    comment to the recording:
 
     attestation        "self": the core's, whatever the page requests. "none". "basic": packed by a certificate of the
                        test root (hidlog.attestation_certificates) if the page requests an attestation, and none if not.
@@ -79,7 +80,7 @@ class SecurityKey(Session):
                        first one of the page's list.
     extensions         "prf", "largeBlob", "credProtect", "credBlob", "minPinLength".
     autofill           "selected": a sign-in with mediation "conditional" waits for Browser.select_account. "automatic":
-                       the account signs in that would without mediation, as with Chromium's virtual authenticator.
+                       the same account signs in as without mediation, as with Chromium's virtual authenticator.
     """
 
     @property

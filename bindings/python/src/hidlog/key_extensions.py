@@ -47,7 +47,8 @@ def drop_list_inputs(inputs: Json) -> Json:
 def _select_protection(selection: Json) -> int:
     """Returns the protection policy of a discoverable credential if the page requests none.
 
-    As in Chromium, user verification is required if a discoverable credential is, and user verification is preferred.
+    As in Chromium, the policy requires user verification if the page requires a discoverable credential and neither
+    requires nor discourages user verification.
     """
     resident, verification = selection.get("residentKey"), selection.get("userVerification")
     is_required = resident == "required" or (

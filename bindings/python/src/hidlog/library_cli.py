@@ -149,12 +149,12 @@ def run(words: list[str]) -> int:
             more = f"\n  {_DAMAGED_MESSAGE}" if isinstance(error, _DamagedError) else ""
             return _print_error(f"cannot read snapshot{more}", _REFUSED)
         front = f"{file}: " if len(files) > 1 else ""
-        one = _run_live(log, snapshot) if command == "live" else _run_one(command, log, snapshot, explain, front)
+        one = _run_live(log, snapshot) if command == "live" else _run_on_log(command, log, snapshot, explain, front)
         status = max(status, one)
     return status
 
 
-def _run_one(command: str, log: _LogReader, snapshot: bytes, explain: bool, front: str) -> int:
+def _run_on_log(command: str, log: _LogReader, snapshot: bytes, explain: bool, front: str) -> int:
     """Runs a command on one complete log."""
     data = b"".join(log.iter_pieces())
     if log.has_failed:

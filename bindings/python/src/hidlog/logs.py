@@ -64,7 +64,8 @@ def _run(command: str, log: bytes, snapshot: bytes | None) -> LogResult:
 
 
 def _call_with_buffer(call: Callable[[int], tuple[core.Result, bytes]], length: int) -> LogResult:
-    """Calls with a buffer for a text of this length, and again with a larger one while it is too small."""
+    """Calls a function with the capacity of a buffer for a text of this length, and again with more capacity while the
+    buffer is too small."""
     capacity = length + 4096
     while True:
         result, text = call(capacity)

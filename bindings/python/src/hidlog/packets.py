@@ -47,7 +47,7 @@ __all__ = [
     "fragment_message",
 ]
 
-# The sequence number if no message is open, which no packet has.
+# The state of a channel without an open message. No packet has the sequence number -1.
 _NO_MESSAGE = (0, 0, -1, b"")
 
 
@@ -75,7 +75,7 @@ def fragment_message(message: Message) -> list[bytes]:
         head, number = channel + bytes([number]), number + 1
 
 
-class Collector:
+class MessageReassembler:
     """Reassembles the messages of one direction, on any number of channels."""
 
     __slots__ = ("_open",)

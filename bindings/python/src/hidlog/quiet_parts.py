@@ -10,14 +10,14 @@ from . import logs
 from .captures import conformance
 from .errors import LogError
 
-# A row of `hidlog_transactions` that begins a transaction, or that ends some: the line's number, and the words.
+# A row of `hidlog_transactions` that begins or ends transactions: the line's number, and the words after it.
 _EVENT = re.compile(rb"^(\d+) (?:\1 \d+(.*)|\d+ \d+( .+))$", re.MULTILINE)
 # Minimum length of a part. A part is longer if no line is found at which to split.
 _PART_BYTES = 1 << 18
 
 
 class InvalidLineError(LogError):
-    """A log has an invalid line.
+    """An invalid line in a log.
 
     line   the line.
     """
@@ -31,7 +31,8 @@ class InvalidLineError(LogError):
 
 
 class QuietParts:
-    """A log, read in any pieces, in parts of whole lines, between which no transaction is open.
+    """Splits a log, which is read in pieces of any length, into parts of whole lines. No transaction is open between
+    two parts.
 
     Iterating raises InvalidLineError at an invalid line."""
 
@@ -61,13 +62,13 @@ class QuietParts:
         yield text
 
     def list_owners(self, text: bytes) -> bytes:
-        """Returns to which transaction each line belongs, of the last part or of a piece of it."""
+        """Returns the transaction of each line of `text`, which is the last part that was yielded or a piece of it."""
         return self._owners if text is self._part else _list_owners(text, 0)
 
 
 def _list_owners(text: bytes, lines_before: int) -> bytes:
     """Returns to which transaction each line belongs (hidlog_transactions of hidlog.h)."""
-    result = logs.transactions(conformance.load_module("judged_log").walked(text))
+    result = logs.transactions(conformance.load_module("judged_log").pad_truncated_packets(text))
     if result.status:
         line = text.split(b"\n", result.line)[result.line - 1] if result.line else b""
         try:

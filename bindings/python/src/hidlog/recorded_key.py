@@ -36,7 +36,7 @@ class RecordedKey:
     packets.
 
     The client's packets may differ in: the nonce of INIT, the channel ID, the bytes after a message, the number of
-    INITs, and the time of a CANCEL. Used in a `with` statement, it also raises if the client sent less.
+    INITs, and the time of a CANCEL. Used in a `with` statement, it also raises an error if the client sent less.
     """
 
     def __init__(self, log: bytes):
@@ -64,7 +64,9 @@ class RecordedKey:
         if not is_init:
             self._skip_inits(packet)
         if self._index == len(self._lines):
-            raise ReplayMismatchError(f"end of recording: unexpected packet {self._sent} of the client, {packet.hex()}")
+            raise ReplayMismatchError(
+                f"end of recording: the client sends another packet (its packet {self._sent}), {packet.hex()}"
+            )
         line = self._lines[self._index]
         self._compare(packet, line)
         self._index += 1
@@ -160,7 +162,7 @@ class RecordedKey:
             self._last_packet = self._packets.popleft()
             return self._last_packet
         if self._index == len(self._lines):
-            raise KeyTimeoutError("end of recording")
+            raise KeyTimeoutError("end of recording: no packet is left for the client")
         last = self._last_packet
         if self._is_at(_CANCEL) and last is not None and last[4] == 0x80 | packets.KEEPALIVE:
             time.sleep(min(_KEEPALIVE_SECONDS, _KEEPALIVE_SECONDS if timeout is None else max(0.0, timeout)))

@@ -68,7 +68,7 @@ class _RequestInProgress:
 
     def __init__(self, session: Session, request: Message):
         self._session, self._request = session, request
-        self._collector = packets.Collector()
+        self._collector = packets.MessageReassembler()
 
     def response(self) -> bytes:
         """Returns the response. An ERROR raises CtapError, as in Client."""

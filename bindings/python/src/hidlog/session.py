@@ -21,7 +21,7 @@ from .in_process_key import InProcessKey
 from .log_lines import Engine, Field, Need, format_comments
 from .credential_metadata import CredentialMetadata
 from .ctap_response import Change
-from .departures import Departures
+from .core_additions import CoreAdditions
 from .presence import Presence, User
 from .private_keys import load_private_keys
 from .subprocess_key import SubprocessKey
@@ -108,7 +108,7 @@ class Session(AuthenticatorSettings):
             extensions=extensions,
             autofill=autofill,
         )
-        self._no_departures = self._departures = Departures(self, self._metadata)
+        self._no_additions = self._additions = CoreAdditions(self, self._metadata)
         self._change: Change | None = None
         self._clock: Clock = clock
         self._random = check_callable("random", random, "n random bytes for a number n")
@@ -151,19 +151,19 @@ class Session(AuthenticatorSettings):
         self._acquire_lock()
         return self._exchange_lock
 
-    def departing(self, departures: Departures | None, is_verified: bool) -> AbstractContextManager[Any]:
+    def applying_additions(self, additions: CoreAdditions | None, is_verified: bool) -> AbstractContextManager[Any]:
         """Within the context, applies the features outside the core to the request, if any."""
-        if departures is None and not is_verified:
+        if additions is None and not is_verified:
             return _NO_CONTEXT
-        return self._depart(departures or Departures(self, self._metadata), is_verified)
+        return self._apply_additions(additions or CoreAdditions(self, self._metadata), is_verified)
 
     @contextmanager
-    def _depart(self, departures: Departures, is_verified: bool) -> Iterator[None]:
-        departures.is_verified, self._departures = is_verified, departures
+    def _apply_additions(self, additions: CoreAdditions, is_verified: bool) -> Iterator[None]:
+        additions.is_verified, self._additions = is_verified, additions
         try:
             yield
         finally:
-            self._departures = self._no_departures
+            self._additions = self._no_additions
 
     def _make_engine(self, snapshot: bytes) -> Engine:
         if self._process:
@@ -177,7 +177,7 @@ class Session(AuthenticatorSettings):
         self._start, self._log = snapshot, bytearray()
         self._time, self._work = Time(), Work()
         self._packets = PacketQueue()
-        self._from_host, self._from_key = packets.Collector(), packets.Collector()
+        self._from_host, self._from_key = packets.MessageReassembler(), packets.MessageReassembler()
         # Packets of an incomplete response.
         self._response_packets: list[bytes] = []
 
@@ -304,8 +304,8 @@ class Session(AuthenticatorSettings):
             self._wait_for_user(is_over=True)
 
     def _pause(self, limit: float) -> bool:
-        """Returns True if 100 ms of real time have passed since the last time. Otherwise waits for that time or a
-        change, and returns False."""
+        """Returns True if 100 ms of real time have passed since the last call that returned True. Otherwise waits until
+        then or until a change, and returns False."""
         now = time.monotonic()
         if now >= self._work.waited_until:
             self._work.waited_until = now + _KEEPALIVE_SECONDS
@@ -367,7 +367,7 @@ class Session(AuthenticatorSettings):
             self._forget_keys()
         self.private_keys[credential] = private
         self._metadata.back_up(credential, self._backup)
-        self._departures.add(credential, self._random_bytes)
+        self._additions.add(credential, self._random_bytes)
         return "k", credential, x, y
 
     def _forget_keys(self) -> None:
@@ -388,7 +388,7 @@ class Session(AuthenticatorSettings):
         if private is None:
             return "s", "no"
         original, client_hash = need.signed[:-_HASH], need.signed[-_HASH:]
-        changed, comments = self._departures.alter(need.credential, original)
+        changed, comments = self._additions.alter(need.credential, original)
         for text in comments:
             self.add_comment(f"outside of the core: {text}")
         data, faults = self.faults.alter_data(need.credential, changed)
@@ -396,7 +396,7 @@ class Session(AuthenticatorSettings):
         if is_bad:
             private = private_keys.make_private_key(self._random_bytes)
             self._add_effect("signed with a different private key")
-        completed = self._departures.complete(need.credential, signed, is_bad, self._random_bytes)
+        completed = self._additions.complete(need.credential, signed, is_bad, self._random_bytes)
         is_same = data == original and not any(completed)
         self._change = None if is_same else Change(original, data, faults, *completed)
         return "s", private_keys.sign(private, signed)

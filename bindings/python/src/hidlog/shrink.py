@@ -84,7 +84,7 @@ class Failure:
     packet: bytes = b""
 
 
-def blocks_of(text: bytes) -> list[Block]:
+def split_blocks(text: bytes) -> list[Block]:
     """Splits a log into blocks."""
     blocks: list[Block] = []
     for number, line in enumerate(text.splitlines(keepends=True), 1):
@@ -95,7 +95,7 @@ def blocks_of(text: bytes) -> list[Block]:
     return blocks
 
 
-def joined(blocks: Iterable[Block]) -> bytes:
+def join_blocks(blocks: Iterable[Block]) -> bytes:
     return b"".join(block.text for block in blocks)
 
 
@@ -134,7 +134,7 @@ class Command:
 
     def find_failure(self, blocks: list[Block]) -> Optional[Failure]:
         """Returns how the command fails on the log of these blocks, or None if it succeeds."""
-        ran = subprocess.run(self.words, input=joined(blocks), capture_output=True)
+        ran = subprocess.run(self.words, input=join_blocks(blocks), capture_output=True)
         errors, output = ran.stderr.decode(errors="replace"), ran.stdout.decode(errors="replace")
         self.message = errors.partition("\n")[0]
         if ran.returncode == 0:
@@ -161,7 +161,7 @@ class Command:
             return b""
         words = ["replay" if word == "check" else word for word in self.words if word not in CHECK_OPTIONS]
         upto = blocks[: blocks.index(block) + 1]
-        sent = blocks_of(subprocess.run(words, input=joined(upto), capture_output=True).stdout)
+        sent = split_blocks(subprocess.run(words, input=join_blocks(upto), capture_output=True).stdout)
         inputs = [piece for piece in sent if not piece.text.startswith(b"=")]
         packets = inputs[-1].text.splitlines()[1:] if inputs else []
         at = int(named[1]) - 1
@@ -176,7 +176,7 @@ class Shrinking:
         self.blocks = blocks
         self.wanted = wanted
         self.tell = tell
-        self.whole = len(joined(blocks).splitlines())
+        self.whole = len(join_blocks(blocks).splitlines())
 
     def try_blocks(self, blocks: list[Block]) -> bool:
         """Keeps only these blocks if the command fails on them as expected. Returns whether it fails so."""
@@ -185,7 +185,7 @@ class Shrinking:
         is_shorter = len(blocks) < len(self.blocks)
         self.blocks = blocks
         if is_shorter:
-            self.tell(f"{len(joined(blocks).splitlines())} of {self.whole} lines left")
+            self.tell(f"{len(join_blocks(blocks).splitlines())} of {self.whole} lines left")
         return True
 
     def run(self) -> None:
@@ -217,11 +217,11 @@ class Shrinking:
             del left[first:end]
             return True
 
-        each_chunk(len(left), try_removing)
+        for_each_chunk(len(left), try_removing)
 
     def remove_blocks(self) -> None:
         """Removes blocks, as many at a time as possible."""
-        each_chunk(len(self.blocks), lambda first, end: self.try_blocks(self.blocks[:first] + self.blocks[end:]))
+        for_each_chunk(len(self.blocks), lambda first, end: self.try_blocks(self.blocks[:first] + self.blocks[end:]))
 
     def replace_with_ticks(self) -> None:
         """Replaces inputs by ticks, if the command still fails as expected."""
@@ -231,7 +231,7 @@ class Shrinking:
                 self.try_blocks(self.blocks[:place] + [tick] + self.blocks[place + 1 :])
 
 
-def each_chunk(count: int, remove: Callable[[int, int], bool]) -> None:
+def for_each_chunk(count: int, remove: Callable[[int, int], bool]) -> None:
     """Calls remove on chunks of `count` items: first on halves, then on smaller and smaller chunks, each time beginning
     with the last chunk."""
     size = max(1, count // 2)
@@ -255,7 +255,7 @@ def print_message(text: str) -> None:
 def read_log(name: str) -> list[Block]:
     """Returns the blocks of a log file, or of standard input."""
     number = 0 if name == "-" else os.open(name, os.O_RDONLY)
-    return blocks_of(b"".join(iter(lambda: os.read(number, 1 << 16), b"")))
+    return split_blocks(b"".join(iter(lambda: os.read(number, 1 << 16), b"")))
 
 
 class StoppedError(BaseException):
@@ -333,7 +333,7 @@ def shrink(command: Command, blocks: list[Block]) -> int:
         status = 2
     if status:
         print_message("the shortest log so far was written" if shrinking else "nothing was written")
-    return status if shrinking is None else write(joined(shrinking.blocks)) or status
+    return status if shrinking is None else write(join_blocks(shrinking.blocks)) or status
 
 
 def write(log: bytes) -> int:

@@ -103,7 +103,7 @@ class SubprocessKey:
         except OSError as error:
             self._folder.cleanup()
             raise MissingDependencyError(f"{words[0]} cannot be started: {error}") from None
-        # A running process keeps its pipes open even if nothing refers to it.
+        # A running process keeps its pipes open even if no object refers to the process.
         self._end = weakref.finalize(self, _kill_process, self._process, self._folder, os.getpid())
         self._all.add(self)
 

@@ -29,7 +29,7 @@ from .webauthn_errors import (
     describe_status,
 )
 
-# A failed test shows the line that called the browser, and not these functions (pytest --full-trace does).
+# In the traceback of a failed test, pytest hides this module's functions unless called with --full-trace.
 __tracebackhide__ = True
 Json = dict[str, Any]
 # Values of enum hidlog_client_ceremony.
@@ -119,7 +119,9 @@ def _load_functions() -> tuple[Any, Any]:
     """Returns the library's functions that write a request and a credential."""
     library = core.load_library()
     if not hasattr(library, "hidlog_client_request"):
-        raise MissingDependencyError("this libhidlog has no WebAuthn client; a browser needs libhidlog of this version")
+        raise MissingDependencyError(
+            "this libhidlog has no WebAuthn client; a Browser needs libhidlog of the same version"
+        )
     request, response = library.hidlog_client_request, library.hidlog_client_response
     request.argtypes, request.restype = [*_INPUTS, *_RESULTS], ctypes.c_int64
     response.argtypes, response.restype = [*_INPUTS, _BYTES, _SIZE, *_RESULTS], ctypes.c_int64

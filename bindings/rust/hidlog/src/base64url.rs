@@ -12,7 +12,7 @@ pub(crate) fn encode(bytes: &[u8]) -> String {
     text
 }
 
-/// Decodes a text. Returns `None` if the text is not base64url without padding.
+/// Decodes a text. Returns `None` if a character is not in the alphabet.
 pub(crate) fn decode(text: &str) -> Option<Vec<u8>> {
     let (mut bytes, mut number, mut bits) = (Vec::new(), 0u32, 0);
     for character in text.bytes() {

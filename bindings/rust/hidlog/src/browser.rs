@@ -1,6 +1,6 @@
 use crate::base64url;
 use crate::cbor::Item;
-use crate::client::{Ceremony, Client};
+use crate::client::{Ceremony, ClientCall};
 use crate::options::{flag_names, FLAG_UV};
 use crate::private_keys::{sha256, PrivateKey};
 use crate::{Error, Id, SecurityKey};
@@ -68,7 +68,7 @@ pub struct RegistrationResponse {
     pub attestation_object: Vec<u8>,
     /// `getAuthenticatorData()`.
     pub authenticator_data: Vec<u8>,
-    /// `getPublicKey()`, a SubjectPublicKeyInfo.
+    /// The result of `getPublicKey()`: a SubjectPublicKeyInfo.
     pub public_key: Vec<u8>,
     json: String,
 }
@@ -255,7 +255,7 @@ impl Browser {
     fn call(&mut self, ceremony: Ceremony, options: &str, account: usize) -> Result<String, Error> {
         let (origin, mediation, abilities) =
             (self.origin.clone(), self.mediation.clone(), self.key.options.abilities());
-        let client = Client { ceremony, options, mediation: &mediation, origin: &origin, abilities };
+        let client = ClientCall { ceremony, options, mediation: &mediation, origin: &origin, abilities };
         let (request, is_verified) = client.build_request()?;
         let mut response = self.exchange(&request)?;
         for _ in 0..account {

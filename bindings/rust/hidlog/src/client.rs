@@ -6,7 +6,7 @@ use hidlog_sys as sys;
 
 /// Maximum length of a credential's JSON in bytes.
 const CREDENTIAL_CAPACITY: usize = 16384;
-/// The public suffix of a host: empty for the last label.
+/// No public suffix, so the library takes the last label of the origin's host as the suffix. Passed with length 0.
 const NO_SUFFIX: [u8; 1] = [0];
 
 /// A method of `navigator.credentials`.
@@ -18,7 +18,7 @@ pub(crate) enum Ceremony {
 
 /// A call of `navigator.credentials`: the method, the options as JSON, the mediation, the page's origin, and the key's
 /// abilities.
-pub(crate) struct Client<'a> {
+pub(crate) struct ClientCall<'a> {
     pub(crate) ceremony: Ceremony,
     pub(crate) options: &'a str,
     pub(crate) mediation: &'a str,
@@ -26,7 +26,7 @@ pub(crate) struct Client<'a> {
     pub(crate) abilities: u32,
 }
 
-impl Client<'_> {
+impl ClientCall<'_> {
     fn ceremony_code(&self) -> u32 {
         match self.ceremony {
             Ceremony::Create => sys::HIDLOG_CLIENT_CREATE,

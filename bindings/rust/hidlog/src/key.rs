@@ -68,14 +68,14 @@ pub struct Recording {
 /// Part of a key's memory, with the alignment that the library requires. Before Rust 1.77, that of `u128` is 8 on x86-64.
 #[repr(align(16))]
 #[derive(Clone, Copy)]
-struct Block(#[allow(dead_code)] [u8; 16]);
+struct AlignedBlock(#[allow(dead_code)] [u8; 16]);
 
 /// The verified core alone: packets and replies in, packets out. Times are in milliseconds. Each input is recorded. An
 /// input that returns an error does not change the authenticator.
 pub struct Authenticator {
     // While the key is initialized, `key` points to `_memory`, and the library requires that neither moves.
     key: Box<sys::hidlog_key>,
-    _memory: Vec<Block>,
+    _memory: Vec<AlignedBlock>,
     recordings: Vec<Recording>,
 }
 
@@ -91,7 +91,7 @@ impl Authenticator {
     pub fn new(snapshot: &[u8]) -> Result<Authenticator, Error> {
         // SAFETY: the function has no arguments and no state.
         let size = unsafe { sys::hidlog_key_size() };
-        let mut memory = vec![Block([0; 16]); (size + 15) / 16];
+        let mut memory = vec![AlignedBlock([0; 16]); (size + 15) / 16];
         let mut key = Box::new(sys::hidlog_key { memory: memory.as_mut_ptr().cast(), state: 0 });
         let aaguid = [0u8; 16];
         // SAFETY: no pointer is null, not even that of an empty slice. The memory has the size that the library needs,

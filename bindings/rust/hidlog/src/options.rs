@@ -48,7 +48,7 @@ impl AuthenticatorOptions {
         verification | platform | resident_key
     }
 
-    /// Returns the flags of a new credential.
+    /// Returns the flags BE and BS of a new credential.
     pub(crate) fn backup_flags(&self) -> u8 {
         let eligible = if self.backup_eligible { FLAG_BE } else { 0 };
         eligible | if self.backed_up { FLAG_BS } else { 0 }

@@ -111,7 +111,7 @@ impl PrivateKey {
         Ok([&SPKI_PREFIX[..], &x, &y].concat())
     }
 
-    /// Signs a text with ECDSA and SHA-256 (DER).
+    /// Signs a message with ECDSA and SHA-256 (DER).
     ///
     /// # Errors
     ///

@@ -62,7 +62,7 @@ impl SecurityKey {
         self.powered_up.elapsed().as_millis() as u64
     }
 
-    /// Returns the private key of the credential with this ID.
+    /// Returns the private key of the credential with this ID, if any.
     pub fn private_key(&self, id: &Id) -> Option<&PrivateKey> {
         self.private_keys.get(id)
     }
@@ -77,8 +77,9 @@ impl SecurityKey {
     ///
     /// # Errors
     ///
-    /// [`Error::InvalidArgument`] if the user handle or the user name is longer than 64 bytes. [`Error::Core`] if the
-    /// key is full, or another discoverable credential has the same RP and user. [`Error::OpenSsl`] if OpenSSL fails.
+    /// [`Error::InvalidArgument`] if the user handle or the user name is longer than 64 bytes. [`Error::Core`] if a
+    /// request is in progress, the key is full, or another discoverable credential has the same RP and user.
+    /// [`Error::OpenSsl`] if OpenSSL fails.
     pub fn add(&mut self, credential: &Credential, private_key: PrivateKey) -> Result<(), Error> {
         let (x, y) = private_key.point()?;
         self.authenticator.add(&Credential { x, y, ..credential.clone() })?;
@@ -91,7 +92,7 @@ impl SecurityKey {
     ///
     /// # Errors
     ///
-    /// [`Error::Core`] if no credential has this ID.
+    /// [`Error::Core`] if no credential has this ID, or a request is in progress.
     pub fn remove(&mut self, id: &Id) -> Result<(), Error> {
         self.channel = None;
         self.authenticator.remove(id)

@@ -96,7 +96,7 @@ fn exchanges_json() {
 
 /// Flags, attestation and mediation, which are outside the core.
 #[test]
-fn has_authenticator_options() {
+fn applies_authenticator_options() {
     let mut browser = new_browser();
     let verified = AuthenticatorOptions { verification: Verification::Verified, ..AuthenticatorOptions::default() };
     browser.key.options =
@@ -126,12 +126,12 @@ fn has_authenticator_options() {
     check_recordings(browser.key.recordings());
 }
 
-/// Returns the flags of a credential's JSON. In base64url, the 32 bytes before them and the flags' first two bits have 43
-/// letters.
+/// Returns the flags of a credential's JSON. In the base64url text, the RP ID hash (32 bytes) and the two highest bits
+/// of the flags take the first 43 characters.
 fn read_flags(json: &str) -> u8 {
-    const LETTERS: &[u8] = b"ABCDEFGHIJKLMNOPQRSTUVWXYZabcdefghijklmnopqrstuvwxyz0123456789-_";
+    const ALPHABET: &[u8] = b"ABCDEFGHIJKLMNOPQRSTUVWXYZabcdefghijklmnopqrstuvwxyz0123456789-_";
     let (_, data) = json.split_once(r#""authenticatorData":""#).unwrap();
-    let bits = |at: usize| LETTERS.iter().position(|letter| *letter == data.as_bytes()[at]).unwrap();
+    let bits = |at: usize| ALPHABET.iter().position(|letter| *letter == data.as_bytes()[at]).unwrap();
     (bits(42) << 6 | bits(43)) as u8
 }
 
@@ -149,7 +149,7 @@ fn follows_presence_sequence() {
 
 /// If the key rejected a request, the error ends with the key's cause. The error of an injected status has no cause.
 #[test]
-fn errors_say_why() {
+fn errors_end_with_causes() {
     let mut browser = new_browser();
     let text = |error: Error| error.to_string();
     let none = "no discoverable credential of this RP on this key";

@@ -37,7 +37,7 @@ def is_python_fido2(line: bytes) -> bool:
     return _TRAFFIC.search(line) is not None
 
 
-class _Libfido2:
+class _HexDumpReader:
     """Reads hex dumps. Sent messages are split into packets, on the channel of the INIT response."""
 
     def __init__(self, source: Source):
@@ -108,7 +108,7 @@ class _Libfido2:
 
 def read_libfido2(lines: Iterable[bytes], source: Source) -> list[Stream]:
     """Returns the streams of libfido2's debug output: one, or one per device named in comments."""
-    reader = _Libfido2(source)
+    reader = _HexDumpReader(source)
     source.note(_NO_TIMESTAMPS_NOTE)
     source.note(ONE_CLIENT_NOTE)
     for line in lines:

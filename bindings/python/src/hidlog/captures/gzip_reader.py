@@ -60,5 +60,5 @@ def unpack(file: Readable, front: bytes) -> Unpacked:
         length += len(piece)
     if max(length, len(packed)) > MAX_UNPACKED:
         size = f"{MAX_UNPACKED >> 20} MiB"
-        raise CaptureError(f"the capture unpacks to more than {size}; unpack it first, with gunzip")
+        raise CaptureError(f"the gzip file is larger than {size}, packed or unpacked; unpack it first, with gunzip")
     return Unpacked(io.BytesIO(packed), b"")

@@ -22,7 +22,7 @@ _WINDOW, _MAX_WINDOW = 1 << 12, 1 << 14
 Derived = tuple[bytes, bytes, str]
 
 
-class Placed(NamedTuple):
+class TimedPacket(NamedTuple):
     """A packet with the timestamp in the log and the data. The data is empty if a part of it is missing."""
 
     packet: Packet
@@ -30,20 +30,20 @@ class Placed(NamedTuple):
     data: bytes
 
 
-class Inferred(NamedTuple):
+class PacketWithReplies(NamedTuple):
     """A packet with the replies that precede it, and whether it is a KEEPALIVE sent because time had passed."""
 
-    placed: Placed
+    placed: TimedPacket
     replies: Sequence[Derived] = ()
     is_periodic: bool = False
 
 
-def infer_replies(placed: Iterable[Placed], window: int = _WINDOW) -> Iterator[Inferred]:
+def infer_replies(placed: Iterable[TimedPacket], window: int = _WINDOW) -> Iterator[PacketWithReplies]:
     """Yields the packets with the replies inferred from them.
 
     Keeps `window` packets in memory, or up to _MAX_WINDOW while transactions are open. For a transaction that is open
     for longer, no replies are inferred."""
-    held: list[Placed] = []
+    held: list[TimedPacket] = []
     limit = window
     for packet in placed:
         held.append(packet)
@@ -63,7 +63,7 @@ class _Replies:
     last_quiet   number of packets up to the last one after which no transaction is open.
     """
 
-    def __init__(self, placed: list[Placed]):
+    def __init__(self, placed: list[TimedPacket]):
         self._placed = placed
         self._lines: dict[int, list[Derived]] = {}
         self.last_quiet = 0
@@ -73,10 +73,10 @@ class _Replies:
             if transaction.command == hid.CBOR and transaction.answer and transaction.data:
                 self._infer_replies(transaction)
 
-    def iter_inferred(self, count: int) -> Iterator[Inferred]:
+    def iter_inferred(self, count: int) -> Iterator[PacketWithReplies]:
         """Yields the first packets."""
         for number, placed in enumerate(self._placed[:count]):
-            yield Inferred(placed, self._lines.get(number, ()), number in self._due)
+            yield PacketWithReplies(placed, self._lines.get(number, ()), number in self._due)
 
     def _infer_transactions(self) -> list[Any]:
         """Infers the transactions of a log with two lines per packet (a tick, then the packet, possibly empty).
@@ -90,11 +90,11 @@ class _Replies:
         found, owners = module.Transactions(), module.Owners(logs.transactions(b"".join(lines)).raise_for_fault().text)
         for number, (packet, at, data) in enumerate(self._placed):
             found.advance_time(at)
-            found.passed(2 * number + 1, owners.ends(2 * number + 1))
+            found.handle_reply(2 * number + 1, owners.ends(2 * number + 1))
             if data and packet.sent:
-                found.host(2 * number + 2, at, data, owners.of(2 * number + 2))
+                found.handle_host_packet(2 * number + 2, at, data, owners.of(2 * number + 2))
             elif data:
-                found.device(2 * number + 2, data, owners.of(2 * number + 2))
+                found.handle_device_packet(2 * number + 2, data, owners.of(2 * number + 2))
             if found.is_quiet:
                 self.last_quiet = number + 1
         return list(found.take_entries())

@@ -9,7 +9,7 @@ from .. import logs
 from .. import packets as hid
 from ..errors import LogError
 from ..log_lines import format_comments
-from .inference import Inferred, Placed, infer_replies
+from .inference import PacketWithReplies, TimedPacket, infer_replies
 from .packet_store import Packet, Stream
 from .source import CaptureError
 
@@ -93,12 +93,12 @@ class _Writer:
         self._derives = derive
         self._has_timestamps = self._start is not None
 
-    def _iter_placed(self) -> Iterator[Placed]:
+    def _iter_placed(self) -> Iterator[TimedPacket]:
         """Yields the packets, each with the timestamp and the data, which is empty if a part of it is missing."""
         filled, now = _PacketCompleter(), 0
         for packet in self._stream.packets:
             now = max(now, self._time_ms(packet, now))
-            yield Placed(packet, now, filled.whole(packet) if packet.data and not packet.lost else b"")
+            yield TimedPacket(packet, now, filled.whole(packet) if packet.data and not packet.lost else b"")
 
     def _time_ms(self, packet: Packet, now: int) -> int:
         return now if packet.at is None or self._start is None else (packet.at - self._start) // 10**6
@@ -107,7 +107,7 @@ class _Writer:
         """Yields the lines."""
         yield from self._format_head(form, notes)
         placed = self._iter_placed()
-        for packet in infer_replies(placed) if self._derives else map(Inferred, placed):
+        for packet in infer_replies(placed) if self._derives else map(PacketWithReplies, placed):
             if packet.placed.packet.data:
                 yield from self._format_packet(packet)
 
@@ -126,7 +126,7 @@ class _Writer:
         for note in text:
             yield from format_comments(f"note: {note}")
 
-    def _format_packet(self, inferred: Inferred) -> Iterator[bytes]:
+    def _format_packet(self, inferred: PacketWithReplies) -> Iterator[bytes]:
         packet, data = inferred.placed.packet, inferred.placed.data
         at = max(self._now, self._time_ms(packet, self._now))
         if not data:
@@ -146,7 +146,7 @@ class _Writer:
             yield from self._lines_before(inferred, at)
         yield b"< " + data.hex().encode()
 
-    def _lines_before(self, inferred: Inferred, at: int) -> Iterator[bytes]:
+    def _lines_before(self, inferred: PacketWithReplies, at: int) -> Iterator[bytes]:
         """Yields the replies before a packet of the key, and a tick for its time."""
         for kind, words, reason in inferred.replies:
             self._now = at

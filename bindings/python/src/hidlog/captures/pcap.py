@@ -100,11 +100,13 @@ class _PcapngReader:
             if head[:4] == _SECTION:
                 order = self._source.peek(4)
                 if order not in _BYTE_ORDERS:
-                    raise CaptureError(f"the capture is invalid at byte {offset}: a section without a byte order")
+                    raise CaptureError(
+                        f"the capture is invalid at byte {offset}: a section header without a byte-order magic number"
+                    )
                 self._order = _BYTE_ORDERS[order]
             kind, length = struct.unpack(self._order + "II", head)
             if length < 12 or length % 4:
-                raise CaptureError(f"the capture is invalid at byte {offset}: a block of {length} bytes")
+                raise CaptureError(f"the capture is invalid at byte {offset}: a block length of {length}")
             body = self._source.read(length - 8)
             if len(body) < length - 8:
                 return self._report_truncated()

@@ -52,7 +52,9 @@ class Source:
     def read(self, count: int) -> bytes:
         """Reads the next bytes; fewer bytes at the end."""
         if count > MAX_RECORD:
-            raise CaptureError(f"the capture is invalid at byte {self.offset}: a record of {count} bytes")
+            raise CaptureError(
+                f"the capture is invalid at byte {self.offset}: a record of {count} bytes, above {MAX_RECORD}"
+            )
         data = self.peek(count)
         self._ahead = self._ahead[count:]
         self.offset += len(data)

@@ -45,7 +45,7 @@ def is_strace(line: bytes) -> bool:
 def unescape(text: bytes) -> bytes:
     """Decodes the escapes in a string of strace."""
 
-    def one(found: re.Match[bytes]) -> bytes:
+    def decode_escape(found: re.Match[bytes]) -> bytes:
         word = found[1]
         if word[:1] == b"x" and len(word) == 3:
             return bytes([int(word[1:], 16)])
@@ -53,7 +53,7 @@ def unescape(text: bytes) -> bytes:
             return bytes([int(word, 8) & 0xFF])
         return _ESCAPED_LETTERS.get(word, word)
 
-    return _ESCAPE.sub(one, text)
+    return _ESCAPE.sub(decode_escape, text)
 
 
 class _Reader:

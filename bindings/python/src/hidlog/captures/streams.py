@@ -135,7 +135,7 @@ class StreamFinder:
 
 def _is_duplicate(one: Stream, other: Stream) -> bool:
     """Returns whether the packets of one stream are a contiguous part of another stream. Then both are the same key,
-    recorded on two capture interfaces, of which one started later or ended earlier."""
+    recorded on two capture interfaces, one of them for a shorter time."""
     short, long = sorted((one.packets, other.packets), key=len)
     first = next(iter(short), None)
     if first is None:

@@ -74,7 +74,7 @@ class Authenticator:
         self.faults: Json = {}
         # What the user does. As in Chromium, the user does nothing without isUserConsenting.
         self.presence: str | list[str] = "granted" if options["isUserConsenting"] else "none"
-        # How often the presence has been set, and how many entries of the list are used.
+        # How often the presence has been set, and how many entries of the list have been used.
         self.serial, self.used = 0, 0
         self.lock = threading.RLock()
         # The account that signs in if there are several: an index, a user name or a credential ID.
@@ -189,7 +189,7 @@ class Authenticator:
             )
         listed = {made["credentialId"]: (made, raw) for made, raw in ((read_reported(raw), raw) for raw in reported)}
         if len(listed) != len(reported) or not all(is_valid_rp_id(made["rpId"], origin) for made, _ in listed.values()):
-            raise make_invalid_argument("a credential belongs to another origin")
+            raise make_invalid_argument("credentials has a duplicate or a credential of another origin")
         with self.lock:
             own = {credential["credentialId"] for credential in self.of_origin(origin, True)}
             if any(other["credentialId"] in listed and other["credentialId"] not in own for other in self.credentials):
@@ -202,7 +202,7 @@ class Authenticator:
                 if credential["credentialId"] not in dropped
             ]
             if len(kept) + len(fresh) > _MAX_CREDENTIALS:
-                raise make_invalid_argument(f"the authenticator has {_MAX_CREDENTIALS} credentials, the maximum")
+                raise make_invalid_argument(f"the authenticator can store at most {_MAX_CREDENTIALS} credentials")
             for credential, privates in fresh:
                 self._store(credential, privates)
             self.credentials = kept + [credential for credential, _ in fresh]
@@ -262,7 +262,7 @@ class Authenticator:
             check_choice("a fault", name, FAULT_NAMES)
         other = faults.get("wrongRpId")
         if other is not None and (not isinstance(other, str) or not other.isascii()):
-            raise make_invalid_argument("wrongRpId must be an RP ID")
+            raise make_invalid_argument("wrongRpId must be an ASCII string")
         with self.lock:
             self.faults = faults
 
@@ -297,7 +297,7 @@ class Authenticator:
                 or (held["rpIdHash"], held["userHandle"], held["isResidentCredential"]) != account
             ]
             if len(kept) >= _MAX_CREDENTIALS:
-                raise make_invalid_argument(f"the authenticator has {_MAX_CREDENTIALS} credentials, the maximum")
+                raise make_invalid_argument(f"the authenticator can store at most {_MAX_CREDENTIALS} credentials")
             self._store(made, privates)
             self.credentials = [*kept, made]
 

@@ -28,7 +28,7 @@ def _decode_bytes(message: Json, name: str) -> bytes:
             return base64.b64decode(text, validate=True)
     except binascii.Error:
         pass
-    raise make_invalid_argument(f"{name} must be base64")
+    raise make_invalid_argument(f"{name} must be base64 of at most {_MAX_TEXT_LENGTH} characters")
 
 
 def _encode_bytes(data: bytes) -> str:
@@ -80,12 +80,12 @@ class Channel:
         self._authenticator = self._recorder = None
         self._devtools.uninstall("globalThis.hidlogPage?.remove()")
 
-    def before(self) -> None:
+    def before_command(self) -> None:
         """Does nothing, since the authenticator is always up to date."""
 
-    after = before
+    after_command = before_command
 
-    def changed(self) -> None:
+    def after_change(self) -> None:
         """Sends changed settings to the documents, where a request may be waiting for the change."""
         for document in self._devtools.documents():
             if self._authenticator:

@@ -75,7 +75,7 @@ def read_options(requested: Json) -> Json:
     transport = requested.get("transport")
     options["transport"] = check_choice("transport", "hybrid" if transport == "cable" else transport, _TRANSPORTS)
     options["extensions"] = _read_extensions(requested, options)
-    options.update(_read_departures(requested, options["protocol"] == "ctap1/u2f"))
+    options.update(_read_core_additions(requested, options["protocol"] == "ctap1/u2f"))
     for name in ("hasResidentKey", "hasUserVerification"):
         if options["protocol"] == "ctap1/u2f" and options[name]:
             raise make_invalid_argument(f"{name} is true; a ctap1/u2f authenticator does not support it")
@@ -99,11 +99,13 @@ def _read_extensions(requested: Json, options: Json) -> list[str]:
     return extensions
 
 
-def _read_departures(requested: Json, is_u2f: bool) -> Json:
+def _read_core_additions(requested: Json, is_u2f: bool) -> Json:
     """Returns the options that WebDriver does not have. The defaults are those of Chromium's virtual authenticator."""
     algorithms = requested.get("algorithms", [ES256] if is_u2f else list(ALGORITHMS))
     if not isinstance(algorithms, list) or ES256 not in algorithms or set(algorithms) - set(ALGORITHMS):
-        raise make_invalid_argument(f"algorithms must be a list of {', '.join(map(str, ALGORITHMS))}, with {ES256}")
+        raise make_invalid_argument(
+            f"algorithms must be a list of {', '.join(map(str, ALGORITHMS))} that includes {ES256}"
+        )
     aaguid = requested.get("aaguid", _NO_AAGUID if is_u2f else _AAGUID)
     if not isinstance(aaguid, str) or not _UUID.match(aaguid):
         raise make_invalid_argument(f"aaguid is {aaguid!r}; it must be a UUID in lowercase")
@@ -150,7 +152,7 @@ def _to_state(credential: Json, defaults: tuple[bool, bool]) -> Json:
         raise make_invalid_argument("rpId must be the id of a relying party")
     count = credential.get("signCount")
     if isinstance(count, bool) or not isinstance(count, int) or not 0 <= count < 2**32:
-        raise make_invalid_argument("signCount must be a number from 0 to 2^32-1")
+        raise make_invalid_argument("signCount must be an integer from 0 to 2^32-1")
     credential_id = _read_bytes(credential, "credentialId", 1, MAX_ID)
     user = b"" if credential.get("userHandle") is None else _read_bytes(credential, "userHandle", 0, _MAX_USER_BYTES)
     name = _read_text(credential, "userName")
@@ -190,7 +192,9 @@ def read_credential(credential: Json, options: Json) -> tuple[Json, AnyKey]:
         raise make_invalid_argument("a resident credential needs a userHandle")
     private = _read_pkcs8(credential)
     if get_algorithm(private) not in options["algorithms"]:
-        raise make_invalid_argument(f"privateKey is of {get_algorithm(private)}, which is not in algorithms")
+        raise make_invalid_argument(
+            f"privateKey has the algorithm {get_algorithm(private)}, which is not in algorithms"
+        )
     kept = {"prf": True} if "prf" in options["extensions"] else {}
     if "largeBlob" in made:
         kept["largeBlob"] = made["largeBlob"]
@@ -209,7 +213,7 @@ def _read_kept_extensions(reported: Any) -> Json:
     if "credProtect" in reported:
         level = reported["credProtect"]
         if isinstance(level, bool) or level not in (1, 2, 3):
-            raise make_invalid_argument("credProtect must be 1 to 3")
+            raise make_invalid_argument("credProtect must be 1, 2 or 3")
         kept["credProtect"] = level
     return kept
 

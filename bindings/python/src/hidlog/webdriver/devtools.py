@@ -35,7 +35,7 @@ class Document:
 
     def __init__(self, target: str, number: int, unique_id: str, origin: str):
         self.target, self.number, self.unique_id, self.origin = target, number, unique_id, origin
-        # ID of the object that has the library as a function, in a document from which the key was removed.
+        # ID of the page's object with the library, kept when the key is removed from the document.
         self.library: str | None = None
 
 
@@ -179,7 +179,7 @@ class DevTools:
             try:
                 self._receive(document, event["payload"])
             except Exception as error:  # other pages must be served, whatever a page sends
-                print_error(f"a page's message failed: {error!r}")
+                print_error(f"handling a page's message failed: {error!r}")
 
     def _add_document(self, context: Json, target: str) -> None:
         if context.get("auxData", {}).get("isDefault") and _ORIGIN.match(context["origin"]):
@@ -273,10 +273,12 @@ class DevTools:
 def _read_url(address: str) -> str:
     """Returns the WebSocket URL of a browser's debugger, which must be on this machine."""
     if not _DEBUGGER_ADDRESS.match(address):
-        raise DriverError("unknown error", f"{address!r} is not a debugger on this machine")
+        raise DriverError("unknown error", f"{address!r} is not the address of a debugger on this machine")
     try:
         opener = urllib.request.build_opener(urllib.request.ProxyHandler({}))
         with opener.open(f"http://{address}/json/version", timeout=_TIMEOUT_SECONDS) as response:
             return str(parse_json(response.read(100_000))["webSocketDebuggerUrl"])
     except (OSError, ValueError, KeyError, TypeError) as error:
-        raise DriverError("unknown error", f"no response from the browser's debugger at {address}: {error}") from None
+        raise DriverError(
+            "unknown error", f"no valid response from the browser's debugger at {address}: {error}"
+        ) from None

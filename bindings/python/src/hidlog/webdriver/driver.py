@@ -116,7 +116,9 @@ class Driver:
                 connection = None
             return Response(response.status, data)
         except (OSError, http.client.HTTPException, ValueError) as error:
-            raise DriverError("unknown error", f"no response from the driver at {self.address}: {error}") from None
+            raise DriverError(
+                "unknown error", f"no valid response from the driver at {self.address}: {error}"
+            ) from None
         finally:
             if connection:
                 connection.close()
@@ -168,7 +170,7 @@ def _find_free_port() -> int:
 def start(words: list[str]) -> Driver:
     """Starts a driver, such as chromedriver, on a free port, and waits until it listens."""
     if os.name == "nt":  # the supervisor needs process groups
-        raise RuntimeError("on Windows start the driver yourself, and pass its URL as --driver")
+        raise RuntimeError("on Windows, start the driver yourself and pass its URL as --driver")
     port = _find_free_port()
     supervised = [sys.executable, "-I", "-S", str(_SUPERVISOR), *words, f"--port={port}"]
     process = subprocess.Popen(
@@ -183,7 +185,7 @@ def start(words: list[str]) -> Driver:
                 return driver
             except OSError:
                 if process.poll() is not None or time.monotonic() > end:
-                    raise DriverError("session not created", f"{words[0]} did not start") from None
+                    raise DriverError("session not created", f"{words[0]} exited or did not listen in time") from None
                 time.sleep(0.02)
     except BaseException:
         driver.close()

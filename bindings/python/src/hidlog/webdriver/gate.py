@@ -23,7 +23,8 @@ _JSON = "application/json"
 _CONTENT_LENGTH = re.compile(r"[0-9]{1,18}\Z")
 # Values of Sec-Fetch-Site that a page of another origin cannot cause.
 _OWN_SITES = ("none", "same-origin")
-# Clients may percent-encode other characters than letters, digits and -._~ (Java's do `=`), but not `/`, `\` and `%`.
+# Clients may percent-encode characters other than letters, digits and -._~ (clients in Java encode `=`), but not `/`,
+# `\` and `%`.
 _PATH_SEGMENT = re.compile(r"(?:[A-Za-z0-9._~!$&'()*+,;=:@-]|%(?:2[0-46-9A-C]|3[A-F]|40|5[BDE]|60|7[B-D]))*\Z", re.I)
 _HOST_AND_PORT = re.compile(r"(\[[0-9a-fA-F:.]+\]|[A-Za-z0-9._-]+)(?::([0-9]{1,5}))?\Z")
 _LOOPBACK = ("127.0.0.1", "localhost", "[::1]")
@@ -55,7 +56,7 @@ def admit(head: Head, policy: Policy) -> int:
     """Returns the length of an accepted request's body. Raises DriverError if the request is rejected."""
     if head.method not in METHODS:
         raise DriverError(
-            "unknown method", f"{_describe_hosts(head.method)} is unsupported; use {', '.join(METHODS)}", 405
+            "unknown method", f"the method {_quote(head.method)} is unsupported; use {', '.join(METHODS)}", 405
         )
     _check_path(head.path)
     host = _check_host(head.hosts, policy)
@@ -66,7 +67,7 @@ def admit(head: Head, policy: Policy) -> int:
     return length
 
 
-def _describe_hosts(text: str) -> str:
+def _quote(text: str) -> str:
     return ascii(text if len(text) <= 80 else text[:77] + "...")
 
 
@@ -78,7 +79,7 @@ def _check_path(path: str) -> None:
         )
     first, *segments = path.split("/")
     if first or not segments or not all(_PATH_SEGMENT.match(item) and item not in ("", ".", "..") for item in segments):
-        raise DriverError("unknown command", f"{_describe_hosts(path)} is an invalid path of a WebDriver command", 400)
+        raise DriverError("unknown command", f"{_quote(path)} is an invalid path of a WebDriver command", 400)
 
 
 def parse_host(text: str) -> tuple[str, int | None] | None:
@@ -103,15 +104,13 @@ def _check_host(hosts: Sequence[str], policy: Policy) -> str:
     """Rejects a request for a host other than this server, as after DNS rebinding."""
     found = parse_host(hosts[0]) if len(hosts) == 1 else None
     if found is None:
-        raise DriverError("unknown error", f"Host is {_describe_hosts(', '.join(hosts))}; expected one host", 400)
+        raise DriverError("unknown error", f"Host is {_quote(', '.join(hosts))}; expected one host", 400)
     name, port = found
     own = (*_LOOPBACK, f"[{policy.address}]" if ":" in policy.address else policy.address)
     is_own = name in own and (port or 80) == policy.port
     if not is_own and not any(_is_allowed(found, item) for item in policy.hosts):
         hint = f"use 127.0.0.1:{policy.port}, or start with --allow-hosts {name}"
-        raise DriverError(
-            "unknown error", f"Host is {_describe_hosts(hosts[0])}, which this server doesn't serve; {hint}", 403
-        )
+        raise DriverError("unknown error", f"Host is {_quote(hosts[0])}, which this server doesn't serve; {hint}", 403)
     return hosts[0].lower()
 
 
@@ -125,19 +124,15 @@ def _check_origin(origins: Sequence[str], sites: Sequence[str], host: str) -> No
     """Rejects requests from pages. Only a page of this server would have the server's origin, and the server has no
     pages."""
     if len(origins) > 1 or (origins and origins[0].lower() != f"http://{host}"):
-        raise DriverError(
-            "unknown error", f"Origin is {_describe_hosts(', '.join(origins))}; web pages are refused", 403
-        )
+        raise DriverError("unknown error", f"Origin is {_quote(', '.join(origins))}; web pages are refused", 403)
     if any(item.lower() not in _OWN_SITES for item in sites):
-        raise DriverError(
-            "unknown error", f"Sec-Fetch-Site is {_describe_hosts(', '.join(sites))}; web pages are refused", 403
-        )
+        raise DriverError("unknown error", f"Sec-Fetch-Site is {_quote(', '.join(sites))}; web pages are refused", 403)
 
 
 def _check_type(types: Sequence[str]) -> None:
     kind = types[0].split(";")[0].strip().lower() if len(types) == 1 else ""
     if kind != _JSON:
-        shown = _describe_hosts(", ".join(types)) if types else "missing"
+        shown = _quote(", ".join(types)) if types else "missing"
         raise DriverError("invalid argument", f"Content-Type is {shown}; expected {_JSON}", 415)
 
 
@@ -151,7 +146,7 @@ def _read_length(head: Head) -> int:
         return 0
     text = head.lengths[0] if len(head.lengths) == 1 else ""
     if not _CONTENT_LENGTH.match(text):
-        shown = _describe_hosts(", ".join(head.lengths))
+        shown = _quote(", ".join(head.lengths))
         raise DriverError("invalid argument", f"Content-Length is {shown}; expected one number, 0 or greater", 400)
     if int(text) > MAX_BODY:
         raise DriverError("invalid argument", f"Content-Length is {text}; at most {MAX_BODY} is allowed", 413)

@@ -57,9 +57,9 @@ const hidlogPage = (() => {
     };
 
     /**
-     * Returns an implementation of WebCrypto whose extractable private keys stay in the proxy. A page identifies each
-     * private key by its public key. On P-256 these are x and y, which are also the end of a placeholder in PKCS #8.
-     * For other algorithms this is the SubjectPublicKeyInfo, which is also the placeholder.
+     * Returns an implementation of WebCrypto whose extractable private keys stay in the proxy. For each private key,
+     * the page has a placeholder in PKCS #8 with the public key: x and y at its end on P-256, or the
+     * SubjectPublicKeyInfo for other algorithms. The public key identifies the private key to the proxy.
      */
     const makeProxyCrypto = ({ call }) => {
         const { subtle } = crypto;
@@ -113,14 +113,13 @@ const hidlogPage = (() => {
         };
     };
 
-    // The key's settings.
-
+    /** Applies the proxy's settings to the key. */
     const applySettings = ({ authenticatorOptions, presence, serial: at, faults, account }) => {
         key.setAuthenticatorOptions(authenticatorOptions);
         if (key.account !== account.selector) {
             key.account = account.selector;
         }
-        // A selection that was made after the last settings is for a sign-in that is waiting for a selection.
+        // If an account was selected since the last settings, a pending sign-in waits for the selection.
         if (selections !== null && selections !== account.selections && key.autofill === "selected") {
             key.selectAccount(account.selector).catch(() => {});
         }
@@ -277,6 +276,7 @@ const hidlogPage = (() => {
         return [...counted, ...credentials.filter(({ credentialId: id }) => !ids.includes(id) && !known.includes(id))];
     };
 
+    /** Installs the key, and restores the state that an earlier document saved. Returns this state, or null. */
     const start = async ({ secret }) => {
         seal = await importSecret(secret);
         link = {

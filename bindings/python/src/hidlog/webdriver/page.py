@@ -40,21 +40,21 @@ class Pages:
         """Installs the key in the page."""
         self._authenticator, self._recorder = authenticator, recorder
         self._secrets.clear()
-        self.before()
+        self.before_command()
 
     def detach(self) -> None:
         """Removes the key from the page."""
         self._authenticator = self._recorder = None
         self._try(lambda: self._run(f"if ({_IS_PAGE_SCRIPT}) {{ globalThis.hidlogPage?.remove(); }} return null;"))
 
-    def before(self) -> None:
+    def before_command(self) -> None:
         """Synchronizes the page and the authenticator, if scripts can run in the page."""
         authenticator, recorder = self._authenticator, self._recorder
         if authenticator and recorder:
             self._try(lambda: self._sync(authenticator, recorder))
 
-    after = before
-    changed = before
+    after_command = before_command
+    after_change = before_command
 
     def close(self) -> None:
         """Does nothing, since there is no connection."""

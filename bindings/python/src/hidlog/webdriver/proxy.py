@@ -27,9 +27,9 @@ _SESSION = re.compile(r"/session/([^/]+)(/.*)?\Z")
 _AUTHENTICATOR = re.compile(
     r"/webauthn/authenticator(?:/([^/]+)(?:/(credentials?|uv|account|presence|faults|log)(?:/([^/]+)(/props)?)?)?)?\Z"
 )
-# Further commands that are passed to the driver. All others, such as chromedriver's /shutdown, are rejected.
+# Commands outside sessions that are passed to the driver. All others, such as chromedriver's /shutdown, are rejected.
 _SESSIONLESS_COMMANDS = (("GET", "/status"), ("GET", "/sessions"), ("POST", "/session"))
-# Commands that require synchronization with the page before, since they may load another document.
+# Before these commands, the proxy synchronizes with the page, since they may load another document.
 _MAY_LEAVE_PAGE = re.compile(
     r"/(url|back|forward|refresh|execute/a?sync|actions|window|frame|frame/parent|element/[^/]+/(click|value))\Z"
 )
@@ -61,13 +61,13 @@ class Link(Protocol):
     def detach(self) -> None:
         """Removes the key from pages."""
 
-    def before(self) -> None:
+    def before_command(self) -> None:
         """Called before a command that may leave the page."""
 
-    def after(self) -> None:
+    def after_command(self) -> None:
         """Called after a command that may have loaded another page."""
 
-    def changed(self) -> None:
+    def after_change(self) -> None:
         """Called after a change of the authenticator."""
 
     def close(self) -> None:
@@ -104,7 +104,7 @@ class Session:
             try:
                 return Channel(self._debugger, window)
             except (DriverError, OSError) as error:
-                print_error(f"no DevTools, so pages have their own private keys: {error}")
+                print_error(f"cannot use DevTools, so each page creates its own private keys: {error}")
         return Pages(self._driver, self.name, lambda: self.is_top)
 
     def add(self, options: Json, folder: Path | None) -> str:
@@ -121,7 +121,7 @@ class Session:
         """Removes the authenticator, and writes its recordings."""
         self.key(name)
         link = self.link()
-        link.before()
+        link.before_command()
         self._key = None
         try:
             link.detach()
@@ -140,10 +140,10 @@ class Session:
             return self._send(rest, body, send)
         with self.lock:
             if method in ("POST", "DELETE") and _MAY_LEAVE_PAGE.search(rest):
-                link.before()
+                link.before_command()
             response = self._send(rest, body, send)
             if response.status == 200 and method == "POST" and _MAY_LOAD_PAGE.search(rest):
-                link.after()
+                link.after_command()
             return response
 
     def _send(self, rest: str, body: bytes, send: Callable[[], Response]) -> Response:
@@ -159,7 +159,7 @@ class Session:
         """Synchronizes with pages, if still possible."""
         if self._key and self._link:
             with suppress(DriverError):
-                self._link.before()
+                self._link.before_command()
 
     def close(self) -> None:
         """Closes the link, and writes the recordings."""
@@ -194,13 +194,13 @@ def _change_authenticator(key: Authenticator, method: str, words: tuple[str, str
 def _serve_key(session: Session, key: Authenticator, method: str, words: tuple[str, str, bool], body: Json) -> Any:
     """Runs a command on an authenticator, after synchronizing with the page, and returns its value."""
     link = session.link()
-    link.before()
+    link.before_command()
     if (method, *words) == ("GET", "credentials", "", False):
         return [list_members(credential) for credential in key.credentials]
     if (method, *words) == ("GET", "log", "", False):
         return session.recordings
     _change_authenticator(key, method, words, body)
-    link.changed()
+    link.after_change()
     # Returns the same values as chromedriver, and null, as WebDriver specifies, for commands that chromedriver does not
     # have.
     return None if words[0] in _OWN_PARTS else {}
@@ -221,7 +221,7 @@ class Proxy:
             return self._without_session(method, path, body)
         name, rest = found[1], found[2] or ""
         if not _VALID_NAME.match(name):
-            raise DriverError("invalid session id", f"{name!r} is not a session")
+            raise DriverError("invalid session id", f"{name!r} is not a session ID")
         session = self._sessions.get(name)
         asked = _AUTHENTICATOR.match(rest)
         if asked:

@@ -28,7 +28,7 @@ _MAX_NUMBER = 2**31
 def _read_number(recording: Json, name: str) -> int:
     value = recording.get(name)
     if isinstance(value, bool) or not isinstance(value, int) or not 0 <= value <= _MAX_NUMBER:
-        raise make_invalid_argument(f"{name} of a recording must be a number")
+        raise make_invalid_argument(f"{name} of a recording must be an integer from 0 to {_MAX_NUMBER}")
     return value
 
 
@@ -91,7 +91,9 @@ class Recorder:
         part = self._parts.get(key)
         if self._size + len(text) > _MAX_BYTES or (part is None and len(self._parts) >= _MAX_PARTS):
             if not self._is_full:
-                print_error(f"{self._name}: later recordings are dropped")
+                print_error(
+                    f"{self._name}: the recordings reached their maximum size or number; later ones are dropped"
+                )
             self._is_full = True
         if self._is_full:
             return

@@ -1,11 +1,11 @@
 // The features of a key that are added outside the core to one request of a page: flags, AAGUID, attestation, keys of
 // other algorithms, and extensions. The core's recording is not changed, except for a comment on each feature.
-import { formatAlgorithm, withAttestedData } from "./algorithms.js";
+import { formatAlgorithm, replaceAttestedData } from "./algorithms.js";
 import { concatBytes, decodeBase64url, fromBase64, fromHex, toBase64url } from "./bytes.js";
 import { formatFlags } from "./credential_metadata.js";
 import { encodeArray, encodeBytes, encodeMap, encodeNumber, encodeText } from "./ctap_response.js";
 import {
-    encodeRegistrationOutputs, encodeSignInOutputs, keepExtensions, makeRegistrationResults, makeSignInResults,
+    encodeRegistrationOutputs, encodeSignInOutputs, makeExtensionData, makeRegistrationResults, makeSignInResults,
 } from "./key_extensions.js";
 import { CERTIFICATE, PRIVATE_KEY } from "./attestation_certificates.js";
 
@@ -13,7 +13,7 @@ const FLAGS_OFFSET = 32;
 const ED = 0x80;
 const ES256 = -7;
 const NO_AAGUID = new Uint8Array(16);
-const REQUESTING = ["indirect", "direct", "enterprise"];
+const ATTESTATION_REQUESTS = ["indirect", "direct", "enterprise"];
 
 /** @typedef {import("./ceremony.js").Ceremony} Ceremony */
 /** @typedef {import("./abilities.js").AuthenticatorOptions} AuthenticatorOptions */
@@ -29,7 +29,7 @@ const REQUESTING = ["indirect", "direct", "enterprise"];
 const selectAttestation = (abilities, requested) => {
     const aaguid = fromHex(abilities.get("aaguid").replaceAll("-", ""));
     const format = abilities.get("attestation");
-    if (format !== "basic" || REQUESTING.includes(String(requested))) {
+    if (format !== "basic" || ATTESTATION_REQUESTS.includes(String(requested))) {
         return { format, aaguid };
     }
     return { format: "none", aaguid: abilities.attachment === "platform" ? aaguid : NO_AAGUID };
@@ -38,7 +38,7 @@ const selectAttestation = (abilities, requested) => {
 /** @param {[string, Uint8Array][]} members in canonical order */
 const encodeStatement = (members) => encodeMap(members.map(([name, value]) => [encodeText(name), value]));
 
-export class Departures {
+export class CoreAdditions {
     #ceremony;
     #abilities;
     #metadata;
@@ -71,7 +71,7 @@ export class Departures {
     made(id) {
         this.#metadata.setBackup(id, this.#abilities.backup);
         const { options, isDiscoverable } = this.#ceremony;
-        this.#metadata.setExtensions(id, keepExtensions(options, this.#abilities, isDiscoverable));
+        this.#metadata.setExtensions(id, makeExtensionData(options, this.#abilities, isDiscoverable));
     }
 
     /** @param {Uint8Array} id */
@@ -87,7 +87,7 @@ export class Departures {
         const flags = this.#metadata.flags(id, isVerified);
         const comments = flags ? [`flags ${formatFlags(flags)}, and the signature over them`] : [];
         const isCreation = this.#ceremony.name === "create";
-        const data = isCreation ? await this.#withAttestedData(id, original, comments) : original.slice();
+        const data = isCreation ? await this.#replaceAttestedData(id, original, comments) : original.slice();
         const kept = this.#metadata.extensions(id);
         const outputs = (isCreation ? encodeRegistrationOutputs : encodeSignInOutputs)(kept, this.extensions, this.#abilities);
         data[FLAGS_OFFSET] |= flags | (outputs.length ? ED : 0);
@@ -102,7 +102,7 @@ export class Departures {
     }
 
     /** @param {Uint8Array} id @param {Uint8Array} original @param {string[]} comments */
-    async #withAttestedData(id, original, comments) {
+    async #replaceAttestedData(id, original, comments) {
         const privateKey = this.#privateKey(id);
         const { format, aaguid } = this.attestation;
         if (format !== "self") {
@@ -112,7 +112,7 @@ export class Departures {
             comments.push(`AAGUID ${this.#abilities.get("aaguid")}`);
         }
         const { cose } = privateKey.algorithm ? await this.#privateKeys.exportPublicKey(privateKey) : { cose: undefined };
-        return withAttestedData(original, { aaguid, cose });
+        return replaceAttestedData(original, { aaguid, cose });
     }
 
     /**
@@ -142,7 +142,7 @@ export class Departures {
     async #encodeBasic(toSign, isBad) {
         const [certificate, privateKey] = [CERTIFICATE, PRIVATE_KEY].map(
             (text) => /** @type {Uint8Array} */ (fromBase64(text)));
-        const signature = await (isBad ? this.#privateKeys.signWithNewKey(toSign) : this.#privateKeys.signAs(privateKey, toSign));
+        const signature = await (isBad ? this.#privateKeys.signWithNewKey(toSign) : this.#privateKeys.signWithPkcs8(privateKey, toSign));
         return encodeStatement([["alg", encodeNumber(ES256)], ["sig", encodeBytes(signature)],
             ["x5c", encodeArray([encodeBytes(certificate)])]]);
     }

@@ -1,7 +1,7 @@
 """The features of a key that are added outside the core to a registration or sign-in: flags, AAGUID, attestation, keys
 of other algorithms, and extensions. The core's recording is not changed, except for a comment on each feature.
 
-bindings/web/key/departures.js does the same for pages.
+bindings/web/key/core_additions.js does the same for pages.
 """
 
 from __future__ import annotations
@@ -59,7 +59,7 @@ def adapt_options(ceremony: str, options: Json, settings: AuthenticatorSettings)
     return options
 
 
-class Departures:
+class CoreAdditions:
     """The features of one request that are outside the core. Without a ceremony, the request is not from the
     browser."""
 
