@@ -1,5 +1,5 @@
 #!/usr/bin/env python3
-"""Presses Tab in bash, zsh and fish, with the completions that packages/completions.py generates from a program's help.
+"""Completes command lines in bash, zsh and fish, with the completions that packages/completions.py generates from a program's help.
 
     tests/completions.py [PROGRAM]      PROGRAM [default: release/hidlog]
 
@@ -72,14 +72,13 @@ class Terminal:
         os.waitpid(self.child, 0)
 
 
-def find_errors(words: list[str], work_dir: Path, start: str) -> list[str]:
-    """Returns the errors of a shell started with these commands."""
+def find_completion_errors(words: list[str], work_dir: Path, start: str) -> list[str]:
+    """Starts a shell, types each text and Tab, and returns the wrong completions."""
     terminal, wrong = Terminal(words, work_dir), []
     terminal.type_text(start + "; echo rea''dy\n")
-    assert terminal.read_until("ready"), f"{words[0]} doesn't begin: {terminal.seen}"
+    assert terminal.read_until("ready"), f"{words[0]} did not start: {terminal.seen}"
     for typed, wanted in COMPLETIONS:
         terminal.type_text(typed + "\t")
-        # A complete line is run after Tab. By then, the program has exited.
         if not terminal.read_until(wanted[len(typed) :]) or not terminal.read_until(wanted.rpartition(" ")[2][-3:]):
             wrong.append(f"{typed!r} is not completed to {wanted!r}: {terminal.seen!r}")
         terminal.type_text("\x15")
@@ -88,15 +87,17 @@ def find_errors(words: list[str], work_dir: Path, start: str) -> list[str]:
 
 
 def test_bash(folder: Path, work_dir: Path) -> list[str]:
-    return find_errors(["bash", "--norc", "--noprofile", "-i"], work_dir, f"source {folder}/hidlog.bash")
+    return find_completion_errors(["bash", "--norc", "--noprofile", "-i"], work_dir, f"source {folder}/hidlog.bash")
 
 
 def test_zsh(folder: Path, work_dir: Path) -> list[str]:
-    return find_errors(["zsh", "-f", "-i"], work_dir, f"fpath=({folder} $fpath); autoload -Uz compinit; compinit -u -D")
+    return find_completion_errors(
+        ["zsh", "-f", "-i"], work_dir, f"fpath=({folder} $fpath); autoload -Uz compinit; compinit -u -D"
+    )
 
 
-def complete_in_fish(folder: Path, work_dir: Path) -> list[str]:
-    """Returns the completions of fish, which needs no terminal."""
+def test_fish(folder: Path, work_dir: Path) -> list[str]:
+    """Returns the wrong completions of fish, which needs no terminal."""
     wrong = []
     for typed, wanted in COMPLETIONS:
         script = f"source {folder}/hidlog.fish; complete --do-complete '{typed}'"
@@ -121,7 +122,7 @@ def main() -> int:
         for file in ("key.snapshot", "session.log"):
             (work_dir / file).write_bytes(b"")
         (work_dir / "hidlog").symlink_to(PROGRAM)
-        for shell, test in (("bash", test_bash), ("zsh", test_zsh), ("fish", complete_in_fish)):
+        for shell, test in (("bash", test_bash), ("zsh", test_zsh), ("fish", test_fish)):
             if shutil.which(shell) is None:
                 print(f"skipped  {shell} is missing (apt-get install {shell})")
                 continue

@@ -1,5 +1,5 @@
 #!/usr/bin/env python3
-"""Lists the contracts of the crates: each public function with a contract, the first sentence of its comment, its
+"""Lists the contracts of the crates: each public function with a contract, the first sentence of its comment, and its
 clauses.
 
     tests/contracts.py [CRATE ..]               default: all crates, in the order of crates.txt
@@ -32,7 +32,7 @@ class Contract:
     """A function with its contract."""
 
     name: str
-    says: str
+    summary: str
     contract: list[str]
 
     def clauses(self) -> list[str]:
@@ -50,7 +50,7 @@ class Block:
     is_trait: bool = False
 
 
-def first_sentence(lines: list[str]) -> str:
+def get_first_sentence(lines: list[str]) -> str:
     """Returns the first sentence of a comment, without links."""
     text = re.sub(r"\[(`[^`]*`)\](?:\([^)]*\))?", r"\1", " ".join(lines))
     return re.split(r"(?<=[.:]) (?=[A-Z-])", text)[0]
@@ -87,7 +87,7 @@ def iter_contracts(path: Path) -> Iterator[Contract]:
             inside = block.of if function[1] else path.stem if path.stem == "laws" else ""
             name = f"{inside}::{function[3]}" if inside else function[3]
             if comment and any(CLAUSE.match(line) for line in contract):
-                yield Contract(name, first_sentence(comment), contract)
+                yield Contract(name, get_first_sentence(comment), contract)
         if not text.startswith(("#[", "//")):
             comment = []
 
@@ -116,7 +116,7 @@ def main() -> int:
         count += len(found)
         print(f"\n{crate}: {len(found)}\n")
         for contract in found:
-            print(f"{contract.name} ({', '.join(contract.clauses())}): {contract.says}")
+            print(f"{contract.name} ({', '.join(contract.clauses())}): {contract.summary}")
             if "--contracts" in words:
                 print("\n".join(contract.contract) + "\n")
     print(f"\n{count} functions with a contract")

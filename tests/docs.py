@@ -53,7 +53,7 @@ NOT_RUN = re.compile(r"<!-- not run: .+ -->")
 
 
 @dataclass
-class Shown:
+class ShownCommand:
     """A command of a page, its line number, and its expected output, if the page shows any."""
 
     line: int
@@ -65,11 +65,11 @@ class Shown:
 
     def matches(self, printed: list[str]) -> bool:
         """Returns whether the output matches the page."""
-        parts = [r"(?:.*\n)*" if line == ".." else self.pattern(line) + r"\n" for line in self.output]
+        parts = [r"(?:.*\n)*" if line == ".." else self.to_pattern(line) + r"\n" for line in self.output]
         return re.fullmatch("".join(parts), "".join(f"{line.rstrip()}\n" for line in printed)) is not None
 
     @staticmethod
-    def pattern(line: str) -> str:
+    def to_pattern(line: str) -> str:
         return re.escape(line.removesuffix(" ..")) + r".*" if line.endswith(" ..") else re.escape(line)
 
     def describe_failure(self, status: int, text: str) -> str:
@@ -82,16 +82,17 @@ class Shown:
         return ""
 
 
-class Reader:
+class CommandParser:
     """Parses the commands of a page, line by line."""
 
     def __init__(self) -> None:
-        self.found: list[Shown] = []
+        self.found: list[ShownCommand] = []
         self.faults: list[str] = []
         self.fence: str | None = None
         self.heading = ""
         self.blank = 0
-        # Whether code lines are output of the last command, and whether this block is excluded from being run.
+        # Whether the next lines of code are output of the last command, and whether a comment says that the next block is
+        # not run.
         self.is_open = self.is_excused = False
 
     def read_line(self, number: int, line: str) -> None:
@@ -119,14 +120,14 @@ class Reader:
             return
         self.fence = word
         if word == "sh":
-            self.found.append(Shown(number, "", False, True, self.heading))
+            self.found.append(ShownCommand(number, "", False, True, self.heading))
         elif word == "text" and self.found:
             self.found[-1].is_compared = True
 
     def read_code(self, number: int, code: str) -> None:
-        """Processes a line of a block without fences."""
+        """Processes a line of code outside ```sh blocks."""
         if code.startswith("$ "):
-            self.found.append(Shown(number, code[2:], heading=self.heading))
+            self.found.append(ShownCommand(number, code[2:], heading=self.heading))
             self.is_open = True
         elif self.is_open:
             # An indented block may continue after an empty line.
@@ -138,14 +139,14 @@ class Reader:
         """Processes a line outside code."""
         self.is_open, self.is_excused = False, NOT_RUN.fullmatch(line) is not None
         if hidden := re.fullmatch(r"<!-- run: (.*) -->", line):
-            self.found.append(Shown(number, hidden[1], False, True, self.heading))
+            self.found.append(ShownCommand(number, hidden[1], False, True, self.heading))
         elif line.startswith("#"):
             self.heading = line
 
 
-def read_commands(text: str) -> Reader:
-    """Returns the commands of a page, in order."""
-    reader = Reader()
+def read_commands(text: str) -> CommandParser:
+    """Returns the parser after all lines of a page, with its commands in order."""
+    reader = CommandParser()
     for number, line in enumerate(text.splitlines(), 1):
         reader.read_line(number, line)
     return reader
@@ -227,7 +228,7 @@ class Result:
     missing: list[str] = field(default_factory=list)
 
 
-def run_page(found: list[Shown], work_dir: Path) -> Result:
+def run_page(found: list[ShownCommand], work_dir: Path) -> Result:
     """Runs the commands of a page in a copy of the repository."""
     result, skipped = Result([]), ""
     folder, installed = work_dir / "copy", work_dir / "installed"

@@ -39,8 +39,8 @@ LANGUAGES = {
 SKIPPED_PATHS = re.compile(
     r"^crates/\w+/proofs/|^bindings/web/dist/|^release/|^examples/failing/|/data/|^tests/(?:edits|mutants)/"
 )
-# Of the definitions, only those in specs/, on which the theorem depends.
-SPECS = re.compile(r"^crates/\w+/specs/")
+# The folders whose definitions are drawn: those on which the theorem depends.
+SPEC_PATHS = re.compile(r"^crates/\w+/specs/")
 GENERATED_MARK = re.compile(r"[Gg]enerated by|DO NOT EDIT|[Mm]ade by (?!hand)")
 # Calls and statements whose text is an error message.
 ERROR_CALL = re.compile(
@@ -60,14 +60,14 @@ NAME_PATTERNS: Dict[str, str] = {
     r"|^(?:    )?(?:export\s+)?const\s+(?:([A-Z_]{3,}) = |(\w+) = (?:async )?\([^)]*\) =>)",
     ".go": r"^func\s+(?:\([^)]*\)\s*)?(\w+)|^type\s+(\w+)|^\t([A-Za-z]\w+)\s+(?:\w+\s+)?= ",
     ".rs": r"^\s*(?:pub(?:\([^)]*\))?\s+)?(?:const |unsafe |async )*(?:fn|struct|enum|trait|type|const|static)\s+(\w+)",
-    ".c": r"^(?:static\s+)?(?:const\s+)?[\w ]+[ *](\w+)\([^;]*$|^struct\s+(\w+)|^#define\s+(\w+)",
+    ".c": r"^(?=\w)(?:static\s+)?(?:const\s+)?[\w ]+[ *](\w+)\([^;]*$|^struct\s+(\w+)|^#define\s+(\w+)",
     ".sh": r"^(\w+)\(\)",
 }
 NAME_PATTERNS[".mjs"], NAME_PATTERNS[".h"] = NAME_PATTERNS[".js"], NAME_PATTERNS[".c"] + r"|^\w[\w ]*[ *](\w+)\("
 
 
 class Item(NamedTuple):
-    """A text or a name, with its place."""
+    """A text or a name, with its file and line."""
 
     path: str
     line: int
@@ -82,7 +82,7 @@ def read_sources() -> List[Tuple[str, str]]:
         suffix = Path(path).suffix
         if suffix not in LANGUAGES or SKIPPED_PATHS.search(path) or not (TOP / path).is_file():
             continue
-        if suffix == ".antt" and not SPECS.search(path):
+        if suffix == ".antt" and not SPEC_PATHS.search(path):
             continue
         text = (TOP / path).read_text(encoding="utf-8")
         if not GENERATED_MARK.search("\n".join(text.splitlines()[:5])):
@@ -117,7 +117,7 @@ def iter_python_comments(path: str, text: str) -> Iterator[Item]:
 
 
 def iter_line_comments(path: str, text: str, mark: str) -> Iterator[Item]:
-    """Yields comments that begin with a mark at the beginning of lines, each block as one, and /* .. */."""
+    """Yields each block of lines that begin with a comment mark, and each comment in /* .. */."""
     block: List[str] = []
     begin = 0
     for number, line in enumerate([*text.splitlines(), ""], 1):

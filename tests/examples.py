@@ -1,6 +1,6 @@
 #!/usr/bin/env python3
-"""Compares tests/examples.txt with the proofs: each computed example that it names must exist, and each one that exists
-must be named. Prints how many rows of the standard's tables have an example. Exit status: 1 if they differ.
+"""Compares tests/examples.txt with the proofs: each computed example named in the file must exist, and each computed
+example of the proofs must be named. Prints how many rows of the standard's tables have an example. Exit status: 1 if they differ.
 
     tests/examples.py           compares
     tests/examples.py --list    prints the rows with their examples
@@ -20,13 +20,15 @@ FILE_ROW = re.compile(r"^\| ([A-Z]) \| (crates/\S+) \|$", re.MULTILINE)
 TABLE_ROW = re.compile(r"^\| (?!---)(?!Row )(.+) \| (.+) \|$", re.MULTILINE)
 EXAMPLE_REFERENCE = re.compile(r"\b([A-Z]) ([a-z][\w-]*)")
 # An example is a name with a computed proof: one `refl`, several, or a record of `refl`s.
-COMPUTED = re.compile(r"^([a-z][\w-]*) = (?:unfold [\w.-][\w. -]* in )?(?:refl$|\(+refl|record \{$)", re.MULTILINE)
+COMPUTED_EXAMPLE = re.compile(
+    r"^([a-z][\w-]*) = (?:unfold [\w.-][\w. -]* in )?(?:refl$|\(+refl|record \{$)", re.MULTILINE
+)
 
 
 def read_examples(path: str) -> set[str]:
     """Returns the names of the examples in a file: those with a statement, except abbreviations."""
     text = (TOP / path).read_text(encoding="utf-8")
-    return {name for name in COMPUTED.findall(text) if re.search(rf"^{re.escape(name)} :", text, re.MULTILINE)}
+    return {name for name in COMPUTED_EXAMPLE.findall(text) if re.search(rf"^{re.escape(name)} :", text, re.MULTILINE)}
 
 
 def main() -> int:
@@ -41,7 +43,9 @@ def main() -> int:
     wrong = [f"{letter} {name} is in no proof" for letter, name in sorted(named - there)]
     wrong += [f"{letter} {name} is in no row" for letter, name in sorted(there - named)]
     wrong += [
-        f"this row has neither an example nor `none`: {row}" for row, examples in rows if not is_documented(examples)
+        f"this row has neither an example nor `none`: {row}"
+        for row, examples in rows
+        if not has_example_or_none(examples)
     ]
     for line in wrong:
         print(f"tests/examples.txt: {line}")
@@ -50,8 +54,8 @@ def main() -> int:
     return 1 if wrong else 0
 
 
-def is_documented(examples: str) -> bool:
-    """Returns whether a row gives an example, or states that there is none."""
+def has_example_or_none(examples: str) -> bool:
+    """Returns whether a row names an example, or begins with `none: `."""
     return bool(EXAMPLE_REFERENCE.search(examples)) or examples.startswith("none: ")
 
 

@@ -19,20 +19,20 @@ from pathlib import Path
 
 TOP = Path(__file__).resolve().parent.parent
 EXAMPLE_LINK = re.compile(r"An example, which the gate runs \(`([^`]+)`\):")
-BLOCK = re.compile(r"(?<=//! ```text\n)(?://!.*\n)*?(?=//! ```\n)")
+CODE_BLOCK = re.compile(r"(?<=//! ```text\n)(?://!.*\n)*?(?=//! ```\n)")
 # A test function. Its body is between the opening brace and a line that consists of the closing brace.
-TEST = re.compile(r"#\[test\]\nfn [^\n]*\{\n(.*?)^\}\n", re.MULTILINE | re.DOTALL)
+TEST_FUNCTION = re.compile(r"#\[test\]\nfn [^\n]*\{\n(.*?)^\}\n", re.MULTILINE | re.DOTALL)
 
 
 def read_example(test: str) -> str:
-    """Returns the example in a page from a test file."""
+    """Returns the example in a test file, as a page shows it."""
     kept = [line for line in test.splitlines(keepends=True) if not line.startswith(("//!", "use "))]
-    text = TEST.sub(lambda found: textwrap.dedent(found[1]).removesuffix("Ok(())\n"), "".join(kept))
+    text = TEST_FUNCTION.sub(lambda found: textwrap.dedent(found[1]).removesuffix("Ok(())\n"), "".join(kept))
     return re.sub(r"\n{3,}", "\n\n", text).strip("\n") + "\n"
 
 
 def to_comment(text: str) -> str:
-    """Returns lines formatted as a page's comment."""
+    """Returns a text formatted as a page's comment."""
     return "".join(f"//! {line}".rstrip() + "\n" for line in text.splitlines())
 
 
@@ -51,7 +51,7 @@ def main(write: bool) -> int:
     for page in pages:
         text = page.read_text(encoding="utf-8")
         named = EXAMPLE_LINK.search(text)
-        block = BLOCK.search(text, named.end()) if named else None
+        block = CODE_BLOCK.search(text, named.end()) if named else None
         if not named or not block:
             sys.exit(f"tests/examples_shown.py: {page.relative_to(TOP)} shows no example")
         shown = to_comment(read_example((TOP / named[1]).read_text(encoding="utf-8")))

@@ -1,6 +1,7 @@
 #!/usr/bin/env bash
-# Runs the fuzzers and some conformance tests on a local Dask cluster, of which a worker is killed, and with local
-# processes, and compares the results. Exits with 3 if Debian's python3-distributed is missing.
+# Runs the fuzzers and some conformance tests on a local Dask cluster and with local processes, and compares the
+# results. One of the cluster's workers is killed during the runs. Exits with 3 if Debian's python3-distributed is
+# missing.
 set -euo pipefail
 top=$(cd "$(dirname "${BASH_SOURCE[0]}")/.." && pwd)
 python=/usr/bin/python3
@@ -34,7 +35,8 @@ address=$(sed -n 's|.*"address": "tcp://\(127[^"]*\)".*|\1|p' "$work/scheduler.j
 executor=dask://$address
 failed=0
 
-# Compares the results of a command on the Dask workers with those of local processes: compare_results NAME PATTERN COMMAND ..
+# Compares the results of a command on the Dask workers with those of local processes:
+# compare_results NAME PATTERN COMMAND ..
 compare_results() {
     "${@:3}" 2>/dev/null | grep -E "$2" | sed 's/; [0-9]* s$//' >"$work/here" || true
     "${@:3}" --executor "$executor" 2>"$work/faults" | grep -E "$2" | sed 's/; [0-9]* s$//' >"$work/there" || true

@@ -56,7 +56,7 @@ FOLDERS = (
     *("bindings/rust/hidlog", "bindings/rust/hidlog-sys"),
     *("conformance/hidlog_conformance", "conformance", "examples", "tests", "bench", "."),
 )
-SOURCE = re.compile(
+SOURCE_FILE = re.compile(
     r"\.(?:antt|rt|py|lua|js|mjs|cjs|ts|cts|html|css|go|rs|c|h|sh|rb|pl|java)$|(?:^|/)(?:hidlog|tests/run|installer/\w[\w-]*)$"
 )
 # Files that aren't listed: generated files, test data, and proofs, which are named after what they prove.
@@ -102,7 +102,7 @@ def read_comment(path: Path) -> str:
     return " ".join(" ".join(lines).split())
 
 
-def first_sentence(text: str) -> str:
+def get_first_sentence(text: str) -> str:
     """Returns the first sentence of a text, without links and with `|` escaped."""
     sentence = re.split(r"(?<=[.:!?])\s", text + " ", maxsplit=1)[0].rstrip(".: ")
     return re.sub(r"\[(`[^`]*`)\]", r"\1", sentence).replace("|", "\\|")
@@ -121,7 +121,7 @@ def list_sources() -> list[str]:
     return [
         path
         for path in paths
-        if SOURCE.search(path) and not SKIPPED_PATHS.search(path) and not UNLISTED_FILES.search(path)
+        if SOURCE_FILE.search(path) and not SKIPPED_PATHS.search(path) and not UNLISTED_FILES.search(path)
     ]
 
 
@@ -131,7 +131,7 @@ def build_page() -> tuple[str, list[str]]:
     bare = []
     for name in list_sources():
         folder = next(each for each in FOLDERS if each == "." or name.startswith(f"{each}/"))
-        sentence = first_sentence(read_comment(TOP / name))
+        sentence = get_first_sentence(read_comment(TOP / name))
         rows[folder].append(f"| `{name if folder == '.' else name[len(folder) + 1:]}` | {sentence} |")
         if not sentence:
             bare.append(name)

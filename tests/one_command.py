@@ -36,7 +36,7 @@ MISSING_PYTHON_PACKAGE = re.compile(
 )
 
 
-# Commands that each package passes on to the program.
+# Arguments for which each command must have the same result as the program.
 COMPARED_ARGUMENTS: tuple[list[str], ...] = (
     ["--help"],
     ["-h"],

@@ -49,19 +49,19 @@ tar -C "$work" -xzf "$work"/first/hidlog-*-linux-x86_64.tar.gz
 tarball=$(echo "$work"/hidlog-*)
 check_program "$tarball/bin/hidlog"
 run_cases tarball "$tarball/bin/hidlog"
-# Unpacks Debian packages into ROOT, and changes the path in /usr/bin/hidlog to ROOT: install_packages ROOT PACKAGE ..
-install_packages() {
+# Unpacks Debian packages into ROOT, and changes the path in /usr/bin/hidlog to ROOT: unpack_packages ROOT PACKAGE ..
+unpack_packages() {
     local package
     for package in "${@:2}"; do
         dpkg-deb -x "$package" "$1"
     done
     sed -i "s|/usr/lib/|$1/usr/lib/|" "$1/usr/bin/hidlog"
 }
-install_packages "$work/plain" "$work"/first/hidlog_*_amd64.deb
+unpack_packages "$work/plain" "$work"/first/hidlog_*_amd64.deb
 check_program "$work/plain/usr/lib/hidlog/hidlog"
 run_cases hidlog "$work/plain/usr/bin/hidlog"
 mapfile -t debs < <(find "$work/first" -name '*.deb' ! -name '*_arm64.deb')
-install_packages "$work/root" "${debs[@]}"
+unpack_packages "$work/root" "${debs[@]}"
 {
     echo '#!/bin/sh'
     echo "PYTHONDONTWRITEBYTECODE=1 PYTHONPATH=$work/root/usr/lib/python3/dist-packages exec $work/root/usr/bin/hidlog \"\$@\""
@@ -87,10 +87,10 @@ if command -v gcc >/dev/null; then
     if command -v pkg-config >/dev/null; then
         read -ra words < <(PKG_CONFIG_PATH=$tarball/lib/pkgconfig pkg-config --cflags --libs hidlog)
         gcc -o "$work/key" "$top/tests/c/key.c" "${words[@]}"
-        LD_LIBRARY_PATH=$tarball/lib "$work/key" mistakes || fail "a program with the tarball's library fails"
+        LD_LIBRARY_PATH=$tarball/lib "$work/key" invalid-calls || fail "a program with the tarball's library fails"
     fi
     gcc -I "$work/root/usr/include" -o "$work/key" "$top/tests/c/key.c" -L "$work/root/usr/lib/x86_64-linux-gnu" -lhidlog
-    LD_LIBRARY_PATH=$work/root/usr/lib/x86_64-linux-gnu "$work/key" mistakes || fail "a program with the library fails"
+    LD_LIBRARY_PATH=$work/root/usr/lib/x86_64-linux-gnu "$work/key" invalid-calls || fail "a program with the library fails"
     echo "tests/packages.sh: a C program was built with the development package"
 fi
 # Prints the summary of the log that a program shows on a terminal with 40 columns: print_summary_at_terminal PROGRAM

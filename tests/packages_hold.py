@@ -1,5 +1,5 @@
 #!/usr/bin/env python3
-"""Checks the contents of the packages: licences, the files that the man page names, and the statements beside them.
+"""Checks the packages: licences, files named by the man page, links, READMEs, and the bill of materials and provenance.
 
     tests/packages_hold.py FOLDER       the folder that packages/build.sh wrote
 
@@ -156,7 +156,7 @@ def check_statements() -> None:
         for name in (package for package in sums if word in package):
             assert f"hidlog-sources-{part}" in made[name], (name, made[name])
     assert "hidlog-sources-npm" not in made[next(name for name in sums if name.endswith(".whl"))]
-    # Checks that versions are those in crates.txt, and that each reference is defined.
+    # The toolchain's crates in the bill of materials are those that crates.txt names, each with a version.
     uses = {
         word
         for line in (TOP / "crates.txt").read_text().splitlines()

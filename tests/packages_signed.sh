@@ -21,7 +21,7 @@ copy_packages() {
     cp -r "$1" "$made"
     provenance=$(cd "$made" && echo hidlog-*.provenance.json)
     sed -i 's/"changed": true/"changed": false/' "$made/$provenance"
-    grep -q '"gitCommit"' "$made/$provenance" || { echo "tests/packages_signed.sh: $PWD is not a git repository; nothing was run" >&2; exit 3; }
+    grep -q '"gitCommit"' "$made/$provenance" || { echo "tests/packages_signed.sh: $1/$provenance has no gitCommit: the packages were not built in a git repository; nothing was run" >&2; exit 3; }
     (cd "$made" && sha256sum ./hidlog* ./*.deb 2>/dev/null | sort -u -k2 >SHA256SUMS)
 }
 
@@ -42,6 +42,7 @@ verify_packages() {
         sha256sum --check --strict --ignore-missing SHA256SUMS) >"$work/said" 2>&1
 }
 
+# Expects that the changed packages are not valid, and then signs a new copy of the packages: expect_invalid TEXT
 expect_invalid() {
     ! verify_packages || fail "$1 is accepted"
     copy_packages "$packages"

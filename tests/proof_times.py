@@ -1,12 +1,11 @@
 #!/usr/bin/env python3
-"""Runs the gate and prints each crate's processor time in seconds, for its proof, tests and edits.
+"""Runs the gate and prints each crate's processor time in seconds, for its proof, tests, edits and builds.
 
     tests/proof_times.py                  run `tests/run --gate`, and print the table at the end
     tests/proof_times.py -- COMMAND ..    run another command that calls the prover, such as `rt check`
     tests/proof_times.py --watch PID      watch a running command
 
-A check is a prover process with its forks. Their processor time is read once a second, so up to the last second of each
-may be missing. The exit status is the command's.
+The processor time of each prover process is read once a second, so up to the last second of each may be missing. The exit status is the command's.
 """
 
 from __future__ import annotations
@@ -21,7 +20,7 @@ from dataclasses import dataclass, field
 from pathlib import Path
 
 TICKS_PER_SECOND = os.sysconf("SC_CLK_TCK")
-KINDS = ("proof", "tests", "edits", "builds")
+RUN_KINDS = ("proof", "tests", "edits", "builds")
 
 
 @dataclass(frozen=True)
@@ -46,7 +45,7 @@ class Process:
 
 
 @dataclass
-class Check:
+class ProverRun:
     """A prover process: its crate, its kind, and its last known processor time."""
 
     crate: str
@@ -59,7 +58,7 @@ class Sampler:
     """Reads the processes of the prover below one process, until the sampler is stopped."""
 
     root: int
-    checks: dict[tuple[int, int], Check | None] = field(default_factory=dict)
+    checks: dict[tuple[int, int], ProverRun | None] = field(default_factory=dict)
     stopped: threading.Event = field(default_factory=threading.Event)
 
     def run(self) -> None:
@@ -88,8 +87,8 @@ class Sampler:
         return pid == self.root
 
 
-def classify_process(process: Process) -> Check | None:
-    """Returns the check of a process, or None if it is not the prover."""
+def classify_process(process: Process) -> ProverRun | None:
+    """Returns the prover run of a process, or None if it is not the prover."""
     try:
         words = Path(f"/proc/{process.pid}/cmdline").read_bytes().decode(errors="replace").split("\0")
         folder = os.readlink(f"/proc/{process.pid}/cwd")
@@ -106,21 +105,21 @@ def classify_process(process: Process) -> Check | None:
         kind = "builds"
     else:
         kind = "proof"
-    return Check(crate, kind)
+    return ProverRun(crate, kind)
 
 
-def format_table(checks: list[Check]) -> str:
+def format_table(checks: list[ProverRun]) -> str:
     """Returns the table: one line per crate, the most expensive first, and the sums."""
     costs: dict[str, dict[str, float]] = {}
     for check in checks:
-        row = costs.setdefault(check.crate, dict.fromkeys(KINDS, 0.0))
+        row = costs.setdefault(check.crate, dict.fromkeys(RUN_KINDS, 0.0))
         row[check.kind] += check.seconds
     rows = sorted(costs.items(), key=lambda row: -sum(row[1].values()))
-    sums = {kind: sum(row[kind] for row in costs.values()) for kind in KINDS}
-    lines = ["| Crate | " + " | ".join(kind.capitalize() for kind in KINDS) + " | Rounds of edits | All |"]
-    lines.append("|---" * (len(KINDS) + 3) + "|")
+    sums = {kind: sum(row[kind] for row in costs.values()) for kind in RUN_KINDS}
+    lines = ["| Crate | " + " | ".join(kind.capitalize() for kind in RUN_KINDS) + " | Rounds of edits | All |"]
+    lines.append("|---" * (len(RUN_KINDS) + 3) + "|")
     for crate, row in [*rows, ("all", sums)]:
-        figures = " | ".join(f"{row[kind]:.0f}" if row[kind] else "" for kind in KINDS)
+        figures = " | ".join(f"{row[kind]:.0f}" if row[kind] else "" for kind in RUN_KINDS)
         rounds = sum(check.kind == "edits" and crate in (check.crate, "all") for check in checks)
         lines.append(f"| {crate} | {figures} | {rounds or ''} | {sum(row.values()):.0f} |")
     return "\n".join(lines)

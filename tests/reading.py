@@ -33,7 +33,7 @@ printed. A comment `<!-- KIND: FILE: NAMES -->`, with the names in backquotes, i
 with its name, and run --write.
 
 A type is shown in one line: a record's fields, a data type's constructors with their arguments. The type of a field or
-an argument is omitted if it is in PLAIN or has the same name. A record with parameters or of propositions is shown
+an argument is omitted if it is in UNSHOWN_TYPES or has the same name. A record with parameters or of propositions is shown
 unchanged.
 
 Each page states its maximum number of words, written by hand, so that its growth is noticed.
@@ -74,7 +74,6 @@ PAGE_LAWS = {"canonical_tree"}
 # A premise of laws that follows from the types of the theorem's arguments. The page explains it in prose.
 PREMISES = {"ValidRows"}
 CLAUSE = r"pub fn drive_new<.*?ensures {} \{{(.*?)\n    (?://|ensures)"
-USE = re.compile(r"pub fn drive_new<.*?ensures answered \{(.*?)\n    (?://|ensures)", re.DOTALL)
 USE = re.compile(r"use ([\w.]+)\.\{(.*)\}")
 MODIFIERS = re.compile(r"(?:(?:unfoldable|abbrev|pub) )+")
 DECLARATION = re.compile(r"(?:(?:unfoldable|abbrev|pub|record|data) )*(\S+)")
@@ -88,22 +87,22 @@ BLOCK = re.compile(r"<!-- (definitions|code|documented|quoted|clauses)(?:: (\S+)
 PAGE_DEFINITION = re.compile(r"    (?:record |data )?(\S+?):?(?= |$)")
 SECTION = re.compile(r"^(?=## Only for )", re.MULTILINE)
 COUNTS = re.compile(r"\*\*\d+\s+definitions?,\s+[\d,]+\s+lines,\s+\d+\s+files?\*\*")
-MORE = re.compile(r"\*\*\d+\s+more\s+definitions\*\*\s+\(`(\w+)`\)")
+MORE_COUNT = re.compile(r"\*\*\d+\s+more\s+definitions\*\*\s+\(`(\w+)`\)")
 # The maximum number of words that a page states.
 WORDS = re.compile(r"\*\*at most ([\d,]+)\s+words\*\*")
 MAX_WORDS = 6_000
 # A line that isn't shown.
-HIDDEN = re.compile(r"<!-- .* -->")
+HIDDEN_LINE = re.compile(r"<!-- .* -->")
 # The types of fields and arguments that aren't shown: in the code, bool and the types of numbers.
-PLAIN = {"ℕ", "List ℕ", "Bool"}
-PLAIN_CODE = re.compile(r"[ui]\d+|usize|bool")
+UNSHOWN_TYPES = {"ℕ", "List ℕ", "Bool"}
+UNSHOWN_CODE_TYPES = re.compile(r"[ui]\d+|usize|bool")
 PROPOSITION = re.compile(r"[≡≤<→]")
 DECLARED = re.compile(r"Rattle\.(\w+)\.specs\.declared\.([\w.]+?)(\.The\w+)?")
 LINKED = re.compile(r"\[(`[^`]*`)\]\([^)]*\)")
 # How comments cite a standard, and how the pages do: there, section numbers alone refer to CTAP 2.1.
 CITED = ((re.compile(r"CTAP 2\.1, sections? "), ""), (re.compile(r"WebAuthn Level 2, sections? "), "WebAuthn, "))
 # The separator of pages that are processed as one text.
-END = "\f"
+PAGE_SEPARATOR = "\f"
 EXPORTED = r"^pub use {}::(?:\{{[^}}]*\b{}\b[^}}]*\}}|{});|^pub mod {};"
 
 
@@ -130,7 +129,7 @@ class Definition:
         """Returns the lines that are neither blank nor a comment."""
         return [line for line in self.lines if line.strip() and not line.strip().startswith("--")]
 
-    def words(self, without: tuple[str, ...] = ()) -> set[str]:
+    def list_words(self, without: tuple[str, ...] = ()) -> set[str]:
         """Returns the words that may refer to other definitions, except those in the fields `without`."""
         dropped = tuple(f"pub {name} :" for name in without)
         kept = (line for line in self.code() if not line.strip().startswith(dropped))
@@ -145,18 +144,18 @@ class Definition:
         found = (re.match(r"\s+(?:pub )?(\S+) :", line) for line in self.code()[1:])
         return {match.group(1) for match in found if match}
 
-    def shown(self) -> list[str]:
+    def to_page_lines(self) -> list[str]:
         """Returns the definition as shown on the page: its comment, and its lines without modifiers."""
         end = "" if self.comment.endswith((".", "?")) else "."
         comment = self.comment[:1].upper() + self.comment[1:] + end if self.comment else ""
         for cited, short in CITED:
             comment = cited.sub(short, comment)
         lines = textwrap.wrap(comment, 113)
-        return [f"-- {line}" for line in lines] + self.body()
+        return [f"-- {line}" for line in lines] + self.list_body_lines()
 
-    def body(self) -> list[str]:
+    def list_body_lines(self) -> list[str]:
         """Returns the lines below the comment. For a function, the line with its type is omitted."""
-        compact = self.compact()
+        compact = self.to_compact_lines()
         if compact:
             return compact
         indent = len(self.lines[0]) - len(self.lines[0].lstrip())
@@ -166,7 +165,7 @@ class Definition:
         )
         return [line.rstrip() for line in code]
 
-    def compact(self) -> list[str]:
+    def to_compact_lines(self) -> list[str]:
         """Returns a data type, or a record without propositions, in one line or a few. For other definitions, returns
         an empty list."""
         head = re.fullmatch(r"\s*(?:\w+ )*?(record|data) (\S+) : Type 0 where", self.lines[0])
@@ -183,9 +182,9 @@ class Definition:
             return []
         return wrap_lines(" ".join([f"record {head[2]}:", *group_fields([(name, of) for name, _, of in split])]))
 
-    def equations(self) -> list[str]:
+    def list_equations(self) -> list[str]:
         """Returns the lines shown on the page, without comments."""
-        return [line for line in self.body() if not line.strip().startswith("--")]
+        return [line for line in self.list_body_lines() if not line.strip().startswith("--")]
 
     def first_shown_index(self) -> int:
         """Returns the index of the first line shown on the page. For a function, this is the first equation."""
@@ -194,10 +193,10 @@ class Definition:
 
 
 def group_fields(fields: list[tuple[str, str]]) -> list[str]:
-    """Returns fields or named arguments, grouped by type. The type is included unless it is in PLAIN."""
+    """Returns fields or named arguments, grouped by type. The type is included unless it is in UNSHOWN_TYPES."""
     found = list[str]()
     for of, group in groupby(
-        fields, key=lambda field: "" if field[1] in PLAIN or field[1].lower() == field[0] else field[1]
+        fields, key=lambda field: "" if field[1] in UNSHOWN_TYPES or field[1].lower() == field[0] else field[1]
     ):
         names = " ".join(name for name, _ in group)
         found.append(f"({names} : {of})" if of else names)
@@ -259,7 +258,7 @@ class File:
         )
 
 
-def handle_use_line(found: File, line: str) -> bool:
+def parse_use_line(found: File, line: str) -> bool:
     """Processes a `use` line. Returns False if the line isn't one."""
     use = USE.match(line)
     if use is None:
@@ -284,7 +283,7 @@ def read_definitions(path: Path) -> File:
             comment.append(text[2:].strip())
         elif re.fullmatch(r"(\w+ )?mutual", line):
             indent = "  "
-        elif not handle_use_line(found, line):
+        elif not parse_use_line(found, line):
             indent = indent if line.startswith(" ") else ""
             if not line.startswith((indent + " ", indent + "}")):
                 name = DECLARATION.match(text).group(1)  # type: ignore[union-attr]
@@ -300,7 +299,7 @@ def find_definition(name: Name) -> Definition:
     return read_definitions(name.path).definitions[name.name]
 
 
-def check_path(module: str) -> Path | None:
+def find_specs_file(module: str) -> Path | None:
     """Returns the file of a module of this repository's definitions, or None."""
     parts = module.split(".")
     if parts[0] != "Rattle" or parts[2:3] != ["specs"]:
@@ -323,17 +322,19 @@ def read_clause_names(path: Path, clause: re.Pattern[str], what: str) -> list[Na
     """Returns the definitions that occur in a clause of the code."""
     code, uses = path.read_text(encoding="utf-8"), File()
     for line in code.splitlines():
-        handle_use_line(uses, line.removeprefix("ghost "))
+        parse_use_line(uses, line.removeprefix("ghost "))
     found = clause.search(code)
     if found is None:
         raise SystemExit(f"tests/reading.py: {path.relative_to(TOP)} has no {what}")
     named = (
-        (check_path(uses.uses[word][0]), uses.uses[word][1]) for word in TOKEN.findall(found[1]) if word in uses.uses
+        (find_specs_file(uses.uses[word][0]), uses.uses[word][1])
+        for word in TOKEN.findall(found[1])
+        if word in uses.uses
     )
     return [Name(there, name) for there, name in named if there]
 
 
-class Walk:
+class DependencyWalk:
     """What some clauses of `drive_new` need: definitions, types and constants of the code, and library names.
 
     Excludes what only the fields `without` or the definitions `aside` need. `laws` replace definitions."""
@@ -364,7 +365,7 @@ class Walk:
         if found in self.needed:
             return
         self.needed.add(found)
-        for word in sorted(definition.words(self.without if found.name == BOUNDS_RECORD else ())):
+        for word in sorted(definition.list_words(self.without if found.name == BOUNDS_RECORD else ())):
             self.visit_word(name.path, word)
 
     def visit_word(self, path: Path, word: str) -> None:
@@ -376,7 +377,7 @@ class Walk:
             self.visit(Name(path, word))
         elif word in here.uses:
             module, other = here.uses[word]
-            there, code = check_path(module), find_code_item(module, other)
+            there, code = find_specs_file(module), find_code_item(module, other)
             if there:
                 self.visit(Name(there, other))
             elif code:
@@ -390,7 +391,7 @@ class Walk:
         path = name.path.parent.parent / "src" / "laws.rt"
         clause = re.compile(rf"pub fn {law}\(\)\s+ensures (?:\w+ )?\{{(.*?)\}}", re.DOTALL)
         named = read_clause_names(path, clause, f"law {law}")
-        said = {word for of in named if of.name not in PREMISES for word in find_definition(of).words()}
+        said = {word for of in named if of.name not in PREMISES for word in find_definition(of).list_words()}
         if name.name not in said:
             self.faults.append(f"{path.relative_to(TOP)}: the statement of {law} doesn't contain {name.name}")
         for of in named:
@@ -399,7 +400,7 @@ class Walk:
 
 
 @dataclass
-class Part:
+class PagePart:
     """What a part of the pages shows: definitions, and types and constants of the code. A part is the first two pages
     together, or a section of the third page."""
 
@@ -413,16 +414,16 @@ class Needs:
 
     def __init__(self) -> None:
         both = (STATEMENT, BOUNDS)
-        statement_alone = Walk((STATEMENT,), (), LAWS, ASIDE)
-        walks = [Walk(both, APART[place:], LAWS, ASIDE) for place in range(len(APART) + 1)]
+        statement_alone = DependencyWalk((STATEMENT,), (), LAWS, ASIDE)
+        walks = [DependencyWalk(both, APART[place:], LAWS, ASIDE) for place in range(len(APART) + 1)]
         whole = walks[-1]
-        walks.append(Walk(both, (), LAWS, {}))
-        self.parts = [Part("on the pages", statement_alone.needed, statement_alone.declared)]
+        walks.append(DependencyWalk(both, (), LAWS, {}))
+        self.parts = [PagePart("on the pages", statement_alone.needed, statement_alone.declared)]
         # The record of bounds and the law for its fields are in the introduction of the third page.
-        head = Part("in the introduction of the third page", *subtract_needs(walks[0], statement_alone))
+        head = PagePart("in the introduction of the third page", *subtract_needs(walks[0], statement_alone))
         self.parts.append(head)
         for name, before, walk in zip((*APART, *ASIDE), walks, walks[1:]):
-            self.parts.append(Part(f"in the section of `{name}`", *subtract_needs(walk, before)))
+            self.parts.append(PagePart(f"in the section of `{name}`", *subtract_needs(walk, before)))
         self.faults = [*walks[-1].faults, *find_aside_errors(statement_alone.needed)]
         self.library = walks[-1].library
         page_laws = {name: law for name, law in LAWS.items() if name in PAGE_LAWS}
@@ -431,15 +432,15 @@ class Needs:
             self.more[law] = count_saved(whole, both, law, LAWS)
 
 
-def subtract_needs(walk: Walk, before: Walk) -> tuple[set[Name], set[Name]]:
+def subtract_needs(walk: DependencyWalk, before: DependencyWalk) -> tuple[set[Name], set[Name]]:
     """Returns the definitions, and the types and constants of the code, that `walk` needs and `before` doesn't."""
     return walk.needed - before.needed, walk.declared - before.declared
 
 
-def count_saved(walk: Walk, clauses: tuple[str, ...], law: str, laws: dict[str, str]) -> int:
+def count_saved(walk: DependencyWalk, clauses: tuple[str, ...], law: str, laws: dict[str, str]) -> int:
     """Returns how many more definitions would be needed without a law."""
     others = {name: other for name, other in laws.items() if other != law}
-    return len(Walk(clauses, (), others, ASIDE).needed - walk.needed)
+    return len(DependencyWalk(clauses, (), others, ASIDE).needed - walk.needed)
 
 
 def find_aside_errors(needed: set[Name]) -> list[str]:
@@ -484,7 +485,7 @@ def format_block(kind: str, path: Path, names: list[str]) -> str:
     """Returns the text of a block: a line with the file, and the content."""
     if kind == "definitions":
         found = read_definitions(path).definitions
-        parts = [found[name].shown() if name in found else [f"({name} isn't defined)"] for name in names]
+        parts = [found[name].to_page_lines() if name in found else [f"({name} isn't defined)"] for name in names]
         blocks = join_parts(parts)
     elif kind == "clauses":
         blocks = read_clauses(path, names[0], names[1:])
@@ -520,7 +521,7 @@ def read_declaration(path: Path, name: str) -> list[str]:
 def to_definition_type(of: str) -> str:
     """Returns a type of the code in the notation of definitions. Types of numbers become ℕ."""
     kind = of.strip()
-    return "ℕ" if PLAIN_CODE.fullmatch(kind) else re.sub(r"^Option<(.*)>$", r"Option \1", kind)
+    return "ℕ" if UNSHOWN_CODE_TYPES.fullmatch(kind) else re.sub(r"^Option<(.*)>$", r"Option \1", kind)
 
 
 def format_declaration(path: Path, name: str) -> list[str]:
@@ -576,7 +577,9 @@ def is_public(name: Name) -> bool:
 
 
 def format_count(names: set[Name]) -> str:
-    lines, files = sum(len(find_definition(name).equations()) for name in names), len({name.path for name in names})
+    lines, files = sum(len(find_definition(name).list_equations()) for name in names), len(
+        {name.path for name in names}
+    )
     return f"**{len(names)} definitions, {lines:,} lines, {files} {'files' if files > 1 else 'file'}**"
 
 
@@ -585,7 +588,7 @@ def update_page(needs: Needs, page: str) -> str:
     page = BLOCK.sub(fill_block, page)
     counts = iter([format_count(part.definitions) for part in needs.parts])
     page = COUNTS.sub(lambda match: replace_numbers(match[0], next(counts, match[0])), page)
-    return MORE.sub(lambda match: re.sub(r"\d+", str(needs.more.get(match[1], 0)), str(match[0]), count=1), page)
+    return MORE_COUNT.sub(lambda match: re.sub(r"\d+", str(needs.more.get(match[1], 0)), str(match[0]), count=1), page)
 
 
 def replace_numbers(text: str, counted: str) -> str:
@@ -624,7 +627,7 @@ def find_unexplained(needs: Needs, page: str) -> list[str]:
 
 def count_words(page: str) -> int:
     """Returns the number of words on a page, which are separated by spaces. Numbers and symbols count as words."""
-    return sum(len(line.split()) for line in page.splitlines() if not HIDDEN.fullmatch(line))
+    return sum(len(line.split()) for line in page.splitlines() if not HIDDEN_LINE.fullmatch(line))
 
 
 def find_long_pages(path: Path, page: str) -> list[str]:
@@ -639,7 +642,7 @@ def find_long_pages(path: Path, page: str) -> list[str]:
 
 def find_errors(needs: Needs, pages: list[str], more: str) -> list[str]:
     """Returns the errors of the pages."""
-    both = END.join(pages)
+    both = PAGE_SEPARATOR.join(pages)
     texts, found = [both, *SECTION.split(more)], [*needs.faults]
     if len(texts) != len(needs.parts):
         return [*found, f"the third page has {len(texts) - 2} sections, not {len(needs.parts) - 2}"]
@@ -648,12 +651,14 @@ def find_errors(needs: Needs, pages: list[str], more: str) -> list[str]:
         found += find_differences(part.title, list_names(text, "code", "documented"), part.code)
     code = sorted(name for part in needs.parts for name in part.code)
     found += [f"{name} is used by a definition but isn't public" for name in code if not is_public(name)]
-    found += find_unexplained(needs, END.join(texts))
+    found += find_unexplained(needs, PAGE_SEPARATOR.join(texts))
     found += [fault for path, page in zip(PAGES, pages) for fault in find_long_pages(path, page)]
-    whole = END.join([both, more])
-    if len(COUNTS.findall(whole)) != len(needs.parts) or {m[1] for m in MORE.finditer(whole)} != set(LAWS.values()):
+    whole = PAGE_SEPARATOR.join([both, more])
+    if len(COUNTS.findall(whole)) != len(needs.parts) or {m[1] for m in MORE_COUNT.finditer(whole)} != set(
+        LAWS.values()
+    ):
         found.append("the pages don't have each count exactly once")
-    if update_page(needs, whole).split(END)[: len(PAGES)] != pages:
+    if update_page(needs, whole).split(PAGE_SEPARATOR)[: len(PAGES)] != pages:
         found.append("a definition or a count on a page is out of date: run tests/reading.py --write")
     return found
 
@@ -681,18 +686,18 @@ def format_list(needs: Needs) -> str:
 def main() -> int:
     """Runs the command."""
     pages, more = [path.read_text(encoding="utf-8") for path in PAGES], MORE_PAGE.read_text(encoding="utf-8")
-    needs, whole = Needs(), END.join([*pages, more])
+    needs, whole = Needs(), PAGE_SEPARATOR.join([*pages, more])
     if sys.argv[1:] == ["--list"]:
         print(format_list(needs))
         return 0
     if sys.argv[1:] == ["--more"]:
-        print(update_page(needs, whole).split(END)[-1], end="")
+        print(update_page(needs, whole).split(PAGE_SEPARATOR)[-1], end="")
         return 0
     if sys.argv[1:] == ["--index"]:
         print(definitions.build_page(read_comments()), end="")
         return 0
     if sys.argv[1:] == ["--write"]:
-        for path, text in zip(PAGES, update_page(needs, whole).split(END)):
+        for path, text in zip(PAGES, update_page(needs, whole).split(PAGE_SEPARATOR)):
             path.write_text(text, encoding="utf-8")
         return 0
     found = find_errors(needs, pages, more)

@@ -3,13 +3,13 @@
 # and a clone, runs the ```sh blocks of "Get the packages" and of the section, and compares their output with the
 # ```text block after each. Prints the time of each section in seconds, including the download of Debian's packages.
 #
-#     tests/readme_ways.sh FOLDER [WAY ..]     FOLDER is created by debootstrap or reused; WAY is part of a heading
+#     tests/readme_ways.sh FOLDER [SECTION ..]  FOLDER is created by debootstrap or reused; SECTION is part of a heading
 #
 # Needs root, debootstrap and a Debian mirror. Exits with 3 if one of these is missing, and with 1 if a section fails or
 # takes more than ten minutes.
 set -euo pipefail
 top=$(cd "$(dirname "${BASH_SOURCE[0]}")/.." && pwd)
-folder=${1:?usage: tests/readme_ways.sh FOLDER [WAY ..]}
+folder=${1:?usage: tests/readme_ways.sh FOLDER [SECTION ..]}
 shift
 [ "$(id -u)" = 0 ] || { echo "tests/readme_ways.sh: debootstrap needs root; nothing was run" >&2 && exit 3; }
 [ -d "$folder/usr" ] || debootstrap --variant=minbase bookworm "$folder" >"${folder%/}.log" || exit 3
@@ -68,12 +68,12 @@ run_blocks() {
 # Follows one section: follow_section HEADING
 follow_section() {
     local system=$work/system began status=ok
-    mkdir -p "$work/get" "$work/way"
+    mkdir -p "$work/get" "$work/section"
     extract_blocks "Get the packages" "$work/get"
-    extract_blocks "$1" "$work/way"
+    extract_blocks "$1" "$work/section"
     prepare_system "$system"
     began=$SECONDS
-    { run_blocks "$system" "$work/get" && run_blocks "$system" "$work/way"; } || status=FAILED
+    { run_blocks "$system" "$work/get" && run_blocks "$system" "$work/section"; } || status=FAILED
     umount -l "$system/proc" "$system/dev/shm" "$system/dev"
     [ "$((SECONDS - began))" -lt 600 ] || status=FAILED
     echo "$status $1, $((SECONDS - began)) s: $(tail -1 "$work/said")"
@@ -82,10 +82,10 @@ follow_section() {
         [ ! -s "$work/differs" ] || sed 's/^/    ! /' "$work/differs"
         failed=1
     fi
-    rm -rf --one-file-system "$system" "$work/way" "$work/get"
+    rm -rf --one-file-system "$system" "$work/section" "$work/get"
 }
 
-# Select the sections from the first test to the table of browsers.
+# Select the sections from "A test in Python" up to the one before "What browsers ..".
 while read -r heading; do
     wanted=
     [ $# != 0 ] || wanted=yes

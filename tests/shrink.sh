@@ -30,8 +30,8 @@ write_changed_log() {
     return 0
 }
 
-# Checks that `hidlog check` reports a difference at packet K of a response in the minimized log: check_differs K
-check_differs() {
+# Checks that `hidlog check` reports a difference at packet K of a response in the minimized log: expect_difference K
+expect_difference() {
     if release/hidlog check <"$work/smaller" 2>"$work/fault" || ! grep -q "differs at packet $1\$" "$work/fault"; then
         fail "the shorter log: $(cat "$work/fault")"
     fi
@@ -40,7 +40,7 @@ check_differs() {
 # Changes the fourth packet after the signature of the first sign-in.
 write_changed_log "$(awk '/^s 320 /{ print NR + 4 }' examples/sign_in.log)" sign_in.log
 run_shrink "$work/changed" release/hidlog check
-check_differs 4
+expect_difference 4
 release/hidlog show <"$work/smaller" 2>"$work/said" | grep 'request 02 {1: "example.com"' >/dev/null
 [ "$(wc -l <"$work/smaller")" -lt "$(wc -l <"$work/changed")" ]
 
@@ -58,7 +58,7 @@ for log in long longer; do
     python3 -m hidlog shrink "$work/$log" sh -c "echo >>'$work/runs'; release/hidlog check" >"$work/smaller" \
         2>"$work/said" || fail "10,000 lines: $(cat "$work/said")"
     [ "$(wc -l <"$work/runs")" -lt 200 ] || fail "10,000 lines took $(wc -l <"$work/runs") runs"
-    check_differs 4
+    expect_difference 4
     [ "$(wc -l <"$work/smaller")" -lt 40 ] || fail "$(wc -l <"$work/smaller") lines are left"
 done
 
@@ -68,7 +68,7 @@ begins=$(release/hidlog show --json examples/service_sign_in.log |
         END { print last }')
 write_changed_log "$begins" service_sign_in.log
 run_shrink "$work/changed" release/hidlog check
-check_differs 1
+expect_difference 1
 [ "$(count_inputs)" = 2 ] || fail "$(count_inputs) inputs remain of a getInfo: $(cat "$work/smaller")"
 
 # --match: a KEEPALIVE that requests user presence must remain.
@@ -93,7 +93,7 @@ sh -c "$denied" <"$work/smaller" && fail "what is left has no denied sign-in"
 # sign-ins.
 run_shrink examples/failing/stale_sign_count.log python3 -m hidlog judge
 python3 -m hidlog judge "$work/smaller" >"$work/found" && fail "no finding in the shorter log"
-grep -q 'expected: a counter above 1' "$work/found" || fail "$(cat "$work/found")"
+grep -q 'expected: a signature counter above 1' "$work/found" || fail "$(cat "$work/found")"
 [ "$(grep -c '^s ' "$work/smaller")" = 2 ] || fail "$(grep -c '^s ' "$work/smaller") signatures are left"
 # A finding on a later line of the output, such as that of `check --signatures`.
 finds="awk '{ print \"seen\" } / (granted|denied)\$/ { print \"line \" NR \": \" \$3; found = 1 } END { exit found }'"
@@ -116,7 +116,7 @@ python3 -m hidlog shrink "$work/changed" sh "$work/stops" "$(wc -l <"$work/chang
     status=$?
 [ "$status" = 130 ] || fail "SIGINT: status $status"
 grep -q '^hidlog shrink: interrupted$' "$work/said" || fail "SIGINT: $(cat "$work/said")"
-check_differs 4
+expect_difference 4
 [ "$(wc -l <"$work/smaller")" -lt "$(wc -l <"$work/changed")" ] || fail "SIGINT: nothing was kept"
 
 # Expects exit status 2, no output, and a message for invalid arguments: expect_usage_error TEXT ARGUMENT ..

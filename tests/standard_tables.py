@@ -68,7 +68,7 @@ def find_differences(title: str, ours: Names, theirs: Names) -> list[str]:
             if theirs.get(number) != expected[0]:
                 found.append(f"{title} {number:#x}: python-fido2 has {theirs.get(number)}, expected {expected[0]}")
         elif normalize_name(ours.get(number, "")) != normalize_name(theirs.get(number, "")):
-            found.append(f"{title} {number:#x}: {ours.get(number)}, and {theirs.get(number)} elsewhere")
+            found.append(f"{title} {number:#x}: expected {ours.get(number)}, the other source has {theirs.get(number)}")
     return found
 
 
@@ -139,7 +139,7 @@ def compare_numbers() -> list[str]:
         ),
     )
     return [
-        f"{title}: {sorted(ours)}, and {sorted(read_enum(kind))} elsewhere"
+        f"{title}: expected {sorted(ours)}, python-fido2 has {sorted(read_enum(kind))}"
         for title, ours, kind in compared
         if set(ours) != set(read_enum(kind))
     ]
@@ -163,7 +163,7 @@ def main() -> int:
         *find_differences("ctaphid", ctaphid, read_enum(CTAPHID)),
         *find_differences("capability", read_numbers("flags", "bit", list="CAPABILITIES"), read_enum(CAPABILITY)),
         *[
-            f"algorithm {number}: {algorithms.get(number)}, and {name} elsewhere"
+            f"algorithm {number}: expected {algorithms.get(number)}, python-fido2 has {name}"
             for number, name in theirs.items()
             if number is not None and algorithms.get(number) != name
         ],

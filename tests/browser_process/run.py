@@ -66,7 +66,7 @@ def install_npm_package(work_dir: Path) -> list[str]:
 
 
 class Browser:
-    """A process that responds to lines."""
+    """A process that responds to each line with a line."""
 
     def __init__(self, command: list[str]):
         self._process = subprocess.Popen(
@@ -195,8 +195,8 @@ def test_invalid_lines(browser: Browser) -> Any:
 TESTS = (test_register_and_sign_in, test_dom_errors, test_commands, test_invalid_lines)
 
 
-def check_recordings(browser: Browser) -> str:
-    """Returns what is wrong with the recordings."""
+def find_recording_error(browser: Browser) -> str:
+    """Returns an error in the recordings of a browser, or an empty string."""
     for recording in browser.call("getRecordings"):
         with tempfile.NamedTemporaryFile() as snapshot:
             snapshot.write(b64url_decode(recording["snapshot"]) if recording["snapshot"] else b"")
@@ -211,7 +211,7 @@ def check_recordings(browser: Browser) -> str:
 
 
 def run_tests(commands: dict[str, list[str]]) -> bool:
-    """Compares the responses of both processes to the same lines."""
+    """Runs the tests with each process. Returns whether the results are equal and the recordings are correct."""
     browsers = {name: Browser(command) for name, command in commands.items()}
     failed = False
     for test in TESTS:
@@ -220,7 +220,7 @@ def run_tests(commands: dict[str, list[str]]) -> bool:
         failed |= one != other
         print(f"{'ok' if one == other else 'FAILED'}  {test.__doc__} {'' if one == other else seen}")
     for name, browser in browsers.items():
-        wrong = check_recordings(browser) or browser.close()
+        wrong = find_recording_error(browser) or browser.close()
         failed |= bool(wrong)
         print(f"{'FAILED' if wrong else 'ok'}  the recordings of {name} {wrong or ''}")
     return not failed
@@ -240,8 +240,8 @@ def run_example(words: list[str], command: list[str]) -> tuple[bool, str]:
 GO_SOURCES = Path("/usr/share/gocode/src/github.com/duo-labs/webauthn")
 
 
-def with_other_origin(command: list[str]) -> list[str]:
-    """Returns a command for a browser at another origin of the relying party, whatever the argument."""
+def add_other_origin(command: list[str]) -> list[str]:
+    """Returns a command for a browser at another origin of the relying party. Further arguments are ignored."""
     return ["sh", "-c", f"exec {shlex.join(command)} --origin https://login.example.com"]
 
 
@@ -259,7 +259,7 @@ def run_examples(commands: dict[str, list[str]]) -> bool:
             passed, printed = run_example(words, command)
             failed |= not passed
             print(f"{'ok' if passed else 'FAILED'}  {language} with {name} {'' if passed else printed}")
-        passed, printed = run_example(words, with_other_origin(commands["the npm package"]))
+        passed, printed = run_example(words, add_other_origin(commands["the npm package"]))
         refused = not passed and ("rigin" in printed or "client data" in printed)
         failed |= not refused
         print(f"{'ok' if refused else 'FAILED'}  {language} refuses another origin: {printed.splitlines()[:1]}")
@@ -268,7 +268,7 @@ def run_examples(commands: dict[str, list[str]]) -> bool:
 
 def main() -> int:
     if not shutil.which("node"):
-        print("tests/browser_process: node is missing", file=sys.stderr)
+        print("tests/browser_process: node is missing (apt-get install nodejs)", file=sys.stderr)
         return 3
     os.environ["PYTHONPATH"] = str(TOP / "bindings" / "python" / "src")
     with tempfile.TemporaryDirectory() as work_dir:

@@ -1,8 +1,6 @@
 // Fills a key up to its capacity, saves a snapshot, initializes a key with the snapshot, and signs in. The expected
-// bytes are written after the standards: CTAP 2.1, sections 6.1.2 (0x28, CTAP2_ERR_KEY_STORE_FULL) and 6.2.2
-// (numberOfCredentials), and USB HID framing.
-//
-//     Usage: capacity CAPACITY
+// bytes are written by hand from CTAP 2.1, sections 6.1.2 (0x28, CTAP2_ERR_KEY_STORE_FULL), 6.2.2 (numberOfCredentials)
+// and 11.2 (USB HID framing). Usage: capacity CAPACITY
 #include "hidlog.h"
 
 #include <inttypes.h>
@@ -30,7 +28,7 @@ static struct hidlog_key new_key(const uint8_t *snapshot, size_t len) {
     return key;
 }
 
-static struct hidlog_credential credential(size_t number) {
+static struct hidlog_credential make_credential(size_t number) {
     struct hidlog_credential made = {.user_id_len = 2, .discoverable = 1};
     memcpy(made.rp_id_hash, rp_hash, sizeof rp_hash);
     memset(made.id, 0xaa, sizeof made.id);
@@ -94,7 +92,7 @@ static uint32_t open_channel(struct hidlog_key *key) {
 }
 
 // Expects that registering a discoverable credential for a further user returns 0x28 (CTAP2_ERR_KEY_STORE_FULL).
-static void expect_full(struct hidlog_key *key) {
+static void expect_key_store_full(struct hidlog_key *key) {
     uint8_t message[91] = {1, 0xa5, 1, 0x58, 0x20}, response[7700];
     static const uint8_t rest[] = "\x02\xa1\x62id\x6b"
                                   "example.com\x03\xa1\x62id\x41\x01\x04\x81\xa2\x63"
@@ -109,7 +107,7 @@ static void expect_full(struct hidlog_key *key) {
 
 // Expects that a sign-in without an allow list finds all credentials: numberOfCredentials is the last member of the
 // response, with the key 5.
-static void expect_all_found(struct hidlog_key *key, size_t capacity) {
+static void expect_all_credentials(struct hidlog_key *key, size_t capacity) {
     uint8_t message[50] = {2, 0xa2, 1, 0x6b, 'e', 'x', 'a', 'm', 'p', 'l', 'e', '.', 'c', 'o', 'm', 2, 0x58, 0x20};
     uint8_t response[7700];
     memset(message + 18, 0x22, 32);
@@ -134,18 +132,18 @@ int main(int count, char **words) {
     expect(HIDLOG_CAPACITY, (int64_t)capacity, "HIDLOG_CAPACITY");
     struct hidlog_key key = new_key(saved, 0);
     for (size_t number = 0; number < capacity; number++) {
-        struct hidlog_credential made = credential(number);
+        struct hidlog_credential made = make_credential(number);
         expect(hidlog_key_add_credential(&key, 0, &made), 0, "hidlog_key_add_credential");
     }
-    struct hidlog_credential more = credential(capacity);
+    struct hidlog_credential more = make_credential(capacity);
     expect(hidlog_key_add_credential(&key, 0, &more), HIDLOG_KEY_ERR_FULL, "hidlog_key_add_credential on a full key");
     expect(hidlog_key_credential_count(&key), (int64_t)capacity, "hidlog_key_credential_count");
-    expect_full(&key);
+    expect_key_store_full(&key);
     int32_t len = hidlog_key_save_snapshot(&key, saved, sizeof saved);
     struct hidlog_key other = new_key(saved, (size_t)len);
     expect(hidlog_key_save_snapshot(&other, again, sizeof again), len, "a snapshot's length");
     expect(memcmp(saved, again, (size_t)len), 0, "the comparison of snapshots");
-    expect_all_found(&other, capacity);
+    expect_all_credentials(&other, capacity);
     free(key.memory);
     free(other.memory);
     printf("capacity: %zu credentials, a key of %zu bytes, a snapshot of %" PRId32 "\n", capacity, hidlog_key_size(),

@@ -36,8 +36,8 @@ struct session {
     struct event events[12];
 };
 
-// Events that allocate channels 1 and 2, and events that register a credential for example.com whose ID is
-// CREDENTIAL_ID.
+// CHANNELS allocates channels 1 and 2. REGISTRATION registers a discoverable credential for example.com, with `id` as
+// each byte of its ID. For 0xab, the ID is CREDENTIAL_ID.
 #define CHANNELS                                                                                                       \
     {PACKET, 1, 0xffffffff, "86000800010203040506"}, {                                                                 \
         PACKET, 2, 0xffffffff, "86000800010203040506"                                                                  \
@@ -147,7 +147,7 @@ static void expect(int is_so, const char *what) {
     }
 }
 
-static size_t read_digits(const char *digits, uint8_t *bytes, size_t cap) {
+static size_t parse_hex(const char *digits, uint8_t *bytes, size_t cap) {
     size_t len = strlen(digits) / 2;
     expect(len <= cap, "more digits than fit");
     for (size_t i = 0; i < len; i++) {
@@ -168,7 +168,7 @@ static void send_packet(struct hidlog_key *key, const struct event *event, const
 // Sends a message in an initialization packet with up to 57 bytes, and continuation packets with up to 59 bytes.
 static void send_message(struct hidlog_key *key, const struct event *event) {
     uint8_t data[512], part[60];
-    size_t len = read_digits(event->digits, data, sizeof data), sent = len < 57 ? len : 57;
+    size_t len = parse_hex(event->digits, data, sizeof data), sent = len < 57 ? len : 57;
     part[0] = 0x90;
     part[1] = (uint8_t)(len >> 8);
     part[2] = (uint8_t)len;
@@ -184,11 +184,11 @@ static void send_message(struct hidlog_key *key, const struct event *event) {
 }
 
 // Fills the key with discoverable credentials of example.com.
-static void store(struct hidlog_key *key, uint32_t sign_count) {
+static void fill_key(struct hidlog_key *key, uint32_t sign_count) {
     // SHA-256 of "example.com", computed with sha256sum.
     static const char hash[] = "a379a6f6eeafb9a55e378c118034e2751e682fab9f2d30ab13d2125586ce1947";
     struct hidlog_credential credential = {.user_id_len = 1, .discoverable = 1, .sign_count = sign_count};
-    read_digits(hash, credential.rp_id_hash, 32);
+    parse_hex(hash, credential.rp_id_hash, 32);
     for (unsigned i = 0; i < HIDLOG_CAPACITY; i++) {
         credential.id[0] = (uint8_t)i;
         credential.user_id[0] = (uint8_t)(i + 16);
@@ -201,7 +201,7 @@ static void play_event(struct hidlog_key *key, const struct event *event) {
     memset(id, (int)event->value, sizeof id);
     switch (event->kind) {
     case PACKET:
-        send_packet(key, event, bytes, read_digits(event->digits, bytes, 60));
+        send_packet(key, event, bytes, parse_hex(event->digits, bytes, 60));
         break;
     case CBOR:
         send_message(key, event);
@@ -222,14 +222,14 @@ static void play_event(struct hidlog_key *key, const struct event *event) {
         expect(hidlog_key_refuse_signature(key, event->at) >= 0, "no signature");
         break;
     case STORE:
-        store(key, event->value);
+        fill_key(key, event->value);
         break;
     case END:
         break;
     }
 }
 
-static void check(struct hidlog_key *key, const struct hidlog_cause *expected) {
+static void expect_cause(struct hidlog_key *key, const struct hidlog_cause *expected) {
     struct hidlog_cause cause = {0};
     uint8_t text[160];
     int32_t len = hidlog_key_cause(key, 1, &cause, text, sizeof text);
@@ -254,7 +254,7 @@ int main(void) {
         for (; event->kind != END; event++) {
             uint8_t packet[64];
             play_event(&key, event);
-            check(&key, event[1].kind == END ? &sessions[number].cause : &none);
+            expect_cause(&key, event[1].kind == END ? &sessions[number].cause : &none);
             while (hidlog_key_queued_packets(&key) > 0) {
                 expect(hidlog_key_read_packet(&key, packet) >= 0, "a queued packet");
             }

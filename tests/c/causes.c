@@ -1,4 +1,5 @@
-// Tests hidlog_key_cause with rejected inputs: codes, statuses, operands and sentences, written by hand from CTAP 2.1.
+// Tests hidlog_key_cause with rejected inputs: the code, the status, the compared values (`first` and
+// `second`) and the sentence. The expected values are written by hand; statuses and limits are those of CTAP 2.1.
 // Prints nothing and returns 0 on success.
 #include "hidlog.h"
 
@@ -76,8 +77,9 @@ static void discard_packets(struct hidlog_key *key) {
     }
 }
 
-// Checks the cause of a timeout (`which` is 0) or of the last input (`which` is 1).
-static void check_cause(struct hidlog_key *key, uint32_t which, const struct hidlog_cause *expected, const char *sentence) {
+// Expects the cause of a timeout (`which` is 0) or of the last input (`which` is 1).
+static void expect_cause(struct hidlog_key *key, uint32_t which, const struct hidlog_cause *expected,
+                         const char *sentence) {
     struct hidlog_cause cause = {0};
     char text[160];
     int32_t len = hidlog_key_cause(key, which, &cause, (uint8_t *)text, sizeof text);
@@ -97,8 +99,9 @@ static void test_timeout(struct hidlog_key *key) {
     parse_packet("00000001810064", packet);
     expect(hidlog_key_write_packet(key, 20000, packet) == 0, "the first packet of a PING");
     expect(hidlog_key_tick(key, 20500) == 1, "the ERROR of a timeout");
-    check_cause(key, 0, &late, "the message timed out: its last packet came at 20000 ms, 500 ms or more before 20500 ms");
-    check_cause(key, 1, &none, "");
+    expect_cause(key, 0, &late,
+                 "the message timed out: its last packet came at 20000 ms, 500 ms or more before 20500 ms");
+    expect_cause(key, 1, &none, "");
     discard_packets(key);
 }
 
@@ -114,7 +117,7 @@ static void test_invalid_calls(struct hidlog_key *key) {
     expect(hidlog_key_cause(key, 1, &cause, text, sizeof text) == 5 && memcmp(text, "no as", 5) == 0, "a short buffer");
     expect(hidlog_key_cause(key, 1, &cause, text, 0) == 0 && cause.code == HIDLOG_CAUSE_NOTHING_PENDING, "no buffer");
     expect(hidlog_key_clear_credentials(key, 20700) == 0, "power-up");
-    check_cause(key, 1, &none, "");
+    expect_cause(key, 1, &none, "");
     expect(hidlog_key_destroy(key) == 0, "destroy");
     expect(hidlog_key_cause(key, 1, &cause, text, sizeof text) == HIDLOG_KEY_ERR_NOT_INITIALIZED, "a destroyed key");
 }
@@ -125,13 +128,13 @@ int main(void) {
     struct hidlog_key key = {0};
     key.memory = aligned_alloc(16, (hidlog_key_size() + 15) / 16 * 16);
     expect(key.memory != NULL && hidlog_key_init(&key, aaguid, 0, aaguid, 0) == 0, "a key");
-    check_cause(&key, 1, &none, "");
+    expect_cause(&key, 1, &none, "");
     for (size_t i = 0; i < sizeof steps / sizeof steps[0]; i++) {
         uint8_t packet[64];
         parse_packet(steps[i].digits, packet);
         expect(hidlog_key_write_packet(&key, steps[i].at, packet) >= 0, steps[i].digits);
-        check_cause(&key, 1, &steps[i].cause, steps[i].sentence);
-        check_cause(&key, 0, &none, "");
+        expect_cause(&key, 1, &steps[i].cause, steps[i].sentence);
+        expect_cause(&key, 0, &none, "");
         discard_packets(&key);
     }
     test_timeout(&key);

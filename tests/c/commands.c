@@ -147,7 +147,7 @@ static void test_snapshots(void)
 
 /* The message of each error of a C function, and truncated messages in small buffers. The texts are listed in
    docs/use/LOG_FORMAT.md, "Faults". */
-static void test_texts(void)
+static void test_messages(void)
 {
     static const struct {
         struct hidlog_result result;
@@ -194,7 +194,7 @@ int main(int count, char **words)
     test_errors();
     test_difference();
     test_snapshots();
-    test_texts();
+    test_messages();
     printf("%s\n", failures ? "the C tests FAILED" : "the C tests passed");
     return failures != 0;
 }

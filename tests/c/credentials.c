@@ -118,7 +118,7 @@ static void test_add_again(struct hidlog_key *key, const uint8_t *snapshot, int3
     }
 }
 
-// Fills the key with credentials that differ in their IDs.
+// Fills the key with credentials that differ in their IDs, and expects that a further credential is rejected.
 static void fill_key(struct hidlog_key *key) {
     struct hidlog_credential credential = {.sign_count = 7};
     for (unsigned i = 0; i < HIDLOG_CAPACITY; i++) {

@@ -42,7 +42,7 @@ static void destroy_key(struct hidlog_key *key) {
 static size_t parse_hex(const char *field, uint8_t *bytes, size_t most) {
     size_t len = strlen(field) / 2;
     if (strlen(field) % 2 != 0 || len > most) {
-        fail("invalid field length");
+        fail("a hex field has an odd length or too many digits");
     }
     for (size_t i = 0; i < len; i++) {
         unsigned byte;
@@ -64,7 +64,7 @@ static uint32_t parse_presence(const char *word) {
 // Whether to call the functions of hidlog_recording.h, with standard output as the recording.
 static bool is_recorded;
 
-// Provides a key pair or a signature, or refuses to provide one ("no").
+// Provides a key pair or a signature. The word "no" refuses to provide one.
 static int32_t provide_reply(struct hidlog_key *key, char letter, uint64_t now_ms, char *fields[3]) {
     uint8_t bytes[3][72];
     bool is_no = strcmp(fields[0], "no") == 0;
@@ -130,7 +130,7 @@ static void write_packets(struct hidlog_key *key, int32_t queued) {
         putchar('\n');
     }
     if (hidlog_key_read_packet(key, packet) != HIDLOG_KEY_ERR_NO_PACKET) {
-        fail("too many packets");
+        fail("hidlog_key_read_packet returned a packet while no packet was queued");
     }
 }
 
@@ -162,7 +162,7 @@ static void play_log(struct hidlog_key *key) {
 }
 
 // Replays the log with the functions of hidlog_recording.h, which write the recording.
-static void play_recorded(struct hidlog_key *key) {
+static void play_with_recording(struct hidlog_key *key) {
     char line[LINE];
     uint8_t packet[64];
     is_recorded = true;
@@ -280,7 +280,7 @@ int main(int count, char **words) {
     if (count == 2 && strcmp(words[1], "lines") == 0) {
         play_lines(&key);
     } else if (count == 2 && strcmp(words[1], "recorded") == 0) {
-        play_recorded(&key);
+        play_with_recording(&key);
     } else {
         play_log(&key);
     }

@@ -136,7 +136,7 @@ static void test_replies(struct hidlog_key *key, FILE *log) {
     expect_recorded(hidlog_record_refuse_signature(key, log, UINT64_C(1099511627825)), 0, "s 1099511627825 no");
 }
 
-// Makes each call on a key that is not initialized.
+// Makes each call on a destroyed key.
 static void test_destroyed_key(struct hidlog_key *key, FILE *log) {
     uint8_t bytes[64] = {0};
     int32_t wanted = HIDLOG_KEY_ERR_NOT_INITIALIZED;

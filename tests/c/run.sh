@@ -26,8 +26,8 @@ fail() {
 # Complete logs of sessions without initial credentials.
 logs=("$top"/examples/*.log "$top"/crates/hidlog_cli/data/capacity_64/*.log)
 
-# Replays a log on an in-memory key in each of three ways, and compares the outputs with the program's: compare_replay
-# LOG [WORD ..]
+# Replays a log with the in-memory key in three ways, and compares each output, and the credentials, with the program's.
+# Skips a log that the program rejects: compare_replay LOG [WORD ..]
 compare_replay() {
     "$top/release/hidlog" replay <"$1" >"$work/replayed" 2>/dev/null || return 0
     "${@:2}" "$work/key" <"$1" >"$work/held" || fail "the in-memory key fails for $1"
@@ -44,8 +44,8 @@ compare_replay() {
     played=$((played + 1))
 }
 
-# Shows a log in one form, and compares the output and the error message with the program's:
-# show_form LOG PROGRAM'S-OPTION LIBRARY'S-ARGUMENT [WORD ..]
+# Compares how the library and the program show a log in one form, including the error message: compare_show_form LOG
+# PROGRAM_OPTION LIBRARY_ARGUMENT [WORD ..]
 compare_show_form() {
     local status=0 expected=0
     "$top/release/hidlog" show "$2" <"$1" >"$work/shown" 2>"$work/error" || expected=$?
@@ -68,9 +68,9 @@ compare_transactions() {
     cmp -s "$work/shown" "$work/held" || fail "the transactions of lines differ for $1"
 }
 
-# Compares the message that is shown for each packet with the log's packets, if all packets are in order. An
-# initialization packet starts a message on a channel in one direction, and continuation packets belong to the last
-# message of the same channel and direction: show_messages LOG [WORD ..]
+# Compares the message that the library reports for each packet with the message in the log, whose packets must be in
+# order. An initialization packet starts a message on a channel in one direction, and continuation packets belong to the
+# last message of the same channel and direction: compare_messages LOG [WORD ..]
 compare_messages() {
     awk '
         { packet = $1 == ">" ? $3 : $2; at = $1 substr(packet, 1, 8) }
@@ -81,8 +81,8 @@ compare_messages() {
     cmp -s "$work/shown" "$work/held" || fail "the messages of packets differ for $1"
 }
 
-# Compares both forms in which a log is shown, and the transactions: compare_show LOG [WORD ..]
-compare_show() {
+# Compares how the library and the program show a log, in both forms, and the transactions: compare_log LOG [WORD ..]
+compare_log() {
     compare_show_form "$1" --plain "" "${@:2}"
     compare_show_form "$1" --explain explain "${@:2}"
     compare_transactions "$@"
@@ -104,13 +104,13 @@ PYTHON
 }
 
 # Compares how the library and the program show each worked log, each malformed log, and the first 700 bytes of each
-# log: compare_shows [WORD ..]
-compare_shows() {
+# log: compare_logs [WORD ..]
+compare_logs() {
     shown=0
     for log in "${logs[@]}" "$work"/hostile/*.log; do
-        compare_show "$log" "$@"
+        compare_log "$log" "$@"
         head -c 700 "$log" >"$work/front"
-        compare_show "$work/front" "$@"
+        compare_log "$work/front" "$@"
     done
     for log in "$top"/examples/{registration,sign_in}.log; do
         compare_messages "$log" "$@"
@@ -134,7 +134,7 @@ run_programs() {
     done
     [ "$played" -ge 50 ] || fail "only $played logs were played"
     echo "tests/c: $played logs played on an in-memory key like the program"
-    compare_shows "${@:2}"
+    compare_logs "${@:2}"
 }
 
 # Builds the programs: build_programs COMPILER ARGUMENT .., where the compiler may have options

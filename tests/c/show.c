@@ -8,7 +8,7 @@
 #include <string.h>
 
 enum { MAX_LOG = 1 << 26, CANARY = 0xa5 };
-enum form { FIXED, EXPLAINED, TRANSACTIONS };
+enum form { PLAIN, EXPLAINED, TRANSACTIONS };
 
 /* Reads standard input into allocated memory. */
 static uint8_t *read_log(size_t *size)
@@ -46,7 +46,7 @@ static uint8_t *show(const uint8_t *log, size_t size, enum form form, size_t out
 
 int main(int count, char **words)
 {
-    enum form form = count < 2 ? FIXED : strcmp(words[1], "transactions") ? EXPLAINED : TRANSACTIONS;
+    enum form form = count < 2 ? PLAIN : strcmp(words[1], "transactions") ? EXPLAINED : TRANSACTIONS;
     size_t size, out_cap = 3, known = 0;
     uint8_t *log = read_log(&size), *before = malloc(1);
     struct hidlog_result result;
@@ -62,8 +62,10 @@ int main(int count, char **words)
         if (result.error != HIDLOG_ERR_BUFFER_TOO_SMALL)
             break;
         if (known != out_cap || result.line != 0 || result.status != HIDLOG_LOG_ERROR) {
-            fprintf(stderr, "show: with capacity %zu: %zu bytes, line %llu and status %u with BUFFER_TOO_SMALL\n",
-                    out_cap, known, (unsigned long long)result.line, result.status);
+            fprintf(stderr,
+                    "show: BUFFER_TOO_SMALL with capacity %zu: expected a full buffer, line 0 and status %u, "
+                    "got %zu bytes, line %llu and status %u\n",
+                    out_cap, (unsigned)HIDLOG_LOG_ERROR, known, (unsigned long long)result.line, result.status);
             return 2;
         }
         out_cap = out_cap * 3 / 2;

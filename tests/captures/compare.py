@@ -1,8 +1,8 @@
 #!/usr/bin/env python3
 """Compares the captures in a folder with the key's logs of the same sessions: compare.py FOLDER
 
-A file SESSION.SUFFIX is compared with SESSION.log and SESSION.*.log. The exit status is 1 if a capture has a packet
-that is in no log.
+A file SESSION.SUFFIX is compared with SESSION.log and SESSION.*.log. The exit status is 1 unless
+all packets of each key are in one of the logs, in the same order.
 """
 
 from __future__ import annotations
@@ -32,15 +32,15 @@ def is_within(some: Packets, known: Packets) -> bool:
 
 def is_within_per_direction(some: Packets, known: Packets) -> bool:
     """Returns whether the packets of each direction are in a log in this order."""
-    ways = (b">", b"<")
+    directions = (b">", b"<")
     return all(
         is_within([item for item in some if item[0] == way], [element for element in known if element[0] == way])
-        for way in ways
+        for way in directions
     )
 
 
-def find_difference(seen: Packets, known: Packets) -> str:
-    """Returns how the packets of a capture differ from a log, or an empty string if they don't."""
+def describe_agreement(seen: Packets, known: Packets) -> str:
+    """Returns how the packets of a capture agree with a log, or an empty string if they don't."""
     if seen == known:
         return "the same packets"
     for start in range(len(known) - len(seen) + 1):
@@ -66,7 +66,7 @@ def compare(path: Path) -> tuple[int, int]:
     agree = 0
     for result in found:
         seen = read_packets(result.log)
-        agreements = {log.name: find_difference(seen, read_packets(log.read_bytes())) for log in logs}
+        agreements = {log.name: describe_agreement(seen, read_packets(log.read_bytes())) for log in logs}
         best = next((f"{text} ({name})" for name, text in agreements.items() if text.startswith("the same")), "")
         best = best or next((f"{text} ({name})" for name, text in agreements.items() if text), "")
         checked = hidlog.check(result.log)

@@ -3,7 +3,7 @@
 
     tests/captures/hostile.py [--seed N] [--count N]     default: 10,000 files, seed 1
 
-Each file is one of data/ with some bytes changed, removed, repeated or set to extreme numbers.
+Each file is a capture of data/, or one generated from them, with some bytes changed, removed, repeated or set to extreme numbers.
 """
 
 from __future__ import annotations
@@ -30,7 +30,7 @@ SECONDS, MEMORY = 20.0, 256 << 20
 
 
 def list_captures() -> list[bytes]:
-    """Returns the captures to damage: small ones of each format."""
+    """Returns the captures to damage: those of data/, and one in each other format."""
     found = [path.read_bytes() for path in sorted(DATA.iterdir()) if path.suffix != ".log"]
     register = (DATA / "libfido2_register.pcap").read_bytes()
     log = (DATA / "python_cancel.log").read_bytes()

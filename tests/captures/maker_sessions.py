@@ -50,20 +50,20 @@ class Key:
 
     @property
     def has_cbor(self) -> bool:
-        """Whether it serves CTAP 2."""
+        """Whether the key supports CTAP 2."""
         return bool(self.traits["capabilities"] & HAS_CBOR)
 
     @property
     def log(self) -> bytes:
-        """The log."""
+        """The log of the session."""
         return "".join(f"{line}\n" for line in self.lines).encode()
 
-    def host(self, channel: int, command: int, data: bytes = b"") -> None:
+    def add_request(self, channel: int, command: int, data: bytes = b"") -> None:
         """Adds a message of the client."""
         self.at += 3
         self.lines += [f"> {self.at} {packet.hex()}" for packet in fragment_message(channel, command, data)]
 
-    def answer(self, channel: int, command: int, data: bytes = b"") -> None:
+    def add_response(self, channel: int, command: int, data: bytes = b"") -> None:
         """Adds a message of the key."""
         self.at += 2
         self.lines.append(f"t {self.at}")
@@ -73,37 +73,37 @@ class Key:
         """Allocates a channel, as a client does when it opens the key."""
         self.nonces, self.channel = self.nonces + 1, self.channel + 1
         nonce = hashlib.sha256(b"%d" % self.nonces).digest()[:8]
-        self.host(BROADCAST, INIT, nonce)
+        self.add_request(BROADCAST, INIT, nonce)
         device = bytes([2, *self.traits["device"], self.traits["capabilities"]])
-        self.answer(BROADCAST, INIT, nonce + self.channel.to_bytes(4, "big") + device)
+        self.add_response(BROADCAST, INIT, nonce + self.channel.to_bytes(4, "big") + device)
 
-    def wait(self, milliseconds: int, status: int) -> None:
-        """Sends KEEPALIVE packets, the first one at once."""
+    def add_keepalives(self, milliseconds: int, status: int) -> None:
+        """Adds KEEPALIVE packets for a time, the first one at once."""
         end = self.at + milliseconds
         while self.at < end:
-            self.answer(self.channel, KEEPALIVE, bytes([status]))
+            self.add_response(self.channel, KEEPALIVE, bytes([status]))
             self.at = min(end, self.at + self.traits["keepalive"])
 
     def serve(self, request: bytes, item: Any, status: bytes, response: Any = None, touched: int = 0) -> None:
         """Adds a CBOR request and its response. Before the response, the key processes the request for a while, and
-        waits for a touch."""
-        self.host(self.channel, CBOR, request + (ctap_cbor.encode(item) if item is not None else b""))
+        waits for user presence."""
+        self.add_request(self.channel, CBOR, request + (ctap_cbor.encode(item) if item is not None else b""))
         if request in (MAKE, GET, SELECTION) and touched:
-            self.wait(self.traits["works_for"], 1)
-        self.wait(touched, 2)
-        self.answer(self.channel, CBOR, status + (ctap_cbor.encode(response) if response is not None else b""))
+            self.add_keepalives(self.traits["works_for"], 1)
+        self.add_keepalives(touched, 2)
+        self.add_response(self.channel, CBOR, status + (ctap_cbor.encode(response) if response is not None else b""))
 
     def get_info(self) -> None:
         """Serves authenticatorGetInfo."""
         self.serve(INFO, None, OK, {**self.info, 3: self.aaguid})
 
-    def count(self, credential: dict[str, Any]) -> int:
-        """Returns the next signature counter, of the key or of the credential."""
+    def increment_counter(self, credential: dict[str, Any]) -> int:
+        """Increments the signature counter, and returns it. It belongs to the key or to the credential."""
         self.counter += 1
         credential["counter"] = credential.get("counter", 0) + 1
         return self.counter if self.traits.get("counts_all") else int(credential["counter"])
 
-    def create(self, rp: str, user: dict[str, Any], is_discoverable: bool) -> dict[str, Any]:
+    def create_credential(self, rp: str, user: dict[str, Any], is_discoverable: bool) -> dict[str, Any]:
         """Returns a new credential."""
         identity, x, y = self.maker.make()
         longer = (identity * 8)[: self.traits["id_length"]]
@@ -114,14 +114,18 @@ class Key:
     def register(self, asked: dict[int, Any], touched: int = 600, is_verified: bool = False) -> dict[str, Any]:
         """Serves authenticatorMakeCredential with a new credential."""
         rp, extensions = asked[2]["id"], asked.get(6, {})
-        credential = self.create(rp, asked[3], asked.get(7, {}).get("rk") is True)
+        credential = self.create_credential(rp, asked[3], asked.get(7, {}).get("rk") is True)
         outputs = {name: True for name in ("hmac-secret", "credBlob") if extensions.get(name)}
         if "credProtect" in extensions:
             outputs["credProtect"] = extensions["credProtect"]
         flags = UP | AT | UV * is_verified | ED * bool(outputs)
         cose = ctap_cbor.encode({1: 2, 3: -7, -1: 1, -2: credential["x"], -3: credential["y"]})
         identity = credential["id"]
-        auth = hashlib.sha256(rp.encode()).digest() + bytes([flags]) + self.count(credential).to_bytes(4, "big")
+        auth = (
+            hashlib.sha256(rp.encode()).digest()
+            + bytes([flags])
+            + self.increment_counter(credential).to_bytes(4, "big")
+        )
         auth += self.aaguid + len(identity).to_bytes(2, "big") + identity + cose
         auth += ctap_cbor.encode(outputs) if outputs else b""
         if self.traits["attestation"] == "certificate":
@@ -133,34 +137,34 @@ class Key:
         return credential
 
     def refuse_registration(self, asked: dict[int, Any], status: bytes, touched: int = 500) -> None:
-        """Rejects authenticatorMakeCredential after a touch."""
+        """Serves authenticatorMakeCredential with an error after user presence."""
         self.serve(MAKE, asked, status, None, touched)
 
-    def assert_credential(
+    def serve_assertion(
         self, credential: dict[str, Any], asked: dict[int, Any], count: int = 1, is_verified: bool = False
     ) -> None:
-        """Serves authenticatorGetAssertion. With the option `up` false, no touch is needed."""
+        """Serves authenticatorGetAssertion. With the option `up` false, user presence is not needed."""
         is_silent = asked.get(5, {}).get("up") is False
-        response = self.sign_in(credential, asked, (0 if is_silent else UP) | UV * is_verified)
+        response = self.make_assertion(credential, asked, (0 if is_silent else UP) | UV * is_verified)
         if count > 1:
             response[5] = count
         self.serve(GET, asked, OK, response, 0 if is_silent else 450)
 
-    def sign_in(self, credential: dict[str, Any], asked: dict[int, Any], flags: int) -> dict[int, Any]:
+    def make_assertion(self, credential: dict[str, Any], asked: dict[int, Any], flags: int) -> dict[int, Any]:
         """Returns an assertion."""
         start = hashlib.sha256(credential["rp"].encode()).digest() + bytes([flags])
-        auth = start + self.count(credential).to_bytes(4, "big")
+        auth = start + self.increment_counter(credential).to_bytes(4, "big")
         found: dict[int, Any] = {1: {"id": credential["id"], "type": KIND}, 2: auth}
         found[3] = self.maker.sign(credential["key"], auth + asked[2] + b"wrong" * self.is_wrong)
         if credential["rk"]:
             found[4] = credential["user"] if flags & UV else {"id": credential["user"]["id"]}
         return found
 
-    def find_nothing(self, asked: dict[int, Any]) -> None:
-        """Serves an authenticatorGetAssertion that finds no credential."""
+    def serve_no_credentials(self, asked: dict[int, Any]) -> None:
+        """Serves authenticatorGetAssertion with the status NO_CREDENTIALS."""
         self.serve(GET, asked, NO_CREDENTIALS)
 
-    def get_token(self, rp: str = "", permissions: int = 0) -> tuple[bytes, int]:
+    def serve_pin_token(self, rp: str = "", permissions: int = 0) -> tuple[bytes, int]:
         """Serves the requests with which a client gets a token by PIN. Returns a pinUvAuthParam and the protocol
         number."""
         protocol = self.info[6][0]
@@ -182,80 +186,80 @@ class Key:
         self.nonces += 1
         return hashlib.sha512(b"r%d" % self.nonces).digest()[:count]
 
-    def send_apdu(self, apdu: bytes, response: bytes) -> None:
+    def add_apdu(self, apdu: bytes, response: bytes) -> None:
         """Adds a U2F request and its response."""
-        self.host(self.channel, MSG, apdu)
-        self.answer(self.channel, MSG, response)
+        self.add_request(self.channel, MSG, apdu)
+        self.add_response(self.channel, MSG, response)
 
-    def list_vendor_commands(self) -> None:
+    def add_vendor_commands(self) -> None:
         """Adds the vendor commands of the maker, as the maker's tools send them."""
         for command, request, response in self.traits["vendor"]:
-            self.host(self.channel, int(command, 16), bytes.fromhex(request))
-            self.answer(self.channel, int(command, 16), bytes.fromhex(response))
+            self.add_request(self.channel, int(command, 16), bytes.fromhex(request))
+            self.add_response(self.channel, int(command, 16), bytes.fromhex(response))
 
     def register_u2f(self, challenge: bytes, application: bytes, polls: int = 3) -> bytes:
-        """Serves a U2F registration, which the client repeats until the user touches the key. Returns the key
+        """Serves a U2F registration, which the client repeats until user presence is granted. Returns the key
         handle."""
         identity, x, y = self.maker.make()
         handle: bytes = (identity * 8)[: self.traits["id_length"]]
         self.credentials.append({"id": handle, "key": identity, "rp": application.hex(), "rk": False})
         apdu = bytes([0, 1, 3, 0, 0, 0, 64]) + challenge + application + b"\0\0"
-        self.poll(apdu, polls)
+        self.add_polls(apdu, polls)
         point = b"\4" + x + y
         signature = self.attestor.sign(b"\0" + application + challenge + handle + point)
         response = b"\5" + point + bytes([len(handle)]) + handle + self.attestor.certificate + signature
-        self.send_apdu(apdu, response + SUCCESS)
+        self.add_apdu(apdu, response + SUCCESS)
         return handle
 
     def sign_u2f(self, handle: bytes, challenge: bytes, application: bytes, polls: int = 3) -> None:
-        """Serves a U2F sign-in, which the client repeats until the user touches the key. Before that, the client checks
+        """Serves a U2F sign-in, which the client repeats until user presence is granted. Before that, the client checks
         the key handle."""
         data = challenge + application + bytes([len(handle)]) + handle
         head = bytes([0, 2, 7, 0, 0]) + len(data).to_bytes(2, "big")
-        self.send_apdu(head + data + b"\0\0", NOT_SATISFIED)
+        self.add_apdu(head + data + b"\0\0", NOT_SATISFIED)
         apdu = bytes([0, 2, 3]) + head[3:] + data + b"\0\0"
-        self.poll(apdu, polls)
+        self.add_polls(apdu, polls)
         credential = next(one for one in self.credentials if one["id"] == handle)
-        start = b"\1" + self.count(credential).to_bytes(4, "big")
-        self.send_apdu(apdu, start + self.maker.sign(credential["key"], application + start + challenge) + SUCCESS)
+        start = b"\1" + self.increment_counter(credential).to_bytes(4, "big")
+        self.add_apdu(apdu, start + self.maker.sign(credential["key"], application + start + challenge) + SUCCESS)
 
-    def poll(self, apdu: bytes, count: int) -> None:
-        """Adds U2F requests that are rejected because the user has not touched the key yet."""
+    def add_polls(self, apdu: bytes, count: int) -> None:
+        """Adds U2F requests that are rejected because user presence is not yet granted."""
         for _ in range(count):
-            self.send_apdu(apdu, NOT_SATISFIED)
+            self.add_apdu(apdu, NOT_SATISFIED)
             self.at += 200
 
 
-def make_parameters(rp: Any, user: Any, *algorithms: int, **more: Any) -> dict[int, Any]:
+def make_registration_parameters(rp: Any, user: Any, *algorithms: int, **more: Any) -> dict[int, Any]:
     """Returns the parameters of a registration."""
     listed = [{"alg": number, "type": KIND} for number in algorithms]
     whole = {1: hashlib.sha256(repr(rp).encode()).digest(), 2: rp, 3: user, 4: listed}
     return {**whole, **{int(key[1:]): value for key, value in more.items() if value is not None}}
 
 
-def get_parameters(rp: str, *credentials: Any, **more: Any) -> dict[int, Any]:
+def make_assertion_parameters(rp: str, *credentials: Any, **more: Any) -> dict[int, Any]:
     """Returns the parameters of a sign-in."""
     listed = {3: [{"id": one["id"], "type": KIND} for one in credentials]} if credentials else {}
     whole = {1: rp, 2: hashlib.sha256(b"get " + rp.encode()).digest(), **listed}
     return {**whole, **{int(key[1:]): value for key, value in more.items() if value is not None}}
 
 
-def describe(*credentials: dict[str, Any]) -> list[dict[str, Any]]:
-    """Returns descriptors."""
+def make_descriptors(*credentials: dict[str, Any]) -> list[dict[str, Any]]:
+    """Returns the descriptors of credentials."""
     return [{"id": one["id"], "type": KIND} for one in credentials]
 
 
 ALICE: dict[str, Any] = {"id": b"alice", "name": "alice", "displayName": "Alice"}
 
 
-def serve_u2f_alone(key: Key, name: str) -> None:
-    """The requests of each client to a key that supports only U2F: the version, a registration, and a sign-in."""
+def run_u2f_client(key: Key, name: str) -> None:
+    """Sends the requests of a client to a key that supports only U2F: the version, a registration, and a sign-in."""
     challenge, application = hashlib.sha256(name.encode()).digest(), hashlib.sha256(b"u2f.example").digest()
-    key.send_apdu(bytes([0, 3, 0, 0, 0, 0, 0]), (b"U2F_V1" if key.is_wrong else b"U2F_V2") + SUCCESS)
+    key.add_apdu(bytes([0, 3, 0, 0, 0, 0, 0]), (b"U2F_V1" if key.is_wrong else b"U2F_V2") + SUCCESS)
     handle = key.register_u2f(challenge, application)
     key.open()
     other = bytes([0, 2, 7, 0, 0, 0, 129]) + challenge + application + b"\x40" + b"\x77" * 64 + b"\0\0"
-    key.send_apdu(other, WRONG_DATA)
+    key.add_apdu(other, WRONG_DATA)
     for _ in range(2):
         key.sign_u2f(handle, challenge, application)
 
@@ -264,21 +268,23 @@ def chromium(key: Key) -> None:
     """Chromium: getInfo, the registration of a discoverable credential with a PIN, silent sign-ins before a
     registration with an excludeList, and a sign-in with all accounts."""
     key.get_info()
-    rp, param = {"id": "localhost", "name": "Relying"}, key.get_token("localhost", 3)
+    rp, param = {"id": "localhost", "name": "Relying"}, key.serve_pin_token("localhost", 3)
     more = {"_6": {"credProtect": 2} if "credProtect" in key.info.get(2, []) else None, "_7": {"rk": True}}
-    first = key.register(make_parameters(rp, ALICE, -7, -257, _8=param[0], _9=param[1], **more), 700, True)
+    first = key.register(make_registration_parameters(rp, ALICE, -7, -257, _8=param[0], _9=param[1], **more), 700, True)
     key.open()
     key.get_info()
-    param = key.get_token("localhost", 2)
-    key.assert_credential(first, get_parameters("localhost", first, _6=param[0], _7=param[1]), 1, True)
+    param = key.serve_pin_token("localhost", 2)
+    key.serve_assertion(first, make_assertion_parameters("localhost", first, _6=param[0], _7=param[1]), 1, True)
     key.open()
     key.get_info()
-    silent = get_parameters("localhost", first, _5={"up": False})
-    key.assert_credential(first, silent)
-    param = key.get_token("localhost", 1)
-    again = make_parameters(rp, ALICE, -7, -257, _5=describe(first), _7={"rk": True}, _8=param[0], _9=param[1])
+    silent = make_assertion_parameters("localhost", first, _5={"up": False})
+    key.serve_assertion(first, silent)
+    param = key.serve_pin_token("localhost", 1)
+    again = make_registration_parameters(
+        rp, ALICE, -7, -257, _5=make_descriptors(first), _7={"rk": True}, _8=param[0], _9=param[1]
+    )
     key.refuse_registration(again, EXCLUDED)
-    key.host(key.channel, CANCEL)
+    key.add_request(key.channel, CANCEL)
 
 
 def firefox(key: Key) -> None:
@@ -286,34 +292,36 @@ def firefox(key: Key) -> None:
     hmac-secret."""
     key.get_info()
     user, hmac = {"id": b"bob", "name": "bob"}, {"hmac-secret": True}
-    made = key.register(make_parameters({"id": "a.example"}, user, -7, -257, _6=hmac, _7={"rk": False}))
+    made = key.register(make_registration_parameters({"id": "a.example"}, user, -7, -257, _6=hmac, _7={"rk": False}))
     key.open()
     key.get_info()
     for options in ({"up": False}, {"up": True}):
-        key.assert_credential(made, get_parameters("a.example", made, _5=options))
+        key.serve_assertion(made, make_assertion_parameters("a.example", made, _5=options))
     key.open()
     key.get_info()
     stranger = {"id": b"\x55" * 64}
-    key.find_nothing(get_parameters("a.example", stranger, _5={"up": False}))
+    key.serve_no_credentials(make_assertion_parameters("a.example", stranger, _5={"up": False}))
 
 
 def libfido2(key: Key) -> None:
     """libfido2 and its tools: getInfo at each start, a registration without names, and listing accounts with -G -r."""
     key.get_info()
-    key.list_vendor_commands()
+    key.add_vendor_commands()
     users = [{"id": bytes([number]) * 32, "name": name} for number, name in ((1, "alice"), (2, "bob"))]
     for user in users:
         key.open()
         key.get_info()
-        param = key.get_token("relying.example", 1)
-        asked = make_parameters({"id": "relying.example"}, user, -7, _7={"rk": True}, _8=param[0], _9=param[1])
+        param = key.serve_pin_token("relying.example", 1)
+        asked = make_registration_parameters(
+            {"id": "relying.example"}, user, -7, _7={"rk": True}, _8=param[0], _9=param[1]
+        )
         key.register(asked, 400, True)
     key.open()
     key.get_info()
-    key.assert_credential(key.credentials[1], get_parameters("relying.example", _5={"up": True}), 2)
-    key.serve(NEXT, None, OK, key.sign_in(key.credentials[0], get_parameters("relying.example"), UP))
+    key.serve_assertion(key.credentials[1], make_assertion_parameters("relying.example", _5={"up": True}), 2)
+    key.serve(NEXT, None, OK, key.make_assertion(key.credentials[0], make_assertion_parameters("relying.example"), UP))
     if "management" in key.traits:
-        param = key.get_token("", 4)
+        param = key.serve_pin_token("", 4)
         asked = {1: 1, 3: param[1], 4: param[0]}
         key.serve(bytes([key.traits["management"]]), asked, OK, {1: len(users), 2: 23})
     if key.traits.get("large_blobs"):
@@ -322,37 +330,37 @@ def libfido2(key: Key) -> None:
 
 def python_fido2(key: Key) -> None:
     """python-fido2: getInfo several times, four algorithms, a PING, and a user who cancels a request."""
-    key.host(key.channel, PING, b"Hello")
-    key.answer(key.channel, PING, b"Hello")
+    key.add_request(key.channel, PING, b"Hello")
+    key.add_response(key.channel, PING, b"Hello")
     for _ in range(2):
         key.get_info()
     rp = {"id": "relying.example", "name": "Relying"}
-    made = key.register(make_parameters(rp, ALICE, -7, -8, -37, -257))
+    made = key.register(make_registration_parameters(rp, ALICE, -7, -8, -37, -257))
     key.get_info()
-    again = make_parameters(rp, ALICE, -7, -8, -37, -257, _5=describe(made))
+    again = make_registration_parameters(rp, ALICE, -7, -8, -37, -257, _5=make_descriptors(made))
     key.refuse_registration(again, EXCLUDED)
-    key.assert_credential(made, get_parameters("relying.example", made))
-    key.host(key.channel, CBOR, GET + ctap_cbor.encode(get_parameters("relying.example", made)))
-    key.wait(300, 2)
-    key.host(key.channel, CANCEL)
-    key.answer(key.channel, CBOR, CANCELLED)
+    key.serve_assertion(made, make_assertion_parameters("relying.example", made))
+    key.add_request(key.channel, CBOR, GET + ctap_cbor.encode(make_assertion_parameters("relying.example", made)))
+    key.add_keepalives(300, 2)
+    key.add_request(key.channel, CANCEL)
+    key.add_response(key.channel, CBOR, CANCELLED)
     if key.traits["capabilities"] & HAS_WINK:
-        key.host(key.channel, WINK)
-        key.answer(key.channel, WINK)
+        key.add_request(key.channel, WINK)
+        key.add_response(key.channel, WINK)
 
 
 def openssh(key: Key) -> None:
     """OpenSSH: the RP `ssh:`, a user handle of 32 zero bytes, a silent sign-in first, and CANCEL at the end."""
     key.get_info()
     user = {"id": bytes(32), "name": "openssh", "displayName": "openssh"}
-    made = key.register(make_parameters({"id": "ssh:"}, user, -7))
-    key.host(key.channel, CANCEL)
+    made = key.register(make_registration_parameters({"id": "ssh:"}, user, -7))
+    key.add_request(key.channel, CANCEL)
     key.open()
     for _ in range(2):
         key.get_info()
     for options in ({"up": False}, {"up": True}):
-        key.assert_credential(made, get_parameters("ssh:", made, _5=options))
-    key.host(key.channel, CANCEL)
+        key.serve_assertion(made, make_assertion_parameters("ssh:", made, _5=options))
+    key.add_request(key.channel, CANCEL)
     if not key.traits["capabilities"] & 8:
         application = hashlib.sha256(b"ssh:").digest()
         handle = key.register_u2f(bytes(32), application, 1)
@@ -368,24 +376,30 @@ def windows(key: Key) -> None:
     if key.traits.get("selection"):
         key.serve(SELECTION, None, OK, None, 300)
     else:
-        choosing = make_parameters({"id": "SelectDevice", "name": "SelectDevice"}, user, -7, _8=b"", _9=1)
+        choosing = make_registration_parameters({"id": "SelectDevice", "name": "SelectDevice"}, user, -7, _8=b"", _9=1)
         key.refuse_registration(choosing, PIN_INVALID, 800)
     if key.options.get("uv"):
-        asked = make_parameters(rp, user, -7, -257, _6={"hmac-secret": True}, _7={"rk": True, "uv": True})
+        asked = make_registration_parameters(rp, user, -7, -257, _6={"hmac-secret": True}, _7={"rk": True, "uv": True})
         made = key.register(asked, 900, True)
-        key.assert_credential(made, get_parameters("login.example", made, _5={"up": True, "uv": True}), 1, True)
+        key.serve_assertion(
+            made, make_assertion_parameters("login.example", made, _5={"up": True, "uv": True}), 1, True
+        )
         if "enrolment" in key.traits:
             key.serve(bytes([key.traits["enrolment"]]), {6: True}, OK, {1: 1})
     else:
-        param = key.get_token("login.example", 3)
-        asked = make_parameters(rp, user, -7, -257, _6={"hmac-secret": True}, _7={"rk": True}, _8=param[0], _9=param[1])
+        param = key.serve_pin_token("login.example", 3)
+        asked = make_registration_parameters(
+            rp, user, -7, -257, _6={"hmac-secret": True}, _7={"rk": True}, _8=param[0], _9=param[1]
+        )
         made = key.register(asked, 900, True)
-        param = key.get_token("login.example", 2)
-        asked = get_parameters("login.example", made, _5={"up": True}, _6=param[0], _7=param[1])
-        key.assert_credential(made, asked, 1, True)
+        param = key.serve_pin_token("login.example", 2)
+        asked = make_assertion_parameters("login.example", made, _5={"up": True}, _6=param[0], _7=param[1])
+        key.serve_assertion(made, asked, 1, True)
     strangers = [{"id": bytes([0x60 + number]) * 32} for number in range(5)]
     for start in (0, 3):
-        key.find_nothing(get_parameters("login.example", *strangers[start : start + 3], _5={"up": False}))
+        key.serve_no_credentials(
+            make_assertion_parameters("login.example", *strangers[start : start + 3], _5={"up": False})
+        )
 
 
 CLIENTS: dict[str, Callable[[Key], None]] = {
@@ -401,5 +415,5 @@ def make_session(maker: str, client: str, is_wrong: bool = False) -> Key:
     if key.has_cbor:
         CLIENTS[client](key)
     else:
-        serve_u2f_alone(key, client)
+        run_u2f_client(key, client)
     return key

@@ -71,7 +71,7 @@ def replay(path: Path) -> bytes:
     return subprocess.run([PROGRAM, "replay"], input=log, check=True, capture_output=True).stdout
 
 
-def show_objects(path: Path) -> Iterator[dict[str, Any]]:
+def iter_shown_objects(path: Path) -> Iterator[dict[str, Any]]:
     """Yields the objects of `show --json`. The lines about members are added to the object of each item."""
     log = replay(path)
     output = subprocess.run([PROGRAM, "show", "--json"], input=log, check=True, capture_output=True).stdout
@@ -87,7 +87,7 @@ def show_objects(path: Path) -> Iterator[dict[str, Any]]:
         yield entry
 
 
-def packet_properties(mapping: dict[str, Any]) -> tuple[object, ...]:
+def list_packet_properties(mapping: dict[str, Any]) -> tuple[object, ...]:
     """Returns the properties of a packet that are compared between tshark and `show`."""
     code = mapping.get("code")
     of_key = mapping["from"] == "key"
@@ -130,36 +130,36 @@ def unescape(text: str) -> str:
     return text.replace("\\\\", "\\")
 
 
-def message_properties(mapping: dict[str, Any]) -> tuple[object, ...]:
+def list_message_properties(mapping: dict[str, Any]) -> tuple[object, ...]:
     request = mapping["command"] if mapping["kind"] == "request" else None
     return (request, mapping.get("status"), mapping.get("item", ""), mapping["members"])
 
 
 @pytest.fixture(scope="module")
-def both(tmp_path_factory: pytest.TempPathFactory) -> list[tuple[Path, list[Row], list[dict[str, Any]]]]:
+def compared_output(tmp_path_factory: pytest.TempPathFactory) -> list[tuple[Path, list[Row], list[dict[str, Any]]]]:
     files = list_sessions()
     rows = dissect(files, tmp_path_factory.mktemp("dissected"))
-    return [(path, rows[number], list(show_objects(path))) for number, path in enumerate(files)]
+    return [(path, rows[number], list(iter_shown_objects(path))) for number, path in enumerate(files)]
 
 
-Both = list[tuple[Path, list[Row], list[dict[str, Any]]]]
+ComparedOutput = list[tuple[Path, list[Row], list[dict[str, Any]]]]
 
 
-def test_each_packet_is_the_same(both: Both) -> None:
-    assert len(both) >= 200
-    for path, rows, objects in both:
-        of_zero = [
+def test_each_packet_is_the_same(compared_output: ComparedOutput) -> None:
+    assert len(compared_output) >= 200
+    for path, rows, objects in compared_output:
+        of_channels = [
             other_object
             for other_object in objects
             if other_object["kind"] == "packet" and other_object["channel"] != "00000000"
         ]
-        assert [parse_packet_row(row) for row in rows] == [packet_properties(item) for item in of_zero], path
+        assert [parse_packet_row(row) for row in rows] == [list_packet_properties(item) for item in of_channels], path
 
 
-def test_each_message_is_the_same(both: Both) -> None:
+def test_each_message_is_the_same(compared_output: ComparedOutput) -> None:
     """If packets of several messages are interleaved, `show` assembles only the message that began last."""
     compared, more = 0, 0
-    for path, rows, objects in both:
+    for path, rows, objects in compared_output:
         seen = [
             parse_message_row(other_row)
             for other_row in rows
@@ -167,27 +167,29 @@ def test_each_message_is_the_same(both: Both) -> None:
         ]
         of_messages = [item for item in objects if item["kind"] in ("request", "answer")]
         messages = [
-            message_properties(other_message) for other_message in of_messages if other_message["channel"] != "00000000"
+            list_message_properties(other_message)
+            for other_message in of_messages
+            if other_message["channel"] != "00000000"
         ]
         rest = iter(seen)
         for element in messages:
-            found = next((row for row in rest if is_same_item(row, element)), None)
+            found = next((row for row in rest if is_same_message(row, element)), None)
             assert found, (path, element, seen)
             compared += 1
         more += len(seen) - len(messages)
-    print(f"{len(both)} sessions, {compared} messages, {more} more of the dissector")
+    print(f"{len(compared_output)} sessions, {compared} messages, {more} more of the dissector")
     assert compared > 300 and more < 10, (compared, more)
 
 
-def is_same_item(row: tuple[object, ...], item: tuple[object, ...]) -> bool:
+def is_same_message(row: tuple[object, ...], item: tuple[object, ...]) -> bool:
     members = [unescape(str(name)) for name in row[3]] if isinstance(row[3], list) else []
     named = item[3] if isinstance(item[3], list) else []
     return row[:2] == item[:2] and unescape(str(row[2])) == item[2] and (not named or members == named)
 
 
-def test_faults_and_errors_are_expert_infos(both: Both) -> None:
+def test_faults_and_errors_are_expert_infos(compared_output: ComparedOutput) -> None:
     faults = errors = 0
-    for path, rows, objects in both:
+    for path, rows, objects in compared_output:
         marked = [row for row in rows if "not canonical CBOR" in row["_ws.expert.message"]]
         wanted = [item for item in objects if item["kind"] in ("request", "answer") and "fault" in item]
         assert len(marked) >= len(wanted), path

@@ -22,13 +22,13 @@ Key = hidlog.SecurityKey
 
 def read_requests(log: bytes) -> list[bytes]:
     """Returns the CBOR requests in a log."""
-    collected = hidlog.packets.Collector()
+    collected = hidlog.packets.MessageReassembler()
     messages = [collected.add(packet) for way, packet in read_packets(log) if way == b">"]
     return [message.data for message in messages if message is not None and message.command == hidlog.packets.CBOR]
 
 
 def replay_requests(key: Any, requests: list[bytes]) -> list[bytes]:
-    """Returns the responses to these requests on one channel, which another client opens."""
+    """Sends requests on one channel of a new client, and returns the responses."""
     client = hidlog.Client(key)
     return [client.transact(hidlog.packets.CBOR, request, lambda: False, lambda status: None) for request in requests]
 

@@ -9,7 +9,7 @@ import sys
 from pathlib import Path
 
 import pytest
-from compare import find_difference, read_packets
+from compare import describe_agreement, read_packets
 from test_export import LOGS
 from variants import Event, encode_pcap, encode_usbpcap, read_transfers, to_pcapng
 
@@ -54,7 +54,9 @@ def read_events(name: str = "libfido2_register.pcap") -> list[Event]:
     ],
 )
 def test_a_capture_agrees_with_the_keys_log(name: str, wanted: str) -> None:
-    assert find_difference(read_packets(read_single_capture(DATA / name).log), read_log(name.split(".")[0])) == wanted
+    assert (
+        describe_agreement(read_packets(read_single_capture(DATA / name).log), read_log(name.split(".")[0])) == wanted
+    )
 
 
 @pytest.mark.parametrize("name", ["libfido2_register.pcap", "keyboard_beside.48.pcap", "python_cancel.pcapng"])
@@ -112,8 +114,8 @@ def test_usbpcap_as_tshark_reads_it(tmp_path: Path) -> None:
 def test_several_keys_are_named() -> None:
     other = [event._replace(device=9, number=event.number + 1) for event in read_events("keyboard_beside.48.pcap")]
     found = read(encode_pcap(sorted(read_events() + other, key=lambda item: item.micros)))
-    assert find_difference(read_packets(found[0].log), read_log("libfido2_register")) == SAME_PACKETS
-    assert find_difference(read_packets(found[1].log), read_log("keyboard_beside")) == SAME_PACKETS
+    assert describe_agreement(read_packets(found[0].log), read_log("libfido2_register")) == SAME_PACKETS
+    assert describe_agreement(read_packets(found[1].log), read_log("keyboard_beside")) == SAME_PACKETS
     assert [result.name for result in found] == ["bus 1 device 3 interface 0", "bus 1 device 9 interface 1"]
 
 
@@ -131,8 +133,8 @@ def test_a_key_that_is_plugged_in_again_under_the_same_number() -> None:
         "bus 1 device 3 interface 0",
         "bus 1 device 3 interface 1, plugged in again (2)",
     ]
-    assert find_difference(read_packets(found[0].log), read_log("libfido2_register")) == SAME_PACKETS
-    assert find_difference(read_packets(found[1].log), read_log("keyboard_beside")) == SAME_PACKETS
+    assert describe_agreement(read_packets(found[0].log), read_log("libfido2_register")) == SAME_PACKETS
+    assert describe_agreement(read_packets(found[1].log), read_log("keyboard_beside")) == SAME_PACKETS
 
 
 def test_report_numbers_are_stripped() -> None:
@@ -189,7 +191,7 @@ def test_a_cut_capture_gives_what_is_before_the_cut() -> None:
     whole = (DATA / "python_cancel.pcapng").read_bytes()
     for end in range(8000, len(whole) - 1, 97):
         (found,) = read(whole[:end])
-        assert find_difference(read_packets(found.log), read_log("python_cancel")).startswith(SAME_PACKETS)
+        assert describe_agreement(read_packets(found.log), read_log("python_cancel")).startswith(SAME_PACKETS)
         assert any("truncated" in note or "invalid" in note for note in found.notes)
 
 
@@ -240,7 +242,7 @@ def test_a_capture_that_is_packed() -> None:
 def test_an_interface_that_began_late() -> None:
     """If there is a complete recording and one that has only the end, the longer one is used."""
     found = read_single_capture(to_pcapng([read_events()[60:], read_events()]))
-    assert find_difference(read_packets(found.log), read_log("libfido2_register")) == SAME_PACKETS
+    assert describe_agreement(read_packets(found.log), read_log("libfido2_register")) == SAME_PACKETS
     assert any("has the same packets, and is left out" in note for note in found.notes)
 
 
@@ -322,7 +324,7 @@ def test_a_transaction_that_stays_open(monkeypatch: pytest.MonkeyPatch) -> None:
     before = [found.log for capture in captures for found in read(capture)]
     infer, replies, held = inference.infer_replies, inference._Replies, []
 
-    def count_held(placed: list[inference.Placed]) -> inference._Replies:
+    def count_held(placed: list[inference.TimedPacket]) -> inference._Replies:
         held.append(len(placed))
         return replies(placed)
 

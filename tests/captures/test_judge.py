@@ -30,9 +30,9 @@ PROGRAM = TOP / "release" / "hidlog"
 CAPTURES = sorted(path for path in DATA.iterdir() if path.suffix != ".log")
 # Sessions of clients with this project's key. The logs contain only the packets of the host.
 RECORDED = sorted((TOP / "conformance" / "recorded").glob("*.log"))
-# Logs that are also judged from each line on, and numbers of lines in what is expected.
-BEGUN_EARLIER = [TOP / "examples" / name for name in ("sign_in.log", "time_out.log", "two_hosts.log")]
-BEGUN_EARLIER += [TOP / "examples" / "failing" / "busy_channel.log", DATA / "killed.log", DATA / "two_clients.log"]
+# Logs from which the first lines are removed, and a pattern for the line number in an expected text.
+LOGS_TO_CUT = [TOP / "examples" / name for name in ("sign_in.log", "time_out.log", "two_hosts.log")]
+LOGS_TO_CUT += [TOP / "examples" / "failing" / "busy_channel.log", DATA / "killed.log", DATA / "two_clients.log"]
 LINE_NUMBER = re.compile(r"line \d+")
 Broken = list[tuple[int, str, str, str]]
 
@@ -169,7 +169,7 @@ def test_what_is_broken(name: str) -> None:
     assert find_violations("\n".join([*INIT, *lines, ""]).encode()) == wanted
 
 
-@pytest.mark.parametrize("path", BEGUN_EARLIER, ids=str)
+@pytest.mark.parametrize("path", LOGS_TO_CUT, ids=str)
 def test_a_log_that_begins_within_a_session(path: Path) -> None:
     """The end of a log, from any line on, has no MUST violation that the whole log does not have."""
     lines = path.read_bytes().split(b"\n")
@@ -203,12 +203,12 @@ def run_judge(*words: str | Path, standard_input: bytes = b"") -> subprocess.Com
     return subprocess.run(command, input=standard_input, capture_output=True, check=False)
 
 
-def iter_altered_logs() -> bytes:
+def make_changed_ping_log() -> bytes:
     return "\n".join([*INIT, *CASES["a PING comes back changed"][0], ""]).encode()
 
 
 def test_the_command() -> None:
-    ran = run_judge("-", standard_input=iter_altered_logs())
+    ran = run_judge("-", standard_input=make_changed_ping_log())
     assert ran.returncode == 1
     assert ran.stdout.decode().splitlines()[:2] == [
         "line 4: the key violates MUST: CTAP 2.1, 11.2.9.1.4 CTAPHID_PING",
@@ -221,7 +221,7 @@ def test_the_command() -> None:
         b"46 packets, 9 transactions: 0 MUST violations, 0 SHOULD violations\n",
     )
     assert run_judge(DATA / "python_cancel.pcapng").returncode == 0
-    assert run_judge("--side", "host", "-", standard_input=iter_altered_logs()).returncode == 0
+    assert run_judge("--side", "host", "-", standard_input=make_changed_ping_log()).returncode == 0
 
 
 def test_counts_are_singular_and_plural() -> None:
@@ -257,15 +257,15 @@ def test_the_command_reads_captures(path: Path, encoding: str) -> None:
 
 
 def test_a_log_of_utf_16() -> None:
-    log = ("\ufeff" + iter_altered_logs().decode().replace("\n", "\r\n")).encode("utf-16-le")
-    assert run_judge("-", standard_input=log).stdout == run_judge("-", standard_input=iter_altered_logs()).stdout
+    log = ("\ufeff" + make_changed_ping_log().decode().replace("\n", "\r\n")).encode("utf-16-le")
+    assert run_judge("-", standard_input=log).stdout == run_judge("-", standard_input=make_changed_ping_log()).stdout
     ran = run_judge("-", standard_input=b"\xff\xfe\x00\xd8\x00\x00")
     assert ran.returncode == 2 and b"starts like UTF-16 but is not valid" in ran.stderr
 
 
 def test_several_files() -> None:
     conforming = DATA / "libfido2_register.log"
-    ran = run_judge(conforming, "-", standard_input=iter_altered_logs())
+    ran = run_judge(conforming, "-", standard_input=make_changed_ping_log())
     assert ran.returncode == 1
     lines = ran.stdout.decode().splitlines()
     assert lines[0] == str(conforming) and lines[1].startswith("46 packets, ") and lines[2] == ""
@@ -273,29 +273,29 @@ def test_several_files() -> None:
     ran = run_judge(conforming, "nothing.log", DATA / "killed.pcapng")
     assert ran.returncode == 2 and ran.stderr == b"hidlog judge: nothing.log: No such file or directory\n"
     assert ran.stdout.count(b" packets, ") == 2
-    report = json.loads(run_judge("--format", "json", conforming, "-", standard_input=iter_altered_logs()).stdout)
+    report = json.loads(run_judge("--format", "json", conforming, "-", standard_input=make_changed_ping_log()).stdout)
     assert [(one["log"], len(one["findings"])) for one in report] == [(str(conforming), 0), ("standard input", 1)]
     suites = ElementTree.fromstring(
-        run_judge("--format", "junit", conforming, "-", standard_input=iter_altered_logs()).stdout
+        run_judge("--format", "junit", conforming, "-", standard_input=make_changed_ping_log()).stdout
     )
     assert [suite.get("failures") for suite in suites.findall("testsuite")] == ["0", "1"]
 
 
 def test_json_and_junit() -> None:
-    report = json.loads(run_judge("--format", "json", "-", standard_input=iter_altered_logs()).stdout)
+    report = json.loads(run_judge("--format", "json", "-", standard_input=make_changed_ping_log()).stdout)
     assert [item["section"] for item in report["findings"]] == ["11.2.9.1.4"] and report["packets"] == 4
     (finding,) = report["findings"]
     assert (report["format"], finding["expected"], finding["relatedSections"]) == (2, "the 3 bytes of the PING", "")
     old_and_new = {"due": "expected", "came": "actual", "also": "relatedSections"}
     assert {old: finding[old] for old in old_and_new} == {old: finding[new] for old, new in old_and_new.items()}
-    suite = ElementTree.fromstring(run_judge("--format", "junit", "-", standard_input=iter_altered_logs()).stdout)
+    suite = ElementTree.fromstring(run_judge("--format", "junit", "-", standard_input=make_changed_ping_log()).stdout)
     assert (suite.get("failures"), len(suite.findall("testcase/failure"))) == ("1", 1)
     clean = ElementTree.fromstring(run_judge("--format", "junit", DATA / "killed.log").stdout)
     assert clean.get("failures") == "0" and len(clean.findall("testcase")) == 1
 
 
 def record_sign_ins(count: int) -> bytes:
-    """Returns a recording of `count` registrations and sign-ins, in which there is also a discoverable credential."""
+    """Returns a recording of `count` registrations, each with two sign-ins. Only the first credential is discoverable."""
     with hidlog.SecurityKey(random=random.Random(1).randbytes) as key:
         browser = key.browser("https://example.com")
         challenge = b64url_encode(bytes(32))
@@ -314,14 +314,14 @@ def record_sign_ins(count: int) -> bytes:
 
 
 def break_signature(log: bytes, number: int) -> bytes:
-    """Changes a signature of a recording, in the key's packets too."""
+    """Returns a recording with one signature changed, both in the caller's reply and in the key's packets."""
     digits = re.findall(rb"^s \d+ ([0-9a-f]+)$", log, re.M)[number][16:24]
     return log.replace(digits, digits[::-1])
 
 
 @pytest.fixture
-def verified_here(monkeypatch: pytest.MonkeyPatch) -> list[bytes]:
-    """The ES256 signatures that this process verifies. The key of an unknown credential has no algorithm."""
+def verified_in_process(monkeypatch: pytest.MonkeyPatch) -> list[bytes]:
+    """Returns the list to which each ES256 signature is added that this process verifies."""
     found: list[bytes] = []
     keys = conformance.load_module("keys")
     verify = keys.verify
@@ -337,17 +337,17 @@ def verified_here(monkeypatch: pytest.MonkeyPatch) -> list[bytes]:
 @pytest.mark.parametrize("broken", [(), (0,), (5, 40)], ids=str)
 @pytest.mark.parametrize("ending", ["it runs", "it is killed", "it does not start"])
 def test_signatures_are_verified_ahead(
-    monkeypatch: pytest.MonkeyPatch, verified_here: list[bytes], broken: tuple[int, ...], ending: str
+    monkeypatch: pytest.MonkeyPatch, verified_in_process: list[bytes], broken: tuple[int, ...], ending: str
 ) -> None:
-    """The command's second process finds the same invalid signatures; those that it does not verify are verified
-    here."""
+    """The command's second process finds the same invalid signatures. This process verifies the signatures that
+    the second process does not verify."""
     pytest.importorskip("cryptography")
     ahead, log = conformance.load_module("verify_ahead"), record_sign_ins(20)
     for number in broken:
         log = break_signature(log, number)
     expected = judge(log)
     assert sum(finding.level == "must" for finding in expected) == len(broken)
-    verified_here.clear()
+    verified_in_process.clear()
     monkeypatch.setattr(ahead, "FEW", 1)
     monkeypatch.setattr(conformance.load_module("transactions"), "BLOCK", 1 << 14)  # several batches
     if ending == "it does not start":
@@ -361,10 +361,10 @@ def test_signatures_are_verified_ahead(
 
         assert hidlog.judge._check_recording([log], prepare).findings == expected
     assert verifier.count == 60 and verifier.process is None
-    assert (not verified_here) == (ending == "it runs")
+    assert (not verified_in_process) == (ending == "it runs")
 
 
-def count_lines_executed(log: bytes) -> int:
+def count_executed_lines(log: bytes) -> int:
     """Returns the number of Python lines that are executed to check a log. Lines in a loop count each time."""
     count = 0
 
@@ -383,7 +383,7 @@ def count_lines_executed(log: bytes) -> int:
 
 def test_work_grows_as_the_log_does(monkeypatch: pytest.MonkeyPatch) -> None:
     monkeypatch.setattr(quiet_parts, "_PART_BYTES", 1 << 14)  # each of these logs is checked in several parts
-    once, twice, fourfold = (count_lines_executed(record_sign_ins(count)) for count in (15, 30, 60))
+    once, twice, fourfold = (count_executed_lines(record_sign_ins(count)) for count in (15, 30, 60))
     assert fourfold - twice <= 1.1 * 2 * (twice - once)
 
 
@@ -428,7 +428,7 @@ def test_what_is_no_log() -> None:
     assert (ran.returncode, ran.stdout) == (2, b"")
     assert ran.stderr.startswith(b"hidlog judge: standard input: line 2: not a log line: expected '> TIME HEX' and ")
     assert ran.stderr.endswith(b"; got '> 0 00'\n")
-    ran = run_judge("-", standard_input=iter_altered_logs().replace(b"\n", b"\r\n"))
+    ran = run_judge("-", standard_input=make_changed_ping_log().replace(b"\n", b"\r\n"))
     assert ran.stderr == (
         b"hidlog judge: standard input: line 1: not a log line: the line ends with CR LF; expected LF\n"
     )

@@ -29,8 +29,8 @@ Broken = list[tuple[str, str]]
 
 
 class Log:
-    """A log that is built packet by packet. Packets of the host have a time; packets of the key are sent at the last
-    time."""
+    """A log that is built packet by packet. Packets of the host have a timestamp; packets of the key are sent at the
+    last timestamp."""
 
     def __init__(self, *head: str) -> None:
         self.lines = list(head)
@@ -42,7 +42,7 @@ class Log:
         return self
 
     def add_response(self, channel: int, command: int, data: bytes = b"", at: int | None = None, lost: int = -1) -> Log:
-        """Adds a message of the key. One of its packets may be lost."""
+        """Adds a message of the key. The packet with the index `lost`, if any, is omitted."""
         self.lines += [] if at is None else [f"t {at}"]
         packets = fragment_message(channel, command, data)
         self.lines += [f"< {packet.hex()}" for number, packet in enumerate(packets) if number != lost]
@@ -56,7 +56,7 @@ class Log:
         return self.add_request(at, BROADCAST, INIT, nonce).add_response(BROADCAST, INIT, answer, at + after)
 
     def add_cbor(self, at: int, request: bytes, item: Any, status: bytes, answer: Any = None, user: int = 0) -> Log:
-        """Adds a CBOR request and its response on channel 1. The key waits `user` milliseconds for a touch."""
+        """Adds a CBOR request and its response on channel 1. The key waits `user` milliseconds for user presence."""
         self.add_request(at, 1, CBOR, request + (ctap_cbor.encode(item) if item is not None else b""))
         if user:
             self.add_response(1, KEEPALIVE, b"\2").lines.append(f"t {at + user}")
@@ -70,7 +70,7 @@ class Log:
 
     @property
     def text(self) -> bytes:
-        """Returns the log."""
+        """The text of the log."""
         return "".join(line + "\n" for line in self.lines).encode()
 
     def find_must_violations(self) -> Broken:
@@ -91,13 +91,13 @@ class Credential:
         self.descriptor = {"type": "public-key", "id": self.id}
         self.counter = 1
 
-    def registration_response(self) -> dict[int, Any]:
+    def make_registration_response(self) -> dict[int, Any]:
         """Returns the response to the registration of the credential."""
         cose = ctap_cbor.encode({1: 2, 3: -7, -1: 1, -2: self.x, -3: self.y})
         auth = SITE + b"\x41" + self.counter.to_bytes(4, "big") + bytes(16) + b"\0\x20" + self.id + cose
         return {1: "none", 2: auth, 3: {}}
 
-    def assertion_response(self, **more: Any) -> dict[int, Any]:
+    def make_assertion_response(self, **more: Any) -> dict[int, Any]:
         """Returns the response to a sign-in with the credential."""
         self.counter += 1
         auth = SITE + b"\1" + self.counter.to_bytes(4, "big")
@@ -105,20 +105,20 @@ class Credential:
         return {**found, **{int(key[1:]): more[key] for key in more}}
 
 
-def registration_parameters(user: bytes = b"ann", **more: Any) -> dict[int, Any]:
+def make_registration_parameters(user: bytes = b"ann", **more: Any) -> dict[int, Any]:
     """Returns the parameters of a registration of a discoverable credential."""
     whole = {1: HASH, 2: {"id": RP}, 3: {"id": user, "name": "ann"}, 4: [{"alg": -7, "type": "public-key"}]}
     return {**whole, 7: {"rk": True}, **{int(key[1:]): more[key] for key in more}}
 
 
-def sign_in_parameters(*listed: Any) -> dict[int, Any]:
+def make_sign_in_parameters(*listed: Any) -> dict[int, Any]:
     """Returns the parameters of a sign-in."""
     return {1: RP, 2: HASH, **({3: list(listed)} if listed else {})}
 
 
 def add_registration(log: Log, credential: Credential, at: int = 100) -> Log:
     """Adds the registration of a credential to a log."""
-    return log.add_cbor(at, MAKE, registration_parameters(), OK, credential.registration_response(), user=50)
+    return log.add_cbor(at, MAKE, make_registration_parameters(), OK, credential.make_registration_response(), user=50)
 
 
 @pytest.mark.parametrize(
@@ -130,7 +130,9 @@ def test_a_number_of_credentials_beside_a_list(versions: Any, wanted: Broken, nu
     log, stranger = Log().add_init(), {"type": "public-key", "id": bytes(32)}
     log = log.add_get_info(*versions, _6=[1]) if versions else log
     answer = {1: stranger, 2: SITE + b"\1\0\0\0\1", 3: b"\x30\x06\2\1\1\2\1\1", 5: number}
-    assert log.add_cbor(200, GET, sign_in_parameters(stranger), OK, answer, user=50).find_must_violations() == wanted
+    assert (
+        log.add_cbor(200, GET, make_sign_in_parameters(stranger), OK, answer, user=50).find_must_violations() == wanted
+    )
 
 
 @pytest.mark.parametrize("limits, count, wanted", [
@@ -140,7 +142,7 @@ def test_a_list_over_the_limits(limits: dict[str, int], count: int, wanted: Brok
     """Status 15 is allowed only for lists above maxCredentialCountInList and IDs above maxCredentialIdLength (6.4)."""
     listed = [{"type": "public-key", "id": bytes([number]) * 32} for number in range(count)]
     log = Log().add_init().add_get_info("FIDO_2_1", _6=[1], **limits)
-    assert log.add_cbor(200, GET, sign_in_parameters(*listed), b"\x15").find_must_violations() == wanted
+    assert log.add_cbor(200, GET, make_sign_in_parameters(*listed), b"\x15").find_must_violations() == wanted
 
 
 @pytest.mark.parametrize("head, at, wanted", [
@@ -155,10 +157,10 @@ def test_a_channel_is_given_out_twice(head: list[str], at: int, wanted: Broken) 
 def test_nothing_is_known_of_what_was_open_before_a_key_was_plugged_in_again() -> None:
     one, other = Credential(), Credential()
     log = Log().add_init().add_get_info("FIDO_2_0")
-    log.add_cbor(100, GET, sign_in_parameters(), OK, one.assertion_response(_5=2), user=50).add_init(5000)
+    log.add_cbor(100, GET, make_sign_in_parameters(), OK, one.make_assertion_response(_5=2), user=50).add_init(5000)
     assert log.add_cbor(5100, NEXT, None, b"\x30").find_must_violations() == []
     log = Log().add_init().add_get_info("FIDO_2_0")
-    log.add_cbor(100, GET, sign_in_parameters(), OK, other.assertion_response(_5=2), user=50)
+    log.add_cbor(100, GET, make_sign_in_parameters(), OK, other.make_assertion_response(_5=2), user=50)
     assert log.add_cbor(5100, NEXT, None, b"\x30").find_must_violations() == [("key", "6.3")]
 
 
@@ -170,14 +172,14 @@ def test_a_reset_within_ten_seconds_of_being_plugged_in_again() -> None:
         Log()
         .add_init()
         .add_get_info("FIDO_2_0")
-        .add_cbor(100, GET, sign_in_parameters(), OK, known.assertion_response(_5=2), user=50)
+        .add_cbor(100, GET, make_sign_in_parameters(), OK, known.make_assertion_response(_5=2), user=50)
     )
     assert log.add_init(60000, 2).add_cbor(63000, RESET, None, OK, user=50).find_must_violations() == []
     log = (
         Log()
         .add_init()
         .add_get_info("FIDO_2_0")
-        .add_cbor(100, GET, sign_in_parameters(), OK, known.assertion_response(_5=2), user=50)
+        .add_cbor(100, GET, make_sign_in_parameters(), OK, known.make_assertion_response(_5=2), user=50)
     )
     assert log.add_cbor(63000, RESET, None, OK, user=50).find_must_violations() == [("key", "6.6")]
 
@@ -195,12 +197,14 @@ def test_a_credential_that_was_deleted() -> None:
     credential = Credential()
     log = add_registration(Log().add_init().add_get_info("FIDO_2_1_PRE"), credential)
     delete = {1: 6, 2: {2: credential.descriptor}, 3: 1, 4: bytes(16)}
-    log = log.add_cbor(300, PREVIEW, delete, OK).add_cbor(400, GET, sign_in_parameters(), NO_CREDENTIALS)
+    log = log.add_cbor(300, PREVIEW, delete, OK).add_cbor(400, GET, make_sign_in_parameters(), NO_CREDENTIALS)
     assert (log.find_must_violations(), log.find_should_violations()) == ([], [])
     log = add_registration(Log().add_init().add_get_info("FIDO_2_1_PRE"), credential)
-    assert log.add_cbor(30000, GET, sign_in_parameters(), NO_CREDENTIALS).find_must_violations() == []
+    assert log.add_cbor(30000, GET, make_sign_in_parameters(), NO_CREDENTIALS).find_must_violations() == []
     log = add_registration(Log().add_init().add_get_info("FIDO_2_1_PRE"), credential)
-    assert log.add_cbor(400, GET, sign_in_parameters(), NO_CREDENTIALS).find_must_violations() == [("key", "6.2.2")]
+    assert log.add_cbor(400, GET, make_sign_in_parameters(), NO_CREDENTIALS).find_must_violations() == [
+        ("key", "6.2.2")
+    ]
 
 
 def test_a_deleted_credential_is_not_excluded() -> None:
@@ -209,13 +213,16 @@ def test_a_deleted_credential_is_not_excluded() -> None:
     other.id, other.x, other.y = other.maker.make()
     for at, wanted in ((30000, []), (400, [("key", "6.1.2")])):
         log = add_registration(Log().add_init().add_get_info("FIDO_2_0"), credential)
-        again = registration_parameters(b"bob", _5=[credential.descriptor])
+        again = make_registration_parameters(b"bob", _5=[credential.descriptor])
         assert (
-            log.add_cbor(at, MAKE, again, OK, other.registration_response(), user=50).find_must_violations() == wanted
+            log.add_cbor(at, MAKE, again, OK, other.make_registration_response(), user=50).find_must_violations()
+            == wanted
         )
 
 
-def u2f_registration_response(handle: bytes, request: bytes = bytes(64), point: bytes = b"\4" + bytes(64)) -> bytes:
+def make_u2f_registration_response(
+    handle: bytes, request: bytes = bytes(64), point: bytes = b"\4" + bytes(64)
+) -> bytes:
     """Returns a response to a U2F registration, signed by an attestation key (U2F raw messages, 4.3)."""
     attestor = Attestor()
     signed = b"\0" + request[32:] + request[:32] + handle + point
@@ -232,9 +239,9 @@ def test_a_handle_of_u2f_after_a_reset(version: str, registers: bool, wanted: Br
     log = Log().add_init().add_get_info(version, _6=[1]).add_cbor(1000, RESET, None, OK, user=50)
     if registers:
         request = bytes.fromhex("00010300000040") + bytes(64)
-        log = log.add_request(2000, 1, MSG, request).add_response(1, MSG, u2f_registration_response(credential.id))
+        log = log.add_request(2000, 1, MSG, request).add_response(1, MSG, make_u2f_registration_response(credential.id))
     log = log.add_cbor(
-        3000, GET, sign_in_parameters(credential.descriptor), OK, credential.assertion_response(), user=50
+        3000, GET, make_sign_in_parameters(credential.descriptor), OK, credential.make_assertion_response(), user=50
     )
     assert log.find_must_violations() == wanted
 
@@ -243,7 +250,9 @@ def test_a_handle_of_u2f_after_a_reset(version: str, registers: bool, wanted: Br
 def test_enterprise_attestation_of_a_key_that_does_not_know_it(version: str, wanted: Broken) -> None:
     """CTAP 2.1 requires that enterpriseAttestation is rejected (6.1.2, step 9). In CTAP 2.0 it is an unknown member."""
     log = Log().add_init().add_get_info(version, _6=[1])
-    log = log.add_cbor(100, MAKE, registration_parameters(_10=1), OK, Credential().registration_response(), user=50)
+    log = log.add_cbor(
+        100, MAKE, make_registration_parameters(_10=1), OK, Credential().make_registration_response(), user=50
+    )
     assert sorted(set(log.find_must_violations())) == wanted
 
 
@@ -258,7 +267,7 @@ def test_another_channel_has_the_lock(command: int, section: str, seconds: int, 
 
 def test_keepalives_are_a_should() -> None:
     """KEEPALIVE packets should be sent at least every 100 ms (11.2.9.1.7)."""
-    request = ctap_cbor.encode(sign_in_parameters())
+    request = ctap_cbor.encode(make_sign_in_parameters())
     log = Log().add_init().add_get_info("FIDO_2_0").add_request(100, 1, CBOR, GET + request)
     log = log.add_response(1, KEEPALIVE, b"\2", at=2600).add_response(1, CBOR, b"\x27", at=5200)
     assert (log.find_must_violations(), log.find_should_violations()) == ([], [("key", "11.2.9.1.7")])
@@ -308,7 +317,7 @@ def test_where_packets_do_not_show_what_was_answered() -> None:
     assert [one for one in log.find_must_violations() if one[0] == "key"] == []
     # It is unknown whether the reset was done, so the credential may have been removed.
     log = add_registration(Log().add_init().add_get_info("FIDO_2_0"), credential).add_request(300, 1, CBOR, RESET)
-    log = log.add_init(350, 1).add_cbor(400, GET, sign_in_parameters(), NO_CREDENTIALS)
+    log = log.add_init(350, 1).add_cbor(400, GET, make_sign_in_parameters(), NO_CREDENTIALS)
     assert [one for one in log.find_must_violations() if one[1] == "6.2.2"] == []
 
 
@@ -331,7 +340,7 @@ def test_an_init_that_is_refused_may_end_nothing() -> None:
     log = (
         Log()
         .add_init()
-        .add_request(10, 1, CBOR, GET + ctap_cbor.encode(sign_in_parameters()))
+        .add_request(10, 1, CBOR, GET + ctap_cbor.encode(make_sign_in_parameters()))
         .add_response(1, KEEPALIVE, b"\2")
     )
     log = log.add_request(50, 1, INIT, bytes(7)).add_response(1, ERROR, b"\3").add_response(1, KEEPALIVE, b"\2", at=150)
@@ -353,7 +362,7 @@ def test_what_comes_between_may_end_what_is_pending() -> None:
         Log()
         .add_init()
         .add_get_info("FIDO_2_0")
-        .add_cbor(100, GET, sign_in_parameters(), OK, credential.assertion_response(_5=2), user=50)
+        .add_cbor(100, GET, make_sign_in_parameters(), OK, credential.make_assertion_response(_5=2), user=50)
     )
     log = log.add_request(200, 1, CBOR, NEXT + b"\xa0").add_response(1, CBOR, b"\3").add_cbor(300, NEXT, None, b"\x30")
     assert [one for one in log.find_must_violations() if one[0] == "key"] == []

@@ -13,7 +13,7 @@ from maker_sessions import CLIENTS, MAKERS, make_session
 SESSIONS = [(maker, client) for maker in MAKERS for client in CLIENTS]
 # The CTAPHID commands and CBOR commands that the sessions of each key must contain, so that the special behavior of the
 # key is judged.
-HABITS = {
+SPECIAL_COMMANDS = {
     "feitian_biopass": ("90..*40", "90..*41"),
     "nitrokey_3": ("e1", "e2", "90..*0a"),
     "opensk": ("90..*0b", "90..*0c", "90..*0a"),
@@ -36,7 +36,7 @@ def test_there_are_thirty_sessions_of_six_keys() -> None:
 @pytest.mark.parametrize("maker", MAKERS)
 def test_each_key_has_its_own_habits(maker: str) -> None:
     text = b"".join(make_session(maker, client).log for client in CLIENTS).decode()
-    for command in HABITS[maker]:
+    for command in SPECIAL_COMMANDS[maker]:
         assert re.search(rf"^> \d+ [0-9a-f]{{8}}{command.replace('..*', '[0-9a-f]{4}')}", text, re.M), command
 
 

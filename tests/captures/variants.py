@@ -8,7 +8,7 @@ from typing import NamedTuple
 
 
 class Event(NamedTuple):
-    """A transfer in a Linux capture, with the fields in the order of usbmon's header."""
+    """The submission or completion of a transfer in a Linux capture. The fields are in the order of usbmon's header."""
 
     micros: int
     number: int
@@ -85,7 +85,7 @@ def to_pcapng(interfaces: list[list[Event]], order: str = "<", resolution: int =
 
 
 def encode_usbpcap(events: list[Event]) -> bytes:
-    """Returns a USBPcap file. It is little-endian, and control transfers are in stages."""
+    """Returns a USBPcap file. It is little-endian, and has the stages of control transfers."""
     file = struct.pack("<IHHiIII", 0xA1B2C3D4, 2, 4, 0, 0, 65535, 249)
     for event in events:
         done = event.event == b"C"

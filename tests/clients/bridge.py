@@ -48,7 +48,7 @@ def to_output_event(packet_: bytes) -> bytes:
 
 
 class EndedError(Exception):
-    """The bridge exited while a packet was expected."""
+    """The bridge exited while a packet was read or written."""
 
 
 class Bridge:
@@ -86,7 +86,7 @@ class Bridge:
         self.running.append(self)
         # Reading is done in a separate thread, as in the kernel: a bridge that waits for its reader would not read
         # either.
-        self.told: queue.Queue[bytes] = queue.Queue()
+        self.events: queue.Queue[bytes] = queue.Queue()
         self.is_read = threading.Event()
         self.is_read.set()
         threading.Thread(target=self.read_events, daemon=True).start()
@@ -100,11 +100,11 @@ class Bridge:
                 event = self.device.recv(2 * EVENT_BYTES)
             except OSError:
                 event = b""
-            self.told.put(event)
+            self.events.put(event)
 
     @classmethod
     def kill_all(cls) -> None:
-        """Kills the processes of a failed test."""
+        """Kills the bridges that still run after a test."""
         for bridge in cls.running:
             if bridge.process.poll() is None:
                 bridge.process.kill()
@@ -123,11 +123,11 @@ class Bridge:
         end = time.monotonic() + seconds
         while (left := end - time.monotonic()) > 0:
             try:
-                event = self.told.get(timeout=left)
+                event = self.events.get(timeout=left)
             except queue.Empty:
                 return
             if not event:
-                self.told.put(event)
+                self.events.put(event)
                 raise EndedError
             yield struct.unpack_from("=I", event)[0], event[4:]
 
@@ -171,7 +171,7 @@ class Bridge:
         for packet_ in self.iter_packets(seconds):
             if packet_[:5] == BROADCAST + bytes([INIT]) and packet_[7:15] == nonce:
                 return packet_[15:19]
-        raise TimeoutError(f"no channel within {seconds} s")
+        raise TimeoutError(f"no channel was allocated within {seconds} s")
 
     def register(self) -> bytes:
         """Registers as in examples/registration.log, and returns the credential ID."""

@@ -343,7 +343,7 @@ def make_floods(channel: bytes) -> dict[str, list[bytes]]:
         "PING": [ping],
         "getInfo": [encode_packet(channel, CBOR, b"\x04")],
         "INIT with one nonce": [encode_packet(BROADCAST, INIT, b"floodflo")],
-        "stray continuation packets": [channel + b"\0" * 60],
+        "continuation packets outside any transaction": [channel + b"\0" * 60],
         "channels that were never allocated": [
             encode_packet(bytes([7, 0, number >> 8, number & 255]), PING, b"") for number in range(999)
         ],
@@ -397,7 +397,7 @@ def test_packets_take_turns(work_dir: Path) -> None:
         assert bridge.read_response(asking)[0] == PING
     flood.stop()
     bridge.process.kill()
-    waited = iter_turns(log.read_text(encoding="utf-8"), flooding, asking)
+    waited = list_turns(log.read_text(encoding="utf-8"), flooding, asking)
     print(
         f"by strace: {max(answered for answered, _ in waited)} packets of the flood are answered before another program's, "
         f"of up to {max(read for _, read in waited)} read before it and not answered"
@@ -407,9 +407,9 @@ def test_packets_take_turns(work_dir: Path) -> None:
     ), waited
 
 
-def iter_turns(log: str, flooding: bytes, asking: bytes) -> list[tuple[int, int]]:
-    """For each response on one channel, yields the number of responses on the other channel since the request was read,
-    and the number of packets on the other channel that were pending then."""
+def list_turns(log: str, flooding: bytes, asking: bytes) -> list[tuple[int, int]]:
+    """For each response on the channel `asking`, returns the number of responses on the channel `flooding` since the
+    request was read, and the number of unanswered packets on the channel `flooding` before it."""
     waited, since, before, queued = [], -1, 0, 0
     for name, text in re.findall(r'(read|write)\(\d+, "([^"]*)"', log):
         event = bytes.fromhex(text.replace("\\x", ""))

@@ -1,5 +1,5 @@
 #!/usr/bin/env python3
-"""Lets each system call of a bridge fail: the bridge of bridges/uhid, while it registers, and the OpenSSH provider of
+"""Makes each system call of a bridge fail: the bridge of bridges/uhid, while it registers, and the OpenSSH provider of
 bridges/ssh, while it signs. Afterwards the state file must be the complete old or new one, and the new one if a
 response was sent. The exit status and the message must agree with this.
 
@@ -45,7 +45,9 @@ KNOWN_FAILURES = {
 }
 
 
-def find_message_error(status: int, said: str, is_old: bool, place: injection.Place, log: Path) -> Optional[str]:
+def find_message_error(
+    status: int, said: str, is_old: bool, place: injection.InjectedFault, log: Path
+) -> Optional[str]:
     """Returns what is wrong with an exit status and a message, or None. `is_old` is whether the state file is the old
     one."""
     is_kill = place.fault == "KILL"
@@ -57,7 +59,7 @@ def find_message_error(status: int, said: str, is_old: bool, place: injection.Pl
     if status == -signal.SIGKILL and is_kill:
         return None
     if status != 0 and not said:
-        return f"status {status} without a word"
+        return f"status {status} without a message"
     if KEPT in said and not is_old or IN_PLACE in said and is_old:
         return f"wrong message {said!r}"
     return None
@@ -70,7 +72,8 @@ class Uhid:
         self.program, self.old = program, old
 
     def register_once(self, folder: Path, trace: Sequence[str]) -> tuple[Optional[bytes], bool, int, str]:
-        """Returns the credential in the response, if any, whether the key refused, the exit status and the message."""
+        """Registers once. Returns the credential ID in the response, if any, whether the key returned an error, the exit
+        status and the message."""
         words = [self.program, "-t", "0", "-r", str(folder / "recording"), str(folder / "key.state")]
         bridge = Bridge(words, trace=trace)
         made, refused = None, False
@@ -84,12 +87,12 @@ class Uhid:
         stop_traced(bridge)
         return made, refused, *bridge.wait_until_exited()
 
-    def find_error(self, place: injection.Place, folder: Path) -> Optional[str]:
+    def find_error(self, place: injection.InjectedFault, folder: Path) -> Optional[str]:
         """Returns what is wrong after a fault, or None."""
         state = folder / "key.state"
         state.write_bytes(self.old)
         state.chmod(0o600)
-        made, refused, status, said = self.register_once(folder, place.strace_prefix(folder / "strace"))
+        made, refused, status, said = self.register_once(folder, place.make_strace_prefix(folder / "strace"))
         new = state.read_bytes() if state.exists() else b""
         is_old = new == self.old
         if not is_old and len(read_credential_ids(new)) != 1:
@@ -99,10 +102,10 @@ class Uhid:
         if status == 0 and made is None and not refused:
             return "status 0 without a response"
         wrong = find_message_error(status, said, is_old, place, folder / "strace")
-        return wrong or (None if is_old and len(list(folder.iterdir())) < 4 else self.check_next_bridge(folder))
+        return wrong or (None if is_old and len(list(folder.iterdir())) < 4 else self.find_next_error(folder))
 
-    def check_next_bridge(self, folder: Path) -> Optional[str]:
-        """Checks that a new bridge accepts the state file, and registers."""
+    def find_next_error(self, folder: Path) -> Optional[str]:
+        """Registers with a new bridge, and returns what is wrong with it, or None."""
         made, _, status, said = self.register_once(folder, [])
         held = read_credential_ids((folder / "key.state").read_bytes())
         return None if status == 0 and not said and held == [made] else f"the next bridge ended with {status}: {said}"
@@ -114,12 +117,12 @@ def stop_traced(bridge: Bridge) -> None:
     try:
         children = Path(f"/proc/{pid}/task/{pid}/children").read_text(encoding="utf-8").split()
         if bridge.process.poll() is None:
-            bridge.process.send_signal(signal.SIGTERM) if not children else kill(int(children[0]))
+            bridge.process.send_signal(signal.SIGTERM) if not children else terminate(int(children[0]))
     except (FileNotFoundError, ProcessLookupError):
         pass
 
 
-def kill(pid: int) -> None:
+def terminate(pid: int) -> None:
     subprocess.run(["kill", "-TERM", str(pid)], capture_output=True)
 
 
@@ -130,17 +133,17 @@ class Provider:
         self.program, self.old, self.handle = program, old, handle
 
     def sign(self, folder: Path, trace: Sequence[str]) -> tuple[int, int, str]:
-        """Returns the exit status, the counter in the response, or 0, and the message."""
+        """Signs once. Returns the exit status, the signature counter in the response (0 without one), and the message."""
         words = [*trace, self.program, "sign", self.handle]
         state = {"HIDLOG_SK_STATE": str(folder / "key.state"), "PATH": "/usr/bin:/bin"}
         said = subprocess.run(words, capture_output=True, text=True, env=state, timeout=600)
         return said.returncode, int(said.stdout or 0), said.stderr
 
-    def find_error(self, place: injection.Place, folder: Path) -> Optional[str]:
+    def find_error(self, place: injection.InjectedFault, folder: Path) -> Optional[str]:
         state = folder / "key.state"
         state.write_bytes(self.old)
         state.chmod(0o600)
-        status, counter, said = self.sign(folder, place.strace_prefix(folder / "strace"))
+        status, counter, said = self.sign(folder, place.make_strace_prefix(folder / "strace"))
         is_old = state.read_bytes() == self.old
         # A signal may also end the provider after the response. In that case, the counter must be in the file, too.
         if status == 0 and counter == 0 or status > 0 and counter > 0:
@@ -185,9 +188,9 @@ def main() -> int:
             ("a sign-in at OpenSSH's provider", signer.find_error, lambda trace: signer.sign(Path(second), trace)),
         )
         for name, judge, run in loops:
-            places = injection.list_places(injection.count_calls(run, Path(second)), only)
+            places = injection.list_faults(injection.count_calls(run, Path(second)), only)
             bad += injection.report_failures(
-                name, len(places), injection.check_places(places, judge, words.jobs), known
+                name, len(places), injection.check_faults(places, judge, words.jobs), known
             )
     return 1 if bad else 0
 

@@ -1,7 +1,7 @@
 #!/usr/bin/env python3
 """Tests the recordings of the bridge of bridges/uhid; called by tests/clients/bridges.sh.
 
-    tests/clients/bridge_recordings.py UHID [CHECKED]       as bridge_cases.py
+    tests/clients/bridge_recordings.py UHID [CHECKED]       arguments as in bridge_cases.py
 """
 
 from __future__ import annotations
@@ -20,16 +20,16 @@ def test_recording_does_not_replace_state(work_dir: Path) -> None:
     state, old = make_state(work_dir)
     refused = "the recording would overwrite the state file; choose another path"
     for path in (str(state), f"{work_dir}/./key.state"):
-        check_not_recording(path, state, refused)
+        check_recording_refused(path, state, refused)
     assert state.read_bytes() == old
     # The snapshot of a recording is a separate file, whose path may be that of the state file.
     beside = work_dir / "session.log.snapshot"
     state.rename(beside)
-    check_not_recording(str(work_dir / "session.log"), beside, refused)
+    check_recording_refused(str(work_dir / "session.log"), beside, refused)
     assert beside.read_bytes() == old and not (work_dir / "session.log").exists()
 
 
-def check_not_recording(path: str, state: Path, said: str) -> None:
+def check_recording_refused(path: str, state: Path, said: str) -> None:
     """Checks that a bridge with a recording at this path exits with status 1 and this message, and creates no
     device."""
     bridge = Bridge([UHID, "-r", path, str(state)])
@@ -55,12 +55,12 @@ def test_recording_is_private(work_dir: Path) -> None:
 
 
 def plant_files(path: Path, other: Path) -> Iterator[str]:
-    """Creates files to which a bridge must not write at a path, and yields the message that is expected for each."""
+    """Creates at a path, one after the other, files to which a bridge must not write. Yields the expected messages."""
     for target in (other, other.parent / "nowhere"):
         path.symlink_to(target)
         yield "the path must not be a symbolic link"
     os.link(other, path)
-    yield "the file has another hard link; remove it or choose another path"
+    yield "the file has another hard link; remove this file or choose another path"
     os.mkfifo(path, 0o600)
     yield f"{path}: cannot open the file: No such device or address"
     path.mkdir()
@@ -87,7 +87,7 @@ def test_planted_files_are_not_overwritten(work_dir: Path) -> None:
         beside.write_bytes(b"an older one")
         beside.chmod(0o600)
         for said in plant_files(path, other):
-            check_not_recording(str(log), state, said)
+            check_recording_refused(str(log), state, said)
             assert not path.is_file() or path.read_bytes() in (b"kept", b"another's"), said
             path.rmdir() if path.is_dir() else path.unlink()
         assert beside.read_bytes() == b"an older one"

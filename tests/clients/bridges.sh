@@ -2,7 +2,8 @@
 # Tests the bridges of bridges/uhid and bridges/ssh with invalid files, failing system calls and floods of packets. A
 # substitute replaces the kernel's device. Exits with 3 if a dependency is missing.
 #
-#     tests/clients/bridges.sh          bridge_cases.py, bridge_recordings.py, and failures of each call that accesses files
+#     tests/clients/bridges.sh          bridge_cases.py, bridge_recordings.py, bridge_users.py, and failures of each
+#                                       call that accesses files
 #     tests/clients/bridges.sh --all    failures of each system call
 # shellcheck disable=SC1091,SC2154 # top, name and library are set by common.sh
 set -euo pipefail

@@ -32,19 +32,19 @@ os.environ.setdefault("HIDLOG_EXAMPLES", str(TOP / "examples"))
 import hidlog  # noqa: E402
 from hidlog.webauthn_json import b64url_decode  # noqa: E402
 from implementations import (  # noqa: E402
-    ALIKE,
+    EXTENDED_CASES,
     CASES,
     Case,
     Json,
     ServiceError,
-    get_expected,
+    get_expected_result,
     run_calls,
     to_devtools_options,
 )
 
 
-class Lines:
-    """A process that writes one line for each line."""
+class LineProcess:
+    """A process that writes one line for each line that it reads."""
 
     def __init__(self, command: list[str]):
         self._process = subprocess.Popen(command, stdin=subprocess.PIPE, stdout=subprocess.PIPE, text=True)
@@ -62,7 +62,7 @@ class Lines:
         return self._process.returncode
 
 
-class Program(Lines):
+class Program(LineProcess):
     """A program of tests/clients/cases."""
 
     def ask(self, *words: str) -> list[str]:
@@ -74,7 +74,7 @@ class Program(Lines):
             raise AssertionError(f"{words}: {kind} {rest}")
         return rest
 
-    def start(self, key: Json) -> None:
+    def set_up_key(self, key: Json) -> None:
         """Starts a browser with a new key."""
         self.ask("key", *list_options(key))
 
@@ -82,16 +82,16 @@ class Program(Lines):
         """Calls create or get."""
         return json.loads(self.ask(method, mediation, presence, json.dumps(options))[0])
 
-    def fail(self) -> None:
+    def fail_verification(self) -> None:
         """Makes user verification fail."""
         self.ask("fail")
 
-    def recordings(self) -> list[tuple[bytes, bytes]]:
+    def read_recordings(self) -> list[tuple[bytes, bytes]]:
         """Returns each recording: the snapshot and the log."""
         return [(b"", bytes.fromhex(self.ask("recording")[0]))]
 
 
-class BrowserProcess(Lines):
+class BrowserProcess(LineProcess):
     """A program with the commands of `hidlog browser`."""
 
     def ask(self, command: str, parameter: Any, **more: Any) -> Any:
@@ -101,7 +101,7 @@ class BrowserProcess(Lines):
             raise ServiceError(answer["error"], answer["message"])
         return answer["value"]
 
-    def start(self, key: Json) -> None:
+    def set_up_key(self, key: Json) -> None:
         """Removes the credentials, and sets the key's options."""
         self.ask("clearCredentials", None)
         devtools = to_devtools_options(key)
@@ -119,11 +119,11 @@ class BrowserProcess(Lines):
         self.ask("setPresence", presence)
         return self.ask(method, options, mediation=mediation)
 
-    def fail(self) -> None:
+    def fail_verification(self) -> None:
         """Makes user verification fail."""
         self.ask("setUserVerified", False)
 
-    def recordings(self) -> list[tuple[bytes, bytes]]:
+    def read_recordings(self) -> list[tuple[bytes, bytes]]:
         """Returns each recording: the snapshot and the log."""
         listed = self.ask("getRecordings", None)
         return [(b64url_decode(one["snapshot"]), one["log"].encode()) for one in listed]
@@ -145,7 +145,7 @@ def list_options(key: Json) -> list[str]:
 
 def run_case(case: Case, browser: Program | BrowserProcess) -> Json:
     """Runs a case, checks its recordings, and returns the result."""
-    browser.start(case.get("key", {}))
+    browser.set_up_key(case.get("key", {}))
 
     def call(name: str, options: Any, more: Json) -> Json:
         presence = case.get("presence", "granted") if name == case["call"] else "granted"
@@ -154,12 +154,12 @@ def run_case(case: Case, browser: Program | BrowserProcess) -> Json:
         return made
 
     try:
-        result = run_calls(call, case, browser.fail)
+        result = run_calls(call, case, browser.fail_verification)
     except AssertionError as error:
         if not isinstance(error.__cause__, ServiceError):
             raise
         result = {"before": {"error": error.__cause__.name}}
-    for snapshot, log in browser.recordings():
+    for snapshot, log in browser.read_recordings():
         hidlog.check(log, snapshot).raise_for_fault()
     return result
 
@@ -168,16 +168,16 @@ def main(words: list[str]) -> int:
     is_printing = words[:1] == ["--print"]
     language, *command = words[is_printing:]
     browser: Program | BrowserProcess = Program(command) if language in ("go", "rust") else BrowserProcess(command)
-    cases = {**CASES, **ALIKE}
+    cases = {**CASES, **EXTENDED_CASES}
     found = {name: run_case(case, browser) for name, case in cases.items()}
     assert browser.close() == 0
-    wrong = {name: result for name, result in found.items() if result != get_expected(name, language)}
+    wrong = {name: result for name, result in found.items() if result != get_expected_result(name, language)}
     if is_printing:
         print(",\n".join(f" {json.dumps(name)}: {json.dumps(result)}" for name, result in wrong.items()))
         return 0
     for name, result in wrong.items():
         print(
-            f"FAILED: {name}\n    actual   {json.dumps(result)}\n    expected {json.dumps(get_expected(name, language))}"
+            f"FAILED: {name}\n    actual   {json.dumps(result)}\n    expected {json.dumps(get_expected_result(name, language))}"
         )
     print(f"{language}: {len(found)} cases, {len(wrong)} not as expected")
     return 1 if wrong else 0

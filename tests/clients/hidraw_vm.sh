@@ -18,7 +18,7 @@ wait_until() {
     return 1
 }
 
-is_gone() {
+is_unplugged() {
     [ ! -e /dev/hidraw0 ]
 }
 
@@ -33,7 +33,7 @@ plug_in() {
 unplug() {
     kill "$bridge"
     wait "$bridge" || echo "@@ FAILED the bridge ended with $?"
-    wait_until is_gone
+    wait_until is_unplugged
 }
 
 for module in hid hid-generic uhid; do

@@ -19,8 +19,8 @@ work=$(mktemp -d)
 trap 'rm -rf "$work"' EXIT
 root=$work/root
 
-# Checks whether a folder has vmlinuz and uhid.ko: has_kernel FOLDER
-has_kernel() {
+# Sets image and modules to those of a folder. Fails if the folder has no vmlinuz or no uhid.ko: select_kernel FOLDER
+select_kernel() {
     image=$(find "$1/boot" -name 'vmlinuz-*' 2>/dev/null | sort -V | tail -1)
     modules=$1/lib/modules/${image##*/vmlinuz-}/kernel/drivers/hid
     [ -d "$modules" ] || modules=$1/usr${modules#"$1"} # Debian 13's package, unpacked
@@ -31,14 +31,14 @@ has_kernel() {
 find_kernel() {
     local package
     if [ -n "${HIDLOG_KERNEL-}" ]; then
-        has_kernel "$HIDLOG_KERNEL" || exit_skipped "HIDLOG_KERNEL has no kernel with uhid"
-    elif ! has_kernel "" && ! has_kernel /var/cache/hidlog/kernel &&
-        ! has_kernel "${XDG_CACHE_HOME:-${HOME-}/.cache}/hidlog/kernel"; then
+        select_kernel "$HIDLOG_KERNEL" || exit_skipped "HIDLOG_KERNEL has no kernel with uhid"
+    elif ! select_kernel "" && ! select_kernel /var/cache/hidlog/kernel &&
+        ! select_kernel "${XDG_CACHE_HOME:-${HOME-}/.cache}/hidlog/kernel"; then
         [ -z "${HIDLOG_OFFLINE-}" ] || exit_skipped "no kernel with uhid is installed (tests/run --install)"
         package=$(apt-cache depends linux-image-amd64 2>/dev/null | sed -n 's/^ *Depends: //p' | head -1)
         (cd "$work" && apt-get download "${package:-linux-image-amd64}" && dpkg-deb -x "$package"_*.deb kernel) \
             >"$work/said" 2>&1 || true
-        has_kernel "$work/kernel" || exit_skipped "a kernel is missing (apt-get install linux-image-amd64)"
+        select_kernel "$work/kernel" || exit_skipped "a kernel is missing (apt-get install linux-image-amd64)"
     fi
 }
 
@@ -62,7 +62,7 @@ copy_python() {
             '    if path and path.startswith("/") and "/conformance/" not in path:' '        print(path)'; } |
             PYTHONDONTWRITEBYTECODE=1 PYTHONPATH=$(IFS=: && echo "$*") /usr/bin/python3 -
     )
-    [ ${#files[@]} -gt 1 ] || { echo "$name: cannot load the copied Python modules on this machine" >&2 && exit 1; }
+    [ ${#files[@]} -gt 1 ] || { echo "$name: /usr/bin/python3 cannot import the modules of the script" >&2 && exit 1; }
     copy_programs "${files[@]}" "$(find /usr/lib -name legacy.so -path '*ossl-modules*' | head -1)"
 }
 

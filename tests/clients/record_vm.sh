@@ -18,7 +18,7 @@ wait_until() {
     return 1
 }
 
-is_gone() {
+is_unplugged() {
     [ ! -e "$device" ]
 }
 
@@ -38,7 +38,7 @@ record_client() {
     fi
     kill "$bridge"
     wait "$bridge" || echo "@@ FAILED the bridge ended with $?"
-    wait_until is_gone
+    wait_until is_unplugged
     sed "s/^/@log $log /" "$log.log"
 }
 
@@ -61,38 +61,38 @@ sign_in() {
     fido2-assert -G "$2" "$3" -i "$1.asked" "$device" >"$1.answer" && fido2-assert -V -i "$1.answer" "$1.pem" es256
 }
 
-libfido2_token() {
+run_libfido2_token() {
     fido2-token -L && fido2-token -I "$device"
 }
 
-libfido2_register() {
+run_libfido2_register() {
     register alice && sign_in alice -t up=true && sign_in alice -t up=true
 }
 
-libfido2_discoverable() {
+run_libfido2_discoverable() {
     register alice -r && register bob -r && { print_random && echo relying.example; } >asked &&
         fido2-assert -G -r -i asked "$device"
 }
 
-libfido2_refused() {
+run_libfido2_refused() {
     register alice && ! fido2-cred -M -i alice.in "$device" eddsa &&
         { print_random && echo other.example && head -1 alice.public; } >asked && ! fido2-assert -G -i asked "$device"
 }
 
-openssh_key() {
+run_openssh_key() {
     ssh-keygen -q -t ecdsa-sk -N '' -C hidlog -f id && echo a text >text && ssh-keygen -Y sign -f id -n file text
 }
 
-openssh_untouched() {
+run_openssh_untouched() {
     ssh-keygen -q -t ecdsa-sk -O no-touch-required -N '' -C hidlog -f un && echo a text >text &&
         ssh-keygen -Y sign -f un -n file text
 }
 
-openssh_refused() {
+run_openssh_refused() {
     ! ssh-keygen -q -t ed25519-sk -N '' -f other
 }
 
-pam_u2f() {
+run_pam_u2f() {
     register alice && printf 'root:%s,%s,es256,+presence\n' "$(head -1 alice.public)" \
         "$(grep -v -- ---- alice.pem | base64 -d | tail -c 64 | base64 -w 0)" >authfile &&
         printf 'auth required pam_u2f.so authfile=/root/authfile origin=relying.example appid=relying.example\n' \
@@ -104,7 +104,7 @@ for module in hid hid-generic uhid; do
 done
 for client in libfido2_token libfido2_register libfido2_discoverable libfido2_refused openssh_key openssh_untouched \
     openssh_refused pam_u2f; do
-    record_client "$client" "$client"
+    record_client "$client" "run_$client"
 done
 record_client python_fido2 python3 python_fido2.py
 echo "@@ end after $(cut -d' ' -f1 /proc/uptime) s"

@@ -17,7 +17,8 @@ static int report_error(int result) {
     return 1;
 }
 
-static int flush_output(void) {
+// Ends the line of output, and flushes it. Returns 1 on failure.
+static int finish_output(void) {
     if (puts("") < 0 || fflush(stdout) != 0) {
         perror("sk_call: standard output");
         return 1;
@@ -34,7 +35,7 @@ static int enroll(void) {
     for (size_t i = 0; i < made->key_handle_len; i++) {
         printf("%02x", made->key_handle[i]);
     }
-    return flush_output();
+    return finish_output();
 }
 
 static int sign(const char *digits) {
@@ -49,7 +50,7 @@ static int sign(const char *digits) {
         return report_error(result);
     }
     printf("%u", (unsigned)made->counter);
-    return flush_output();
+    return finish_output();
 }
 
 int main(int count, char **words) {

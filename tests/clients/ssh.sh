@@ -1,6 +1,6 @@
 #!/usr/bin/env bash
 # Tests OpenSSH with a software key: builds libhidlog_sk.so of bridges/ssh, generates keys with ssh-keygen, signs in to
-# an sshd on the loopback address, and lists resident keys. Exits with 3 if a dependency is missing.
+# an sshd on the loopback address, downloads resident keys, and signs a file. Exits with 3 if a dependency is missing.
 # shellcheck disable=SC1091,SC2154 # top, name and library are set by common.sh
 set -euo pipefail
 source "$(dirname "${BASH_SOURCE[0]}")/common.sh"
@@ -21,7 +21,8 @@ fi
 server=
 made_run=
 
-stop_server() {
+# Stops sshd, and removes the files of the test.
+clean_up() {
     if [ -n "$server" ]; then
         kill "$server" 2>/dev/null || true
         wait "$server" 2>/dev/null || true
@@ -31,7 +32,7 @@ stop_server() {
     fi
     rm -rf "$work"
 }
-trap stop_server EXIT
+trap clean_up EXIT
 cd "$work"
 echo "$name: OpenSSH client $(print_version openssh-client), server $(print_version openssh-server), libfido2 $(print_version libfido2-dev)"
 parts=("$top"/bridges/ssh/{hidlog_sk,state}.c

@@ -5,7 +5,7 @@ uhid_package_vm.sh runs this in its virtual machine.
     uhid_browser_vm.py firefox|chromium
 
 It serves the page at http://localhost:8000, starts the browser as the user tester, and verifies what the page sends:
-the client data's hash, the RP, the flags, the signature by python3-cryptography, and that the counter rises.
+the client data, the RP ID hash, the flag UP, the signature, and that the signature counter increases.
 """
 
 from __future__ import annotations
@@ -25,7 +25,7 @@ from pathlib import Path
 from cryptography.hazmat.primitives import hashes, serialization
 from cryptography.hazmat.primitives.asymmetric import ec
 
-SECONDS = 800
+TIMEOUT_SECONDS = 800
 PAGE = """<!doctype html><title>A service</title><p>signing in<script>
 const text = (bytes) => btoa(String.fromCharCode(...new Uint8Array(bytes)));
 const send = (said) => fetch("/said", { method: "POST", body: JSON.stringify(said) });
@@ -77,7 +77,7 @@ class Service(http.server.BaseHTTPRequestHandler):
         pass
 
 
-def browser_command(browser: str) -> list[str]:
+def make_browser_command(browser: str) -> list[str]:
     """Returns the command with which the browser is started."""
     home = Path("/home/tester") / browser
     home.mkdir(exist_ok=True)
@@ -104,9 +104,9 @@ def reopen_page() -> None:
         print("no tab was opened:", error, flush=True)
 
 
-def next_message(process: subprocess.Popen[bytes]) -> dict[str, str]:
+def wait_for_message(process: subprocess.Popen[bytes]) -> dict[str, str]:
     """Returns the next message from the page."""
-    for second in range(1, SECONDS):
+    for second in range(1, TIMEOUT_SECONDS):
         try:
             found = MESSAGES.get(timeout=1)
         except queue.Empty:
@@ -116,7 +116,7 @@ def next_message(process: subprocess.Popen[bytes]) -> dict[str, str]:
             continue
         assert "error" not in found, found["error"]
         return found
-    raise AssertionError("the page sent nothing")
+    raise AssertionError(f"the page sent nothing within {TIMEOUT_SECONDS} s")
 
 
 def verify_sign_in(public: ec.EllipticCurvePublicKey, used: dict[str, str]) -> int:
@@ -139,13 +139,13 @@ def main() -> int:
     user = ["setpriv", "--reuid=tester", "--regid=tester", "--init-groups"]
     home = ["env", "HOME=/home/tester", "XDG_RUNTIME_DIR=/home/tester", "MOZ_LOG=webauthn:5,authenticator:5"]
     with open("browser.err", "wb") as errors:
-        words = [*user, *home, *browser_command(browser), "http://localhost:8000/"]
+        words = [*user, *home, *make_browser_command(browser), "http://localhost:8000/"]
         process = subprocess.Popen(words, stdout=errors, stderr=errors, stdin=subprocess.DEVNULL)
         try:
-            made = next_message(process)
+            made = wait_for_message(process)
             public = serialization.load_der_public_key(base64.b64decode(made["made"]))
             assert isinstance(public, ec.EllipticCurvePublicKey)
-            counters = [verify_sign_in(public, next_message(process)) for _ in range(2)]
+            counters = [verify_sign_in(public, wait_for_message(process)) for _ in range(2)]
         except AssertionError as wrong:
             print(wrong)
             lines = Path("browser.err").read_text(errors="replace").splitlines()
@@ -154,7 +154,7 @@ def main() -> int:
         finally:
             process.kill()
             process.wait()
-    # Firefox first sends a request that needs no touch. Its signature increments the counter, too.
+    # Firefox first sends a request that needs no user presence. Its signature increments the counter, too.
     assert 0 < counters[0] < counters[1], counters
     Path("versions").write_text(f"{browser}: {made['browser']}, counters {counters}\n")
     return 0

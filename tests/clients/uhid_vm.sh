@@ -8,7 +8,7 @@ mount -t sysfs sys /sys
 mount -t devtmpfs dev /dev
 cd /root || exit
 bridge=
-# A pipe for the bridge's standard input, where a line with y is a touch.
+# A pipe for the bridge's standard input. A line with y is a touch.
 mkfifo typed
 exec 4<>typed
 
@@ -56,7 +56,7 @@ is_listed() {
     fido2-token -L >listed && grep -q 'vendor=0x1209, product=0x0001' listed
 }
 
-is_gone() {
+is_unplugged() {
     [ ! -e "$device" ] && [ -z "$(fido2-token -L)" ]
 }
 
@@ -74,7 +74,7 @@ plug_in() {
 # Ends the bridge with a signal: unplug SIGNAL
 unplug() {
     kill "-$1" "$bridge"
-    wait "$bridge" && wait_until is_gone
+    wait "$bridge" && wait_until is_unplugged
 }
 
 # Prints 32 random bytes in base64, the format in which libfido2's tools read a client data hash or a user handle.
@@ -127,7 +127,7 @@ write_pam_files() {
         >/etc/pam.d/hidlog
 }
 
-# Checks in the recording second.log whether the key is waiting for a touch.
+# Checks whether the key waits for a touch, according to the recording second.log.
 is_waiting() {
     [ "$(tail -1 second.log)" = "# need presence" ]
 }
@@ -155,8 +155,8 @@ has_timed_out() {
     grep '^p ' second.log | tail -1 | grep -q 'timeout$'
 }
 
-# Runs a command while a sign-in waits for a touch, then touches the key. If the touch came too late, starts again, up
-# to five times: run_before_touch COMMAND
+# Runs a command while a sign-in waits for a touch, then touches the key. If the request for a touch has timed out
+# before, tries again, up to five times: run_before_touch COMMAND
 run_before_touch() {
     for _ in 1 2 3 4 5; do
         begin_sign_in && "$1" && is_waiting && touch_key && wait "$first" && after_the_touch && return
@@ -210,7 +210,7 @@ send_without_lock() {
     exchange_packet "${channel}810001aa" "^${channel}bf000106"
 }
 
-# Sends getInfo until the key has responded ten times.
+# Sends getInfo until the key has responded ten times, since a program fails while another one locks the device.
 request_info_repeatedly() {
     for _ in $(seq 10); do
         wait_until fido2-token -I "$device" || return
@@ -239,7 +239,7 @@ run_without_root() {
     (exec 3<>/dev/uhid && run_as_nobody uhid -f 3 /tmp/other.state) 2>bridge.err &
     bridge=$!
     wait_until is_listed && device=$(sed 's/:.*//' listed) && fido2-token -I "$device" | grep -q FIDO_2_0 || return
-    pid=$(pidof uhid) && kill -TERM "$pid" && wait "$bridge" && wait_until is_gone && [ -s /tmp/other.state ]
+    pid=$(pidof uhid) && kill -TERM "$pid" && wait "$bridge" && wait_until is_unplugged && [ -s /tmp/other.state ]
 }
 
 # Runs pamu2fcfg. Debian 12's version requires an attestation certificate; Debian 13's version accepts self attestation.
@@ -252,8 +252,8 @@ has_pamtester() {
     command -v pamtester >/dev/null
 }
 
-# Runs a command as the user nobody, with the setpriv of util-linux, since busybox's cannot change the user:
-# run_as_nobody COMMAND ..
+# Runs a command as the user nobody: run_as_nobody COMMAND .. Uses setpriv of util-linux, since busybox's setpriv cannot
+# change the user.
 run_as_nobody() {
     /usr/bin/setpriv --reuid=65534 --regid=65534 --clear-groups "$@"
 }
@@ -296,7 +296,7 @@ run_all() {
     expect_success "a program killed while it registers: the next one is served at once" kill_waiting_client
     expect_success "fido2-assert signs in after it" run_with_touch sign_in alice
     kill -9 "$bridge"
-    wait_until is_gone
+    wait_until is_unplugged
     expect_success "plugged in again after the bridge was killed" plug_in third.log
     expect_success "fido2-assert signs in after it, the counter one higher" sign_in_and_check_counter
     expect_success "unplugged by an interrupt" unplug INT

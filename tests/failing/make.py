@@ -5,7 +5,7 @@
     tests/failing/make.py --check    exit with 1 if a file differs from what would be written
 
 The script plays the client and the user; the key is the program in HIDLOG_PROGRAM, or ./hidlog. Private keys,
-credential IDs and hashes are derived from fixed texts, so each run records the same.
+credential IDs and hashes are derived from fixed texts, so each run writes the same files.
 """
 
 from __future__ import annotations
@@ -43,8 +43,8 @@ class Session:
         self.presence = "granted"
         self.secrets: dict[str, int] = {}
 
-    def play(self, kind: str, rest: str = "", passed: int = 1) -> None:
-        """Plays a log line."""
+    def send_line(self, kind: str, rest: str = "", passed: int = 1) -> None:
+        """Sends a log line to the key, and records its output."""
         self.time_ms += passed
         line = f"{kind} {self.time_ms} {rest}".rstrip().encode()
         written = self.key.exchange(line).text.decode().splitlines()
@@ -55,24 +55,24 @@ class Session:
         """Sends a message, without the packet at index `lost`."""
         for index, packet in enumerate(fragment_message(Message(channel, command, data))):
             if index != lost:
-                self.play(">", packet.hex())
+                self.send_line(">", packet.hex())
 
-    def open_channel(self, name: str) -> None:
+    def allocate_channel(self, name: str) -> None:
         """Requests a channel, with a nonce derived from the client's name."""
         self.send(BROADCAST, INIT, sha256(name.encode()).digest()[:8])
 
-    def provide_needs(self) -> None:
+    def answer_needs(self) -> None:
         """Supplies what the key needs until it needs nothing. The user takes 250 ms."""
         while (need := self.needs[-1].removeprefix("# need ")) != "nothing":
             if need == "presence":
-                self.play("t", passed=100)
-                self.play("t", passed=100)
-                self.play("p", self.presence, passed=50)
+                self.send_line("t", passed=100)
+                self.send_line("t", passed=100)
+                self.send_line("p", self.presence, passed=50)
             elif need == "key":
-                self.play("k", self.make_key_pair())
+                self.send_line("k", self.make_key_pair())
             else:
                 signed = bytes.fromhex("".join(line.removeprefix("# signed ") for line in self.needs[:-1]))
-                self.play("s", p256.sign(self.secrets[need.split()[1]], signed).hex())
+                self.send_line("s", p256.sign(self.secrets[need.split()[1]], signed).hex())
 
     def make_key_pair(self) -> str:
         """Creates a key pair, and returns the credential ID and the public key."""
@@ -85,7 +85,7 @@ class Session:
     def transact(self, command: int, members: dict[int, Any] | None = None, channel: int = 1) -> None:
         """Sends a request, and supplies what the key needs."""
         self.send(channel, CBOR, encode_request(command, members))
-        self.provide_needs()
+        self.answer_needs()
 
     def close(self) -> bytes:
         """Ends the session, and returns its log."""
@@ -101,7 +101,9 @@ def encode_request(command: int, members: dict[int, Any] | None = None) -> bytes
     return bytes([command]) + (encode(members) if members else b"")
 
 
-def registration_parameters(name: str, rp: str = "example.com", excluded: list[bytes] | None = None) -> dict[int, Any]:
+def make_registration_parameters(
+    name: str, rp: str = "example.com", excluded: list[bytes] | None = None
+) -> dict[int, Any]:
     """Returns the parameters of authenticatorMakeCredential."""
     members: dict[int, Any] = {
         1: sha256(f"register {name}".encode()).digest(),
@@ -115,7 +117,9 @@ def registration_parameters(name: str, rp: str = "example.com", excluded: list[b
     return members
 
 
-def sign_in_parameters(rp: str = "example.com", allowed: list[bytes] | None = None, turn: int = 1) -> dict[int, Any]:
+def make_sign_in_parameters(
+    rp: str = "example.com", allowed: list[bytes] | None = None, turn: int = 1
+) -> dict[int, Any]:
     """Returns the parameters of authenticatorGetAssertion."""
     members: dict[int, Any] = {1: rp, 2: sha256(f"sign in {turn}".encode()).digest()}
     if allowed:
@@ -124,16 +128,16 @@ def sign_in_parameters(rp: str = "example.com", allowed: list[bytes] | None = No
 
 
 def start_session(snapshot: bytes = b"", name: str = "alice") -> Session:
-    """Starts a session, with a channel."""
+    """Starts a session, and allocates a channel."""
     session = Session(snapshot, name)
-    session.open_channel("client")
+    session.allocate_channel("client")
     return session
 
 
 def register_user(name: str = "alice") -> Session:
     """Starts a session, and registers a user."""
     session = start_session(name=name)
-    session.transact(MAKE_CREDENTIAL, registration_parameters(name))
+    session.transact(MAKE_CREDENTIAL, make_registration_parameters(name))
     return session
 
 
@@ -142,45 +146,49 @@ def list_credential_ids(session: Session) -> list[bytes]:
     return [bytes.fromhex(credential_id) for credential_id in session.secrets]
 
 
-def denied_user() -> Files:
+def record_denied_user() -> Files:
+    """A user who denies user presence."""
     session = start_session()
     session.presence = "denied"
-    session.transact(MAKE_CREDENTIAL, registration_parameters("alice"))
+    session.transact(MAKE_CREDENTIAL, make_registration_parameters("alice"))
     return {"denied_user.log": session.close()}
 
 
-def excluded_credential() -> Files:
+def record_excluded_credential() -> Files:
+    """A registration whose excludeList contains a credential of the key."""
     session = register_user()
-    session.transact(MAKE_CREDENTIAL, registration_parameters("alice", excluded=list_credential_ids(session)))
+    session.transact(MAKE_CREDENTIAL, make_registration_parameters("alice", excluded=list_credential_ids(session)))
     return {"excluded_credential.log": session.close()}
 
 
-def wrong_rp_id() -> Files:
+def record_wrong_rp_id() -> Files:
+    """A sign-in whose RP ID differs from that of the registration."""
     session = register_user()
-    session.transact(GET_ASSERTION, sign_in_parameters("www.example.com", list_credential_ids(session)))
+    session.transact(GET_ASSERTION, make_sign_in_parameters("www.example.com", list_credential_ids(session)))
     return {"wrong_rp_id.log": session.close()}
 
 
-def lost_packet() -> Files:
+def record_lost_packet() -> Files:
+    """A request without its second packet."""
     session = start_session()
-    session.send(1, CBOR, encode_request(MAKE_CREDENTIAL, registration_parameters("alice")), lost=1)
+    session.send(1, CBOR, encode_request(MAKE_CREDENTIAL, make_registration_parameters("alice")), lost=1)
     return {"lost_packet.log": session.close()}
 
 
-def busy_channel() -> Files:
+def record_busy_channel() -> Files:
     """A client that sends its next request before the response."""
     session = start_session()
-    session.send(1, CBOR, encode_request(MAKE_CREDENTIAL, registration_parameters("alice")))
+    session.send(1, CBOR, encode_request(MAKE_CREDENTIAL, make_registration_parameters("alice")))
     session.send(1, CBOR, encode_request(GET_INFO))
-    session.provide_needs()
+    session.answer_needs()
     return {"busy_channel.log": session.close()}
 
 
-def stale_sign_count() -> Files:
+def record_stale_sign_count() -> Files:
     """A key that repeats the signature counter of its last sign-in, as a clone does."""
     session = register_user()
     for turn in (1, 2):
-        session.transact(GET_ASSERTION, sign_in_parameters(turn=turn))
+        session.transact(GET_ASSERTION, make_sign_in_parameters(turn=turn))
     front = sha256(b"example.com").hexdigest()[-8:] + "01"
     raised, same = f"{front}00000002", f"{front}00000001"
     text = session.close().decode()
@@ -188,21 +196,21 @@ def stale_sign_count() -> Files:
     return {"stale_sign_count.log": text.replace(raised, same).encode()}
 
 
-def truncated() -> Files:
+def record_truncated() -> Files:
     """A file that was truncated while it was copied."""
     session = register_user()
-    session.transact(GET_ASSERTION, sign_in_parameters())
+    session.transact(GET_ASSERTION, make_sign_in_parameters())
     whole = session.close()
     return {"truncated.log": whole[: whole.rindex(b"\n< 00000001") + 50]}
 
 
-def wrong_snapshot() -> Files:
+def record_wrong_snapshot() -> Files:
     """A session with the credentials of one key, checked with those of another."""
     alice, bob = register_user("alice"), register_user("bob")
     snapshots = [session.key.snapshot(session.log()) for session in (alice, bob)]
     session = start_session(snapshots[0])
     session.secrets = alice.secrets
-    session.transact(GET_ASSERTION, sign_in_parameters(allowed=list_credential_ids(alice)))
+    session.transact(GET_ASSERTION, make_sign_in_parameters(allowed=list_credential_ids(alice)))
     for other in (alice, bob):
         other.close()
     return {
@@ -212,31 +220,31 @@ def wrong_snapshot() -> Files:
     }
 
 
-def two_clients() -> Files:
-    """A second client sends a request while the first one's waits for the user."""
+def record_two_clients() -> Files:
+    """A second client sends a request while the first client's request waits for the user."""
     session = start_session()
-    session.open_channel("the other client")
-    session.send(1, CBOR, encode_request(MAKE_CREDENTIAL, registration_parameters("alice")))
-    session.send(2, CBOR, encode_request(MAKE_CREDENTIAL, registration_parameters("bob", rp="example.org")))
-    session.provide_needs()
+    session.allocate_channel("the other client")
+    session.send(1, CBOR, encode_request(MAKE_CREDENTIAL, make_registration_parameters("alice")))
+    session.send(2, CBOR, encode_request(MAKE_CREDENTIAL, make_registration_parameters("bob", rp="example.org")))
+    session.answer_needs()
     return {"two_clients.log": session.close()}
 
 
-def noncanonical_cbor() -> Files:
+def record_noncanonical_cbor() -> Files:
     """A client that writes the keys of a map in a non-canonical order."""
     session = start_session()
-    message = encode_request(MAKE_CREDENTIAL, registration_parameters("alice"))
+    message = encode_request(MAKE_CREDENTIAL, make_registration_parameters("alice"))
     type_, alg = encode("type") + encode("public-key"), encode("alg") + encode(-7)
     assert message.count(alg + type_) == 1
     session.send(1, CBOR, message.replace(alg + type_, type_ + alg))
-    session.provide_needs()
+    session.answer_needs()
     return {"noncanonical_cbor.log": session.close()}
 
 
-def changed_request() -> Files:
+def record_changed_request() -> Files:
     """A sign-in with one bit of clientDataHash changed, as by a faulty proxy."""
     session = register_user()
-    session.transact(GET_ASSERTION, sign_in_parameters())
+    session.transact(GET_ASSERTION, make_sign_in_parameters())
     # A recorder outside the key does not see the bytes to sign.
     lines = [line for line in session.close().decode().splitlines(True) if not line.startswith("# signed ")]
     begin = sha256(b"sign in 1").hexdigest()[:8]
@@ -247,17 +255,17 @@ def changed_request() -> Files:
 
 
 SESSIONS: list[Callable[[], Files]] = [
-    denied_user,
-    excluded_credential,
-    wrong_rp_id,
-    lost_packet,
-    busy_channel,
-    stale_sign_count,
-    truncated,
-    wrong_snapshot,
-    two_clients,
-    noncanonical_cbor,
-    changed_request,
+    record_denied_user,
+    record_excluded_credential,
+    record_wrong_rp_id,
+    record_lost_packet,
+    record_busy_channel,
+    record_stale_sign_count,
+    record_truncated,
+    record_wrong_snapshot,
+    record_two_clients,
+    record_noncanonical_cbor,
+    record_changed_request,
 ]
 
 

@@ -3,8 +3,8 @@
 
     tests/failing/refresh.py [PAGE ..]
 
-The output of a command `    $ ..` is the lines up to the next command or the end of the block. tests/docs.py compares
-them. The text between the blocks is not updated: read it again.
+The output of a command `    $ ..` is the lines up to the next command or the end of the block. tests/docs.py checks
+these outputs. The text between the blocks is not updated, so read it again.
 """
 
 from __future__ import annotations
@@ -29,7 +29,7 @@ def refresh(text: str, folder: Path) -> str:
         is_command = line.startswith(f"{INDENT}$ ")
         is_output = is_output and not is_command and (line.startswith(INDENT) or not line)
         if not is_output:
-            # A line that follows a block needs an empty line before it: that one was removed with the block's output.
+            # The empty line after a block was removed together with the block's output.
             lines += [""] if lines and lines[-1].startswith(INDENT) and not line.startswith(INDENT) and line else []
             lines.append(line)
         if is_command:

@@ -12,12 +12,12 @@ from typing import Any
 HERE = Path(__file__).resolve().parent
 CONFORMANCE = HERE.parents[1] / "conformance"
 BATCH_SIZE = 8
-Played = Callable[[Callable[[Any], Any], Iterable[Any]], Iterator[Any]]
+RunTasks = Callable[[Callable[[Any], Any], Iterable[Any]], Iterator[Any]]
 
 
 @contextmanager
-def make_runner(executor: str, jobs: int) -> Iterator[Played]:
-    """Returns a function that yields the results of tasks in any order."""
+def make_runner(executor: str, jobs: int) -> Iterator[RunTasks]:
+    """Returns a function that runs tasks, and yields their results in any order."""
     if not executor:
         with multiprocessing.Pool(jobs) as pool:
             yield lambda play, tasks: pool.imap_unordered(play, tasks, chunksize=BATCH_SIZE)

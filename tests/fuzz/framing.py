@@ -15,17 +15,17 @@ BROADCAST = 0xFFFFFFFF
 KEEPALIVE_MS = 100
 
 
-def first_data(packet: bytes, length: int) -> bytes:
+def read_initialization_data(packet: bytes, length: int) -> bytes:
     """Returns the message data in an initialization packet, for a message of this length."""
     return packet[7 : 7 + min(INITIALIZATION_DATA, length)]
 
 
-def continuation_data(packet: bytes, left: int) -> bytes:
+def read_continuation_data(packet: bytes, left: int) -> bytes:
     """Returns the message data in a continuation packet, given how many bytes of the message remain."""
     return packet[5 : 5 + min(CONTINUATION_DATA, left)]
 
 
-def packets(channel: int, command: int, data: bytes, length: Optional[int] = None) -> List[bytes]:
+def split_into_packets(channel: int, command: int, data: bytes, length: Optional[int] = None) -> List[bytes]:
     """Returns the packets of a message; `length` replaces the length in its header."""
     front, told = channel.to_bytes(4, "big"), len(data) if length is None else length
     made = [front + bytes([0x80 | command]) + (told & 0xFFFF).to_bytes(2, "big") + data[:INITIALIZATION_DATA]]

@@ -20,14 +20,14 @@ sys.dont_write_bytecode = True
 
 import executors
 from malformed_requests import hostile_log, hostile_snapshot
-from judge import COUNTS, FindingError, check_saved, judge, split_lines
+from judge import COUNTS_LINE, FindingError, check_saved, judge, split_lines
 
 TOP = os.path.realpath(os.path.join(os.path.dirname(os.path.abspath(__file__)), "..", ".."))
 TIMEOUT_SECONDS = 600
 
 
-def make_parser():
-    """The options of the command."""
+def parse_arguments():
+    """Parses the command line."""
     parser = argparse.ArgumentParser(description=__doc__.split("\n", maxsplit=1)[0])
     parser.add_argument("--seed", default="1", help="seed of the logs (default: 1)")
     parser.add_argument("--count", type=int, default=1000, help="number of logs (default: 1000)")
@@ -66,7 +66,7 @@ def run_log(task):
     except subprocess.TimeoutExpired:
         return number, f"timed out after {TIMEOUT_SECONDS} seconds", None
     lines = split_lines(output)
-    counts = [int(group) for group in COUNTS.fullmatch(lines[-1]).groups()]
+    counts = [int(group) for group in COUNTS_LINE.fullmatch(lines[-1]).groups()]
     inputs = sum(line[:1] in (b">", b"t", b"p", b"k", b"s") for line in lines)
     return number, None, [faulty, inputs, sum(line[:1] == b"<" for line in lines), *counts]
 
@@ -89,7 +89,7 @@ def format_totals(count, totals, seconds):
 
 
 def main():
-    options = make_parser()
+    options = parse_arguments()
     program = options.program
     numbers = range(options.count) if options.only is None else [options.only]
     if options.only is not None:

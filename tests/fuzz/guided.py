@@ -57,7 +57,7 @@ class Edges:
 
 @dataclass
 class Fuzzer:
-    """Runs a target with mutated inputs."""
+    """Runs a target with given and mutated inputs."""
 
     target: Target
     # The exceptions that invalid input may cause. Any other exception is a finding.
@@ -69,8 +69,8 @@ class Fuzzer:
     # The first input of each finding, by exception and function.
     findings: dict[str, bytes] = field(default_factory=dict)
 
-    def try_one(self, data: bytes) -> None:
-        """Runs the target once. An input that reaches new code is kept."""
+    def run_input(self, data: bytes) -> None:
+        """Runs the target with an input, which is kept if it reaches a new pair of consecutive lines."""
         self.edges.is_new, self.edges.last = False, (None, 0)
         sys.settrace(self.edges.trace_call)
         try:
@@ -87,7 +87,7 @@ class Fuzzer:
             self.corpus.append(data)
 
     def mutate(self) -> bytes:
-        """Returns an input of the corpus after a mutation."""
+        """Returns an input of the corpus after one to eight mutations."""
         data = bytearray(self.random.choice(self.corpus))
         for _ in range(self.random.choice((1, 1, 2, 4, 8))):
             at = self.random.randrange(len(data) + 1)
@@ -120,9 +120,9 @@ class Fuzzer:
         """Runs the seeds, and then mutated inputs until the time is up."""
         end = time.monotonic() + seconds
         for seed in (b"", *seeds):
-            self.try_one(seed)
+            self.run_input(seed)
         while time.monotonic() < end:
-            self.try_one(self.mutate())
+            self.run_input(self.mutate())
 
 
 MUTATIONS = (

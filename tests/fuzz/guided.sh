@@ -8,9 +8,10 @@
 #     page     the state of the key in a page (page_state.mjs)
 #
 # The core is release/hidlog.wasm, translated to C by wasm2c and compiled with the fuzzer. HIDLOG_CORPUS=FOLDER is a
-# folder for inputs that reached new code. The next run starts with these inputs, and tests/fuzz/seeds.py --keep adds
-# them to corpus.tsv. The seeds are corpus.tsv and the logs of this repository. Exits with 1 at the first finding, which
-# is saved in FOLDER [default: the current folder], and with 3 if a dependency is missing.
+# folder for findings and for inputs that reached new code [default: a temporary folder, which is deleted]. The next
+# run starts with these inputs, and tests/fuzz/seeds.py --keep adds them to corpus.tsv. The seeds are corpus.tsv and the
+# logs of this repository. Each fuzzer stops at its first finding, and the next one starts. Exits with 1 if there is a
+# finding, and with 3 if a dependency is missing.
 set -euo pipefail
 top=$(cd "$(dirname "${BASH_SOURCE[0]}")/../.." && pwd)
 print_usage() {
@@ -38,6 +39,7 @@ exit_skipped() {
     exit 3
 }
 
+# Requires the tools that fuzzers need: require_tools NAME ..
 require_tools() {
     local name
     for name in "$@"; do

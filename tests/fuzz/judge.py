@@ -20,11 +20,11 @@ RULES = {
     "check": "check finds no difference in a replay, and counts correctly",
     "difference": "check reports the input and packet of a change",
     "replay": "replaying a replay gives the same output",
-    "quiet lines": "quiet prints each line, or a tick with its time",
+    "quiet lines": "quiet prints each line, or a line `t` with its timestamp",
     "quiet packets": "a quiet log has the log's packets, except those for ignored inputs, and the same counts",
-    "quiet again": "quiet does not change a quiet log",
+    "quiet again": "quiet does not change the output of quiet",
     "live lines": "live prints the output of replay, and needs",
-    "needs": "after each input and its packets comes one line with the need, after the bytes to sign",
+    "needs": "after each input and its packets, live prints the bytes to sign, if any, and one line with the need",
     "live again": "replay and live do not change the output of live",
     "saved": "a loaded and saved snapshot is the same, and is saved only without a fault",
     "refused": "a damaged snapshot is loaded, or refused in the documented words without other effects",
@@ -53,7 +53,7 @@ NOTES = (
     rb"(?:hidlog: note: the log ends while the key is waiting for (?:the user's presence|a new key|a signature)\n"
     rb"|hidlog: note: the log ends inside a message, after [1-9]\d* bytes of it\n)?"
 )
-COUNTS = re.compile(rb"= held (\d+) rows (\d+) pending (\d+) requests (\d+) bytes (\d+) steps (\d+)")
+COUNTS_LINE = re.compile(rb"= held (\d+) rows (\d+) pending (\d+) requests (\d+) bytes (\d+) steps (\d+)")
 # For a registration 196 bytes are signed, for a sign-in 69 bytes.
 NEED = re.compile(
     rb"((?:(?:# signed [0-9a-f]{192}\n){2}# signed [0-9a-f]{8}|# signed [0-9a-f]{138})\n# need signature [0-9a-f]{64}"
@@ -81,13 +81,13 @@ def split_lines(text):
     return lines if lines[-1] else lines[:-1]
 
 
-def is_line(line):
+def is_log_line(line):
     """Returns whether a line is a log line."""
     found = INPUT_LINE.fullmatch(line)
     return bool(found) and all(int(group) < 2**64 for group in found.groups() if group)
 
 
-def is_line_prefix(text):
+def is_log_line_prefix(text):
     """Returns whether a log line can begin with this text."""
     letter, _, rest = text.partition(b" ")
     if text[:1] in (b"", b"#", b"="):
@@ -105,7 +105,7 @@ def is_line_prefix(text):
 
 
 # Prefixes of other files: pcap, pcapng after its first line feed, gzip, zstd, UTF-16, JSON.
-OTHER_FILES = tuple(
+OTHER_FILE_PREFIXES = tuple(
     bytes.fromhex(magic)
     for magic in (
         "d4c3b2a1",
@@ -125,9 +125,9 @@ OTHER_FILES = tuple(
 
 def find_hint_pattern(line):
     """Returns a pattern for the hint about the first byte that is invalid in a log line."""
-    if line.startswith(OTHER_FILES):
+    if line.startswith(OTHER_FILE_PREFIXES):
         return rb"  this is [^\n]+\n"
-    fits = max(end for end in range(len(line) + 1) if is_line_prefix(line[:end]))
+    fits = max(end for end in range(len(line) + 1) if is_log_line_prefix(line[:end]))
     if fits == len(line):
         return rb"  it ends after byte %d: [^\n]+\n" % fits
     return rb"  byte %d (?:is|begins) [^\n]+\n" % (fits + 1)
@@ -137,9 +137,9 @@ def find_fault(lines):
     """Returns the number of the first invalid line, and a pattern for the message about it; or None."""
     for number, line in enumerate(lines, 1):
         if len(line) > 255:
-            hint = rb"  this is [^\n]+\n" if line.startswith(OTHER_FILES) else b""
+            hint = rb"  this is [^\n]+\n" if line.startswith(OTHER_FILE_PREFIXES) else b""
             return number, b"hidlog: line %d: longer than 255 bytes\n" % number + hint
-        if not is_line(line):
+        if not is_log_line(line):
             return number, b"hidlog: line %d: not a log line\n" % number + find_hint_pattern(line)
     return None
 
@@ -181,7 +181,7 @@ def check_end(command, ended, fault):
 
 def check_counts(line, inputs):
     """Checks the line of counts."""
-    found = COUNTS.fullmatch(line)
+    found = COUNTS_LINE.fullmatch(line)
     check(found, "counts", repr(line[:200]))
     held, rows, pending, requests, read, steps = (int(group) for group in found.groups())
     holds = held <= HELD and rows <= ROWS and pending <= PENDING and steps <= 4 * read + 2 * requests
@@ -204,9 +204,9 @@ def check_replay(lines, output):
     check(
         most <= PACKETS and not found[0][1],
         "packets",
-        f"{most} after an input, {len(found[0][1])} before the first input",
+        f"{most} packets after an input, {len(found[0][1])} packets before the first input",
     )
-    well = all(is_line(line) and line == line.lower() for line in written if line[:1] == b"<")
+    well = all(is_log_line(line) and line == line.lower() for line in written if line[:1] == b"<")
     check(
         well and sum(line[:1] == b"=" for line in written) == 1,
         "packets",
@@ -219,7 +219,7 @@ def check_comparison(output, run):
     found = group_responses(split_lines(output))
     counted = len(found) - 1, sum(len(packets) for _, packets in found)
     said = check_end("check", run("check", output), None)
-    check(said == b"same %d inputs %d packets\n" % counted, "check", f"stderr: {said!r}; expected counts: {counted}")
+    check(said == b"same %d inputs %d packets\n" % counted, "check", f"output: {said!r}; expected counts: {counted}")
 
 
 def check_difference(output, run):
@@ -290,11 +290,13 @@ def check_live(log, output, run):
         [line for line in found if not line.startswith(NEED_PREFIXES)] for found in (lines, split_lines(output))
     )
     check(
-        told == replayed and live[-1:] == b"\n", "live lines", "without the needs, the output differs from the replay"
+        told == replayed and live[-1:] == b"\n",
+        "live lines",
+        "without comments about needs, the output differs from the replay",
     )
     check_needs(lines)
     check(run("replay", live) == (0, live, b""), "live again", "replaying the output of live changes it")
-    check(run("live", live) == (0, live, b""), "live again", "playing the output of live again changes it")
+    check(run("live", live) == (0, live, b""), "live again", "running live on the output of live changes it")
 
 
 def check_show(log, run):
@@ -377,7 +379,7 @@ def check_saved(log, output, fault, run, folder, damaged):
         "saved",
         f"loading and saving changes the snapshot, or fails: status {status}, stderr {said!r}",
     )
-    rows, most = (int(COUNTS.fullmatch(split_lines(text)[-1])[2]) for text in (counts, output))
+    rows, most = (int(COUNTS_LINE.fullmatch(split_lines(text)[-1])[2]) for text in (counts, output))
     check(rows <= most, "saved", f"the loaded snapshot has {rows} rows; the session had at most {most}")
     whole, wrong = read_file(first), damaged(read_file(first))
     for path in (first, third):

@@ -68,7 +68,7 @@ static void append_line_digits(const char *front, const uint8_t *bytes, size_t c
 }
 
 // Decodes a packet. Most packets are valid, so that requests become complete.
-static void make_packet(struct bytes *from, uint8_t packet[64]) {
+static void decode_packet(struct bytes *from, uint8_t packet[64]) {
     uint8_t kind = next_byte(from);
     if (kind < 32) {
         static const uint8_t init[7] = {0xff, 0xff, 0xff, 0xff, 0x86, 0, 8};
@@ -83,7 +83,7 @@ static void make_packet(struct bytes *from, uint8_t packet[64]) {
     }
 }
 
-static int32_t new_key(struct hidlog_key *key, struct bytes *from, uint64_t at) {
+static int32_t provide_key_pair(struct hidlog_key *key, struct bytes *from, uint64_t at) {
     uint8_t parts[96];
     take_bytes(from, parts, sizeof parts);
     append_line_digits(" ", parts, 32);
@@ -116,7 +116,7 @@ static int32_t handle_input(struct hidlog_key *key, struct bytes *from, uint64_t
     append_line_start(front);
     switch (letter) {
     case '>':
-        make_packet(from, packet);
+        decode_packet(from, packet);
         append_line_digits(" ", packet, 64);
         return hidlog_key_write_packet(key, at, packet);
     case 't':
@@ -125,7 +125,7 @@ static int32_t handle_input(struct hidlog_key *key, struct bytes *from, uint64_t
         return provide_presence(key, from, at);
     case 'k':
         if (kind == 12) {
-            return new_key(key, from, at);
+            return provide_key_pair(key, from, at);
         }
         append_line_start(" no");
         return hidlog_key_refuse_key_pair(key, at);
@@ -138,7 +138,7 @@ static int32_t handle_input(struct hidlog_key *key, struct bytes *from, uint64_t
     }
 }
 
-// Expects that an input fails while packets are queued, and reads the packets.
+// Expects that an input fails while packets are queued. Reads the packets, and appends them to the expected output.
 static void write_packets(struct hidlog_key *key, int32_t waiting) {
     uint8_t packet[64];
     if (waiting < 0 || waiting > 130 || (waiting > 0 && hidlog_key_tick(key, UINT64_MAX) != HIDLOG_KEY_ERR_PACKETS_QUEUED)) {
@@ -157,7 +157,7 @@ static void write_packets(struct hidlog_key *key, int32_t waiting) {
     }
 }
 
-// Checks that the need and the statistics have values that hidlog.h allows.
+// Checks that the need, the credentials and the statistics have values that hidlog.h allows.
 static void check_key(struct hidlog_key *key) {
     struct hidlog_need need;
     struct hidlog_credential credential;
@@ -175,7 +175,8 @@ static void check_key(struct hidlog_key *key) {
     }
 }
 
-static void check_totals(struct hidlog_key *key) {
+// Appends the totals to the expected output, and checks that the replay of the log has this output.
+static void check_replay(struct hidlog_key *key) {
     struct hidlog_stats m;
     char text[200];
     struct hidlog_result outcome;
@@ -290,7 +291,7 @@ int LLVMFuzzerTestOneInput(const uint8_t *data, size_t size) {
         write_packets(&key, waiting);
         check_key(&key);
     }
-    check_totals(&key);
+    check_replay(&key);
     change_credentials(&key, &from);
     if (hidlog_key_destroy(&key) != 0 || hidlog_key_tick(&key, 0) != HIDLOG_KEY_ERR_NOT_INITIALIZED) {
         abort();

@@ -1,6 +1,6 @@
 // A libFuzzer target for the commands on a log, which is the data. The output of `replay` and `live` is a log that is
-// replayed unchanged and passes `check`. The explained output of `show` has no control characters. tests/fuzz/guided.sh
-// builds it.
+// replayed unchanged and passes `check`. The output of `show`, explained or not, has no control characters.
+// tests/fuzz/guided.sh builds it.
 #include "hidlog.h"
 
 #include <stdlib.h>
@@ -14,7 +14,7 @@ typedef void command(const uint8_t *, size_t, const uint8_t *, size_t, uint8_t *
 
 // Runs a command and checks the members of the result. Returns the length of the output, or 0 if the command reports an
 // error.
-static size_t play(command *function, const uint8_t *log, size_t len, uint8_t *text) {
+static size_t run_command(command *function, const uint8_t *log, size_t len, uint8_t *text) {
     struct hidlog_result result;
     function(log, len, (const uint8_t *)"", 0, text, TEXT, &result);
     if (result.status > HIDLOG_SNAPSHOT_ERROR || result.written > TEXT ||
@@ -25,12 +25,12 @@ static size_t play(command *function, const uint8_t *log, size_t len, uint8_t *t
 }
 
 static void check_replays_to_itself(command *function, const uint8_t *log, size_t len) {
-    size_t first = play(function, log, len, written);
+    size_t first = run_command(function, log, len, written);
     if (first == 0 || first > MAX_LOG) {
         return;
     }
-    if (play(hidlog_replay, written, first, again) != first || memcmp(written, again, first) != 0 ||
-        play(hidlog_check, written, first, again) == 0) {
+    if (run_command(hidlog_replay, written, first, again) != first || memcmp(written, again, first) != 0 ||
+        run_command(hidlog_check, written, first, again) == 0) {
         abort();
     }
 }
@@ -51,8 +51,8 @@ int LLVMFuzzerTestOneInput(const uint8_t *data, size_t size) {
     }
     check_replays_to_itself(hidlog_replay, data, size);
     check_replays_to_itself(hidlog_live, data, size);
-    play(hidlog_check, data, size, written);
-    play(hidlog_quiet, data, size, written);
+    run_command(hidlog_check, data, size, written);
+    run_command(hidlog_quiet, data, size, written);
     check_shown_text(data, size, 0);
     check_shown_text(data, size, 1);
     return 0;

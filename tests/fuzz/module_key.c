@@ -1,5 +1,6 @@
 // Implements hidlog.h with release/hidlog.wasm, translated to C by wasm2c, so that libFuzzer can instrument the core.
-// The caller's buffers are copied into the module's memory and back. Guard bytes after each buffer must stay unchanged.
+// The caller's buffers are copied into the module's memory and back. The guard bytes after what the core writes must
+// stay unchanged.
 #include "hidlog.h"
 #include "module.h"
 
@@ -7,7 +8,8 @@
 #include <stdlib.h>
 #include <string.h>
 
-// Sizes of areas in the module's memory: the key's struct, two inputs, the output, and the guard bytes after each area.
+// Sizes in the module's memory: of the key's struct, the two inputs, the output, the guard bytes after what the core
+// writes, and a WebAssembly page.
 enum { KEY_SPACE = 64, MAX_READ = 1 << 20, MAX_MORE = 1 << 16, MAX_WRITE = 1 << 20, GUARD = 256, PAGE = 65536 };
 enum { ID = 32, GUARD_BYTE = 0xee };
 
@@ -22,7 +24,7 @@ static _Noreturn void fail(const char *what) {
 
 // Called by the code of wasm2c when the module traps.
 _Noreturn void module_trap(wasm_rt_trap_t code) {
-    fprintf(stderr, "module_key: trap %d\n", (int)code);
+    fprintf(stderr, "module_key: the WebAssembly module trapped with code %d\n", (int)code);
     abort();
 }
 
@@ -72,8 +74,8 @@ static void check_guard(u64 address, const char *what) {
     }
 }
 
-// Copies the key's memory out of the module to the caller's memory, which the caller does not read while the key is
-// initialized.
+// Copies the key's memory out of the module to the caller's memory. The caller does not read this memory while the key
+// is initialized, so copying it once, afterwards, is enough.
 static void copy_key_out(void) {
     if (loaded_memory != NULL) {
         memcpy(loaded_memory, to_address(memory_at), key_size);
@@ -166,7 +168,7 @@ int32_t hidlog_key_queued_packets(struct hidlog_key *key) {
     return store_key(key, Z_hidlogZ_hidlog_key_queued_packets(&module, load_key(key)));
 }
 
-// Defines a function with an output structure, which is copied into the module and back.
+// The body of a function with an output structure, which is copied into the module and back.
 #define DEFINE_GETTER(call, structure)                                                                                        \
     u64 key_address = load_key(key), address = copy_in(read_at, structure, sizeof *(structure), MAX_READ);                         \
     put_guard(read_at + sizeof *(structure));                                                                          \

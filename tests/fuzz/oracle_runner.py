@@ -31,9 +31,9 @@ def check_logs(
     parser = argparse.ArgumentParser(description=about.split("\n", maxsplit=1)[0])
     parser.add_argument("--seed", default="1")
     parser.add_argument("--count", type=int, default=1000)
-    parser.add_argument("--only", type=int, help="the log of this number alone")
+    parser.add_argument("--only", type=int, help="check only the log with this number")
     parser.add_argument("--jobs", type=int, default=2)
-    parser.add_argument("--executor", default="", metavar="dask://HOST:PORT", help="a Dask scheduler's workers judge")
+    parser.add_argument("--executor", default="", metavar="dask://HOST:PORT", help="check the logs on a Dask cluster")
     parser.add_argument("--program", default=os.path.join(TOP, "release", "hidlog"))
     asked = parser.parse_args()
     more = [number for number in always if asked.seed == "1" and number >= asked.count]

@@ -1,4 +1,4 @@
-"""Simulates a security key of another maker, with the packets of its log and the transaction of each.
+"""Simulates a security key of another maker, and records its log and the transaction of each packet.
 
 A key serves one message at a time, as CTAP 2.1 (section 11.2) requires. `Behavior` contains the choices that the
 section leaves open. A recorder may lose packets of the key.
@@ -11,13 +11,13 @@ import random
 from dataclasses import dataclass
 from typing import Optional
 
-from framing import BROADCAST, MAX_MESSAGE_BYTES, continuation_data, first_data, packets
+from framing import BROADCAST, MAX_MESSAGE_BYTES, read_continuation_data, read_initialization_data, split_into_packets
 
 PING, MSG, INIT, WINK, CBOR, CANCEL, KEEPALIVE, ERROR = 0x01, 0x03, 0x06, 0x08, 0x10, 0x11, 0x3B, 0x3F
 INVALID_COMMAND, INVALID_LENGTH, INVALID_SEQUENCE, TIMED_OUT, CHANNEL_BUSY = 0x01, 0x03, 0x04, 0x05, 0x06
 MAKE, ASSERT, INFO = b"\x01", b"\x02", b"\x04"
-# The map of a sign-in with the option `up` false, and that of a sign-in without this option; the first bytes of a
-# registration and of its response.
+# The parameters of authenticatorGetAssertion with the option `up` false, and without this option; the first bytes of the
+# responses to a registration and to a sign-in.
 RP_AND_HASH = b"\x01\x63a.b\x02\x58\x20" + bytes(32)
 SILENT, TOUCHED = b"\xa3" + RP_AND_HASH + b"\x05\xa1bup\xf4", b"\xa2" + RP_AND_HASH
 MADE, ASSERTED = b"\x00\xa3\x01dnone\x02\x59", b"\x00\xa2\x02\x59"
@@ -138,7 +138,7 @@ class Key:
     # ---- sending
 
     def send(self, owner: Message, command: int, data: bytes) -> None:
-        for packet in self.pad(packets(owner.channel, command, data), len(data)):
+        for packet in self.pad(split_into_packets(owner.channel, command, data), len(data)):
             if self.chance.random() < self.log.loss:
                 self.log.has_lost = True
                 if command != KEEPALIVE:
@@ -193,7 +193,7 @@ class Key:
             return self.behavior.is_slow_in_u2f
         return message.command == CBOR and (message.data[:1] in (MAKE, ASSERT) or self.behavior.is_slow)
 
-    def begin(self, message: Message) -> None:
+    def serve_complete_message(self, message: Message) -> None:
         """Serves a complete message."""
         if self.is_slow(message):
             message.ready_at = self.now + self.chance.choice([130, 250, 420])
@@ -218,7 +218,7 @@ class Key:
             self.now = max(self.now, then)
             self.send_due()
             while self.queue and not self.is_working:
-                self.handle_initialization(*self.queue.popleft())
+                self.serve_packet(*self.queue.popleft())
         self.now = max(self.now, moment)
 
     def send_due(self) -> None:
@@ -264,7 +264,7 @@ class Key:
             self.log.allowed[line] = list(self.log.of_channel[channel])
         else:
             length = int.from_bytes(packet[5:7], "big")
-            data = first_data(packet, length)
+            data = read_initialization_data(packet, length)
             self.log.messages[line] = Message(line, channel, packet[4] & 0x7F, length, data, self.now)
             self.log.owners[line] = line
             if packet[4] != 0x80 | INIT:
@@ -272,19 +272,19 @@ class Key:
         if self.behavior.worked_on == "queued" and self.is_working:
             self.queue.append((line, self.now, packet))
         else:
-            self.handle_initialization(line, self.now, packet)
+            self.serve_packet(line, self.now, packet)
 
-    def handle_initialization(self, line: int, at: int, packet: bytes) -> None:
+    def serve_packet(self, line: int, at: int, packet: bytes) -> None:
         """Serves a packet received at the time `at`."""
         channel = int.from_bytes(packet[:4], "big")
         if packet[4] < 0x80:
             self.handle_continuation(line, at, channel, packet)
         elif packet[4] == 0x80 | CANCEL:
-            self.cancel(line, channel)
+            self.handle_cancel(line, channel)
         else:
-            self.start(self.log.messages[line])
+            self.serve_message(self.log.messages[line])
 
-    def cancel(self, line: int, channel: int) -> None:
+    def handle_cancel(self, line: int, channel: int) -> None:
         message = self.held
         if not (message and message.is_whole and message.channel == channel and message.command == CBOR):
             return
@@ -311,9 +311,9 @@ class Key:
             return
         message.next += 1
         message.last = at
-        message.data += continuation_data(packet, message.length - len(message.data))
+        message.data += read_continuation_data(packet, message.length - len(message.data))
         if message.is_whole:
-            self.begin(message)
+            self.serve_complete_message(message)
 
     def respond_to_init(self, message: Message) -> None:
         """Responds to INIT. On an allocated channel, INIT aborts the current message of the channel."""
@@ -330,7 +330,7 @@ class Key:
         self.send(message, INIT, message.data[:8] + channel.to_bytes(4, "big") + b"\x02\x05\x01\x02\x0d")
         message.end = ("answer",)
 
-    def start(self, message: Message) -> None:
+    def serve_message(self, message: Message) -> None:
         if message.command == INIT:
             self.respond_to_init(message)
             return
@@ -339,7 +339,7 @@ class Key:
             held = self.held
             self.answer(message)
             self.held = held
-        elif self.is_accepted(message):
+        elif self.accept_or_refuse(message):
             if message.command not in (PING, MSG, WINK, CBOR):
                 self.refuse(message, INVALID_COMMAND)
             elif message.length > MAX_MESSAGE_BYTES or message.command == CBOR and not message.length:
@@ -347,7 +347,7 @@ class Key:
             else:
                 self.held = message
                 if message.is_whole:
-                    self.begin(message)
+                    self.serve_complete_message(message)
 
     def is_concurrent(self, message: Message) -> bool:
         """Whether a message is answered while another one of its channel is processed."""
@@ -361,8 +361,9 @@ class Key:
             and held.channel == message.channel
         )
 
-    def is_accepted(self, message: Message) -> bool:
-        """Returns whether a new message is accepted. Otherwise, this method rejects or ignores the message."""
+    def accept_or_refuse(self, message: Message) -> bool:
+        """Accepts a new message, rejects it or ignores it, and returns whether it is accepted. Ends the held message if
+        the new one replaces or interrupts it."""
         held = self.held
         if held is None:
             return True

@@ -6,8 +6,8 @@
 A key serves one message at a time, as CTAP 2.1 (section 11.2) requires. Where the section leaves a choice, each key
 behaves in its own way: the timeout of an incomplete message and whether the key reports it, whether it rejects or
 ignores a message from another host or a second one on the same channel, whether a second message replaces the current
-one, waits, or is answered meanwhile, the effect of CANCEL, KEEPALIVEs for U2F, the KEEPALIVE interval, up to some
-seconds, the padding. Hosts lose packets, send some twice, don't always wait for a response, and send a request again if
+one, waits, or is answered meanwhile, the effect of CANCEL, KEEPALIVEs for U2F, the KEEPALIVE interval (up to 2.5
+seconds), and the padding. Hosts lose packets, send some twice, don't always wait for a response, and send a request again if
 there was no response. A recorder loses some of the key's packets, or all of them. The transaction of each packet is
 recorded when it is sent. `show --json` must name the same transaction or none. `show --summary --json` must not count
 more registrations and sign-ins than there were. A sign-in with the option `up` false, with which clients look for a
@@ -29,7 +29,7 @@ from typing import Any, Iterator, Optional
 
 sys.dont_write_bytecode = True
 
-from framing import BROADCAST, packets
+from framing import BROADCAST, split_into_packets
 from oracle_runner import check_logs
 from other_key import ASSERT, CANCEL, CBOR, ENDS_BY_OTHER_MESSAGE, INFO, INIT, MAKE, MSG, PING, SILENT, TOUCHED
 from other_key import UNANSWERED_ENDS, WINK, Key, Log, Message
@@ -42,31 +42,31 @@ def make_host_packets(chance: random.Random, channel: int) -> list[bytes]:
     """Returns the packets of one message, some of which may be lost or sent twice."""
     some = chance.random()
     if some < 0.25:
-        sent = packets(channel, PING, bytes(chance.choice([1, 57, 58, 130, 200])))
+        sent = split_into_packets(channel, PING, bytes(chance.choice([1, 57, 58, 130, 200])))
     elif some < 0.55:
-        sent = packets(channel, CBOR, chance.choice([MAKE, ASSERT]) + bytes(chance.choice([10, 80, 200])))
+        sent = split_into_packets(channel, CBOR, chance.choice([MAKE, ASSERT]) + bytes(chance.choice([10, 80, 200])))
         if chance.random() < 0.5:
-            sent = packets(channel, CBOR, ASSERT + chance.choice([SILENT, TOUCHED]))
+            sent = split_into_packets(channel, CBOR, ASSERT + chance.choice([SILENT, TOUCHED]))
     elif some < 0.7:
-        sent = packets(channel, CBOR, INFO)
+        sent = split_into_packets(channel, CBOR, INFO)
     elif some < 0.76:
-        sent = packets(channel, INIT, chance.randbytes(8))
+        sent = split_into_packets(channel, INIT, chance.randbytes(8))
     elif some < 0.8:
-        sent = packets(channel, INIT, bytes(7))
+        sent = split_into_packets(channel, INIT, bytes(7))
     elif some < 0.87:
-        sent = packets(channel, CANCEL, b"")
+        sent = split_into_packets(channel, CANCEL, b"")
     elif some < 0.92:
-        sent = packets(channel, MSG, bytes(chance.choice([7, 70])))
+        sent = split_into_packets(channel, MSG, bytes(chance.choice([7, 70])))
     else:
-        sent = packets(channel, chance.choice([WINK, 0x41]), b"")
+        sent = split_into_packets(channel, chance.choice([WINK, 0x41]), b"")
     if len(sent) > 1 and chance.random() < 0.12:
         sent.pop(chance.randrange(len(sent)))
     if chance.random() < 0.05:
-        sent += send_again(chance, sent[-1:])
+        sent += make_repeated_packets(chance, sent[-1:])
     return sent
 
 
-def send_again(chance: random.Random, sent: list[bytes]) -> list[bytes]:
+def make_repeated_packets(chance: random.Random, sent: list[bytes]) -> list[bytes]:
     """Returns the packets to send again. INIT gets a new nonce, because packets don't show to which of two INITs with
     the same nonce a response belongs."""
     is_init = sent[0][4] == 0x80 | INIT and sent[0][6] == 8
@@ -80,13 +80,13 @@ def simulate(chance: random.Random) -> Log:
     key = Key(chance, log)
     flows: list[collections.deque[bytes | int]] = []
     for _ in range(chance.choice([1, 1, 1, 2, 2, 3, 3, 8])):
-        key.handle_packet(packets(BROADCAST, INIT, chance.randbytes(8))[0])
+        key.handle_packet(split_into_packets(BROADCAST, INIT, chance.randbytes(8))[0])
         flow: collections.deque[bytes | int] = collections.deque()
         for _ in range(chance.choice([1, 2, 3, 5])):
             sent = make_host_packets(chance, key.channels)
             # An impatient host sends the same message again.
             for again in range(chance.choice([1, 1, 1, 1, 1, 2])):
-                flow.extend(send_again(chance, sent) if again else sent)
+                flow.extend(make_repeated_packets(chance, sent) if again else sent)
                 flow.append(chance.choice([0, 1, 50, 120, 120, 300, 600, 1200]))
         flows.append(flow)
     while any(flows):

@@ -76,7 +76,7 @@ const findStateError = (key) => {
         return "a counter is invalid";
     }
     const again = JSON.stringify(new SecurityKey({ origin: "https://example.com", state }).state().credentials);
-    return again === JSON.stringify(state.credentials) ? null : "the state of its state is another";
+    return again === JSON.stringify(state.credentials) ? null : "a key made from its state has other credentials";
 };
 
 /** Makes a key from a state, and checks the result. Returns a description of the error, or null. */
@@ -132,6 +132,6 @@ const gone = [...KNOWN_FINDINGS.keys()].filter((pattern) => seconds >= SECONDS_P
 console.log(`page: ${runs} runs in ${seconds} s, seed ${seed}, ${blocks.size} blocks, ${corpus.length} inputs kept`);
 [...findings].forEach(([wrong, text]) => console.log(`${isKnown(wrong) ? "known " : "FAILED"}   page: ${wrong}: ${text.slice(0, 300)}`));
 for (const pattern of gone) {
-    console.log(`PASSES   page: ${pattern} is in the table of known failures, and didn't come: take it out`);
+    console.log(`PASSES   page: ${pattern} is in the table of known findings, but did not occur: remove it`);
 }
 process.exit(fresh.length + gone.length > 0 ? 1 : 0);

@@ -1,5 +1,5 @@
 #!/usr/bin/env python3
-"""Fuzzes the parsers written in Python: those of the package (CBOR, snapshots, recordings, WebAuthn JSON) and of the
+"""Fuzzes the parsers written in Python: those of the package (CBOR, snapshots, recordings, logs, WebAuthn JSON) and of the
 conformance runner (CBOR, packets, replies, sessions). Each is traced line by line for coverage.
 
     tests/fuzz/readers.py [--seconds N] [--seed N] [--keep FOLDER] [NAME ..]    N seconds in total, default 30
@@ -34,11 +34,11 @@ from hidlog_conformance.session_cache import sessions_folder  # noqa: E402
 
 # Known failures: the parser, the exception with its location, and the reason or the plan.
 KNOWN_FINDINGS: dict[tuple[str, str], str] = {}
-MAX_SECONDS = 60.0
+MIN_SECONDS_FOR_KNOWN = 60.0
 
 
-class Reader(NamedTuple):
-    """A parser to fuzz, the exceptions that it may raise, the folder whose lines are traced, and the first inputs."""
+class Parser(NamedTuple):
+    """A parser to fuzz, the exceptions that it may raise, the folder whose lines are traced, and a function that returns the first inputs."""
 
     target: Target
     allowed: tuple[type[BaseException], ...]
@@ -46,18 +46,18 @@ class Reader(NamedTuple):
     seeds: Callable[[], Iterable[bytes]]
 
 
-def read_cbor(data: bytes) -> None:
+def fuzz_cbor(data: bytes) -> None:
     """Checks that decoding, encoding and decoding again returns the same value."""
     value = cbor.decode(data)
     assert cbor.decode(cbor.encode(value)) == value
 
 
-def read_snapshot(data: bytes) -> None:
+def fuzz_snapshot(data: bytes) -> None:
     listed = credentials.read_snapshot(data)
     assert credentials.read_snapshot(credentials.write_snapshot(listed)) == listed
 
 
-def read_recording(data: bytes) -> None:
+def fuzz_recording(data: bytes) -> None:
     """Replays a recording to a client that sends the requests in the recording."""
     key = RecordedKey(data)
     for line in data.decode("ascii", errors="replace").splitlines():
@@ -70,17 +70,17 @@ def read_recording(data: bytes) -> None:
     key.read_packet()
 
 
-def read_log(data: bytes) -> None:
+def fuzz_log(data: bytes) -> None:
     for result in (logs.replay(data), logs.check(data), logs.quiet(data)):
         assert result.status in (0, 1)
 
 
-def write_request(ceremony: str, options: Any) -> None:
+def encode_client_request(ceremony: str, options: Any) -> None:
     """Makes the WebAuthn client check options, and encode the request."""
     ClientCall(ceremony, options, "optional", "https://a.example", AuthenticatorOptions()).request()
 
 
-def read_json(data: bytes) -> None:
+def fuzz_json(data: bytes) -> None:
     """Passes JSON of WebAuthn options and responses to each function that parses such JSON."""
     try:
         value: Any = json.loads(data)
@@ -91,8 +91,8 @@ def read_json(data: bytes) -> None:
         webauthn_json.request_options,
         webauthn_json.registration,
         webauthn_json.authentication,
-        partial(write_request, "create"),
-        partial(write_request, "get"),
+        partial(encode_client_request, "create"),
+        partial(encode_client_request, "get"),
     )
     for read in reads:
         try:
@@ -101,32 +101,32 @@ def read_json(data: bytes) -> None:
             pass
 
 
-def read_canonical(data: bytes) -> None:
+def fuzz_canonical_cbor(data: bytes) -> None:
     value = ctap_cbor.decode(data)
     assert ctap_cbor.encode(value) == data and isinstance(ctap_cbor.to_diagnostic(value), str)
 
 
-def read_packets(data: bytes) -> None:
+def fuzz_packets(data: bytes) -> None:
     for of_host in (False, True):
-        collector = hid_packets.Collector(of_host)
+        collector = hid_packets.MessageReassembler(of_host)
         for at in range(0, len(data), 64):
             message = collector.feed(data[at : at + 64])
-            assert message is None or isinstance(message.shown(), str)
+            assert message is None or isinstance(message.describe(), str)
 
 
-def read_answer(data: bytes) -> None:
-    """Checks a reply to the registration of examples/."""
+def fuzz_registration_response(data: bytes) -> None:
+    """Checks data as the response to the registration in examples/."""
     answers.check_make_credential_response(data, read_registration("> ")[7:], [], {}, answers.DeviceFacts())
 
 
-def read_session(data: bytes) -> None:
-    with tempfile.NamedTemporaryFile(dir=MEMORY) as file:
+def fuzz_session(data: bytes) -> None:
+    with tempfile.NamedTemporaryFile(dir=MEMORY_FOLDER) as file:
         file.write(data)
         file.flush()
         session_file.read_session(file.name, "fuzzed")
 
 
-MEMORY = "/dev/shm" if Path("/dev/shm").is_dir() else None
+MEMORY_FOLDER = "/dev/shm" if Path("/dev/shm").is_dir() else None
 
 
 def read_registration(side: str) -> bytes:
@@ -156,8 +156,8 @@ def read_packet_seeds() -> Iterable[bytes]:
         yield b"".join(bytes.fromhex(line.split(" ")[2]) for line in lines if line.startswith("> "))
 
 
-def read_options() -> Iterable[bytes]:
-    """Returns JSON from relying parties and browsers: options, and a response of the key."""
+def make_json_seeds() -> Iterable[bytes]:
+    """Yields JSON of options, and of the responses to a registration and a sign-in."""
     user = {"id": "AQ", "name": "ann", "displayName": "Ann"}
     listed = [{"type": "public-key", "id": "AQID", "transports": ["usb"]}]
     algorithms = [{"type": "public-key", "alg": -7}]
@@ -183,16 +183,18 @@ def read_sessions() -> Iterable[bytes]:
     return [path.read_bytes() for path in sorted(Path(sessions_folder()).rglob("*"))[:400:10] if path.is_file()]
 
 
-READERS = {
-    "cbor": Reader(read_cbor, (HidlogError,), PACKAGE, read_messages),
-    "snapshots": Reader(read_snapshot, (HidlogError,), PACKAGE, read_snapshots),
-    "recordings": Reader(read_recording, (HidlogError,), PACKAGE, read_recordings),
-    "logs": Reader(read_log, (HidlogError,), PACKAGE, read_recordings),
-    "json": Reader(read_json, (HidlogError,), PACKAGE, read_options),
-    "canonical": Reader(read_canonical, (ctap_cbor.CborError,), CONFORMANCE, read_messages),
-    "packets": Reader(read_packets, (), CONFORMANCE, read_packet_seeds),
-    "answers": Reader(read_answer, (answers.Mismatch,), CONFORMANCE, lambda: [read_registration("< ")[7:]]),
-    "sessions": Reader(read_session, (session_file.SessionSyntaxError,), CONFORMANCE, read_sessions),
+PARSERS = {
+    "cbor": Parser(fuzz_cbor, (HidlogError,), PACKAGE, read_messages),
+    "snapshots": Parser(fuzz_snapshot, (HidlogError,), PACKAGE, read_snapshots),
+    "recordings": Parser(fuzz_recording, (HidlogError,), PACKAGE, read_recordings),
+    "logs": Parser(fuzz_log, (HidlogError,), PACKAGE, read_recordings),
+    "json": Parser(fuzz_json, (HidlogError,), PACKAGE, make_json_seeds),
+    "canonical": Parser(fuzz_canonical_cbor, (ctap_cbor.CborError,), CONFORMANCE, read_messages),
+    "packets": Parser(fuzz_packets, (), CONFORMANCE, read_packet_seeds),
+    "answers": Parser(
+        fuzz_registration_response, (answers.Mismatch,), CONFORMANCE, lambda: [read_registration("< ")[7:]]
+    ),
+    "sessions": Parser(fuzz_session, (session_file.SessionSyntaxError,), CONFORMANCE, read_sessions),
 }
 
 
@@ -214,7 +216,7 @@ def save_corpus(folder: Path | None, name: str, fuzzer: Fuzzer) -> None:
 
 def fuzz(name: str, seconds: float, seed: int, folder: Path | None) -> int:
     """Fuzzes a parser. Returns the number of new findings, plus the number of known findings that no longer occur."""
-    reader = READERS[name]
+    reader = PARSERS[name]
     fuzzer = Fuzzer(reader.target, reader.allowed, Edges([reader.folder]), random.Random(seed))
     fuzzer.run([*reader.seeds(), *read_corpus(folder, name)], seconds)
     save_corpus(folder, name, fuzzer)
@@ -227,7 +229,7 @@ def fuzz(name: str, seconds: float, seed: int, folder: Path | None) -> int:
             f"{'FAILED' if known is None else 'known'}   {name}: {kind}: {data[:60].hex()}{f' ({known})' if known else ''}"
         )
     for of, kind in KNOWN_FINDINGS:
-        if of == name and kind not in fuzzer.findings and seconds >= MAX_SECONDS:
+        if of == name and kind not in fuzzer.findings and seconds >= MIN_SECONDS_FOR_KNOWN:
             bad += 1
             print(
                 f"PASSES   {name}: {kind} is in the table of known failures but didn't occur: remove it from the table"
@@ -240,9 +242,9 @@ def main() -> int:
     parser.add_argument("--seconds", type=float, default=30.0)
     parser.add_argument("--seed", type=int, default=random.SystemRandom().randrange(1 << 32))
     parser.add_argument("--keep", type=Path)
-    parser.add_argument("names", nargs="*", metavar="NAME", choices=[[], *READERS])
+    parser.add_argument("names", nargs="*", metavar="NAME", choices=[[], *PARSERS])
     words = parser.parse_args()
-    names = words.names or list(READERS)
+    names = words.names or list(PARSERS)
     print(f"seed {words.seed}")
     bad = sum(fuzz(name, words.seconds / len(names), words.seed, words.keep) for name in names)
     return 1 if bad else 0

@@ -30,7 +30,7 @@ from transactions import (
     RESET,
     STATUS_CREDENTIAL_EXCLUDED,
     HostGenerator,
-    Machine,
+    TransportModel,
     Transaction,
     ctap_cbor,
     read_needs,
@@ -63,7 +63,7 @@ def find_need(live: list[bytes], number: int) -> Optional[bytes]:
 
 
 def find_reason(
-    machine: Machine, found: dict[str, Any], needed: Optional[bytes], need: Optional[bytes], line: bytes
+    machine: TransportModel, found: dict[str, Any], needed: Optional[bytes], need: Optional[bytes], line: bytes
 ) -> Optional[str]:
     """Returns why the key sends another packet, or None if the reason is unknown. `needed` is what the key needs before
     the input `line`, and `need` what it needs after it."""
@@ -109,7 +109,7 @@ def find_reason(
     return f"line {found['input']} is the last input that the request needs"
 
 
-def explain_keepalive(machine: Machine, found: dict[str, Any]) -> str:
+def explain_keepalive(machine: TransportModel, found: dict[str, Any]) -> str:
     """Returns why the key sends a KEEPALIVE, with the time of the previous KEEPALIVE."""
     # If two packets are sent for one input, the first is sent because time passed, and the second has the new status.
     last = machine.now if found["packet"] > 1 else machine.alive_before
@@ -118,7 +118,7 @@ def explain_keepalive(machine: Machine, found: dict[str, Any]) -> str:
     return f"a request waits, with a KEEPALIVE at each change and every 100 ms; the last one was at {last} ms"
 
 
-def explain_status(status: int, owner: Transaction, machine: Machine, line: bytes) -> str:
+def explain_status(status: int, owner: Transaction, machine: TransportModel, line: bytes) -> str:
     """Returns why a request is rejected with this status, from the request and the input."""
     kind, reply = line[:1], line.split(b" ")[2:3]
     if status == 0x27:
@@ -173,18 +173,18 @@ def change_log(lines: list[bytes], chance: random.Random) -> None:
     inputs = [place for place, line in enumerate(lines) if line[:1] in (b">", b"p", b"k", b"s")]
     replies = [place for place in inputs if lines[place][:1] in (b"p", b"k", b"s")]
     packets = [place for place, line in enumerate(lines) if line[:1] in (b">", b"<")]
-    way = chance.choice(["left out", "left out", "doubled", "swapped", "later", "altered", "another reply"])
+    change = chance.choice(["left out", "left out", "doubled", "swapped", "later", "altered", "another reply"])
     place = chance.choice(inputs)
-    if way == "doubled":
+    if change == "doubled":
         lines.insert(place, lines[place])
-    elif way == "swapped" and place + 1 < len(lines):
+    elif change == "swapped" and place + 1 < len(lines):
         lines[place : place + 2] = reversed(lines[place : place + 2])
-    elif way == "later":
+    elif change == "later":
         lines[place] = delay_input(lines[place], chance)
-    elif way == "altered":
+    elif change == "altered":
         place = chance.choice(packets)
         lines[place] = flip_bit(lines[place], chance)
-    elif way == "another reply" and replies:
+    elif change == "another reply" and replies:
         place = chance.choice(replies)
         lines[place] = change_reply(lines[place], chance)
     else:
@@ -223,7 +223,7 @@ def find_expected_reason(lines: list[bytes], found: dict[str, Any], run: Any) ->
     log = b"\n".join(inputs) + b"\n"
     replayed = run(log, "replay")
     live = run(log, "live")
-    machine = Machine(replayed, read_needs(live), list(iter_line_numbers(lines, replayed)), found["input"])
+    machine = TransportModel(replayed, read_needs(live), list(iter_line_numbers(lines, replayed)), found["input"])
     return find_reason(machine, found, find_need(live, last - 1), find_need(live, last), inputs[last - 1])
 
 

@@ -23,7 +23,7 @@ def make_type_test(*kinds: type) -> Test:
     return lambda value: type(value) in kinds
 
 
-def is_count(value: Any) -> bool:
+def is_unsigned(value: Any) -> bool:
     """Returns whether a value is an unsigned integer."""
     return type(value) is int and value >= 0
 
@@ -54,8 +54,8 @@ TYPES: dict[int, dict[int, Test]] = {
         6: make_type_test(dict),
         7: OPTIONS,
         8: make_type_test(bytes),
-        9: is_count,
-        10: is_count,
+        9: is_unsigned,
+        10: is_unsigned,
     },
     0x02: {
         1: make_type_test(str),
@@ -64,7 +64,7 @@ TYPES: dict[int, dict[int, Test]] = {
         4: make_type_test(dict),
         5: OPTIONS,
         6: make_type_test(bytes),
-        7: is_count,
+        7: is_unsigned,
     },
 }
 

@@ -1,11 +1,11 @@
 #!/usr/bin/env python3
-"""Writes the seeds of the fuzzers: real sessions, in each fuzzer's format, and earlier inputs that reached new code.
+"""Writes the seeds of the fuzzers: logs of this repository, in each fuzzer's format, and earlier inputs that reached new code.
 
     tests/fuzz/seeds.py FOLDER           write the seeds
     tests/fuzz/seeds.py --keep FOLDER    add the files of FOLDER/key, /log and /state, saved by HIDLOG_CORPUS, to corpus.tsv
 
 FOLDER/key has the inputs of the logs in examples/ and of the worked logs in the format of key_fuzz.c, FOLDER/log the
-logs, FOLDER/snapshot and FOLDER/json inputs of the Python decoders. corpus.tsv has a line for each earlier input: the
+logs, FOLDER/snapshot the snapshots in examples/. corpus.tsv has a line for each earlier input: the
 fuzzer's name, and the bytes in base64.
 """
 
@@ -27,8 +27,8 @@ CORPUS = TOP / "tests/fuzz/corpus.tsv"
 FUZZERS = ("key", "log", "state")
 
 
-def list_logs() -> Iterator[Path]:
-    """Returns the logs of this repository."""
+def iter_logs() -> Iterator[Path]:
+    """Yields the paths of the logs of this repository."""
     for pattern in LOGS:
         yield from sorted(path for path in TOP.glob(pattern) if path.is_file())
 
@@ -86,7 +86,7 @@ def main() -> int:
         print((__doc__ or "").strip(), file=sys.stderr)
         return 2
     folder = Path(sys.argv[1])
-    for number, path in enumerate(list_logs()):
+    for number, path in enumerate(iter_logs()):
         text = path.read_text(encoding="utf-8")
         write_seed(folder / "key", number, encode_inputs(text))
         write_seed(folder / "log", number, text.encode())

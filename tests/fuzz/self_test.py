@@ -13,18 +13,18 @@ import tempfile
 sys.dont_write_bytecode = True
 
 from fuzz import TOP, make_runner
-from malformed_requests import BROADCAST, CBOR, GET, INIT, MAKE, PING, encode, fragment_message
+from malformed_requests import BROADCAST, CBOR, GET, INIT, MAKE, PING, encode, make_packet_events
 from judge import RULES, FindingError, check_saved, judge
 
 
 def make_valid_log():
-    """Returns a log with INIT, a packet outside any transaction, a registration and a sign-in."""
+    """Returns a log with INIT, a PING on a channel that is not allocated, a registration and a sign-in."""
     asked = {1: bytes(32), 2: {"id": "a.example"}, 3: {"id": b"a"}, 7: {"rk": True}}
     asked[4] = [{"alg": -7, "type": "public-key"}]
-    events = fragment_message(BROADCAST, INIT, bytes(8)) + fragment_message(9, PING, b"stray")
-    events += fragment_message(1, CBOR, bytes([MAKE]) + encode(asked)) + [("t",), ("p", "granted")]
+    events = make_packet_events(BROADCAST, INIT, bytes(8)) + make_packet_events(9, PING, b"stray")
+    events += make_packet_events(1, CBOR, bytes([MAKE]) + encode(asked)) + [("t",), ("p", "granted")]
     events += [("k", f"{bytes(32).hex()} {bytes(32).hex()} {bytes(32).hex()}"), ("s", "00")]
-    events += fragment_message(1, CBOR, bytes([GET]) + encode({1: "a.example", 2: bytes(32)}))
+    events += make_packet_events(1, CBOR, bytes([GET]) + encode({1: "a.example", 2: bytes(32)}))
     events += [("p", "granted"), ("s", "01")]
     lines = [b"# A comment"]
     for number, (kind, *fields) in enumerate(events):
@@ -37,26 +37,26 @@ VALID_LOG = make_valid_log()
 INVALID_LOG = VALID_LOG + b"t 00\nt 1\n"
 
 
-def change_output(change):
+def make_output_change(change):
     """Returns a change that applies a function to standard output."""
     return lambda ended: (ended[0], change(ended[1]), ended[2])
 
 
-def replace_output(old, new):
+def make_output_replacement(old, new):
     """Returns a change that replaces the first occurrence of a text."""
-    return change_output(lambda text: text.replace(old, new, 1))
+    return make_output_change(lambda text: text.replace(old, new, 1))
 
 
-def replace_error(old, new):
+def make_error_replacement(old, new):
     """Returns a change that replaces a text on standard error."""
     return lambda ended: (ended[0], ended[1], ended[2].replace(old, new))
 
 
-def change_status(number):
+def make_status_change(number):
     return lambda ended: (number, *ended[1:])
 
 
-def remove_line(front):
+def make_line_removal(front):
     """Returns a change that removes the first line with this beginning."""
 
     def change(text):
@@ -64,10 +64,10 @@ def remove_line(front):
         lines.remove(next(line for line in lines if line.startswith(front)))
         return b"".join(lines)
 
-    return change_output(change)
+    return make_output_change(change)
 
 
-def change_count(count):
+def make_count_change(count):
     """Returns a change of a count in the last line."""
     name, number = count.split(" ")
 
@@ -77,10 +77,10 @@ def change_count(count):
         words[place + 1] = number.encode() + (b"\n" if name == "steps" else b"")
         return b" ".join(words)
 
-    return change_output(change)
+    return make_output_change(change)
 
 
-def change_file(name):
+def make_file_change(name):
     """Returns a change that appends a byte to a snapshot file."""
 
     def change(ended):
@@ -94,77 +94,89 @@ def change_file(name):
 SNAPSHOT_FOLDER = tempfile.TemporaryDirectory()
 # For each change: the rule, the log, the command and the number of the command's run, and the change.
 CASES = [
-    ("status", VALID_LOG, "replay", 1, change_status(2)),
-    ("status", VALID_LOG, "replay", 1, change_status(-11)),
-    ("status", INVALID_LOG, "replay", 1, change_status(0)),
-    ("status", VALID_LOG, "check", 1, change_status(1)),
-    ("status", VALID_LOG, "quiet", 1, change_status(1)),
-    ("status", INVALID_LOG, "live", 1, change_status(2)),
-    ("status", INVALID_LOG, "check", 1, change_status(0)),
-    ("fault", INVALID_LOG, "replay", 1, replace_error(b"line ", b"line 1")),
-    ("fault", INVALID_LOG, "quiet", 1, replace_error(b"not a log line", b"longer than 255 bytes")),
-    ("fault", INVALID_LOG, "check", 1, replace_error(b"differs at packet 1", b"differs at packet 0")),
-    ("fault", INVALID_LOG, "show", 1, replace_error(b"\n", b"")),
+    ("status", VALID_LOG, "replay", 1, make_status_change(2)),
+    ("status", VALID_LOG, "replay", 1, make_status_change(-11)),
+    ("status", INVALID_LOG, "replay", 1, make_status_change(0)),
+    ("status", VALID_LOG, "check", 1, make_status_change(1)),
+    ("status", VALID_LOG, "quiet", 1, make_status_change(1)),
+    ("status", INVALID_LOG, "live", 1, make_status_change(2)),
+    ("status", INVALID_LOG, "check", 1, make_status_change(0)),
+    ("fault", INVALID_LOG, "replay", 1, make_error_replacement(b"line ", b"line 1")),
+    ("fault", INVALID_LOG, "quiet", 1, make_error_replacement(b"not a log line", b"longer than 255 bytes")),
+    ("fault", INVALID_LOG, "check", 1, make_error_replacement(b"differs at packet 1", b"differs at packet 0")),
+    ("fault", INVALID_LOG, "show", 1, make_error_replacement(b"\n", b"")),
     ("fault", VALID_LOG, "replay", 1, lambda ended: (*ended[:2], b"a warning\n")),
-    ("lines before", INVALID_LOG, "replay", 1, change_output(lambda text: text[:-1])),
-    ("lines before", INVALID_LOG, "quiet", 1, change_output(lambda text: text + b"t 1\n")),
-    ("lines before", INVALID_LOG, "live", 1, change_output(lambda text: b"")),
-    ("lines before", INVALID_LOG, "show", 1, change_output(lambda text: text[1:])),
-    ("lines", VALID_LOG, "replay", 1, remove_line(b"t ")),
-    ("lines", VALID_LOG, "replay", 1, remove_line(b"#")),
-    ("lines", VALID_LOG, "replay", 1, replace_output(b"granted", b"denied")),
-    ("packets", VALID_LOG, "replay", 1, replace_output(b"\n< ", b"\n" + 131 * (b"< " + 128 * b"0" + b"\n") + b"< ")),
-    ("packets", VALID_LOG, "replay", 1, change_output(lambda text: b"< " + 128 * b"0" + b"\n" + text)),
-    ("packets", VALID_LOG, "replay", 1, replace_output(b"\n< ", b"\n< 0")),
-    ("packets", VALID_LOG, "replay", 1, replace_output(b"\n= ", b"\n= \n= ")),
-    ("counts", VALID_LOG, "replay", 1, remove_line(b"=")),
-    ("counts", VALID_LOG, "replay", 1, change_output(lambda text: text[:-1])),
-    ("counts", VALID_LOG, "replay", 1, change_count("held 7551")),
-    ("counts", VALID_LOG, "replay", 1, change_count("rows 65")),
-    ("counts", VALID_LOG, "replay", 1, change_count("pending 65")),
-    ("counts", VALID_LOG, "replay", 1, change_count("steps 10000")),
-    ("counts", VALID_LOG, "replay", 1, change_count("requests 1000")),
-    ("counts", VALID_LOG, "replay", 1, change_count("bytes 100000")),
-    ("check", VALID_LOG, "check", 1, replace_output(b"same 1", b"same 2")),
-    ("check", VALID_LOG, "check", 1, replace_output(b" packets", b"0 packets")),
+    ("lines before", INVALID_LOG, "replay", 1, make_output_change(lambda text: text[:-1])),
+    ("lines before", INVALID_LOG, "quiet", 1, make_output_change(lambda text: text + b"t 1\n")),
+    ("lines before", INVALID_LOG, "live", 1, make_output_change(lambda text: b"")),
+    ("lines before", INVALID_LOG, "show", 1, make_output_change(lambda text: text[1:])),
+    ("lines", VALID_LOG, "replay", 1, make_line_removal(b"t ")),
+    ("lines", VALID_LOG, "replay", 1, make_line_removal(b"#")),
+    ("lines", VALID_LOG, "replay", 1, make_output_replacement(b"granted", b"denied")),
+    (
+        "packets",
+        VALID_LOG,
+        "replay",
+        1,
+        make_output_replacement(b"\n< ", b"\n" + 131 * (b"< " + 128 * b"0" + b"\n") + b"< "),
+    ),
+    ("packets", VALID_LOG, "replay", 1, make_output_change(lambda text: b"< " + 128 * b"0" + b"\n" + text)),
+    ("packets", VALID_LOG, "replay", 1, make_output_replacement(b"\n< ", b"\n< 0")),
+    ("packets", VALID_LOG, "replay", 1, make_output_replacement(b"\n= ", b"\n= \n= ")),
+    ("counts", VALID_LOG, "replay", 1, make_line_removal(b"=")),
+    ("counts", VALID_LOG, "replay", 1, make_output_change(lambda text: text[:-1])),
+    ("counts", VALID_LOG, "replay", 1, make_count_change("held 7551")),
+    ("counts", VALID_LOG, "replay", 1, make_count_change("rows 65")),
+    ("counts", VALID_LOG, "replay", 1, make_count_change("pending 65")),
+    ("counts", VALID_LOG, "replay", 1, make_count_change("steps 10000")),
+    ("counts", VALID_LOG, "replay", 1, make_count_change("requests 1000")),
+    ("counts", VALID_LOG, "replay", 1, make_count_change("bytes 100000")),
+    ("check", VALID_LOG, "check", 1, make_output_replacement(b"same 1", b"same 2")),
+    ("check", VALID_LOG, "check", 1, make_output_replacement(b" packets", b"0 packets")),
     ("difference", VALID_LOG, "check", 2, lambda _: (0, b"same 13 inputs 13 packets\n", b"")),
-    ("difference", VALID_LOG, "check", 2, replace_error(b"packet ", b"packet 1")),
-    ("difference", VALID_LOG, "check", 2, replace_error(b"byte 63", b"byte 62")),
-    ("difference", VALID_LOG, "check", 2, replace_error(b"\n  byte", b"\nbyte")),
+    ("difference", VALID_LOG, "check", 2, make_error_replacement(b"packet ", b"packet 1")),
+    ("difference", VALID_LOG, "check", 2, make_error_replacement(b"byte 63", b"byte 62")),
+    ("difference", VALID_LOG, "check", 2, make_error_replacement(b"\n  byte", b"\nbyte")),
     ("fault", VALID_LOG, "check", 1, lambda ended: (*ended[:2], b"hidlog: note: a warning\n")),
-    ("replay", VALID_LOG, "replay", 2, replace_output(b"\n< ", b"\n< 1")),
-    ("replay", VALID_LOG, "replay", 2, change_status(1)),
-    ("quiet lines", VALID_LOG, "quiet", 1, remove_line(b"#")),
-    ("quiet lines", VALID_LOG, "quiet", 1, replace_output(b"t 100", b"t 101")),
-    ("quiet lines", VALID_LOG, "quiet", 1, replace_output(b"granted", b"denied")),
-    ("quiet packets", VALID_LOG, "replay", 3, remove_line(b"< ")),
-    ("quiet packets", VALID_LOG, "replay", 3, replace_output(b"\nt 100\n", b"\nt 100\n< " + 128 * b"0" + b"\n")),
-    ("quiet packets", VALID_LOG, "replay", 3, change_count("held 0")),
-    ("quiet again", VALID_LOG, "quiet", 2, remove_line(b"t ")),
-    ("live lines", VALID_LOG, "live", 1, remove_line(b"< ")),
-    ("live lines", VALID_LOG, "live", 1, remove_line(b"=")),
-    ("live lines", VALID_LOG, "live", 1, change_output(lambda text: text[:-1])),
-    ("needs", VALID_LOG, "live", 1, remove_line(b"# need nothing")),
-    ("needs", VALID_LOG, "live", 1, remove_line(b"# need signature")),
-    ("needs", VALID_LOG, "live", 1, remove_line(b"# signed")),
-    ("needs", VALID_LOG, "live", 1, replace_output(b"# need key\n", b"# need key\n# need key\n")),
-    ("needs", VALID_LOG, "live", 1, replace_output(b"# need presence", b"# need patience")),
-    ("needs", VALID_LOG, "live", 1, replace_output(b"# need signature 0", b"# need signature ")),
-    ("needs", VALID_LOG, "live", 1, replace_output(b"# A comment\n", b"# A comment\n# need nothing\n")),
-    ("live again", VALID_LOG, "replay", 4, remove_line(b"# need")),
-    ("live again", VALID_LOG, "live", 2, remove_line(b"# need")),
-    ("show", VALID_LOG, "show", 1, remove_line(b"2 > ")),
-    ("show", VALID_LOG, "show", 1, replace_output(b"\n3 > ", b"\n4 > ")),
-    ("show", VALID_LOG, "show", 1, change_output(lambda text: text + b"99 t 0\n")),
-    ("saved", INVALID_LOG, "replay", 7, change_file("first")),
-    ("saved", VALID_LOG, "replay", 5, remove_line(b"< ")),
-    ("saved", VALID_LOG, "replay", 6, change_status(2)),
-    ("saved", VALID_LOG, "replay", 6, change_count("rows 2")),
-    ("saved", VALID_LOG, "replay", 6, change_file("second")),
-    ("refused", VALID_LOG, "replay", 7, replace_error(b"refused: 1", b"refused: 4")),
-    ("refused", VALID_LOG, "replay", 7, change_status(1)),
-    ("refused", VALID_LOG, "replay", 7, change_output(lambda text: b"t 0\n")),
-    ("refused", VALID_LOG, "replay", 8, replace_error(b"cannot read", b"cannot write")),
+    ("replay", VALID_LOG, "replay", 2, make_output_replacement(b"\n< ", b"\n< 1")),
+    ("replay", VALID_LOG, "replay", 2, make_status_change(1)),
+    ("quiet lines", VALID_LOG, "quiet", 1, make_line_removal(b"#")),
+    ("quiet lines", VALID_LOG, "quiet", 1, make_output_replacement(b"t 100", b"t 101")),
+    ("quiet lines", VALID_LOG, "quiet", 1, make_output_replacement(b"granted", b"denied")),
+    ("quiet packets", VALID_LOG, "replay", 3, make_line_removal(b"< ")),
+    (
+        "quiet packets",
+        VALID_LOG,
+        "replay",
+        3,
+        make_output_replacement(b"\nt 100\n", b"\nt 100\n< " + 128 * b"0" + b"\n"),
+    ),
+    ("quiet packets", VALID_LOG, "replay", 3, make_count_change("held 0")),
+    ("quiet again", VALID_LOG, "quiet", 2, make_line_removal(b"t ")),
+    ("live lines", VALID_LOG, "live", 1, make_line_removal(b"< ")),
+    ("live lines", VALID_LOG, "live", 1, make_line_removal(b"=")),
+    ("live lines", VALID_LOG, "live", 1, make_output_change(lambda text: text[:-1])),
+    ("needs", VALID_LOG, "live", 1, make_line_removal(b"# need nothing")),
+    ("needs", VALID_LOG, "live", 1, make_line_removal(b"# need signature")),
+    ("needs", VALID_LOG, "live", 1, make_line_removal(b"# signed")),
+    ("needs", VALID_LOG, "live", 1, make_output_replacement(b"# need key\n", b"# need key\n# need key\n")),
+    ("needs", VALID_LOG, "live", 1, make_output_replacement(b"# need presence", b"# need patience")),
+    ("needs", VALID_LOG, "live", 1, make_output_replacement(b"# need signature 0", b"# need signature ")),
+    ("needs", VALID_LOG, "live", 1, make_output_replacement(b"# A comment\n", b"# A comment\n# need nothing\n")),
+    ("live again", VALID_LOG, "replay", 4, make_line_removal(b"# need")),
+    ("live again", VALID_LOG, "live", 2, make_line_removal(b"# need")),
+    ("show", VALID_LOG, "show", 1, make_line_removal(b"2 > ")),
+    ("show", VALID_LOG, "show", 1, make_output_replacement(b"\n3 > ", b"\n4 > ")),
+    ("show", VALID_LOG, "show", 1, make_output_change(lambda text: text + b"99 t 0\n")),
+    ("saved", INVALID_LOG, "replay", 7, make_file_change("first")),
+    ("saved", VALID_LOG, "replay", 5, make_line_removal(b"< ")),
+    ("saved", VALID_LOG, "replay", 6, make_status_change(2)),
+    ("saved", VALID_LOG, "replay", 6, make_count_change("rows 2")),
+    ("saved", VALID_LOG, "replay", 6, make_file_change("second")),
+    ("refused", VALID_LOG, "replay", 7, make_error_replacement(b"refused: 1", b"refused: 4")),
+    ("refused", VALID_LOG, "replay", 7, make_status_change(1)),
+    ("refused", VALID_LOG, "replay", 7, make_output_change(lambda text: b"t 0\n")),
+    ("refused", VALID_LOG, "replay", 8, make_error_replacement(b"cannot read", b"cannot write")),
     ("refused", VALID_LOG, "replay", 8, lambda ended: (0, b"t 0\n", b"")),
 ]
 
@@ -183,7 +195,7 @@ def make_altering_runner(run, command, which, change):
 
 
 def find_violation(log, run):
-    """Returns the violated rule, or None. The last byte of the damaged snapshot is missing."""
+    """Returns the violated rule, or None. The damaged snapshot lacks its last byte."""
     for name in os.listdir(SNAPSHOT_FOLDER.name):
         os.remove(os.path.join(SNAPSHOT_FOLDER.name, name))
     try:

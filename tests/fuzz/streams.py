@@ -53,7 +53,7 @@ WRITE_REASON = b"  standard output: File too large (os error 27)\n"
 
 
 @dataclass
-class Ran:
+class RunResult:
     """The exit status and the output of a run."""
 
     status: int
@@ -61,13 +61,13 @@ class Ran:
     errors: bytes
 
 
-def run(command: Sequence[str], log: bytes) -> Ran:
+def run(command: Sequence[str], log: bytes) -> RunResult:
     """Runs a command on a whole log."""
     ran = subprocess.run(command, input=log, capture_output=True, check=False, timeout=600)
-    return Ran(ran.returncode, ran.stdout, ran.stderr)
+    return RunResult(ran.returncode, ran.stdout, ran.stderr)
 
 
-def run_in_parts(command: Sequence[str], log: bytes, chance: random.Random) -> Ran:
+def run_in_parts(command: Sequence[str], log: bytes, chance: random.Random) -> RunResult:
     """Runs a command on a log that is sent in parts."""
     longest = chance.choice((1, 7, 64, 300, 5000))
     with tempfile.TemporaryFile() as output, tempfile.TemporaryFile() as errors:
@@ -92,10 +92,10 @@ def run_in_parts(command: Sequence[str], log: bytes, chance: random.Random) -> R
             status = program.wait(600)
         output.seek(0)
         errors.seek(0)
-        return Ran(status, output.read(), errors.read())
+        return RunResult(status, output.read(), errors.read())
 
 
-def run_with_limit(command: Sequence[str], log: bytes, limit: int) -> Ran:
+def run_with_limit(command: Sequence[str], log: bytes, limit: int) -> RunResult:
     """Runs a command whose output file is limited to `limit` bytes."""
 
     def set_limit() -> None:
@@ -114,10 +114,10 @@ def run_with_limit(command: Sequence[str], log: bytes, limit: int) -> Ran:
             restore_signals=False,
         )
         output.seek(0)
-        return Ran(ran.returncode, output.read(), ran.stderr)
+        return RunResult(ran.returncode, output.read(), ran.stderr)
 
 
-def find_difference(plain: Ran, ran: Ran, limit: Optional[int], is_explained: bool) -> Optional[str]:
+def find_difference(plain: RunResult, ran: RunResult, limit: Optional[int], is_explained: bool) -> Optional[str]:
     """Returns how a run differs from the result that follows from a plain run, or None."""
     if limit is None or limit >= len(plain.output):
         return None if ran == plain else f"expected {plain}, got {ran}"

@@ -1,5 +1,5 @@
 #!/usr/bin/env python3
-"""Runs malformed logs of up to four hosts, and checks the transactions in the output of `show`.
+"""Replays logs of malformed requests of up to four hosts, and checks the transactions in the output of `show`.
 
     tests/fuzz/transactions.py [--seed N] [--count N] [--program FILE] [--only NUMBER]
 
@@ -24,7 +24,7 @@ sys.dont_write_bytecode = True
 TOP = os.path.realpath(os.path.join(os.path.dirname(os.path.abspath(__file__)), "..", ".."))
 sys.path.insert(0, os.path.join(TOP, "conformance"))
 
-from framing import BROADCAST, KEEPALIVE_MS, MAX_MESSAGE_BYTES, continuation_data, first_data
+from framing import BROADCAST, KEEPALIVE_MS, MAX_MESSAGE_BYTES, read_continuation_data, read_initialization_data
 from hidlog_conformance import ctap_cbor
 from malformed_requests import MAKE, RESET, LogGenerator, encode
 from oracle_runner import check_logs
@@ -93,14 +93,14 @@ def read_needs(live: list[bytes]) -> list[bytes]:
 
 
 def is_sign_in(asked: Transaction) -> bool:
-    """Returns whether a request is a sign-in: not authenticatorGetAssertion with `up: false` (CTAP 2.1, section
-    6.2)."""
+    """Returns whether a request is a sign-in: authenticatorGetAssertion without `up: false` (CTAP 2.1, section 6.2), or
+    authenticatorGetNextAssertion."""
     if asked.request != 0x02:
         return asked.request == 0x08
     return ctap_cbor.decode(asked.data[1 : asked.length]).get(5, {}).get("up", True) is True
 
 
-class Machine:
+class TransportModel:
     """A model of the transport, for logs that the key wrote."""
 
     def __init__(
@@ -135,11 +135,13 @@ class Machine:
             elif line[:1] in INPUTS:
                 inputs.append((number, line.split(b" "), []))
         for (number, words, sent), need in zip(inputs, needs):
-            self.step(number, words, need, collections.deque(sent))
+            self.process_input(number, words, need, collections.deque(sent))
             if number == until:
                 break
 
-    def step(self, number: int, words: list[bytes], need: bytes, sent: collections.deque[tuple[int, bytes]]) -> None:
+    def process_input(
+        self, number: int, words: list[bytes], need: bytes, sent: collections.deque[tuple[int, bytes]]
+    ) -> None:
         self.now = max(self.now, int(words[1]))
         self.sent = sent
         self.owners[number] = None
@@ -160,8 +162,10 @@ class Machine:
 
     # ---- packets of the key
 
-    def expect(self, owner: Optional[Transaction], channel: int, command: int, code: Optional[int] = None) -> bytes:
-        """Processes the next message of the key."""
+    def take_response(
+        self, owner: Optional[Transaction], channel: int, command: int, code: Optional[int] = None
+    ) -> bytes:
+        """Processes the next message of the key, which must have this channel, command and first byte."""
         if not self.sent:
             raise FindingError(
                 f"expected a packet of command {command:02x} (first byte {code}) on channel {channel:08x}, got none"
@@ -169,7 +173,8 @@ class Machine:
         number, packet = self.sent.popleft()
         if packet[:5] != channel.to_bytes(4, "big") + bytes([0x80 | command]) or code not in (None, packet[7]):
             raise FindingError(
-                f"line {number}: expected command {command:02x} (first byte {code}) on channel {channel:08x}"
+                f"line {number}: expected command {command:02x} (first byte {code}) on channel {channel:08x}, got "
+                f"{packet[:8].hex()}"
             )
         self.owners[number] = owner.line if owner else None
         length = int.from_bytes(packet[5:7], "big")
@@ -189,11 +194,11 @@ class Machine:
 
     def refuse(self, owner: Transaction, code: int, reason: str) -> None:
         self.reasons[code] = reason
-        self.expect(owner, owner.channel, ERROR, code)
+        self.take_response(owner, owner.channel, ERROR, code)
         owner.end = ("error", code)
 
     def answer(self, owner: Transaction) -> None:
-        packet = self.expect(owner, owner.channel, owner.command)
+        packet = self.take_response(owner, owner.channel, owner.command)
         owner.end = ("status", packet[7]) if owner.command == CBOR else ("answer",)
         if owner.request == MAKE:
             self.record_credential(owner, *self.message)
@@ -231,14 +236,14 @@ class Machine:
         """Processes the key's packets for a request: a KEEPALIVE with a new status, or the response."""
         if self.work and self.sent:
             if self.sent[0][1][4] == 0x80 | KEEPALIVE:
-                self.keep_alive()
+                self.take_keepalive()
             else:
                 self.answer(self.work)
                 self.work = None
 
-    def keep_alive(self) -> None:
+    def take_keepalive(self) -> None:
         assert self.work
-        self.expect(self.work, self.work.channel, KEEPALIVE)
+        self.take_response(self.work, self.work.channel, KEEPALIVE)
         self.work.keepalives += 1
         self.alive = self.now
         self.is_kept_alive = True
@@ -249,7 +254,7 @@ class Machine:
             self.refuse(self.open, 0x05, f"the message timed out: {times}")
             self.open = None
         elif self.work and self.now - self.alive >= KEEPALIVE_MS:
-            self.keep_alive()
+            self.take_keepalive()
 
     # ---- packets of hosts
 
@@ -258,15 +263,17 @@ class Machine:
         if packet[4] < 0x80:
             self.handle_continuation(number, channel, packet)
         elif packet[4] == 0x80 | CANCEL:
-            self.cancel(number, channel)
+            self.handle_cancel(number, channel)
         else:
             length = int.from_bytes(packet[5:7], "big")
-            begun = Transaction(number, channel, packet[4] & 0x7F, length, first_data(packet, length), self.now)
+            begun = Transaction(
+                number, channel, packet[4] & 0x7F, length, read_initialization_data(packet, length), self.now
+            )
             self.transactions[number] = begun
             self.owners[number] = number
-            self.begin(begun)
+            self.process_message(begun)
 
-    def cancel(self, number: int, channel: int) -> None:
+    def handle_cancel(self, number: int, channel: int) -> None:
         if self.work and self.work.channel == channel:
             self.owners[number] = self.work.line
             self.answer(self.work)
@@ -287,13 +294,13 @@ class Machine:
             return
         message.next += 1
         message.last = self.now
-        message.data += continuation_data(packet, message.length - len(message.data))
+        message.data += read_continuation_data(packet, message.length - len(message.data))
         if message.is_whole:
             self.open = None
-            self.finish(message)
+            self.process_complete_message(message)
 
-    def begin(self, begun: Transaction) -> None:
-        """Applies the rules for ERROR packets, in order."""
+    def process_message(self, begun: Transaction) -> None:
+        """Processes a message, or takes the ERROR that a rule requires. The rules are applied in order."""
         channel, opened, work = begun.channel, self.open, self.work
         is_init = begun.command == INIT
         is_allocated = 1 <= channel <= self.allocated
@@ -320,7 +327,7 @@ class Machine:
             sizes = f"{begun.length} bytes: CBOR has 1 to 7609, PING 0 to 7609"
             self.refuse(begun, 0x03, f"a message of command 0x{begun.command:02x} cannot have {sizes}")
         elif begun.is_whole:
-            self.finish(begun)
+            self.process_complete_message(begun)
         else:
             self.open = begun
 
@@ -337,16 +344,16 @@ class Machine:
         if self.work and self.work.channel == begun.channel:
             self.work = None
 
-    def finish(self, message: Transaction) -> None:
+    def process_complete_message(self, message: Transaction) -> None:
         if message.command == CBOR and self.sent and self.sent[0][1][4] == 0x80 | KEEPALIVE:
             self.work = message
-            self.keep_alive()
+            self.take_keepalive()
         else:
             self.answer(message)
 
     # ---- totals
 
-    def counts(self) -> dict[str, int]:
+    def count_totals(self) -> dict[str, int]:
         ends = [(transaction.request, transaction.end) for transaction in self.transactions.values()]
         return {
             "registrations": sum(end == ("status", 0) and request == 0x01 for request, end in ends),
@@ -361,17 +368,21 @@ class Machine:
 
 
 class HostGenerator(LogGenerator):
-    """Logs of up to four hosts, with only valid lines."""
+    """Generates logs of up to four hosts, with only valid lines."""
 
     def __init__(self, seed: str) -> None:
         super().__init__(seed)
         self.hosts = self.choose(1, 2, 3, 4)
 
-    def host_events(self) -> list[tuple]:
-        return self.registrations(self.channel()) if self.happens(0.2) else super().host_events()
+    def make_host_events(self) -> list[tuple]:
+        return (
+            self.make_registrations_with_lists(self.choose_channel())
+            if self.happens(0.2)
+            else super().make_host_events()
+        )
 
-    def registrations(self, channel: int) -> list[tuple]:
-        """Returns registrations of two users at one RP, followed by registrations with lists of known and unknown
+    def make_registrations_with_lists(self, channel: int) -> list[tuple]:
+        """Returns registrations of up to two users at one RP, followed by registrations with lists of known and unknown
         credentials."""
         site = self.choose(*self.sites)
         events: list[tuple] = []
@@ -381,16 +392,18 @@ class HostGenerator(LogGenerator):
             asked = {1: self.random_bytes(32), 2: {"id": site}, 3: {"id": user}, 7: {"rk": self.happens(0.7)}}
             asked[4] = [{"alg": -7, "type": "public-key"}]
             if number >= makes:
-                asked[5] = [{"type": "public-key", "id": self.credential(site)} for _ in range(self.choose(1, 2, 3))]
-            replies = self.presence(), self.key(site), self.signature()
-            events += self.request(channel, bytes([MAKE]) + encode(asked), *replies)
+                asked[5] = [
+                    {"type": "public-key", "id": self.choose_credential_id(site)} for _ in range(self.choose(1, 2, 3))
+                ]
+            replies = self.make_presence_reply(), self.make_key_reply(site), self.make_signature_reply()
+            events += self.make_request_events(channel, bytes([MAKE]) + encode(asked), *replies)
         return events
 
     def make_log(self) -> bytes:
         return b"".join(line + b"\n" for line in self.iter_lines())
 
 
-def check_objects(objects: list[dict], machine: Machine) -> None:
+def check_objects(objects: list[dict], machine: TransportModel) -> None:
     """Compares the objects of `show --json` with the model."""
     ended: dict[int, dict] = {}
     for row in objects:
@@ -407,7 +420,7 @@ def check_objects(objects: list[dict], machine: Machine) -> None:
                 )
             if row.get("command") != (owner.request if owner else None):
                 raise FindingError(
-                    f"the response of line {line} is to {owner and owner.request}, not to {row.get('command')}"
+                    f"the response of line {line}: expected command {owner and owner.request}, got {row.get('command')}"
                 )
         if kind == "transaction":
             if row["transaction"] in ended:
@@ -426,12 +439,12 @@ def check_objects(objects: list[dict], machine: Machine) -> None:
                 f"the transaction of line {line} should have {wanted.keepalives} KEEPALIVEs, but has {row['keepalives']}"
             )
         if ("came" in row) == wanted.is_whole:
-            raise FindingError(f"the message of line {line} is {'' if wanted.is_whole else 'in'}complete")
+            raise FindingError(f"expected the message of line {line} to be {'' if wanted.is_whole else 'in'}complete")
     if ended:
         raise FindingError(f"no transaction begins at line {min(ended)}")
 
 
-def check_names(text: str, machine: Machine) -> None:
+def check_names(text: str, machine: TransportModel) -> None:
     """Checks the names of members, RP IDs, and excluded credentials."""
     if "  not that of " in text:
         raise FindingError("show reports that an RP ID hash differs, but it does not")
@@ -449,8 +462,8 @@ def check_names(text: str, machine: Machine) -> None:
             )
 
 
-def check_summary(text: str, machine: Machine) -> None:
-    for title, count in machine.counts().items():
+def check_summary(text: str, machine: TransportModel) -> None:
+    for title, count in machine.count_totals().items():
         if f"\n{title}: {count}\n" not in f"\n{text}":
             raise FindingError(f"the summary does not have {title}: {count}, the model's count")
 
@@ -464,7 +477,7 @@ def check_log(task: tuple[str, str, int]) -> tuple[int, Optional[str], int]:
 
     log = run(HostGenerator(f"{seed}/{number}").make_log(), "replay")
     try:
-        machine = Machine(log.splitlines(), read_needs(run(log, "live").splitlines()))
+        machine = TransportModel(log.splitlines(), read_needs(run(log, "live").splitlines()))
         check_objects([json.loads(line) for line in run(log, "show", "--json").splitlines()], machine)
         check_names(run(log, "show", "--explain").decode(), machine)
         check_summary(run(log, "show", "--summary").decode(), machine)

@@ -25,7 +25,7 @@ HEAD_MEMBERS = {"host": "hosts", "origin": "origins", "sec-fetch-site": "sites",
 HEAD_MEMBERS |= {"content-length": "lengths", "transfer-encoding": "encodings"}
 HEADERS = ["Host", "Origin", "Content-Type", "Content-Length", "Transfer-Encoding", "Sec-Fetch-Site", "X", "Expect"]
 HEADERS += ["Connection", "Upgrade", "host", "CONTENT-LENGTH", "Content_Length", "Content-Length ", " Content-Length"]
-BYTES = [
+INSERTED_BYTES = [
     b"\r\n",
     b"\n",
     b"\r",
@@ -41,7 +41,7 @@ BYTES = [
     b"%2e",
     b"HTTP/1.1",
 ]
-BYTES += [
+INSERTED_BYTES += [
     b"\r\n\r\n",
     b"GET /status HTTP/1.1\r\n",
     b"Transfer-Encoding: chunked\r\n",
@@ -52,28 +52,28 @@ BYTES += [
 ]
 
 
-def random_value(rng: random.Random, name: str, port: int) -> str:
+def make_random_value(rng: random.Random, name: str, port: int) -> str:
     """Returns a value for a header, which is mostly valid."""
     good = {"host": f"127.0.0.1:{port}", "content-type": "application/json", "content-length": "2"}
     choices = [good.get(name.strip().lower(), "x")] * 3 + ["".join(rng.choices(gate.HEADER_PARTS, k=2))]
     return str(rng.choice(choices)).replace("4444", str(port))
 
 
-def random_request(rng: random.Random, port: int) -> bytes:
-    """Returns the bytes of a request: a valid request, of which headers and bytes are changed."""
+def make_random_request(rng: random.Random, port: int) -> bytes:
+    """Returns the bytes of a valid request in which some headers and bytes may be changed."""
     is_post = rng.random() < 0.5
     path = rng.choice(["/session", "/status", "/session/known/url", "/sessions", "/session/known"])
     lines = [f"{'POST' if is_post else rng.choice(['GET', 'DELETE'])} {path} HTTP/1.1", f"Host: 127.0.0.1:{port}"]
     lines += ["Content-Type: application/json", "Content-Length: 2"] if is_post else []
     for _ in range(rng.choice([0, 0, 1, 2])):
         name = rng.choice(HEADERS)
-        lines.insert(rng.randint(1, len(lines)), f"{name}: {random_value(rng, name, port)}")
+        lines.insert(rng.randint(1, len(lines)), f"{name}: {make_random_value(rng, name, port)}")
     if rng.random() < 0.2:
         del lines[rng.randrange(1, len(lines))]
     data = "\r\n".join([*lines, "", ""]).encode("utf-8") + (b"{}" if is_post else b"")
     for _ in range(rng.choice([0, 0, 1, 2, 3])):
         at = rng.randrange(len(data) + 1)
-        data = data[:at] + rng.choice(BYTES) + data[at + rng.choice([0, 0, 1, 5]) :]
+        data = data[:at] + rng.choice(INSERTED_BYTES) + data[at + rng.choice([0, 0, 1, 5]) :]
     return data
 
 
@@ -105,8 +105,8 @@ def find_faults(data: bytes, port: int) -> list[str]:
     return wrong
 
 
-def try_one(rig: ProxyFixture, data: bytes) -> bool:
-    """Sends bytes to the proxy, and returns whether they reached the driver."""
+def send_and_check(rig: ProxyFixture, data: bytes) -> bool:
+    """Sends bytes to the proxy, checks the response, and returns whether the bytes reached the driver."""
     response = rig.exchange_bytes(data)
     asked = rig.take_requests()
     wrong = find_faults(data, rig.port)
@@ -130,7 +130,7 @@ def main() -> int:
     reached = 0
     with make_proxy() as rig:
         for number in range(options.count):
-            reached += try_one(rig, random_request(rng, rig.port))
+            reached += send_and_check(rig, make_random_request(rng, rig.port))
             if number % 100 == 0:
                 assert parse_status(rig.exchange_bytes(rig.make_head("GET /status HTTP/1.1"))) == 200
                 rig.take_requests()

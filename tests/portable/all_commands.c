@@ -1,5 +1,6 @@
-// Calls every function of the library on each log, and writes a record for each call, so that the records of two
-// libraries can be compared. Standard input has a snapshot and the logs, each as "LENGTH NAME\n" followed by its bytes.
+// Calls the functions for logs (hidlog_replay to hidlog_transactions) on each log, replays the log on a key, and writes
+// each result, so that the results of two libraries can be compared. Standard input has a snapshot and the logs, each
+// as "LENGTH NAME\n" followed by its bytes.
 #include "hidlog.h"
 
 #include <inttypes.h>
@@ -51,7 +52,7 @@ static void write_result(const char *name, const char *command, const struct hid
     fwrite(out, 1, (size_t)result->written, stdout);
 }
 
-static void call(const char *command, const struct record *log, const struct record *snapshot, uint8_t *out,
+static void call_command(const char *command, const struct record *log, const struct record *snapshot, uint8_t *out,
                  size_t out_cap, struct hidlog_result *result) {
     static const struct record none;
     const struct record *start = strncmp(command, "loaded_", 7) == 0 ? snapshot : &none;
@@ -107,7 +108,7 @@ int main(void) {
         uint8_t *out = allocate(out_cap);
         for (size_t i = 0; i < sizeof commands / sizeof *commands; i++) {
             struct hidlog_result result;
-            call(commands[i], &log, &snapshot, out, out_cap, &result);
+            call_command(commands[i], &log, &snapshot, out, out_cap, &result);
             write_result(log.name, commands[i], &result, out);
         }
         play_on_key(&log, out, out_cap);

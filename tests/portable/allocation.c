@@ -1,6 +1,6 @@
 // Tests memory management of the portable library, which is included here: a call fails cleanly if no instance of the
-// module can be allocated, instances that exceed the pool's size are freed, a key may be copied, and 10,000 keys need
-// only their own memory.
+// module can be allocated, instances that exceed the pool's size are freed, a buffer may have several windows, a key
+// may be copied, and 10,000 keys need only their own memory.
 #include <stddef.h>
 #include <stdlib.h>
 
@@ -38,7 +38,7 @@ static void empty_pool(struct instance **taken) {
     }
 }
 
-static void test_refused(struct hidlog_key *key) {
+static void test_refused_allocation(struct hidlog_key *key) {
     static const uint8_t packet[64] = {0xff, 0xff, 0xff, 0xff, 0x86, 0, 8};
     static const uint8_t log[] = "t 1\n";
     struct instance *taken[POOL_SLOTS];
@@ -62,7 +62,7 @@ static void test_refused(struct hidlog_key *key) {
     expect(result.status, HIDLOG_OK, "a check's status");
 }
 
-static void test_freed(void) {
+static void test_freed_instances(void) {
     struct instance *acquired[POOL_SLOTS + 5];
     for (int i = 0; i < POOL_SLOTS + 5; i++) {
         acquired[i] = acquire_instance();
@@ -75,7 +75,7 @@ static void test_freed(void) {
 }
 
 // A copy of a key and of its memory is an independent key.
-static void test_copied(const struct hidlog_key *key) {
+static void test_copied_key(const struct hidlog_key *key) {
     uint8_t packet[64];
     struct hidlog_key copy = *key;
     copy.memory = malloc(hidlog_key_size());
@@ -104,7 +104,7 @@ static void test_windows(void) {
 }
 
 // Many keys in one process: each responds, and no key needs more memory than hidlog_key_size().
-static void test_many(void) {
+static void test_many_keys(void) {
     enum { KEYS = 10000 };
     static const uint8_t aaguid[16], packet[64] = {0xff, 0xff, 0xff, 0xff, 0x86, 0, 8};
     static struct hidlog_key keys[KEYS];
@@ -127,11 +127,11 @@ int main(void) {
     struct hidlog_key key = {malloc(hidlog_key_size()), 0};
     expect(hidlog_key_init(&key, aaguid, 0, aaguid, 0), 0, "hidlog_key_init");
     expect(live_count, 0, "allocations of a single thread");
-    test_many();
-    test_refused(&key);
-    test_copied(&key);
+    test_many_keys();
+    test_refused_allocation(&key);
+    test_copied_key(&key);
     test_windows();
-    test_freed();
+    test_freed_instances();
     free(key.memory);
     return 0;
 }

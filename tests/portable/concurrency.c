@@ -1,8 +1,8 @@
 // Uses the portable library from several threads, and in child processes that are forked while other threads are in
 // calls. Each key must send the same packets as in a single thread. Usage:
 //
-//     concurrency LOG            both
-//     concurrency LOG threads    without fork
+//     concurrency LOG            with threads and with child processes
+//     concurrency LOG threads    only with threads
 #define _POSIX_C_SOURCE 200809L
 #include "hidlog.h"
 

@@ -5,10 +5,10 @@
     --target NAME       only this target, several times if needed; see TARGETS
     --count N           number of malformed logs (default: 2000)
 
-Every record of all_commands.c must be that of the proved library, byte for byte, and those of the commands that of the
-proved program. Then come the programs of tests/c, tests of threads, fork, memory and two libraries in one process, and
-the program. Without --quick it takes about 20 minutes on one core; with it less than 2. Targets with a missing compiler
-or emulator are named and skipped; without wabt or gcc it ends with 3.
+Every record of all_commands.c must equal that of the proved library, byte for byte, and a command's record must equal
+the output of the proved program. Also runs the programs of tests/c, tests of threads, fork, memory and two libraries in
+one process, and the portable program. Takes about 20 minutes on one core, and less than 2 with --quick. Targets with a
+missing compiler or emulator are named and skipped. Exits with 3 if wabt or gcc is missing.
 """
 
 from __future__ import annotations
@@ -37,12 +37,13 @@ from malformed_requests import hostile_log
 SNAPSHOT = TOP / "examples/example_com.snapshot"
 SIGN_IN = TOP / "examples/sign_in.log"
 QUICK_COUNT = 150
-MAX_DISTRIBUTION = 1_000_000
+MAX_DISTRIBUTION_BYTES = 1_000_000
 WARNINGS = ["-std=c11", "-Wall", "-Wextra", "-Wpedantic", "-Werror"]
 
 
 class Target(NamedTuple):
-    """A system and a compiler: the compiler with its options, options for linking, and what runs a program."""
+    """A system and a compiler: the compiler with its options, options for linking, and the command that runs a
+    program."""
 
     compiler: list[str]
     linked: list[str] = ["-static"]
@@ -51,7 +52,7 @@ class Target(NamedTuple):
 
 
 SANITIZERS = ["-fsanitize=address,undefined", "-fno-sanitize-recover=all"]
-# What Windows's C library lacks of C11: aligned_alloc, and the formats of sizes.
+# Replacements for parts of C11 that Windows's C library lacks: aligned_alloc, and the formats of sizes.
 WINDOWS_C11 = ["-Daligned_alloc(alignment,size)=malloc(size)", "-D__USE_MINGW_ANSI_STDIO=1"]
 TARGETS = {
     "gcc": Target(["gcc", "-O2"], linked=[]),
@@ -76,11 +77,11 @@ QUICK = Target(["gcc", "-O0"], linked=[])
 
 
 class ComparisonError(Exception):
-    """The portable library differs."""
+    """A command failed, or a result of the portable library differs from the expected one."""
 
 
 def run(words: list[str | Path], data: bytes = b"", expected: int = 0) -> bytes:
-    """Runs a command, and returns its output. This is written to files, since wine's services keep pipes open."""
+    """Runs a command, and returns its output. The output is written to files, since wine's services keep pipes open."""
     with tempfile.TemporaryFile() as output, tempfile.TemporaryFile() as errors:
         ran = subprocess.run(list(map(str, words)), input=data, stdout=output, stderr=errors)
         output.seek(0)
@@ -106,7 +107,7 @@ def list_logs(count: int) -> dict[str, bytes]:
     return {**logs, **{f"malformed_{number}": hostile_log(1, number) for number in range(count)}}
 
 
-def pack(logs: dict[str, bytes]) -> bytes:
+def encode_logs(logs: dict[str, bytes]) -> bytes:
     """Returns the input of all_commands.c."""
     records = {"snapshot": SNAPSHOT.read_bytes(), **logs}
     return b"".join(b"%d %s\n%s" % (len(data), name.encode(), data) for name, data in records.items())
@@ -192,7 +193,7 @@ class Builder:
         return program
 
     def make_runner(self) -> list[str]:
-        """Returns what runs a program by its name without the suffix."""
+        """Returns the command that runs a program, given the program's name without its suffix."""
         if not self.target.suffix:
             return self.target.runner
         runner = self.folder / "run"
@@ -208,7 +209,8 @@ class Builder:
 
 
 class WineServer:
-    """Keeps wine's server running meanwhile: one that ends as a program starts resets its connection."""
+    """A context in which wine's server keeps running. A server that ends while a program starts would reset the
+    program's connection."""
 
     PROGRAM = "/usr/lib/wine/wineserver64"
 
@@ -249,7 +251,7 @@ def test_target(
         if target.suffix:
             stack.enter_context(WineServer())
         builder = Builder(target, sources, Path(folder))
-        output = builder.run(builder.build(HERE / "all_commands.c"), data=pack(logs))
+        output = builder.run(builder.build(HERE / "all_commands.c"), data=encode_logs(logs))
         compare_records(output, expected)
         test_process(builder, name in ("gcc", "quick"))
         program = builder.build(sources / "program.c")
@@ -267,20 +269,20 @@ def test_target(
 
 
 def test_byte_order(sources: Path) -> None:
-    """A big-endian machine is refused by the compiler."""
+    """The compiler reports an error for a big-endian machine."""
     words: list[str | Path] = ["gcc", "-fsyntax-only", "-U__BYTE_ORDER__", "-D__BYTE_ORDER__=__ORDER_BIG_ENDIAN__"]
     ran = subprocess.run([*map(str, words), str(sources / "hidlog.c")], capture_output=True, text=True)
     if ran.returncode == 0 or "needs a little-endian processor" not in ran.stderr:
-        raise ComparisonError(f"a big-endian machine is not refused: {ran.stderr}")
+        raise ComparisonError(f"hidlog.c compiles for a big-endian machine, or fails with another error: {ran.stderr}")
 
 
 def test_size(sources: Path) -> None:
-    """The source distribution has less than a megabyte."""
+    """The compressed source distribution is smaller than a megabyte."""
     packed = io.BytesIO()
     with tarfile.open(fileobj=packed, mode="w:gz") as archive:
         archive.add(sources, "hidlog")
-    if (size := len(packed.getvalue())) >= MAX_DISTRIBUTION:
-        raise ComparisonError(f"the source distribution has {size} bytes, at most {MAX_DISTRIBUTION} expected")
+    if (size := len(packed.getvalue())) >= MAX_DISTRIBUTION_BYTES:
+        raise ComparisonError(f"the source distribution has {size} bytes; expected fewer than {MAX_DISTRIBUTION_BYTES}")
 
 
 def test_syntax(sources: Path) -> None:
@@ -326,7 +328,7 @@ def main() -> int:
             logs = list_logs(QUICK_COUNT if options.quick else options.count)
             program = native / "all_commands"
             run(["gcc", *WARNINGS, "-I", sources, "-o", program, HERE / "all_commands.c", RELEASE / "libhidlog.a"])
-            expected = run([program], pack(logs))
+            expected = run([program], encode_logs(logs))
             count = compare_with_program(logs, expected)
             print(f"the proved library: {count} outputs like the proved program's", flush=True)
             for name, target in targets.items():

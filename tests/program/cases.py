@@ -38,7 +38,7 @@ HERE = Path(__file__).resolve().parent
 TOP = HERE.parents[1]
 PROGRAM = str(Path(sys.argv[1]).absolute() if len(sys.argv) > 1 else TOP / "release/hidlog")
 # The SHA-256 hash of the RP ID `example.com`.
-RP = bytes.fromhex("a379a6f6eeafb9a55e378c118034e2751e682fab9f2d30ab13d2125586ce1947")
+RP_ID_HASH = bytes.fromhex("a379a6f6eeafb9a55e378c118034e2751e682fab9f2d30ab13d2125586ce1947")
 SIGN_IN = """\
 -> 0 ffffffff8600080001020304050607..
 -> 0 0000000190003202a2016b6578616d706c652e636f6d0258202222222222222222222222222222222222222222222222222222222222222222..
@@ -88,9 +88,9 @@ def expand_packet(line: str) -> str:
 
 
 def make_snapshot(version: int, head: int, end: bytes) -> bytes:
-    """Returns a snapshot with one row: RP example.com, user 01 and ID AA... The bytes from the counter on are `end`."""
+    """Returns a snapshot with one row: RP example.com, user 01 and ID AA... The bytes from the signature counter on are `end`."""
     out = bytes([0xA2, 0x01, version, 0x02, 0x81, head])
-    for key, value in ((1, RP), (2, b"\xaa" * 32), (3, b"\xbb" * 32), (4, b"\xcc" * 32)):
+    for key, value in ((1, RP_ID_HASH), (2, b"\xaa" * 32), (3, b"\xbb" * 32), (4, b"\xcc" * 32)):
         out += bytes([key, 0x58, 0x20]) + value
     return out + b"\x05\x41\x01\x06\xf5\x07" + end
 
@@ -135,7 +135,7 @@ def test_tables(work_dir: Path) -> None:
 
 
 def test_exhausted_counter_is_rejected_without_presence(work_dir: Path) -> None:
-    """A sign-in with the counter 2^32 - 1 is rejected with status 15, without a request for user presence."""
+    """A sign-in with the signature counter 2^32 - 1 is rejected with status 15, without a request for user presence."""
     spent = b"\x1a\xff\xff\xff\xff"
     case = "0 hidlog replay --load old --save new\n" + SIGN_IN + "+< 000000019000011500.."
     check_saved(work_dir, spent, case, spent + b"\x08\x60")
@@ -153,7 +153,7 @@ def test_signature_increments_counter(work_dir: Path) -> None:
         "0 hidlog live --load old --save new\n"
         + SIGN_IN
         + "-p 10 granted\n-s 20 dd\n+p 10 granted\n+< 00000001bb000101..\n"
-        + f"+# signed {RP.hex()}0100000002{'22' * 32}\n+# need signature {'aa' * 32}\n+s 20 dd"
+        + f"+# signed {RP_ID_HASH.hex()}0100000002{'22' * 32}\n+# need signature {'aa' * 32}\n+s 20 dd"
     )
     check_saved(work_dir, b"\x01", case, b"\x02\x08\x60")
 

@@ -20,7 +20,7 @@ from pathlib import Path
 from typing import Dict, List, Optional, Sequence, Tuple
 
 import injection
-from injection import Place
+from injection import InjectedFault
 
 TOP = Path(__file__).resolve().parents[2]
 EXAMPLES = TOP / "examples"
@@ -33,10 +33,10 @@ ENVIRONMENT = {
     "HIDLOG_PROGRAM": str(TOP / "release/hidlog"),
 }
 START_MARK = "/hidlog-begins"
-# Number of places that are tried for each call, unless all places are tried.
+# The approximate number of faults that are injected for each call, unless all are injected.
 SAMPLE_SIZE = 3
 # Imports what a command imports, and marks in the output of strace where the command begins.
-DRIVER = f"""
+DRIVER_CODE = f"""
 import importlib, os, sys
 from hidlog import __main__
 for name in sys.argv.pop(1).split():
@@ -52,9 +52,9 @@ if "hidlog.core" in sys.modules:
 os.access({START_MARK!r}, 0)
 sys.exit(__main__.main())
 """
-LINES = b'{"id": 1, "getCredentials": 0}\n{"id": 2, "getLog": 0}\n'
-FAILED_FIRST = 2
-# Errors that the kernel never returns for these calls.
+BROWSER_LINES = b'{"id": 1, "getCredentials": 0}\n{"id": 2, "getLog": 0}\n'
+FIRST_ERROR_STATUS = 2
+# Calls for which the kernel never returns an error of those that are injected.
 NEVER_FAILS = {"futex", "getpid", "gettid"}
 
 
@@ -73,16 +73,23 @@ class Run:
     output: str = ""
     # Whether strace follows the processes that the command starts.
     follows: bool = True
-    # Whether standard output may show the failure: as the result of one of several recordings, or as a log that is not
-    # the shortest possible.
+    # Whether the failure may change standard output: the result of one of several recordings, or the length of a log
+    # that is shrunk.
     reports: bool = False
 
-    def start(self, folder: Path, trace: Sequence[str]) -> "subprocess.CompletedProcess[bytes]":
+    def run_once(self, folder: Path, trace: Sequence[str]) -> "subprocess.CompletedProcess[bytes]":
         """Runs the command once in a folder."""
         for name, data in self.kept.items():
             (folder / name).write_bytes(data)
         trace = [word for word in trace if self.follows or word not in ("-f", "--seccomp-bpf")]
-        command = [*trace, sys.executable, "-c", DRIVER, self.modules, *(word.format(folder) for word in self.words)]
+        command = [
+            *trace,
+            sys.executable,
+            "-c",
+            DRIVER_CODE,
+            self.modules,
+            *(word.format(folder) for word in self.words),
+        ]
         ended = subprocess.run(command, input=self.data, capture_output=True, timeout=600, env=ENVIRONMENT)
         ended.stdout = ended.stdout.replace(os.fsencode(folder), b"FOLDER")
         return ended
@@ -124,7 +131,7 @@ RUNS = [
         "browser",
         ("browser", "--origin", "https://example.com"),
         "hidlog.browser_process encodings.idna",
-        data=LINES,
+        data=BROWSER_LINES,
     ),
     Run(
         "shrink",
@@ -160,8 +167,8 @@ def count_calls(log: Path) -> Tuple[Dict[str, int], Dict[str, int], Dict[str, in
     return base, own, others
 
 
-def list_places(log: Path) -> List[Place]:
-    """Returns the places after the mark in a run, and those in the processes and threads that the command starts."""
+def list_faults(log: Path) -> List[InjectedFault]:
+    """Returns the faults for the calls after the mark in a run, and for those of processes and threads that it starts."""
     base, own, others = count_calls(log)
     assert base, "the mark is missing"
     found = []
@@ -172,7 +179,9 @@ def list_places(log: Path) -> List[Place]:
         faults = (*injection.FAULTS.get(name, injection.OTHER_ERRORS), "KILL")
         # Python waits forever for a thread that could not start because memory is short.
         starts = range(1, others.get(name, 0) + 1) if "ENOMEM" in faults else ()
-        found += [Place(name, number, fault) for fault in faults for number in sorted(numbers.difference(starts))]
+        found += [
+            InjectedFault(name, number, fault) for fault in faults for number in sorted(numbers.difference(starts))
+        ]
     return found
 
 
@@ -183,15 +192,16 @@ def has_started(log: Path) -> bool:
 
 
 def find_error(
-    run: Run, right: "subprocess.CompletedProcess[bytes]", new: bytes, place: Place, folder: Path
+    run: Run, right: "subprocess.CompletedProcess[bytes]", new: bytes, place: InjectedFault, folder: Path
 ) -> Optional[str]:
     """Runs a command with a fault, and returns what is wrong with the result."""
     log, space = folder / "strace", folder / "space"
     space.mkdir()
     trace = [
-        word.replace("trace=openat,", "trace=openat,access,faccessat,faccessat2,") for word in place.strace_prefix(log)
+        word.replace("trace=openat,", "trace=openat,access,faccessat,faccessat2,")
+        for word in place.make_strace_prefix(log)
     ]
-    ended = run.start(space, trace)
+    ended = run.run_once(space, trace)
     if not has_started(log):
         return None
     status, said = ended.returncode, ended.stderr.decode(errors="replace")
@@ -200,13 +210,13 @@ def find_error(
     is_killed = place.fault == "KILL" and status == -signal.SIGKILL
     if status == right.returncode:
         if ended.stdout != right.stdout:
-            return f"status {status}, and standard output isn't whole: {ended.stdout[-80:]!r}, {said!r}"
-    elif status < FAILED_FIRST and not is_killed:
+            return f"status {status}, but standard output is incomplete: {ended.stdout[-80:]!r}, {said!r}"
+    elif status < FIRST_ERROR_STATUS and not is_killed:
         return f"status {status}: {said!r}"
     elif not is_killed and not said and place.call != "write":
-        return f"status {status} without a word"
+        return f"status {status} without a message"
     if not right.stdout.startswith(ended.stdout) and not run.reports:
-        return f"standard output is another: {ended.stdout[:80]!r}"
+        return f"standard output differs: {ended.stdout[:80]!r}"
     return find_file_error(run, new, status == right.returncode, is_killed, space)
 
 
@@ -215,7 +225,7 @@ def find_file_error(run: Run, new: bytes, is_done: bool, is_killed: bool, space:
     names = {*run.kept, *([run.output] if run.output else [])}
     others = sorted(path.name for path in space.iterdir() if path.name not in names)
     if others and not is_killed:
-        return f"files are left: {others}"
+        return f"unexpected files: {others}"
     for name in names:
         path, old = space / name, run.kept.get(name)
         there = path.read_bytes() if path.exists() else None
@@ -226,9 +236,9 @@ def find_file_error(run: Run, new: bytes, is_done: bool, is_killed: bool, space:
     return None
 
 
-def sample_places(places: Sequence[Place]) -> List[Place]:
-    """Returns some places of each call, evenly distributed over its faults and numbers."""
-    found: List[Place] = []
+def sample_faults(places: Sequence[InjectedFault]) -> List[InjectedFault]:
+    """Returns some of the faults of each call, evenly distributed over errors and numbers."""
+    found: List[InjectedFault] = []
     for call in sorted({place.call for place in places}):
         own = [place for place in places if place.call == call]
         found += own[len(own) // (SAMPLE_SIZE + 1) :: len(own) // (SAMPLE_SIZE + 1) + 1]
@@ -238,13 +248,13 @@ def sample_places(places: Sequence[Place]) -> List[Place]:
 def run_faults(run: Run, jobs: int, is_whole: bool) -> int:
     """Runs a command with each fault, or with a sample of the faults. Returns the number of wrong results."""
     with tempfile.TemporaryDirectory() as first, tempfile.TemporaryDirectory() as second:
-        right = run.start(Path(first), [])
+        right = run.run_once(Path(first), [])
         assert right.returncode in (0, 1) and b"Traceback" not in right.stderr, right
         new = Path(first, run.output).read_bytes() if run.output else b""
-        run.start(Path(first), ["strace", "-f", "-qq", "-o", f"{second}/calls"])
-        places = list_places(Path(second, "calls"))
-    chosen = places if is_whole else sample_places(places)
-    found = injection.check_places(chosen, lambda place, at: find_error(run, right, new, place, at), jobs)
+        run.run_once(Path(first), ["strace", "-f", "-qq", "-o", f"{second}/calls"])
+        places = list_faults(Path(second, "calls"))
+    chosen = places if is_whole else sample_faults(places)
+    found = injection.check_faults(chosen, lambda place, at: find_error(run, right, new, place, at), jobs)
     return injection.report_failures(f"hidlog {run.name}", len(chosen), found, {})
 
 
@@ -253,8 +263,8 @@ def run_short_calls(run: Run) -> int:
     without them."""
     with tempfile.TemporaryDirectory() as first, tempfile.TemporaryDirectory() as second:
         with tempfile.TemporaryDirectory() as library:
-            right, ended = run.start(Path(first), []), run.start(
-                Path(second), injection.short_calls_prefix(Path(library))
+            right, ended = run.run_once(Path(first), []), run.run_once(
+                Path(second), injection.make_short_calls_prefix(Path(library))
             )
         files = [{path.name: path.read_bytes() for path in Path(folder).iterdir()} for folder in (first, second)]
     if (ended.returncode, ended.stdout) == (right.returncode, right.stdout) and files[0] == files[1]:

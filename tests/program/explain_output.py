@@ -1,4 +1,4 @@
-"""The output for people: differences in a log, notes, and output on a terminal."""
+"""Tests the explained output: differences in a log, notes, and output on a terminal."""
 
 from __future__ import annotations
 
@@ -66,12 +66,12 @@ def test_counter_is_named(_: Path) -> None:
     assert run_explained(["check", "-"], log.read_bytes()).stderr == said.stderr
 
 
-INIT_SENT = b"< " + b"ffffffff860011000102030405060700000001020100000c".ljust(128, b"0") + b"\n"
+INIT_RESPONSE = b"< " + b"ffffffff860011000102030405060700000001020100000c".ljust(128, b"0") + b"\n"
 
 
 def test_packet_fields_are_named(_: Path) -> None:
     """The bytes of a packet's header are named: the channel, the command, the sequence number and the length."""
-    sent = INIT_SENT.decode()[2:-1]
+    sent = INIT_RESPONSE.decode()[2:-1]
     for at, name in ((0, ", in the channel,"), (4, ", the command,"), (6, ", in the length,"), (7, ""), (63, "")):
         old = sent[2 * at : 2 * at + 2]
         new = "fe" if old == "ff" else f"{int(old, 16) ^ 1:02x}"
@@ -144,7 +144,7 @@ def test_all_differences_are_counted(work_dir: Path) -> None:
     """`check --all` continues at the next input, prints the first twenty differences, and counts all."""
     ping = pad_packet("00000001810003616263")
     group = [f"> 5 {ping}", f"< {ping}"]
-    right = INIT + INIT_SENT + "".join(f"{line}\n" for line in group * 30).encode()
+    right = INIT + INIT_RESPONSE + "".join(f"{line}\n" for line in group * 30).encode()
     check_result(run_explained(["check", "--all"], right), 0, b"", b"same 31 inputs 31 packets\n")
     lines = right.decode().splitlines()
     wrong = list(lines)
@@ -171,7 +171,7 @@ def test_all_differences_are_counted(work_dir: Path) -> None:
         b"  the log has no packet here, up to line 14\n"
         in run_explained(["check", "--all"], "\n".join(wrong).encode()).stderr
     )
-    many = INIT + INIT_SENT + "".join(f"> 5 {ping}\n< {ping[:-1]}1\n" for _ in range(25)).encode()
+    many = INIT + INIT_RESPONSE + "".join(f"> 5 {ping}\n< {ping[:-1]}1\n" for _ in range(25)).encode()
     said = run_explained(["check", "--all"], many)
     faults = [line for line in said.stderr.decode().splitlines() if line.startswith("hidlog: ")]
     assert len(faults) == 21 and faults[-1] == "hidlog: 25 inputs with differences, the first 20 are shown", faults
@@ -192,7 +192,7 @@ def test_all_differences_are_counted(work_dir: Path) -> None:
 def test_partial_reads_give_same_result(_: Path) -> None:
     """Each command gives the same result for a log written to a pipe in parts as for a whole one."""
     ping = pad_packet("00000001810003616263")
-    many = INIT + INIT_SENT + "".join(f"> 5 {ping}\n< {ping[:-1]}1\n" for _ in range(25)).encode() + b"t 5x\n"
+    many = INIT + INIT_RESPONSE + "".join(f"> 5 {ping}\n< {ping[:-1]}1\n" for _ in range(25)).encode() + b"t 5x\n"
     logs = [many, *((EXAMPLES / name).read_bytes() for name in ("registration.log", "failing/stale_sign_count.log"))]
     for words in ("check", "check --all", "check --all -", "replay", "live", "quiet", "show", "show --json"):
         for log in logs:
@@ -212,7 +212,7 @@ def test_notes(work_dir: Path) -> None:
     presence = next(place for place, line in enumerate(request) if line.startswith(b"p "))
     key = next(place for place, line in enumerate(request) if line.startswith(b"k "))
     signature = next(place for place, line in enumerate(request) if line.startswith(b"s "))
-    opened = INIT + INIT_SENT + b"> 5 " + pad_packet("00000001900040" + "00" * 57).encode() + b"\n"
+    opened = INIT + INIT_RESPONSE + b"> 5 " + pad_packet("00000001900040" + "00" * 57).encode() + b"\n"
     cases: list[tuple[bytes, list[str]]] = [
         (b"", ["the log is empty"]),
         (b"# a comment\n= 5\n\n", ["the log has no inputs"]),
@@ -223,7 +223,7 @@ def test_notes(work_dir: Path) -> None:
         (b"".join(request[:signature]), ["the log ends while the key is waiting for a signature"]),
         (opened, ["the log ends inside a message, after 57 bytes of it"]),
         (good, []),
-        (INIT + INIT_SENT + f"> 5 {ping}\n< {ping}\n".encode(), []),
+        (INIT + INIT_RESPONSE + f"> 5 {ping}\n< {ping}\n".encode(), []),
     ]
     for number, (log, notes) in enumerate(cases):
         said = run_explained(["check"], log)
@@ -244,9 +244,9 @@ def test_notes(work_dir: Path) -> None:
 def show_at_terminal(words: Sequence[str], log: bytes, **more: str) -> bytes:
     """Returns the program's output on a terminal, with these environment variables."""
     terminal, end = pty.openpty()
-    work_dir = {name: value for name, value in os.environ.items() if name not in ("COLUMNS", "NO_COLOR")}
+    environment = {name: value for name, value in os.environ.items() if name not in ("COLUMNS", "NO_COLOR")}
     written = b""
-    with subprocess.Popen([PROGRAM, *words], stdin=subprocess.PIPE, stdout=end, env={**work_dir, **more}) as program:
+    with subprocess.Popen([PROGRAM, *words], stdin=subprocess.PIPE, stdout=end, env={**environment, **more}) as program:
         os.close(end)
         assert program.stdin is not None
         with ThreadPoolExecutor() as other:
@@ -368,7 +368,7 @@ def test_progress_is_erased(work_dir: Path) -> None:
     printed."""
     log = work_dir / "log"
     comments = b"# a comment of some length, which is read and dropped, so that this takes half a second\n"
-    log.write_bytes(INIT + INIT_SENT + comments * ((90 << 20) // len(comments)))
+    log.write_bytes(INIT + INIT_RESPONSE + comments * ((90 << 20) // len(comments)))
     size = log.stat().st_size // 1_000_000
     for words in (["check"], ["check", str(log)], ["quiet"]):
         status, said = run_with_terminal_stderr(words, log)
@@ -378,7 +378,7 @@ def test_progress_is_erased(work_dir: Path) -> None:
         assert max(map(len, steps)) <= len(steps[-2]), said
     check_result(run_explained(["check"], stdin=log), 0, b"")
     short = work_dir / "short"
-    short.write_bytes(INIT + INIT_SENT)
+    short.write_bytes(INIT + INIT_RESPONSE)
     assert run_with_terminal_stderr(["check"], short) == (0, b"")
     # The error message overwrites the progress.
     with open(log, "ab") as more:

@@ -31,14 +31,14 @@ _CALL = re.compile(r"^(?:\d+ +)?([a-z_0-9]+)\(", re.MULTILINE)
 
 
 @dataclass(frozen=True)
-class Place:
-    """The n-th call of a name, and the fault that is injected into it."""
+class InjectedFault:
+    """A fault: an error or a kill, and the call into which it is injected: the n-th call with a name."""
 
     call: str
     number: int
     fault: str
 
-    def strace_prefix(self, log: Path) -> list[str]:
+    def make_strace_prefix(self, log: Path) -> list[str]:
         """Returns the prefix of a command with which strace injects this fault."""
         how = "signal=KILL" if self.fault == "KILL" else f"error={self.fault}"
         if how == "error=ENOMEM" and self.call == "brk":
@@ -54,7 +54,7 @@ class Place:
         return f"{self.fault} at {self.call} {self.number}"
 
 
-def short_calls_prefix(folder: Path) -> list[str]:
+def make_short_calls_prefix(folder: Path) -> list[str]:
     """Returns the prefix of a command with which each read and write transfers only half of the requested bytes, which
     strace cannot do. For this, compiles a library in a folder with gcc."""
     library = folder / "short_calls.so"
@@ -63,22 +63,22 @@ def short_calls_prefix(folder: Path) -> list[str]:
     return ["env", f"LD_PRELOAD={library}"]
 
 
-def was_injected(log: Path, place: Place) -> bool:
-    """Returns whether the call was made, according to the output of strace."""
+def was_injected(log: Path, place: InjectedFault) -> bool:
+    """Returns whether the fault was injected, according to the output of strace."""
     text = log.read_text(encoding="utf-8", errors="replace")
     is_kill = place.fault == "KILL"
     return _CALL.findall(text).count(place.call) >= place.number if is_kill else "(INJECTED)" in text
 
 
 def is_renamed(path: str, calls: Iterable[str]) -> bool:
-    """Returns whether the file at the path takes another name before it is removed or replaced."""
+    """Returns whether the file at the path is renamed before it is removed or replaced."""
     for call in calls:
         if f'"{path}"' in call and " = -1 " not in call and re.search(r"rename|unlink|O_CREAT", call):
             return "rename" in call
     return False
 
 
-def was_recoverable(log: Path) -> bool:
+def left_file_unchanged(log: Path) -> bool:
     """Returns whether the failed call was a read, or concerned a temporary file beside the saved file that was not
     renamed to it, so that the saved file is unchanged."""
     opened: dict[str, str] = {}
@@ -106,37 +106,36 @@ def count_calls(run: Callable[[Sequence[str]], object], folder: Path) -> dict[st
     return counts
 
 
-def list_places(counts: dict[str, int], only: Optional[Iterable[str]] = None) -> list[Place]:
-    """Returns the places in a run, with the faults of each. If `only` is given, returns only the places of these
-    calls."""
+def list_faults(counts: dict[str, int], only: Optional[Iterable[str]] = None) -> list[InjectedFault]:
+    """Returns the faults for each call of a run. If `only` is given, returns only the faults of these calls."""
     names = [call for call in sorted(counts) if call not in NEVER_INJECTED and (only is None or call in only)]
-    # One call more than the number counted, because a run may make one more. If it doesn't, nothing is injected there.
+    # One call more than the number counted, because a run may make one more. If it doesn't, nothing is injected.
     return [
-        Place(name, number, fault)
+        InjectedFault(name, number, fault)
         for name in names
         for fault in (*FAULTS.get(name, OTHER_ERRORS), "KILL")
         for number in range(1, counts[name] + 2)
     ]
 
 
-def check_places(
-    places: Sequence[Place], judge: Callable[[Place, Path], Optional[str]], jobs: int
-) -> list[tuple[Place, str]]:
-    """Checks each place in a new folder. Returns the failing ones, with the error."""
+def check_faults(
+    places: Sequence[InjectedFault], judge: Callable[[InjectedFault, Path], Optional[str]], jobs: int
+) -> list[tuple[InjectedFault, str]]:
+    """Calls `judge` for each fault, in a new folder. Returns the faults for which it returns an error, with the error."""
 
-    def one(place: Place) -> Optional[str]:
+    def run_judge(place: InjectedFault) -> Optional[str]:
         with tempfile.TemporaryDirectory() as folder:
             try:
                 return judge(place, Path(folder))
             except subprocess.TimeoutExpired as wrong:
-                return f"it didn't end: {wrong}"
+                return f"timed out: {wrong}"
 
     with ThreadPoolExecutor(jobs) as lanes:
-        found = zip(places, lanes.map(one, places))
+        found = zip(places, lanes.map(run_judge, places))
         return [(place, wrong) for place, wrong in found if wrong is not None]
 
 
-def report_failures(name: str, count: int, wrong: Sequence[tuple[Place, str]], known: dict[str, str]) -> int:
+def report_failures(name: str, count: int, wrong: Sequence[tuple[InjectedFault, str]], known: dict[str, str]) -> int:
     """Prints the result of a run: new failures, and known failures that no longer occur. Returns the number of both."""
     bad, seen = 0, set()
     for place, said in wrong:
@@ -149,12 +148,12 @@ def report_failures(name: str, count: int, wrong: Sequence[tuple[Place, str]], k
         if mark not in seen:
             bad += 1
             print(
-                f"PASSES   {name}: {mark} is named as a known failure ({known[mark]}), and fails no more: take it out"
+                f"PASSES   {name}: {mark} is in the table of known failures ({known[mark]}) but no longer fails: remove it"
             )
     expected = len(wrong) - sum(
         1 for place, _ in wrong if not any(re.fullmatch(pattern, str(place)) for pattern in known)
     )
     print(
-        f"{name}: {count} places, {len(wrong) - expected} wrong, {expected} known failures", file=sys.stdout, flush=True
+        f"{name}: {count} faults, {len(wrong) - expected} wrong, {expected} known failures", file=sys.stdout, flush=True
     )
     return bad

@@ -1,4 +1,4 @@
-"""Truncated and changed requests and packets, and hosts that send at the same time.
+"""Tests truncated and changed requests and packets, and hosts that send at the same time.
 
 The responses follow from CTAP 2.1: a request that is not canonical CBOR gets status 12, a valid one waits for user
 presence, and any other gets a status other than 00. After each, the key must handle replies and respond to the next
@@ -16,7 +16,7 @@ from typing import Iterable, Sequence
 
 sys.path.insert(0, str(Path(__file__).resolve().parents[1] / "fuzz"))
 
-from framing import BROADCAST, packets
+from framing import BROADCAST, split_into_packets
 from running import run
 
 PING, INIT, CBOR, KEEPALIVE, ERROR = 0x81, 0x86, 0x90, 0xBB, 0xBF
@@ -41,20 +41,20 @@ def format_key_packets(key: Iterable[bytes]) -> list[bytes]:
     return [b"< " + packet.hex().encode() for packet in key]
 
 
-def status_packet(number: int) -> bytes:
+def make_status_packet(number: int) -> bytes:
     """Returns the packet of a response on channel 1 that consists of a status."""
-    first: bytes = packets(1, CBOR, bytes([number]))[0]
+    first: bytes = split_into_packets(1, CBOR, bytes([number]))[0]
     return first
 
 
-def init_response(channel: int) -> bytes:
+def make_init_response(channel: int) -> bytes:
     """Returns the response to INIT on the broadcast channel."""
-    first: bytes = packets(BROADCAST, INIT, NONCE + channel.to_bytes(4, "big") + b"\x02\x01\x00\x00\x0c")[0]
+    first: bytes = split_into_packets(BROADCAST, INIT, NONCE + channel.to_bytes(4, "big") + b"\x02\x01\x00\x00\x0c")[0]
     return first
 
 
-INIT_PACKETS = packets(BROADCAST, INIT, NONCE)
-KEEPALIVE_UPNEEDED = packets(1, KEEPALIVE, b"\x02")[0]
+INIT_PACKETS = split_into_packets(BROADCAST, INIT, NONCE)
+KEEPALIVE_UPNEEDED = split_into_packets(1, KEEPALIVE, b"\x02")[0]
 
 
 @dataclass(frozen=True)
@@ -67,21 +67,21 @@ class InputResult:
 
 @dataclass(frozen=True)
 class LiveResult:
-    """The output of `live` for a log: the results of each input, and the counts at the end."""
+    """The output of `live` for a log: the result of each input, and the counts at the end."""
 
     answers: list[InputResult]
     counts: list[int]
 
     def check_limits(self, rows: int) -> None:
-        """Fails unless the maximum counts are within the limits, and decoding took at most 4 steps for each byte and 2
+        """Fails unless at most `rows` credentials were held, and decoding took at most 4 steps for each byte and 2
         for each request."""
         _, most, _, requests, size, steps = self.counts
         assert most == rows, f"{most} credentials were held"
         assert steps <= 4 * size + 2 * requests, f"{requests} requests of {size} bytes took {steps} steps"
 
 
-def play_live(inputs: Sequence[bytes], *options: str) -> LiveResult:
-    """Plays inputs with `live`, and returns the results."""
+def run_live(inputs: Sequence[bytes], *options: str) -> LiveResult:
+    """Runs `live` on inputs, and returns the results."""
     said = run(["live", *options], b"\n".join([*inputs, b""]))
     assert said.returncode == 0 and said.stderr == b"", said.stderr.decode()
     answers: list[InputResult] = []
@@ -98,7 +98,7 @@ def play_live(inputs: Sequence[bytes], *options: str) -> LiveResult:
 
 
 def compare_sessions(work_dir: Path, logs: Sequence[list[bytes]]) -> None:
-    """Compares each log in a new session."""
+    """Fails unless `check` finds no difference in these logs, each in a new session."""
     names = [f"{number}.log" for number in range(len(logs))]
     for name, log in zip(names, logs):
         (work_dir / name).write_bytes(b"\n".join([*log, b""]))
@@ -110,54 +110,54 @@ def compare_sessions(work_dir: Path, logs: Sequence[list[bytes]]) -> None:
 def test_truncated_registration_is_refused(work_dir: Path) -> None:
     """A registration that is truncated to 1 to 90 bytes is not valid CBOR, so the status is 12. Decoding 1 byte takes
     one step, and 90 bytes take 99 steps."""
-    greeted = [*format_host_packets(INIT_PACKETS), *format_key_packets([init_response(1)])]
+    greeted = [*format_host_packets(INIT_PACKETS), *format_key_packets([make_init_response(1)])]
     logs = [
         [
             *greeted,
-            *format_host_packets(packets(1, CBOR, REGISTRATION[:length])),
-            *format_key_packets([status_packet(0x12)]),
+            *format_host_packets(split_into_packets(1, CBOR, REGISTRATION[:length])),
+            *format_key_packets([make_status_packet(0x12)]),
         ]
         for length in range(1, len(REGISTRATION))
     ]
     assert len(logs) == 90
     compare_sessions(work_dir, logs)
     for length, steps in ((1, 1), (90, 99)):
-        lived = play_live(format_host_packets([*INIT_PACKETS, *packets(1, CBOR, REGISTRATION[:length])]))
+        lived = run_live(format_host_packets([*INIT_PACKETS, *split_into_packets(1, CBOR, REGISTRATION[:length])]))
         assert lived.counts[5] == steps, f"{length} bytes took {lived.counts[5]} steps"
 
 
 def test_large_heads_long_keys_and_deep_values(_: Path) -> None:
     """Tests a map of 2^64 - 1 pairs, a key of 256 bytes, and members with four and with five levels."""
     cases = [
-        (b"\x01\xbb" + b"\xff" * 8, status_packet(0x12), 10),
-        (b"\x01\xa2\x00\x00\x59\x01\x00" + bytes(256) + b"\x00", status_packet(0x14), 1046),
+        (b"\x01\xbb" + b"\xff" * 8, make_status_packet(0x12), 10),
+        (b"\x01\xa2\x00\x00\x59\x01\x00" + bytes(256) + b"\x00", make_status_packet(0x14), 1046),
         (b"\x01\xa6" + REGISTRATION_MEMBERS + b"\x18\x40\x81\x81\x80", KEEPALIVE_UPNEEDED, None),
-        (b"\x01\xa6" + REGISTRATION_MEMBERS + b"\x18\x40\x81\x81\x81\x80", status_packet(0x12), 107),
+        (b"\x01\xa6" + REGISTRATION_MEMBERS + b"\x18\x40\x81\x81\x81\x80", make_status_packet(0x12), 107),
     ]
     for request, answer, steps in cases:
-        lived = play_live(format_host_packets([*INIT_PACKETS, *packets(1, CBOR, request)]))
+        lived = run_live(format_host_packets([*INIT_PACKETS, *split_into_packets(1, CBOR, request)]))
         assert lived.answers[-1].packets == [answer], f"{request.hex()} is answered {lived.answers[-1].packets}"
         assert steps in (None, lived.counts[5]), f"{request.hex()} took {lived.counts[5]} steps"
         lived.check_limits(0)
 
 
-def iter_changes(data: bytes) -> list[bytes]:
+def list_changes(data: bytes) -> list[bytes]:
     """Returns the bytes with each byte changed to each other value."""
     return [data[:at] + bytes([value]) + data[at + 1 :] for at in range(len(data)) for value in range(256)]
 
 
-def reset_lines() -> list[bytes]:
+def make_reset_lines() -> list[bytes]:
     """Returns the lines of a reset on channel 1."""
-    return [*format_host_packets(packets(1, CBOR, b"\x07")), b"p 0 granted"]
+    return [*format_host_packets(split_into_packets(1, CBOR, b"\x07")), b"p 0 granted"]
 
 
 def check_each_byte_changed(request: bytes, after: list[bytes], *options: str) -> None:
     """Fails unless each changed request either waits for user presence or is rejected, and no request is pending after
     the caller's replies."""
-    requests = iter_changes(request)
-    count = len(packets(1, CBOR, request))
-    groups = [[*format_host_packets(packets(1, CBOR, request)), *REPLIES, *after] for request in requests]
-    lived = play_live([*format_host_packets(INIT_PACKETS), *itertools.chain.from_iterable(groups)], *options)
+    requests = list_changes(request)
+    count = len(split_into_packets(1, CBOR, request))
+    groups = [[*format_host_packets(split_into_packets(1, CBOR, request)), *REPLIES, *after] for request in requests]
+    lived = run_live([*format_host_packets(INIT_PACKETS), *itertools.chain.from_iterable(groups)], *options)
     begin = 1
     for changed, group in zip(requests, groups):
         told = lived.answers[begin : begin + len(group)]
@@ -169,22 +169,22 @@ def check_each_byte_changed(request: bytes, after: list[bytes], *options: str) -
         else:
             assert first.need == b"nothing" and len(first.packets) == 1, changed.hex()
             number = first.packets[0][7]
-            assert number != 0 and first.packets == [status_packet(number)], changed.hex()
+            assert number != 0 and first.packets == [make_status_packet(number)], changed.hex()
         assert served.need == b"nothing", f"{changed.hex()} leaves {served.need!r}"
         assert not after or told[-1] == InputResult(
-            [status_packet(0)], b"nothing"
+            [make_status_packet(0)], b"nothing"
         ), f"after {changed.hex()} nothing is reset"
     lived.check_limits(1)
 
 
 def check_each_packet_changed(request: bytes, after: list[bytes], *options: str) -> None:
     """Fails unless, after each changed packet, the key handles replies and responds to a host's INIT."""
-    whole, host = packets(1, CBOR, request), format_host_packets(INIT_PACKETS)
+    whole, host = split_into_packets(1, CBOR, request), format_host_packets(INIT_PACKETS)
     groups: list[list[bytes]] = []
     for number, packet in enumerate(whole):
-        for changed in iter_changes(packet):
+        for changed in list_changes(packet):
             # INIT on the channel of an incomplete message drops the message.
-            ends = [packets(channel, INIT, NONCE)[0] for channel in (1, int.from_bytes(changed[:4], "big"))]
+            ends = [split_into_packets(channel, INIT, NONCE)[0] for channel in (1, int.from_bytes(changed[:4], "big"))]
             begun = format_host_packets([*whole[:number], changed, *whole[number + 1 :]])
             groups.append(
                 [
@@ -195,8 +195,8 @@ def check_each_packet_changed(request: bytes, after: list[bytes], *options: str)
                     *after,
                 ]
             )
-    lived = play_live([*host, *itertools.chain.from_iterable(groups)], *options)
-    begin, greeted_front = 1, init_response(0)[:15]
+    lived = run_live([*host, *itertools.chain.from_iterable(groups)], *options)
+    begin, greeted_front = 1, make_init_response(0)[:15]
     for group in groups:
         told = lived.answers[begin : begin + len(group)]
         begin += len(group)
@@ -204,7 +204,9 @@ def check_each_packet_changed(request: bytes, after: list[bytes], *options: str)
         shown = group[: len(whole)]
         assert served.need == b"nothing", f"{shown} leaves {served.need!r}"
         assert greeted.packets[-1:] and greeted.packets[-1][:15] == greeted_front, f"{shown}, and no host is greeted"
-        assert not after or told[-1] == InputResult([status_packet(0)], b"nothing"), f"{shown}, and nothing is reset"
+        assert not after or told[-1] == InputResult(
+            [make_status_packet(0)], b"nothing"
+        ), f"{shown}, and nothing is reset"
     lived.check_limits(1)
 
 
@@ -219,17 +221,17 @@ def test_three_hosts_in_every_order(work_dir: Path) -> None:
         log = [
             line
             for channel in (1, 2, 3)
-            for line in [*format_host_packets(INIT_PACKETS), *format_key_packets([init_response(channel)])]
+            for line in [*format_host_packets(INIT_PACKETS), *format_key_packets([make_init_response(channel)])]
         ]
         served = 0
         begun: set[int] = set()
         for host in order:
-            ping = packets(host, PING, bytes(100))
+            ping = split_into_packets(host, PING, bytes(100))
             if host not in begun:
                 log += format_host_packets(ping[:1])
                 begun.add(host)
                 if served:
-                    log += format_key_packets(packets(host, ERROR, b"\x06"))
+                    log += format_key_packets(split_into_packets(host, ERROR, b"\x06"))
                 else:
                     served = host
             else:
@@ -245,7 +247,7 @@ def test_changed_requests(work_dir: Path, credentials: bytes) -> None:
     """Changes each byte of a registration and of a sign-in, and of their packets, to each other value."""
     (work_dir / "credentials").write_bytes(credentials)
     load = ["--load", str(work_dir / "credentials")]
-    check_each_byte_changed(REGISTRATION, reset_lines())
+    check_each_byte_changed(REGISTRATION, make_reset_lines())
     check_each_byte_changed(SIGN_IN, [], *load)
-    check_each_packet_changed(REGISTRATION, reset_lines())
+    check_each_packet_changed(REGISTRATION, make_reset_lines())
     check_each_packet_changed(SIGN_IN, [], *load)

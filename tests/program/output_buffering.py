@@ -1,4 +1,4 @@
-"""Buffering of the output: output may be buffered while more input is available, but not while the program waits for
+"""Tests the buffering of output: it may be buffered while more input is available, but not while the program waits for
 input."""
 
 from __future__ import annotations
@@ -10,11 +10,11 @@ from pathlib import Path
 
 from running import COUNTS, INIT, PROGRAM, check_result, run
 
-ANSWER = b"< " + b"00" * 64 + b"\n"
+KEY_PACKET = b"< " + b"00" * 64 + b"\n"
 COMMANDS = ("replay", "quiet", "live", "show")
 
 
-def trace_writes(words: list[str], log: Path) -> tuple[int, bytes]:
+def count_writes(words: list[str], log: Path) -> tuple[int, bytes]:
     """Returns the number of writes to standard output, and the output."""
     calls = log.with_name("calls")
     said = run(words, stdin=log, trace=["-o", str(calls), "-e", "trace=write"])
@@ -25,19 +25,19 @@ def trace_writes(words: list[str], log: Path) -> tuple[int, bytes]:
 def test_many_lines_take_few_writes(work_dir: Path) -> None:
     """For a long file, the output of many lines is written at once."""
     ticks = b"".join(b"t %d\n" % n for n in range(20_000))
-    recording = b"".join(b"t %d\n%s" % (n, ANSWER * 2) for n in range(2_000))
+    recording = b"".join(b"t %d\n%s" % (n, KEY_PACKET * 2) for n in range(2_000))
     counts = b"= held 0 rows 0 pending 0 requests 0 bytes 0 steps 0\n"
     shown = b"".join(b"%d t %d\n" % (n + 1, n) for n in range(20_000))
     for words, log, wanted in (
         (["replay"], b"\n" * 20_000, b"\n" * 20_000 + counts),
         (["replay"], b"# a\n" * 20_000, b"# a\n" * 20_000 + counts),
         (["replay"], ticks, ticks + counts),
-        (["replay"], recording, recording.replace(ANSWER, b"") + counts),
+        (["replay"], recording, recording.replace(KEY_PACKET, b"") + counts),
         (["quiet"], ticks, ticks),
         (["show"], ticks, shown),
     ):
         (work_dir / "log").write_bytes(log)
-        count, text = trace_writes(words, work_dir / "log")
+        count, text = count_writes(words, work_dir / "log")
         assert text == wanted, f"{words} wrote something else"
         # The writes for a file: two for each 4096 bytes that are read, one for each 8192 bytes that are buffered, and
         # one for the counts.
@@ -68,10 +68,10 @@ def test_output_precedes_next_read(_: Path) -> None:
     """All output is written before the next part of a log is read."""
     parts = (
         (b"t 1\n", b"t 1\n", b" t 1\n"),
-        (b"t 2\nt 3\n" + ANSWER, b"t 2\nt 3\n", b" t 3\n"),
-        (b"t 4\n= of 1\n" + ANSWER + b"t 5", b"t 4\n", b" t 4\n"),
+        (b"t 2\nt 3\n" + KEY_PACKET, b"t 2\nt 3\n", b" t 3\n"),
+        (b"t 4\n= of 1\n" + KEY_PACKET + b"t 5", b"t 4\n", b" t 4\n"),
         (b"\n# a\n\n", b"t 5\n# a\n\n", b" t 5\n"),
-        (b"# b\nt 6\n\n# c\n" + ANSWER * 2, b"# b\nt 6\n\n# c\n", b" t 6\n"),
+        (b"# b\nt 6\n\n# c\n" + KEY_PACKET * 2, b"# b\nt 6\n\n# c\n", b" t 6\n"),
         (b"t 7\n" * 3000, b"t 7\n" * 3000, b" t 7\n"),
     )
     for command in COMMANDS:
@@ -116,7 +116,7 @@ def test_any_write_can_fail(work_dir: Path) -> None:
     """Whichever write fails, the bytes written are a prefix of the output, and the failure is reported."""
     log = b"".join(b"t %d\n# a\n" % n for n in range(2_000))
     (work_dir / "log").write_bytes(log)
-    count, whole = trace_writes(["replay"], work_dir / "log")
+    count, whole = count_writes(["replay"], work_dir / "log")
     assert whole == log + COUNTS
     for when in range(1, count + 1):
         trace = ["-e", "trace=write", "-e", f"inject=write:error=ENOSPC:when={when}"]
@@ -125,7 +125,7 @@ def test_any_write_can_fail(work_dir: Path) -> None:
         assert whole.startswith(said.stdout) and said.stdout != whole, f"write {when}"
 
 
-TRACED = {test_many_lines_take_few_writes, test_any_write_can_fail}
+TESTS_WITH_STRACE = {test_many_lines_take_few_writes, test_any_write_can_fail}
 TESTS = [
     test_many_lines_take_few_writes,
     test_output_precedes_next_read,

@@ -3,7 +3,7 @@
 
     tests/program/run.py [PROGRAM]        PROGRAM [default: release/hidlog]
 
-Failures are injected by strace; without it, these tests are skipped by name. Exit status: 1 if a test fails.
+Without strace, the tests that inject failures are skipped, and their names are printed. Exit status: 1 if a test fails.
 """
 
 from __future__ import annotations
@@ -43,7 +43,7 @@ from running import (
 NOBODY = 65534
 
 
-def check_no_file(work_dir: Path, path: str, reason: str) -> bytes:
+def format_write_error(path: str, reason: str) -> bytes:
     return f"hidlog: cannot write snapshot\n  {path}: {reason}\n".encode()
 
 
@@ -55,7 +55,7 @@ def become_nobody() -> None:
         os.setuid(NOBODY)
 
 
-# ---- where --save writes
+# ---- the path of --save
 
 
 def test_live_checks_save_first(work_dir: Path) -> None:
@@ -64,26 +64,26 @@ def test_live_checks_save_first(work_dir: Path) -> None:
     check_result(
         run_explained(["live", "--save", missing], INIT),
         2,
-        check_no_file(work_dir, missing, "No such file or directory (os error 2)"),
+        format_write_error(missing, "No such file or directory (os error 2)"),
         b"",
     )
     check_result(
         run_explained(["live", "--save", folder], INIT),
         2,
-        check_no_file(work_dir, folder, "Is a directory (os error 21)"),
+        format_write_error(folder, "Is a directory (os error 21)"),
         b"",
     )
     check_result(
         run_explained(["live", "--save", ""], INIT),
         2,
-        check_no_file(work_dir, "", "No such file or directory (os error 2)"),
+        format_write_error("", "No such file or directory (os error 2)"),
         b"",
     )
     inside = f"{SNAPSHOT}/keys"
     check_result(
         run_explained(["live", "--save", inside], INIT),
         2,
-        check_no_file(work_dir, inside, "Not a directory (os error 20)"),
+        format_write_error(inside, "Not a directory (os error 20)"),
         b"",
     )
     said = run_explained(["live", "--save", f"{work_dir}/keys"], b"t 5\n")
@@ -102,17 +102,17 @@ def test_live_needs_permission(work_dir: Path) -> None:
     check_result(
         run_explained(["live", "--save", str(keys)], INIT, before=become_nobody),
         2,
-        check_no_file(work_dir, str(keys), denied),
+        format_write_error(str(keys), denied),
         b"",
     )
     check_result(
         run_explained(["live", "--save", f"{keys}2"], INIT, before=become_nobody),
         2,
-        check_no_file(work_dir, f"{keys}2", denied),
+        format_write_error(f"{keys}2", denied),
         b"",
     )
     said = run_explained(["replay", "--save", str(keys)], b"", before=become_nobody)
-    check_result(said, 2, check_no_file(work_dir, str(keys), denied), COUNTS)
+    check_result(said, 2, format_write_error(str(keys), denied), COUNTS)
     work_dir.chmod(0o755)
     assert keys.read_bytes() == b"old" and os.listdir(work_dir) == ["keys"]
 
@@ -123,26 +123,24 @@ def test_replay_reports_save_last(work_dir: Path) -> None:
     check_result(
         run_explained(["replay", "--save", missing]),
         2,
-        check_no_file(work_dir, missing, "No such file or directory (os error 2)"),
+        format_write_error(missing, "No such file or directory (os error 2)"),
         COUNTS,
     )
     check_result(
         run_explained(["replay", "--save", str(work_dir)]),
         2,
-        check_no_file(work_dir, str(work_dir), "Is a directory (os error 21)"),
+        format_write_error(str(work_dir), "Is a directory (os error 21)"),
         COUNTS,
     )
     full = "No space left on device (os error 28)"
-    check_result(
-        run_explained(["replay", "--save", "/dev/full"]), 2, check_no_file(work_dir, "/dev/full", full), COUNTS
-    )
+    check_result(run_explained(["replay", "--save", "/dev/full"]), 2, format_write_error("/dev/full", full), COUNTS)
 
 
 def test_log_is_not_overwritten(work_dir: Path) -> None:
     """The log that is read, and the file to which standard output goes, are rejected as paths of --save."""
     log = work_dir / "log"
     log.write_bytes(INIT)
-    lost = check_no_file(work_dir, str(log), "it is the input log")
+    lost = format_write_error(str(log), "it is the input log")
     check_result(run_explained(["live", "--save", str(log)], stdin=log), 2, lost, b"")
     said = run_explained(["replay", "--save", str(log)], stdin=log)
     assert said.returncode == 2 and said.stderr == lost and said.stdout.startswith(INIT)
@@ -153,9 +151,7 @@ def test_log_is_not_overwritten(work_dir: Path) -> None:
     with open(work_dir / "out", "wb") as out:
         words = [PROGRAM, "replay", "--explain", "--save", str(work_dir / "out")]
         ended = subprocess.run(words, input=b"", stdout=out, stderr=subprocess.PIPE)
-    check_result(
-        ended, 2, check_no_file(work_dir, str(work_dir / "out"), "it is the file that standard output goes to")
-    )
+    check_result(ended, 2, format_write_error(str(work_dir / "out"), "it is the file that standard output goes to"))
     assert (work_dir / "out").read_bytes() == COUNTS
 
 
@@ -166,7 +162,7 @@ def test_fifo_needs_reader(work_dir: Path) -> None:
     check_result(
         run_explained(["replay", "--save", str(fifo)]),
         2,
-        check_no_file(work_dir, str(fifo), "Broken pipe (os error 32)"),
+        format_write_error(str(fifo), "Broken pipe (os error 32)"),
         COUNTS,
     )
     reader = os.open(fifo, os.O_RDONLY | os.O_NONBLOCK)
@@ -231,7 +227,7 @@ def test_full_disk_keeps_file(work_dir: Path) -> None:
             fill_disk(fill)
             said = run_explained(["replay", "--load", str(SNAPSHOT), "--save", str(fresh)], SIGN_IN_AGAIN.read_bytes())
             assert said.returncode == 2 and fresh.read_bytes() == b"", said.stderr
-            check_result(said, 2, check_no_file(work_dir, str(fresh), "No space left on device (os error 28)"))
+            check_result(said, 2, format_write_error(str(fresh), "No space left on device (os error 28)"))
             said = run_explained(["replay", "--load", str(SNAPSHOT), "--save", str(keys)], SIGN_IN_AGAIN.read_bytes())
             assert keys.read_bytes() == (wanted if said.returncode == 0 else old), said.stderr
             fill.unlink()
@@ -255,12 +251,12 @@ def test_concurrent_saves(work_dir: Path) -> None:
     shutil.copy(SNAPSHOT, keys)
     script = '"$0" replay --load "$1" --save "$1.$2" <"$3" >/dev/null && mv "$1.$2" "$1" && rm "$1.$2.hidlog-sum"'
 
-    def once(number: int) -> Said:
+    def replay_once(number: int) -> Said:
         words = ["sh", "-c", script, PROGRAM, str(keys), str(number), str(SIGN_IN_AGAIN)]
         return subprocess.run(words, capture_output=True)
 
     with ThreadPoolExecutor(8) as lanes:
-        for said in lanes.map(once, range(200)):
+        for said in lanes.map(replay_once, range(200)):
             check_result(said, 0, b"")
     assert os.listdir(work_dir) == ["keys"]
 
@@ -299,7 +295,7 @@ def restore_interrupts() -> None:
     signal.signal(signal.SIGINT, signal.SIG_DFL)
 
 
-# ---- what is said
+# ---- messages
 
 
 def test_invalid_snapshots_are_reported(work_dir: Path) -> None:
@@ -696,11 +692,11 @@ def test_many_files_need_no_memory(work_dir: Path) -> None:
     log = work_dir / "a.log"
     log.write_bytes((EXAMPLES / "registration.log").read_bytes())
 
-    def small() -> None:
+    def set_limits() -> None:
         resource.setrlimit(resource.RLIMIT_STACK, (STACK_BYTES + 40_000, resource.RLIM_INFINITY))
         resource.setrlimit(resource.RLIMIT_AS, (24 << 20, 24 << 20))
 
-    said = run(["check", *[str(log)] * 1000], before=small)
+    said = run(["check", *[str(log)] * 1000], before=set_limits)
     assert said.returncode == 0 and said.stderr == b"" and len(said.stdout.splitlines()) == 1000, said
 
 
@@ -710,7 +706,7 @@ def test_named_log_is_not_overwritten(work_dir: Path) -> None:
     log.write_bytes(INIT)
     os.symlink(log, link)
     for path in (log, link):
-        lost = check_no_file(work_dir, str(path), "it is the input log")
+        lost = format_write_error(str(path), "it is the input log")
         check_result(run_explained(["live", "--save", str(path), str(log)]), 2, lost, b"")
         said = run_explained(["replay", "--save", str(path), str(log)])
         assert said.returncode == 2 and said.stderr == lost and said.stdout.startswith(INIT)
@@ -744,13 +740,13 @@ def test_terminal_prompt(_: Path) -> None:
     assert run_at_terminal(["--help"], b"") == b""
 
 
-# ---- what it takes
+# ---- resources
 
 
 def test_little_stack_is_enough(_: Path) -> None:
     """Each command needs at most the stack size that docs/use/LIMITS.md states."""
 
-    def small() -> None:
+    def set_limits() -> None:
         resource.setrlimit(resource.RLIMIT_STACK, (STACK_BYTES, resource.RLIM_INFINITY))
 
     log = (EXAMPLES / "registration.log").read_bytes()
@@ -765,15 +761,15 @@ def test_little_stack_is_enough(_: Path) -> None:
         ["show", "--json"],
         ["show", "--summary", "--json"],
     ):
-        check_result(run(words, log, before=small), 0, b"")
-    check_result(run(["replay", "--load", str(SNAPSHOT)], SIGN_IN_AGAIN.read_bytes(), before=small), 0, b"")
+        check_result(run(words, log, before=set_limits), 0, b"")
+    check_result(run(["replay", "--load", str(SNAPSHOT)], SIGN_IN_AGAIN.read_bytes(), before=set_limits), 0, b"")
     # This includes a difference.
     bob = str(EXAMPLES / "failing/bob.snapshot")
     for name, loaded in (("stale_sign_count", ()), ("wrong_snapshot", ("--load", bob))):
-        said = run_explained(["check", "--all", *loaded], stdin=EXAMPLES / f"failing/{name}.log", before=small)
+        said = run_explained(["check", "--all", *loaded], stdin=EXAMPLES / f"failing/{name}.log", before=set_limits)
         assert said.returncode == 1 and b"  the key sends:\n" in said.stderr, said
         twice = [str(EXAMPLES / f"failing/{name}.log")] * 2
-        said = run(["check", "--all", "--json", *loaded, *twice], before=small)
+        said = run(["check", "--all", "--json", *loaded, *twice], before=set_limits)
         assert said.returncode == 1 and said.stdout.count(b'"kind":"differences"') == 2, said
 
 
@@ -781,11 +777,11 @@ class TestSkippedError(Exception):
     """A dependency of a test is missing."""
 
 
-TRACED = {
+TESTS_WITH_STRACE = {
     test_failed_write_keeps_file,
     test_file_errors_have_reasons,
     test_failed_calls_are_not_repeated,
-    *output_buffering.TRACED,
+    *output_buffering.TESTS_WITH_STRACE,
 }
 TESTS = [
     test_live_checks_save_first,
@@ -825,7 +821,7 @@ TESTS = [
 
 def run_test(test: Callable[[Path], None]) -> Optional[str]:
     """Runs a test in a new folder. Returns its error, if any."""
-    if test in TRACED and shutil.which("strace") is None:
+    if test in TESTS_WITH_STRACE and shutil.which("strace") is None:
         print(f"skipped  {test.__name__}: strace is missing")
         return None
     with tempfile.TemporaryDirectory() as folder:

@@ -1,4 +1,4 @@
-"""Snapshots that several programs load and save at once, damaged snapshots, and folders with files of other users."""
+"""Tests snapshots that several programs load and save at once, damaged snapshots, and folders with files of other users."""
 
 from __future__ import annotations
 
@@ -22,13 +22,15 @@ INVALID_SUMS_MESSAGE = b"the file of its name and .hidlog-sum has no sums: remov
 COUNTER = re.compile(rb"\x06\xf5\x07(\x18.|[\x00-\x17])\x08", re.DOTALL)
 
 
-def load_and_save_arguments(keys: Path | str, command: str = "replay", save: Path | str | None = None) -> list[str]:
+def make_load_and_save_arguments(
+    keys: Path | str, command: str = "replay", save: Path | str | None = None
+) -> list[str]:
     """Returns the arguments for loading a snapshot, and for saving to the same path or to another path."""
     return [command, "--load", str(keys), "--save", str(save or keys)]
 
 
 def read_counter(keys: Path) -> int:
-    """Returns the counter of the only credential of a snapshot."""
+    """Returns the signature counter of the only credential of a snapshot."""
     (found,) = COUNTER.findall(keys.read_bytes())
     return int(found[-1])
 
@@ -45,15 +47,15 @@ def read_sums(keys: Path) -> list[list[str]]:
 def make_snapshot(work_dir: Path) -> Path:
     """Returns the path of a snapshot that the program saved in a folder."""
     keys = work_dir / "keys"
-    check_result(run(load_and_save_arguments(SNAPSHOT, save=keys), SIGN_IN_AGAIN.read_bytes()), 0, b"")
+    check_result(run(make_load_and_save_arguments(SNAPSHOT, save=keys), SIGN_IN_AGAIN.read_bytes()), 0, b"")
     return keys
 
 
 def start_program(keys: Path) -> subprocess.Popen[bytes]:
-    """Starts a program that loads and saves a snapshot, and waits until it has locked it."""
+    """Starts a program that loads and saves a snapshot, and waits until the program has locked it."""
     pipe = subprocess.PIPE
     program = subprocess.Popen(
-        [PROGRAM, *load_and_save_arguments(keys, "live")], stdin=pipe, stdout=pipe, stderr=pipe, bufsize=0
+        [PROGRAM, *make_load_and_save_arguments(keys, "live")], stdin=pipe, stdout=pipe, stderr=pipe, bufsize=0
     )
     assert program.stdin is not None and program.stdout is not None
     program.stdin.write(b"t 5\n")
@@ -73,10 +75,10 @@ def test_second_program_is_refused(work_dir: Path) -> None:
         for path in names:
             for command in ("replay", "live"):
                 check_result(
-                    run(load_and_save_arguments(path, command), INIT), 2, CANNOT_READ + b"  " + IN_USE_MESSAGE, b""
+                    run(make_load_and_save_arguments(path, command), INIT), 2, CANNOT_READ + b"  " + IN_USE_MESSAGE, b""
                 )
                 told = CANNOT_READ + f"  {path}: ".encode() + IN_USE_MESSAGE
-                check_result(run_explained(load_and_save_arguments(path, command), INIT), 2, told, b"")
+                check_result(run_explained(make_load_and_save_arguments(path, command), INIT), 2, told, b"")
         # Another program may load the snapshot without saving. If it only saves, this fails at the end of the run, as
         # it does while another program writes.
         assert run(["replay", "--load", str(keys)]).returncode == 0
@@ -85,7 +87,7 @@ def test_second_program_is_refused(work_dir: Path) -> None:
         _, said = first.communicate(SIGN_IN_AGAIN.read_bytes(), 60)
         assert first.returncode == 0 and said == b"", said
     assert read_counter(keys) == 2
-    check_result(run(load_and_save_arguments(hard), SIGN_IN_AGAIN.read_bytes()), 0, b"")
+    check_result(run(make_load_and_save_arguments(hard), SIGN_IN_AGAIN.read_bytes()), 0, b"")
     assert read_counter(keys) == 3
 
 
@@ -95,8 +97,8 @@ def test_killed_program_leaves_no_lock(work_dir: Path) -> None:
     with start_program(keys) as first:
         first.send_signal(signal.SIGKILL)
         first.wait(60)
-    assert run(load_and_save_arguments(keys), b"x\n").returncode == 1
-    check_result(run(load_and_save_arguments(keys), SIGN_IN_AGAIN.read_bytes()), 0, b"")
+    assert run(make_load_and_save_arguments(keys), b"x\n").returncode == 1
+    check_result(run(make_load_and_save_arguments(keys), SIGN_IN_AGAIN.read_bytes()), 0, b"")
     assert read_counter(keys) == 2
 
 
@@ -105,17 +107,17 @@ def test_no_counter_is_lost(work_dir: Path) -> None:
     counter."""
     keys = make_snapshot(work_dir)
 
-    def once(_: int) -> int:
+    def sign_in_once(_: int) -> int:
         ended: list[Said] = []
         while not ended or ended[-1].returncode != 0:
-            ended.append(run(load_and_save_arguments(keys), SIGN_IN_AGAIN.read_bytes()))
+            ended.append(run(make_load_and_save_arguments(keys), SIGN_IN_AGAIN.read_bytes()))
             assert ended[-1].returncode == 0 or ended[-1].stderr == CANNOT_READ + b"  " + IN_USE_MESSAGE, ended[
                 -1
             ].stderr
         return len(ended)
 
     with ThreadPoolExecutor(8) as lanes:
-        tries = sum(lanes.map(once, range(20)))
+        tries = sum(lanes.map(sign_in_once, range(20)))
     assert read_counter(keys) == 21 and tries >= 20, (read_counter(keys), tries)
 
 
@@ -131,7 +133,7 @@ def test_other_files_are_kept(work_dir: Path) -> None:
     (work_dir / "keys.hidlog-copy.4").mkdir()
     before = sorted(os.listdir(work_dir))
     for new in (keys, work_dir / "new"):
-        check_result(run(load_and_save_arguments(keys, save=new), SIGN_IN_AGAIN.read_bytes()), 0, b"")
+        check_result(run(make_load_and_save_arguments(keys, save=new), SIGN_IN_AGAIN.read_bytes()), 0, b"")
     found = {path.name: path.read_bytes() for path in work_dir.iterdir() if path.name in mine}
     assert found == mine and other.read_bytes() == b"another's", found
     assert sorted(os.listdir(work_dir)) == sorted([*before, "new", "new.hidlog-sum"]), os.listdir(work_dir)
@@ -141,12 +143,12 @@ def test_other_files_are_kept(work_dir: Path) -> None:
     sums.unlink()
     sums.symlink_to(other)
     kept = other.read_bytes()
-    check_result(run(load_and_save_arguments(keys), SIGN_IN_AGAIN.read_bytes()), 0, b"")
+    check_result(run(make_load_and_save_arguments(keys), SIGN_IN_AGAIN.read_bytes()), 0, b"")
     assert other.read_bytes() == kept and not sums.is_symlink() and read_sums(keys)
 
 
 def iter_flipped_bits(data: bytes) -> Iterator[bytes]:
-    """Returns the data with each bit changed in turn."""
+    """Yields the data with each bit changed in turn."""
     for place in range(len(data)):
         for bit in range(8):
             yield data[:place] + bytes([data[place] ^ 1 << bit]) + data[place + 1 :]
@@ -163,7 +165,7 @@ def test_each_bit_of_snapshot_changed(work_dir: Path) -> None:
         command = ("replay", "live", "check", "quiet")[number % 4]
         check_result(run([command, "--load", str(keys)], INIT), 2, CANNOT_READ + b"  " + DAMAGED_MESSAGE, b"")
     told = CANNOT_READ + f"  {keys}: ".encode() + DAMAGED_MESSAGE
-    check_result(run_explained(load_and_save_arguments(keys), INIT), 2, told, b"")
+    check_result(run_explained(make_load_and_save_arguments(keys), INIT), 2, told, b"")
     logs = [str(SIGN_IN_AGAIN), str(SIGN_IN_AGAIN)]
     check_result(run(["check", "--load", str(keys), *logs]), 2, CANNOT_READ + b"  " + DAMAGED_MESSAGE, b"")
     keys.write_bytes(data)
@@ -176,20 +178,20 @@ def test_sums_match_file(work_dir: Path) -> None:
     keys = make_snapshot(work_dir)
     first = keys.read_bytes()
     assert [row[0] for row in read_sums(keys)] == [sha256(first).hexdigest()]
-    check_result(run(load_and_save_arguments(keys), SIGN_IN_AGAIN.read_bytes()), 0, b"")
+    check_result(run(make_load_and_save_arguments(keys), SIGN_IN_AGAIN.read_bytes()), 0, b"")
     both = [sha256(data).hexdigest() for data in (first, keys.read_bytes())]
     assert [row[0] for row in read_sums(keys)] == both
     assert {row[1] for row in read_sums(keys)} == {f"{keys.stat().st_ino:016x}"}
     # The old content matches the checksums, too, as after a write that was interrupted before its first byte.
     keys.write_bytes(first)
-    check_result(run(load_and_save_arguments(keys), SIGN_IN_AGAIN.read_bytes()), 0, b"")
+    check_result(run(make_load_and_save_arguments(keys), SIGN_IN_AGAIN.read_bytes()), 0, b"")
     # Another file at the path is loaded, and the next --save writes checksums for it.
     shutil.copy(SNAPSHOT, work_dir / "other")
     os.replace(work_dir / "other", keys)
-    check_result(run(load_and_save_arguments(keys), SIGN_IN_AGAIN.read_bytes()), 0, b"")
+    check_result(run(make_load_and_save_arguments(keys), SIGN_IN_AGAIN.read_bytes()), 0, b"")
     assert len(read_sums(keys)) == 2
     keys.write_bytes(SNAPSHOT.read_bytes()[:-1])
-    assert run(load_and_save_arguments(keys), SIGN_IN_AGAIN.read_bytes()).returncode == 2
+    assert run(make_load_and_save_arguments(keys), SIGN_IN_AGAIN.read_bytes()).returncode == 2
 
 
 def test_files_without_sums_are_loaded(work_dir: Path) -> None:
@@ -197,7 +199,7 @@ def test_files_without_sums_are_loaded(work_dir: Path) -> None:
     keys = make_snapshot(work_dir)
     (work_dir / "keys.hidlog-sum").unlink(missing_ok=True)
     keys.write_bytes(SNAPSHOT.read_bytes())
-    check_result(run(load_and_save_arguments(keys), SIGN_IN_AGAIN.read_bytes()), 0, b"")
+    check_result(run(make_load_and_save_arguments(keys), SIGN_IN_AGAIN.read_bytes()), 0, b"")
     assert read_counter(keys) == 1 and len(read_sums(keys)) == 2
 
 
@@ -211,7 +213,7 @@ def test_unrelated_sums_file_is_reported(work_dir: Path) -> None:
     for wrong in (b"", b"mine\n", text[:-1], text + b"\n", text * 3, text.replace(b" ", b"\n"), text.upper() + b"x"):
         sums.write_bytes(wrong)
         told = f"  {keys}: ".encode() + INVALID_SUMS_MESSAGE
-        check_result(run_explained(load_and_save_arguments(keys), INIT), 2, CANNOT_READ + told, b"")
+        check_result(run_explained(make_load_and_save_arguments(keys), INIT), 2, CANNOT_READ + told, b"")
         check_result(run_explained(["replay", "--save", str(keys)]), 2, CANNOT_WRITE + told, COUNTS)
         assert keys.read_bytes() == old and sums.read_bytes() == wrong, wrong
     # If a pipe is at this path, the program does not wait for it.
@@ -220,7 +222,7 @@ def test_unrelated_sums_file_is_reported(work_dir: Path) -> None:
         sums.rmdir() if sums.is_dir() else sums.unlink()
         make(sums)
         check_result(
-            run_explained(load_and_save_arguments(keys), INIT),
+            run_explained(make_load_and_save_arguments(keys), INIT),
             2,
             CANNOT_READ + f"  {keys}: ".encode() + INVALID_SUMS_MESSAGE,
             b"",
@@ -238,7 +240,7 @@ def test_long_name_has_no_sums(work_dir: Path) -> None:
     """A snapshot whose name is too long for a checksum file beside it is loaded, and is saved without checksums."""
     keys = work_dir / ("k" * 250)
     keys.write_bytes(SNAPSHOT.read_bytes())
-    check_result(run(load_and_save_arguments(keys), SIGN_IN_AGAIN.read_bytes()), 0, b"")
+    check_result(run(make_load_and_save_arguments(keys), SIGN_IN_AGAIN.read_bytes()), 0, b"")
     assert read_counter(keys) == 1 and os.listdir(work_dir) == [keys.name]
 
 

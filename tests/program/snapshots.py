@@ -1,4 +1,4 @@
-"""Snapshots that are loaded, saved or rejected, snapshots written by another program, and snapshots with each byte
+"""Tests snapshots that are loaded, saved or rejected, snapshots written by another program, and snapshots with each byte
 changed.
 
 The valid bytes at each offset of a row were computed from the definition of a snapshot (docs/use/PROFILE.md) by a
@@ -16,7 +16,7 @@ from typing import Optional, Tuple, Union
 from running import COUNTS, TOP, run, run_explained
 
 sys.path.insert(0, str(Path(__file__).resolve().parents[1] / "fuzz"))
-from malformed_requests import head
+from malformed_requests import encode_head
 
 # The major type of arrays (RFC 8949, section 3.1).
 ARRAY = 4
@@ -51,7 +51,7 @@ MESSAGE_SUBJECTS = ("it is", "the snapshot is", "unsupported version")
 NONE, BROKEN = (NOT_SNAPSHOT, MESSAGE_SUBJECTS), (ROW_BROKEN, "credential 1")
 # Snapshots, each with the number of the error and the subject of the message, or None if the snapshot is valid. The
 # last two contain user names of 64 and 65 bytes.
-LOADED: list[tuple[bytes, Optional[Refusal]]] = [
+LOAD_CASES: list[tuple[bytes, Optional[Refusal]]] = [
     (b"\xa0", NONE),
     (b"\xa2\x01\x00\x02\x80", NONE),
     (b"\xa2\x01\x03\x02\x80", NONE),
@@ -70,7 +70,7 @@ LOADED: list[tuple[bytes, Optional[Refusal]]] = [
 ]
 # Snapshots of one row, each with the snapshot that is saved after loading it. Version 1 is saved as version 2; version
 # 2, with and without a name, is unchanged.
-SAVED = [
+SAVE_CASES = [
     (make_snapshot(OLD, EXHAUSTED_COUNTER), make_snapshot(NAMED, EXHAUSTED_COUNTER + b"\x08\x60")),
     (make_snapshot(NAMED, EXHAUSTED_COUNTER + b"\x08\x60"), make_snapshot(NAMED, EXHAUSTED_COUNTER + b"\x08\x60")),
     (make_snapshot(NAMED, b"\x06\xf5\x07\x00\x08\x61\x62"), make_snapshot(NAMED, b"\x06\xf5\x07\x00\x08\x61\x62")),
@@ -89,7 +89,7 @@ ROW_BYTES = 151
 LAST_OF_ID, USER = 70, 143
 # Changes of a byte that give another item in canonical CBOR: the first and the last offset in a row, the lowest and the
 # highest byte, and whether a valid row may contain such a byte. With any other byte, the file is not a snapshot.
-CHANGES = [
+BYTE_CHANGES = [
     # The row is an array, or its first key is 0.
     (0, 0, 0x90, 0x90, False),
     (1, 1, 0x00, 0x00, False),
@@ -131,7 +131,7 @@ CHANGES = [
 ]
 
 
-class Outcome(ctypes.Structure):
+class HidlogResult(ctypes.Structure):
     """struct hidlog_result of hidlog.h."""
 
     _fields_ = [
@@ -143,7 +143,7 @@ class Outcome(ctypes.Structure):
     ]
 
 
-def expected_error(place: int, byte: int) -> Optional[Refusal]:
+def find_expected_error(place: int, byte: int) -> Optional[Refusal]:
     """Returns the expected error for the two rows with this byte at an offset, or None if they are loaded."""
     # In version 1, rows contain no names.
     if place == 2 and byte == 1:
@@ -157,7 +157,7 @@ def expected_error(place: int, byte: int) -> Optional[Refusal]:
     # The name, which has one byte.
     if within == ROW_BYTES - 1 and byte < 0x80:
         return None
-    for first, last, least, most, holds in CHANGES:
+    for first, last, least, most, holds in BYTE_CHANGES:
         if first <= within <= last and least <= byte <= most:
             return None if holds else (ROW_BROKEN, f"credential {number + 1}")
     return NONE
@@ -176,19 +176,19 @@ def check_load(work_dir: Path, text: bytes, wanted: Optional[Refusal], rows: int
         return
     front = f"hidlog: snapshot refused: {wanted[0]}\n".encode()
     assert said.returncode == 2 and said.stdout == b"", f"the invalid snapshot {text.hex()} is loaded"
-    assert said.stderr == front, f"another error for the snapshot {text.hex()}: {said.stderr!r}"
+    assert said.stderr == front, f"unexpected error for the snapshot {text.hex()}: {said.stderr!r}"
     reasons = wanted[1] if isinstance(wanted[1], tuple) else (wanted[1],)
     fronts = tuple(front + f"  {work_dir / 'old'}: {reason} ".encode() for reason in reasons)
-    assert run_explained(words).stderr.startswith(fronts), f"another reason for the snapshot {text.hex()}"
+    assert run_explained(words).stderr.startswith(fronts), f"unexpected reason for the snapshot {text.hex()}"
 
 
 def test_snapshots_are_loaded_or_refused(work_dir: Path) -> None:
     """Tests bytes that are not snapshots, snapshots with too many rows, and invalid rows."""
-    for text, wanted in LOADED:
+    for text, wanted in LOAD_CASES:
         check_load(work_dir, text, wanted, text.count(COORDINATES))
 
 
-def long_row(number: int, name_length: int = 64) -> bytes:
+def make_long_row(number: int, name_length: int = 64) -> bytes:
     """Returns a discoverable row with a unique credential ID, a user handle of 64 bytes, and a user name of this
     length."""
     row = b"\xa8" + RP_AND_ID[:-31] + number.to_bytes(32, "big") + COORDINATES[:-1]
@@ -200,23 +200,23 @@ def test_long_snapshots(work_dir: Path) -> None:
     """The longest snapshot is loaded, and saved unchanged. A longer snapshot has too many rows, whatever its length. A
     file that can't be the snapshot of any key isn't read completely."""
     old, new = work_dir / "old", work_dir / "new"
-    full = b"\xa2\x01\x02\x02" + head(ARRAY, 64) + b"".join(long_row(number) for number in range(64))
+    full = b"\xa2\x01\x02\x02" + encode_head(ARRAY, 64) + b"".join(make_long_row(number) for number in range(64))
     check_load(work_dir, full, None, 64)
     said = run(["replay", "--load", str(old), "--save", str(new)])
     assert said.returncode == 0 and new.read_bytes() == full
     for count in (65, 3000, 4000):
-        rows = b"".join(long_row(number) for number in range(count))
-        check_load(work_dir, b"\xa2\x01\x02\x02" + head(ARRAY, count) + rows, (TOO_MANY, "more than 64"), count)
+        rows = b"".join(make_long_row(number) for number in range(count))
+        check_load(work_dir, b"\xa2\x01\x02\x02" + encode_head(ARRAY, count) + rows, (TOO_MANY, "more than 64"), count)
     # Names of this length make the file one byte longer than 1 MiB.
     rest = (1 << 20) + 1 - 7
-    lengths = [64] * (rest // len(long_row(0)) + 1)
-    excess = len(lengths) * len(long_row(0)) - rest
+    lengths = [64] * (rest // len(make_long_row(0)) + 1)
+    excess = len(lengths) * len(make_long_row(0)) - rest
     for number in range(8):
         cut = min(excess, 40)
         lengths[number] -= cut
         excess -= cut
-    text = b"\xa2\x01\x02\x02" + head(ARRAY, len(lengths))
-    text += b"".join(long_row(number, length) for number, length in enumerate(lengths))
+    text = b"\xa2\x01\x02\x02" + encode_head(ARRAY, len(lengths))
+    text += b"".join(make_long_row(number, length) for number, length in enumerate(lengths))
     assert len(text) == (1 << 20) + 1, len(text)
     check_load(work_dir, text, (TOO_MANY, "more than 64"), len(lengths))
     with open(old, "wb") as file:
@@ -230,7 +230,7 @@ def test_long_snapshots(work_dir: Path) -> None:
 
 def test_snapshots_are_saved_as_version_2(work_dir: Path) -> None:
     """A snapshot of either version is saved as one of version 2."""
-    for old, new in SAVED:
+    for old, new in SAVE_CASES:
         (work_dir / "old").write_bytes(old)
         said = run(["replay", "--load", str(work_dir / "old"), "--save", str(work_dir / "new")])
         assert said.returncode == 0 and said.stderr == b"", said.stderr.decode()
@@ -246,19 +246,19 @@ def test_each_byte_of_snapshot_changed(work_dir: Path) -> None:
     assert len(TWO_ROWS) == len(TWO_ROWS_HEAD) + 2 * ROW_BYTES
     check = ctypes.CDLL(str(TOP / "release/libhidlog.so.1")).hidlog_check
     check.restype = None
-    size, outcome = ctypes.c_size_t, Outcome()
+    size, outcome = ctypes.c_size_t, HidlogResult()
     text, out = ctypes.create_string_buffer(TWO_ROWS, len(TWO_ROWS)), ctypes.create_string_buffer(64)
     words = [b"", size(0), text, size(len(TWO_ROWS)), out, size(64), ctypes.byref(outcome)]
     for place, old in enumerate(TWO_ROWS):
         for byte in range(256):
-            wanted = None if byte == old else expected_error(place, byte)
+            wanted = None if byte == old else find_expected_error(place, byte)
             text[place] = bytes([byte])
             check(*words)
             told = (outcome.status, outcome.fault)
             assert told == ((2, wanted[0]) if wanted else (0, 0)), f"{byte:02x} at {place} is answered {told}"
         text[place] = bytes([old])
     for number in range(2):
-        for first, _, least, _, _ in CHANGES:
+        for first, _, least, _, _ in BYTE_CHANGES:
             place = len(TWO_ROWS_HEAD) + ROW_BYTES * number + first
             changed = TWO_ROWS[:place] + bytes([least]) + TWO_ROWS[place + 1 :]
-            check_load(work_dir, changed, None if changed == TWO_ROWS else expected_error(place, least), 2)
+            check_load(work_dir, changed, None if changed == TWO_ROWS else find_expected_error(place, least), 2)

@@ -1,4 +1,6 @@
-"""Cases generated from tables, and cases with invisible characters, in the format of cases.txt. The tables are those of CTAP 2.1, RFC 8949 and docs/use/LOG_FORMAT.md.
+"""Cases generated from tables, and cases with invisible characters, in the format of cases.txt.
+
+The tables are those of CTAP 2.1, RFC 8949 and docs/use/LOG_FORMAT.md.
 """
 
 from __future__ import annotations
@@ -102,7 +104,7 @@ ERRORS = """\
 """
 
 # CTAPHID commands, with the output for a message of 65535 bytes that begins with a0.
-CTAPHID = {
+CTAPHID_MESSAGES = {
     0x01: "PING 65535",
     0x03: "MSG 65535",
     0x04: "LOCK 65535",
@@ -203,7 +205,7 @@ LINE_CASES = [
     f"1 hidlog replay --explain\n-{'x' * 255}\n!\n?hidlog: line 1: not a log line\n?  byte 1 is 'x': a log line begins with >, <, t, p, k, s, # or =",
     f"1 hidlog replay\n-{'x' * 256}\n!\n?hidlog: line 1: longer than 255 bytes",
 ]
-# `live` drops comments about needs from its input, and no other comments.
+# Of its input, `live` drops only comments about needs.
 COMMENT_CASES = [
     "0 hidlog live\n|#\n|#\x20\n|# need\n|# needs\n|#need key\n|# Need key\n|# signed\n|# signedness\n|#  need key\n"
     f"|# a need\n+{COUNTS}",
@@ -229,18 +231,18 @@ def iter_rows(table: str) -> Iterator[tuple[str, str]]:
         yield first, rest
 
 
-def format_named(name: str) -> str:
+def format_name(name: str) -> str:
     """Returns the output for a name at the end of a line, if any."""
     return f"  {name}" if name else ""
 
 
-def message_case(data: str, shown: str) -> str:
+def make_message_case(data: str, shown: str) -> str:
     """Returns the case of a CBOR message that a host sends in one packet."""
     length = len(data) // 2
     return f"0 hidlog show --explain\n-> 0 0000000190{length:04x}{data}..\n+1 > 0 00000001 CBOR {length}\n+1   request {shown}"
 
 
-def long_message_case(length: int, end: str) -> str:
+def make_long_message_case(length: int, end: str) -> str:
     """Returns the case of a message that the key sends in 129 packets: its first byte, and a byte string of zeros."""
     first = f"-< 0000000190{length:04x}0059{length - 4:04x}..\n+1 < 00000001 CBOR {length}\n"
     rest = (f"-< 00000001{number:02x}..\n+{number + 2} < 00000001 +{number}\n" for number in range(128))
@@ -251,22 +253,22 @@ def iter_cases() -> Iterator[str]:
     """Yields the cases."""
     for number, name in iter_rows(STATUSES):
         head = f"0 hidlog show --explain\n-< 00000001900001{number}..\n+1 < 00000001 CBOR 1\n"
-        yield f"{head}+1   answer {number}{format_named(name)}"
+        yield f"{head}+1   answer {number}{format_name(name)}"
     for number, name in iter_rows(COMMANDS):
-        yield message_case(number, number + format_named(name))
+        yield make_message_case(number, number + format_name(name))
     for number, name in iter_rows(ERRORS):
-        yield f"0 hidlog show --explain\n-< 00000001bf0001{number}..\n+1 < 00000001 ERROR 1 {number}{format_named(name)}"
+        yield f"0 hidlog show --explain\n-< 00000001bf0001{number}..\n+1 < 00000001 ERROR 1 {number}{format_name(name)}"
     for command in range(128):
-        shown = CTAPHID.get(command, f"0x{command:02x} 65535")
+        shown = CTAPHID_MESSAGES.get(command, f"0x{command:02x} 65535")
         yield f"0 hidlog show --explain\n-< 0123abcd{command | 128:02x}ffffa0..\n+1 < 0123abcd {shown}"
     for item, text in iter_rows(INVISIBLE_CHARACTERS):
-        yield message_case(f"05{item}", f'05 "{text}"')
+        yield make_message_case(f"05{item}", f'05 "{text}"')
     for item, text in iter_rows(ITEMS):
-        yield message_case(f"05{item}", f"05 {text}")
+        yield make_message_case(f"05{item}", f"05 {text}")
     for request, text in iter_rows(REQUEST_CASES):
-        yield message_case(request, text)
-    yield long_message_case(7609, f"+129   answer 00 h'{'0' * 15210}'  CTAP2_OK")
-    yield long_message_case(7610, "")
+        yield make_message_case(request, text)
+    yield make_long_message_case(7609, f"+129   answer 00 h'{'0' * 15210}'  CTAP2_OK")
+    yield make_long_message_case(7610, "")
     yield from [*LINE_CASES, *COMMENT_CASES, *SHOW_CASES]
     # Arguments with characters that move a terminal's cursor (ESC) or reverse the line (RIGHT-TO-LEFT OVERRIDE).
     yield (

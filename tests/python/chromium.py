@@ -19,7 +19,7 @@ from typing import Any
 KEY_SCRIPT = Path(os.environ["HIDLOG_EXAMPLES"]).parent / "bindings" / "web" / "dist" / "security_key.js"
 
 
-class Page(BaseHTTPRequestHandler):
+class PageHandler(BaseHTTPRequestHandler):
     """Serves an empty page, and the key's script for pages."""
 
     def do_GET(self) -> None:
@@ -52,7 +52,7 @@ class Driver:
         with urllib.request.urlopen(request, timeout=600) as answer:
             return json.load(answer)["value"]
 
-    def devtools(self, command: str, **parameters: Any) -> Any:
+    def send_devtools_command(self, command: str, **parameters: Any) -> Any:
         """Sends a DevTools command."""
         return self.call("/goog/cdp/execute", {"cmd": command, "params": parameters})
 
@@ -61,7 +61,7 @@ class Driver:
         return self.call(f"/execute/{'async' if waits else 'sync'}", {"script": script, "args": words})
 
 
-def wait_for(port: int) -> None:
+def wait_for_port(port: int) -> None:
     """Waits up to a minute until a local port is listening."""
     for _ in range(600):
         try:
@@ -69,7 +69,7 @@ def wait_for(port: int) -> None:
             return
         except ConnectionRefusedError:
             time.sleep(0.1)
-    raise TimeoutError(f"nothing listens at port {port}")
+    raise TimeoutError(f"nothing listens on port {port} after a minute")
 
 
 def is_installed() -> bool:
@@ -78,16 +78,16 @@ def is_installed() -> bool:
 
 
 @contextmanager
-def page() -> Iterator[Driver]:
+def open_page() -> Iterator[Driver]:
     """Provides a page whose origin is secure."""
-    server = ThreadingHTTPServer(("127.0.0.1", 0), Page)
+    server = ThreadingHTTPServer(("127.0.0.1", 0), PageHandler)
     threading.Thread(target=server.serve_forever, daemon=True).start()
     with socket.socket() as free:
         free.bind(("127.0.0.1", 0))
         port = free.getsockname()[1]
     process = subprocess.Popen(["chromedriver", f"--port={port}"], stdout=subprocess.DEVNULL, stderr=subprocess.DEVNULL)
     try:
-        wait_for(port)
+        wait_for_port(port)
         driver = Driver(port)
         driver.origin = f"http://localhost:{server.server_address[1]}"
         driver.call("/url", {"url": f"{driver.origin}/"})

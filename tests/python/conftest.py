@@ -33,16 +33,16 @@ PROCESS_OPTIONS = [True, *([False] if core.supports_in_process() else [])]
 
 
 @pytest.fixture(params=PROCESS_OPTIONS, ids=lambda item: "process" if item else "library")
-def make(request: pytest.FixtureRequest) -> Iterator[Callable[..., hidlog.SecurityKey]]:
+def make_key(request: pytest.FixtureRequest) -> Iterator[Callable[..., hidlog.SecurityKey]]:
     """Provides a function that creates a key. At the end of the test, each recording must match the packets that the
     key sends."""
     keys = []
 
-    def made(**options: Any) -> hidlog.SecurityKey:
+    def create_key(**options: Any) -> hidlog.SecurityKey:
         keys.append(hidlog.SecurityKey(process=request.param, **options))
         return keys[-1]
 
-    yield made
+    yield create_key
     for key in keys:
         key.close()
         for snapshot, log in key.recordings if key.log else []:
@@ -51,6 +51,6 @@ def make(request: pytest.FixtureRequest) -> Iterator[Callable[..., hidlog.Securi
 
 
 @pytest.fixture
-def example() -> Callable[[str], bytes]:
+def read_example() -> Callable[[str], bytes]:
     """Provides a function that reads a file of examples/."""
     return lambda name: Path(os.environ["HIDLOG_EXAMPLES"], name).read_bytes()

@@ -74,7 +74,7 @@ unpack_packages() {
     touch "$to/.complete"
 }
 
-# Links the modules of Debian's packages that work with any interpreter into a directory.
+# Links the modules of Debian's packages that work with any interpreter into a directory: link_packages DIR
 link_packages() {
     local name
     mkdir -p "$1"
@@ -153,9 +153,9 @@ list_interpreters() {
     done
 }
 
-# Provides the extension module that cryptography's bindings need for an interpreter: Debian's module, or a module that
-# is compiled from Debian's source.
-compile_cffi() {
+# Provides the extension module that cryptography's bindings need for an interpreter: provide_cffi INTERPRETER DIR. It
+# is Debian's module, or is compiled from Debian's source.
+provide_cffi() {
     local source=$cache/cffi-source name
     name=_cffi_backend$("$1" -c 'import sysconfig; print(sysconfig.get_config_var("EXT_SUFFIX"))')
     if [ -e "$debian/$name" ]; then
@@ -188,7 +188,7 @@ test_pythons() {
             continue # the suite ran with it above
         fi
         link_packages "$venv/packages"
-        if compile_cffi "$venv/bin/python" "$venv/packages" >"$work/output" 2>&1; then
+        if provide_cffi "$venv/bin/python" "$venv/packages" >"$work/output" 2>&1; then
             echo "$venv/packages" >"$(echo "$venv"/lib/python3*/site-packages)/packages.pth"
             run_case "$(basename "$venv") signs in: the tests of ceremonies" run_ceremony_tests "$venv/bin/python"
         else

@@ -37,8 +37,8 @@ def make_client(key: hidlog.SecurityKey) -> Any:
     return Fido2Client(key.device(), ORIGIN, verify=lambda *_: True)
 
 
-def _old_options(name: str, options: Json) -> Json:
-    """Returns the options that version 0.9 supports. It rejects options with other members."""
+def _select_supported_options(name: str, options: Json) -> Json:
+    """Returns the options that version 0.9 supports. Version 0.9 rejects options with other members."""
     convert = webauthn_json.creation_options if name == "create" else webauthn_json.request_options
     members = convert(options, ORIGIN)
     made = {member: members[member] for member in _MEMBERS[name] if member in members}
@@ -66,7 +66,7 @@ def _to_json(name: str, result: Any) -> Json:
 def _call(made: Any, name: str, options: Json) -> Json:
     call = made.make_credential if name == "create" else made.get_assertion
     if IS_VERSION_0_9:
-        return _to_json(name, call(_old_options(name, options)))
+        return _to_json(name, call(_select_supported_options(name, options)))
     from fido2 import webauthn
 
     members: Json

@@ -21,7 +21,7 @@ Call = Callable[[str, Any, Json], Json]
 TABLE = json.loads(Path(__file__).with_name("browser_cases.json").read_text(encoding="utf-8"))
 CASES: dict[str, Case] = {item["name"]: item for item in TABLE["cases"]}
 # The cases in which the key has features outside the core that Chromium's authenticator also has.
-ALIKE: dict[str, Case] = {item["name"]: item for item in TABLE["alike"]}
+EXTENDED_CASES: dict[str, Case] = {item["name"]: item for item in TABLE["alike"]}
 # The results of Chromium's virtual authenticator, and the different results of other implementations, with the reasons.
 CHROMIUM_RESULTS: dict[str, Any] = json.loads(
     Path(__file__).with_name("browser_cases_chromium.json").read_text(encoding="utf-8")
@@ -29,8 +29,9 @@ CHROMIUM_RESULTS: dict[str, Any] = json.loads(
 DIFFERENCES: list[dict[str, Any]] = json.loads(
     Path(__file__).with_name("browser_cases_differences.json").read_text(encoding="utf-8")
 )
-# Milliseconds after which Chromium is assumed to wait forever.
+# Milliseconds after which a call is stopped: a call of which Chromium is recorded to wait forever, and any other one.
 WAIT_MS = 1500
+MAX_WAIT_MS = 120_000
 UV = 0x04
 
 RUN_SCRIPT = """
@@ -75,7 +76,14 @@ def find_difference(name: str, implementation: str) -> Optional[Json]:
     return None
 
 
-def get_expected(name: str, implementation: str) -> Json:
+def get_wait_ms(case: Case, call: str) -> int:
+    """Returns the milliseconds after which a call of a case is stopped. They are many unless the call is expected to
+    wait forever, so that the result is the same on a busy machine."""
+    is_endless = call == case["call"] and CHROMIUM_RESULTS.get(case["name"]) == {"error": "Waits"}
+    return WAIT_MS if is_endless else MAX_WAIT_MS
+
+
+def get_expected_result(name: str, implementation: str) -> Json:
     """Returns the expected result of a case. Chromium's user can't deny a request; the result of a denial is that of
     WebAuthn (section 5.1.3)."""
     recorded: Json = CHROMIUM_RESULTS.get(name, {"error": "NotAllowedError"})
@@ -128,7 +136,7 @@ def run_calls(call: Call, case: Case, fail: Callable[[], Any] = lambda: None) ->
     except (hidlog.WebAuthnError, ServiceError) as error:
         return {"error": error.name}
     seen = select_members(answer, ids)
-    return {"seen": {**seen, **select_outside(answer)} if case["name"] in ALIKE else seen}
+    return {"seen": {**seen, **select_parts_outside_core(answer)} if case["name"] in EXTENDED_CASES else seen}
 
 
 def select_members(answer: Json, ids: list[str]) -> Json:
@@ -150,7 +158,7 @@ def select_members(answer: Json, ids: list[str]) -> Json:
     return {**shown, "clientData": client_data, "flags": auth_data[32], "isForLocalhost": is_own}
 
 
-def select_outside(answer: Json) -> Json:
+def select_parts_outside_core(answer: Json) -> Json:
     """Returns the parts of a response that are outside the core, without random values: attestation, AAGUID and
     extensions."""
     auth_data = b64url_decode(answer["response"]["authenticatorData"])
@@ -196,9 +204,9 @@ def run_with_package(case: Case) -> Json:
     return result
 
 
-def _make_page_call(driver: Driver) -> Call:
+def _make_page_call(driver: Driver, case: Case) -> Call:
     def call(name: str, options: Any, more: Json) -> Json:
-        answer = driver.run(RUN_SCRIPT, name, options, more, WAIT_MS, waits=True)
+        answer = driver.run(RUN_SCRIPT, name, options, more, get_wait_ms(case, name), waits=True)
         if "error" in answer:
             raise ServiceError(answer["error"], answer["text"])
         made: Json = answer["json"]
@@ -236,21 +244,23 @@ def run_with_chromium(case: Case, driver: Driver) -> Json:
     key = case.get("key", {})
     is_masked = "esidentKey" in json.dumps(case) and "verification" not in key
     driver.run(REMOVE_SCRIPT)
-    driver.devtools("WebAuthn.enable")
+    driver.send_devtools_command("WebAuthn.enable")
     options = to_devtools_options({"verification": "verified", **key} if is_masked else key)
-    made = driver.devtools("WebAuthn.addVirtualAuthenticator", options=options)
+    made = driver.send_devtools_command("WebAuthn.addVirtualAuthenticator", options=options)
     try:
-        result = _to_result(case, driver, made)
+        result = _run_calls_with_driver(case, driver, made)
     finally:
-        driver.devtools("WebAuthn.removeVirtualAuthenticator", **made)
+        driver.send_devtools_command("WebAuthn.removeVirtualAuthenticator", **made)
     if is_masked and "seen" in result:
         result["seen"]["flags"] &= ~UV
     return result
 
 
-def _to_result(case: Case, driver: Driver, made: Json) -> Json:
+def _run_calls_with_driver(case: Case, driver: Driver, made: Json) -> Json:
     fail = {"isUserVerified": False, **made}
-    return run_calls(_make_page_call(driver), case, lambda: driver.devtools("WebAuthn.setUserVerified", **fail))
+    return run_calls(
+        _make_page_call(driver, case), case, lambda: driver.send_devtools_command("WebAuthn.setUserVerified", **fail)
+    )
 
 
 def run_with_page_key(case: Case, driver: Driver) -> Json:
@@ -260,7 +270,7 @@ def run_with_page_key(case: Case, driver: Driver) -> Json:
     options = {**to_devtools_options(key), **outside}
     refused = driver.run(INSTALL_SCRIPT, options, waits=True)
     assert not refused, refused
-    call_page = _make_page_call(driver)
+    call_page = _make_page_call(driver, case)
 
     def call(name: str, options: Any, more: Json) -> Json:
         driver.run(PRESENCE_SCRIPT, case.get("presence", "granted") if name == case["call"] else "granted")

@@ -12,7 +12,7 @@ from fido2.server import Fido2Server
 import hidlog
 
 ORIGIN = "https://example.com"
-REFUSED_ERROR = ClientError.ERR
+CLIENT_ERRORS = ClientError.ERR
 
 
 class Service:

@@ -110,8 +110,8 @@ def test_rp_ids_are_judged_as_browsers_do(origin: str, rp_id: str | None, is_tak
                 browser.create(make_creation_options(rp={"name": "A", **member}))
 
 
-def test_errors_are_the_doms_and_this_packages(make: Make) -> None:
-    key = make()
+def test_errors_are_the_doms_and_this_packages(make_key: Make) -> None:
+    key = make_key()
     browser = key.browser("https://example.com")
     made = browser.create(make_creation_options())
     key.presence = "denied"
@@ -126,7 +126,7 @@ def test_errors_are_the_doms_and_this_packages(make: Make) -> None:
         browser.get({"rpId": "example.com"})
     assert missing.value.name == "TypeError" and isinstance(missing.value, TypeError)
     key.faults.truncate_by = 3
-    with pytest.raises(hidlog.NotAllowedError, match="the key's answer can't be read"):
+    with pytest.raises(hidlog.NotAllowedError, match="the authenticator's response is not CBOR"):
         browser.get(REQUEST_OPTIONS)
     key.faults.clear()
     key.faults.status = "KEY_STORE_FULL"
@@ -143,8 +143,8 @@ def test_options_with_bytes_are_refused_with_what_is_right() -> None:
         key.browser("https://example.com").create(make_creation_options(challenge=bytes(16)))
 
 
-def test_accounts(make: Make) -> None:
-    key = make()
+def test_accounts(make_key: Make) -> None:
+    key = make_key()
     browser = key.browser("https://example.com")
     made = {name: browser.create(make_creation_options(name)) for name in ("ann", "bob", "cy")}
     by_function = lambda found: next(result for result in found if result.user_id == b"ann")  # noqa: E731
@@ -165,8 +165,20 @@ def test_accounts(make: Make) -> None:
             browser.get(REQUEST_OPTIONS, wrong)  # type: ignore[arg-type]
 
 
-def test_conditional_mediation_waits_for_a_choice(make: Make) -> None:
-    key = make()
+def test_reasons_name_what_is_wrong(make_key: Make) -> None:
+    key = make_key()
+    browser = key.browser("https://example.com")
+    with pytest.raises(hidlog.NotAllowedError, match="conditional mediation"):
+        browser.create(make_creation_options(), mediation="conditional")
+    with pytest.raises(hidlog.WebAuthnRangeError, match="an array inside an array"):
+        browser.create(make_creation_options(rp={"name": [["A"]]}))
+    appid = {"appid": "https://localhost/app"}
+    with pytest.raises(hidlog.SecurityError, match="the page isn't served over https"):
+        key.browser("http://localhost").get({**REQUEST_OPTIONS, "rpId": "localhost", "extensions": appid})
+
+
+def test_conditional_mediation_waits_for_a_choice(make_key: Make) -> None:
+    key = make_key()
     browser = key.browser("https://example.com")
     made = [browser.create(make_creation_options(name)) for name in ("ann", "bob")]
     before = len(key.log)
@@ -191,8 +203,8 @@ def test_conditional_mediation_waits_for_a_choice(make: Make) -> None:
         browser.get(REQUEST_OPTIONS, mediation="conditional", signal=ended)
 
 
-def test_a_signal_ends_the_wait_for_the_user(make: Make) -> None:
-    key, ended = make(presence=None), threading.Event()
+def test_a_signal_ends_the_wait_for_the_user(make_key: Make) -> None:
+    key, ended = make_key(presence=None), threading.Event()
     browser = key.browser("https://example.com")
     threading.Timer(0.15, ended.set).start()
     with pytest.raises(hidlog.AbortError):
@@ -205,8 +217,8 @@ def test_a_signal_ends_the_wait_for_the_user(make: Make) -> None:
     assert browser.create(make_creation_options())["type"] == "public-key"
 
 
-def test_the_time_out_of_the_options(make: Make) -> None:
-    key = make(presence=None)
+def test_the_time_out_of_the_options(make_key: Make) -> None:
+    key = make_key(presence=None)
     browser = key.browser("https://example.com")
     began = time.monotonic()
     with pytest.raises(hidlog.NotAllowedError, match="the user did nothing for 250 ms"):
@@ -220,15 +232,15 @@ def test_the_time_out_of_the_options(make: Make) -> None:
     assert browser.create(make_creation_options(timeout=60_000))["id"]
 
 
-def test_a_user_who_does_nothing(make: Make) -> None:
-    key = make(presence=None, timeout=0.3)
+def test_a_user_who_does_nothing(make_key: Make) -> None:
+    key = make_key(presence=None, timeout=0.3)
     with pytest.raises(hidlog.NotAllowedError, match="the user did nothing for 0.3 s"):
         key.browser("https://example.com").create(make_creation_options())
 
 
-def test_flags_are_set_outside_of_the_core(make: Make) -> None:
+def test_flags_are_set_outside_of_the_core(make_key: Make) -> None:
     """WebAuthn Level 3, section 6.1: UP 0x01, UV 0x04, BE 0x08, BS 0x10, AT 0x40."""
-    key = make(verification="verified")
+    key = make_key(verification="verified")
     browser = key.browser("https://example.com")
     made = browser.create(make_creation_options())
     assert read_flags(made) == 0x45 and read_flags(browser.get(REQUEST_OPTIONS)) == 0x05
@@ -256,8 +268,8 @@ def test_flags_are_set_outside_of_the_core(make: Make) -> None:
     assert b"# outside of the core: flags UV, BE, BS, and the signature" in log and b"# fault" not in log
 
 
-def test_a_platform_authenticator(make: Make) -> None:
-    key = make(attachment="platform", verification="verified")
+def test_a_platform_authenticator(make_key: Make) -> None:
+    key = make_key(attachment="platform", verification="verified")
     browser = key.browser("http://localhost:5000")
     wanted = {**DISCOVERABLE, "authenticatorAttachment": "platform", "userVerification": "required"}
     made = browser.create(make_creation_options(authenticatorSelection=wanted))
@@ -270,8 +282,8 @@ def test_a_platform_authenticator(make: Make) -> None:
 
 @pytest.mark.parametrize("length", [1, 4, 16, 31, 32, 33, 64, 65, 1023])
 @pytest.mark.parametrize("discoverable", [True, False])
-def test_credentials_of_any_id(make: Make, length: int, discoverable: bool, tmp_path: Any) -> None:
-    key = make()
+def test_credentials_of_any_id(make_key: Make, length: int, discoverable: bool, tmp_path: Any) -> None:
+    key = make_key()
     browser, name = key.browser("https://example.com"), bytes(range(1, 200))[:length].ljust(length, b"\7")
     browser.create(make_creation_options("bob"))
     added = key.credentials.add(
@@ -296,8 +308,8 @@ def test_credentials_of_any_id(make: Make, length: int, discoverable: bool, tmp_
         browser.get(allowed)
 
 
-def test_sixty_four_unknown_ids_of_any_length(make: Make) -> None:
-    browser = make().browser("https://example.com")
+def test_sixty_four_unknown_ids_of_any_length(make_key: Make) -> None:
+    browser = make_key().browser("https://example.com")
     made = browser.create(make_creation_options())
     for length in (1, 64, 1023):
         others = [{"type": "public-key", "id": b64url_encode(bytes([index]) * length)} for index in range(63)]
@@ -307,8 +319,8 @@ def test_sixty_four_unknown_ids_of_any_length(make: Make) -> None:
         assert found["id"] == made["id"]
 
 
-def test_a_browser_goes_on_after_a_loss_of_power(make: Make) -> None:
-    key = make()
+def test_a_browser_goes_on_after_a_loss_of_power(make_key: Make) -> None:
+    key = make_key()
     browser = key.browser("https://example.com")
     made = browser.create(make_creation_options())
     key.restart()
@@ -317,8 +329,8 @@ def test_a_browser_goes_on_after_a_loss_of_power(make: Make) -> None:
     assert browser.get(REQUEST_OPTIONS, "ann")["id"] == made["id"]
 
 
-def test_asyncio(make: Make) -> None:
-    key = make()
+def test_asyncio(make_key: Make) -> None:
+    key = make_key()
     browser = key.browser("https://example.com")
 
     async def create_and_get() -> None:
@@ -338,8 +350,8 @@ def test_asyncio(make: Make) -> None:
     assert len(key.credentials) == 8
 
 
-def test_the_attestation_is_the_keys(make: Make) -> None:
-    made = make().browser("https://example.com").create(make_creation_options(attestation="direct"))
+def test_the_attestation_is_the_keys(make_key: Make) -> None:
+    made = make_key().browser("https://example.com").create(make_creation_options(attestation="direct"))
     attestation = cbor.decode(b64url_decode(made["response"]["attestationObject"]))
     assert attestation["fmt"] == "packed" and set(attestation["attStmt"]) == {"alg", "sig"}
 

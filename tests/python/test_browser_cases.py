@@ -4,16 +4,17 @@ The expected results are those of Chromium's own virtual authenticator, in brows
 with an installed Chromium, and HIDLOG_RECORD_CASES=FILE records them again. The members of a case:
 
     call, options, without   the call, and how its options differ from those at the start of the table
-    raw                      options that replace these
+    raw                      options that replace all others
     before                   earlier registrations; "$0" is the ID of the first
     key, presence            options of the key, and what the user does
     then                     "failed": after the earlier registrations, user verification fails
     mediation, wrapped       the call's mediation; options in a member publicKey
 
-Where an implementation's result is another one, browser_cases_differences.json has its values and the reason: members of
-the result that replace Chromium's, for `implementations` (python, page, npm, go, rust, url) [default: all].
+If an implementation's result differs, browser_cases_differences.json has the reason and the members of the result that
+replace Chromium's, for `implementations` (python, page, npm, go, rust, url) [default: all].
 
-The cases of `alike` are of keys with what Chromium's authenticator has outside the core, and compare that, too.
+In the cases of `alike`, the key also has the features of Chromium's authenticator that are outside the core, and they
+are compared, too.
 """
 
 from __future__ import annotations
@@ -24,14 +25,14 @@ from collections.abc import Iterator
 from pathlib import Path
 
 import pytest
-from chromium import Driver, is_installed, page
+from chromium import Driver, is_installed, open_page
 from implementations import (
-    ALIKE,
+    EXTENDED_CASES,
     CASES,
     CHROMIUM_RESULTS,
     DIFFERENCES,
     TABLE,
-    get_expected,
+    get_expected_result,
     run_with_chromium,
     run_with_package,
     run_with_page_key,
@@ -45,11 +46,11 @@ def driver() -> Iterator[Driver]:
     """Provides a page that loads the key of bindings/web/dist."""
     if not is_installed():
         pytest.skip("chromedriver is missing (apt-get install chromium-driver)")
-    with page() as made:
+    with open_page() as made:
         yield made
 
 
-ALL_CASES = {**CASES, **ALIKE}
+ALL_CASES = {**CASES, **EXTENDED_CASES}
 
 
 def is_compared(name: str) -> bool:
@@ -59,20 +60,20 @@ def is_compared(name: str) -> bool:
 
 def test_the_table_is_large() -> None:
     assert len(CASES) == len(TABLE["cases"]) >= 190
-    assert len(ALIKE) == len(TABLE["alike"]) >= 70
+    assert len(EXTENDED_CASES) == len(TABLE["alike"]) >= 70
     assert set(CHROMIUM_RESULTS) == set(filter(is_compared, ALL_CASES))
 
 
 @pytest.mark.parametrize("name", ALL_CASES)
 def test_the_browser(name: str) -> None:
-    assert run_with_package(ALL_CASES[name]) == get_expected(name, "python")
+    assert run_with_package(ALL_CASES[name]) == get_expected_result(name, "python")
 
 
 def test_each_difference_is_of_a_case() -> None:
     for group in DIFFERENCES:
         assert group["reason"] and not set(group["results"]) - set(ALL_CASES)
         for name in group["results"]:
-            assert get_expected(name, group.get("implementations", ["python"])[0]) != CHROMIUM_RESULTS[name]
+            assert get_expected_result(name, group.get("implementations", ["python"])[0]) != CHROMIUM_RESULTS[name]
 
 
 def test_chromium_returns_what_is_recorded(driver: Driver) -> None:
@@ -85,4 +86,4 @@ def test_chromium_returns_what_is_recorded(driver: Driver) -> None:
 
 def test_the_key_in_a_page_returns_the_same(driver: Driver) -> None:
     found = {name: run_with_page_key(case, driver) for name, case in ALL_CASES.items()}
-    assert {name: result for name, result in found.items() if result != get_expected(name, "page")} == {}
+    assert {name: result for name, result in found.items() if result != get_expected_result(name, "page")} == {}

@@ -19,8 +19,8 @@ CREATION: dict[str, Any] = {
 CBOR = 0x10
 
 
-def browser(**options: Any) -> tuple[SecurityKey, Browser]:
-    """Provides a browser at https://example.com with a key."""
+def make_key_and_browser(**options: Any) -> tuple[SecurityKey, Browser]:
+    """Returns a key, and a browser at https://example.com that uses the key."""
     key = SecurityKey(**options)
     return key, Browser(key, "https://example.com")
 
@@ -33,7 +33,7 @@ def _get_cause(caught: pytest.ExceptionInfo[hidlog.NotAllowedError]) -> str:
 
 
 def test_what_the_user_does() -> None:
-    key, page = browser(presence="denied")
+    key, page = make_key_and_browser(presence="denied")
     with pytest.raises(hidlog.NotAllowedError, match="OPERATION_DENIED.*: the user refused$") as caught:
         page.create(CREATION)
     assert _get_cause(caught) == "the user refused" == key.cause() == key.cause(0x27)
@@ -47,7 +47,7 @@ def test_what_the_user_does() -> None:
 
 
 def test_credentials_that_there_are_not() -> None:
-    _, page = browser()
+    _, page = make_key_and_browser()
     with pytest.raises(hidlog.NotAllowedError, match=": no discoverable credential of this RP on this key$"):
         page.get({"challenge": "AAAA", "rpId": "example.com"})
     allowed = [{"type": "public-key", "id": "AAAA"}]
@@ -85,7 +85,7 @@ def test_errors_of_the_transport() -> None:
 
 
 def test_a_fault_has_no_cause() -> None:
-    key, page = browser()
+    key, page = make_key_and_browser()
     key.faults.status = "KEY_STORE_FULL"
     with pytest.raises(hidlog.NotAllowedError) as caught:
         page.create(CREATION)
@@ -93,7 +93,7 @@ def test_a_fault_has_no_cause() -> None:
 
 
 def test_a_key_in_a_process_has_none() -> None:
-    key, page = browser(process=True, presence="denied")
+    key, page = make_key_and_browser(process=True, presence="denied")
     with pytest.raises(hidlog.NotAllowedError, match="OPERATION_DENIED"):
         page.create(CREATION)
     assert key.cause() == ""

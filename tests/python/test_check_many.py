@@ -1,4 +1,4 @@
-"""check_many with executors whose workers exit unexpectedly."""
+"""Tests check_many with different executors, also if workers exit unexpectedly, and the command check-many."""
 
 from __future__ import annotations
 
@@ -41,8 +41,8 @@ def recordings(tmp_path: Path) -> list[Path]:
     return paths
 
 
-def check_each(paths: list[Path]) -> list[tuple[str, str]]:
-    """Returns the expected results, from checking each log by itself."""
+def list_expected(paths: list[Path]) -> list[tuple[str, str]]:
+    """Returns the expected results, from checking each log alone."""
     listed: list[tuple[str, str]] = []
     for path in paths:
         beside = Path(f"{path}.snapshot")
@@ -59,7 +59,7 @@ def summarize(found: Iterator[hidlog.CheckResult]) -> list[tuple[str, str]]:
 
 
 def test_executors(recordings: list[Path]) -> None:
-    wanted = check_each(recordings)
+    wanted = list_expected(recordings)
     assert {item[1] for item in wanted} == {"match", "mismatch", "unreadable"}
     with ThreadPoolExecutor(3) as threads:
         assert summarize(hidlog.check_many(recordings, threads)) == wanted
@@ -72,7 +72,7 @@ def test_a_worker_that_is_killed(recordings: list[Path]) -> None:
     the check fails."""
     pools: list[ProcessPoolExecutor] = []
 
-    def pool() -> ProcessPoolExecutor:
+    def make_pool() -> ProcessPoolExecutor:
         pools.append(ProcessPoolExecutor(2))
         return pools[-1]
 
@@ -82,10 +82,12 @@ def test_a_worker_that_is_killed(recordings: list[Path]) -> None:
                 os.kill(next(iter(pools[-1]._processes)), signal.SIGKILL)
             yield it
 
-    assert summarize(kill_worker(hidlog.check_many(recordings, pool, block=5, at_once=4))) == check_each(recordings)
+    assert summarize(kill_worker(hidlog.check_many(recordings, make_pool, block=5, at_once=4))) == list_expected(
+        recordings
+    )
     assert len(pools) == 2
     with pytest.raises(BrokenExecutor, match="a function that creates"):
-        list(kill_worker(hidlog.check_many(recordings, pool(), block=5, at_once=4)))
+        list(kill_worker(hidlog.check_many(recordings, make_pool(), block=5, at_once=4)))
 
 
 def exit_on_recording(block: list[Any]) -> list[hidlog.CheckResult]:
@@ -113,7 +115,7 @@ def test_dask(recordings: list[Path]) -> None:
             found.append(item)
             if len(found) == 60:
                 os.kill(sorted(client.run(os.getpid).values())[0], signal.SIGKILL)
-        assert summarize(iter(found)) == check_each(recordings)
+        assert summarize(iter(found)) == list_expected(recordings)
 
 
 class LostResult:
@@ -148,12 +150,12 @@ class LosingExecutor(Executor):
 def test_lost_result_of_dask(recordings: list[Path]) -> None:
     """A batch whose result was lost by Dask is checked again."""
     pytest.importorskip("distributed")
-    assert summarize(hidlog.check_many(recordings, LosingExecutor(), block=5)) == check_each(recordings)
+    assert summarize(hidlog.check_many(recordings, LosingExecutor(), block=5)) == list_expected(recordings)
 
 
-BUSY_TOGETHER = 64
+WORKER_COUNT = 64
 # Each of 64 tasks waits for the others, so they finish only if all of them run at the same time.
-BARRIER = threading.Barrier(BUSY_TOGETHER)
+BARRIER = threading.Barrier(WORKER_COUNT)
 
 
 def check_when_all_busy(block: list[Any], **words: Any) -> list[hidlog.CheckResult]:
@@ -164,14 +166,14 @@ def check_when_all_busy(block: list[Any], **words: Any) -> list[hidlog.CheckResu
 
 def test_64_workers_are_busy(monkeypatch: pytest.MonkeyPatch, tmp_path: Path) -> None:
     """By default, there are enough batches for each worker of a pool and of a cluster."""
-    paths = [tmp_path / f"{number}.log" for number in range(BUSY_TOGETHER)]
+    paths = [tmp_path / f"{number}.log" for number in range(WORKER_COUNT)]
     for path in paths:
         path.write_bytes(MATCHING_LOG.read_bytes())
     monkeypatch.setattr("hidlog.batch_check.check_batch", check_when_all_busy)
-    with ThreadPoolExecutor(BUSY_TOGETHER) as threads:
-        assert len(list(hidlog.check_many(paths, threads, block=1))) == BUSY_TOGETHER
+    with ThreadPoolExecutor(WORKER_COUNT) as threads:
+        assert len(list(hidlog.check_many(paths, threads, block=1))) == WORKER_COUNT
     distributed = pytest.importorskip("distributed")
-    words = {"n_workers": 4, "threads_per_worker": BUSY_TOGETHER // 4, "processes": False, "dashboard_address": None}
+    words = {"n_workers": 4, "threads_per_worker": WORKER_COUNT // 4, "processes": False, "dashboard_address": None}
     with distributed.LocalCluster(**words) as cluster, distributed.Client(cluster) as client:
         found = hidlog.check_many(paths, client.get_executor(pure=False), block=1, send=True)
         assert {item.outcome for item in found} == {"match"}
@@ -189,7 +191,7 @@ def test_only_differences(recordings: list[Path], monkeypatch: pytest.MonkeyPatc
     monkeypatch.setattr("hidlog.batch_check.check_batch", check_and_keep)
     with ThreadPoolExecutor(3) as threads:
         found = summarize(hidlog.check_many(recordings, threads, matches=False))
-    assert found == [item for item in check_each(recordings) if item[1] != "match"]
+    assert found == [item for item in list_expected(recordings) if item[1] != "match"]
     assert sorted(item.path for item in returned) == [path for path, _ in found]
 
 
@@ -208,12 +210,12 @@ def test_workers_elsewhere_are_sent_the_data(
     monkeypatch.chdir(recordings[0].parent)
     names = [Path(path.name) for path in recordings]
 
-    def pool() -> ProcessPoolExecutor:
+    def make_pool() -> ProcessPoolExecutor:
         return ProcessPoolExecutor(2, initializer=os.chdir, initargs=(elsewhere,))
 
-    wanted = check_each(names)
-    assert summarize(hidlog.check_many(names, pool, send=True)) == wanted
-    assert summarize(hidlog.check_many(names, pool)) != wanted
+    wanted = list_expected(names)
+    assert summarize(hidlog.check_many(names, make_pool, send=True)) == wanted
+    assert summarize(hidlog.check_many(names, make_pool)) != wanted
 
 
 def test_wrong_words(recordings: list[Path]) -> None:
@@ -228,29 +230,31 @@ def test_wrong_words(recordings: list[Path]) -> None:
             hidlog.check_many(paths, executor, **more)  # type: ignore[arg-type]
 
 
-def command(*words: Any) -> subprocess.CompletedProcess[str]:
+def run_check_many(*words: Any) -> subprocess.CompletedProcess[str]:
     return subprocess.run(
         [sys.executable, "-m", "hidlog", "check-many", *map(str, words)], capture_output=True, text=True, check=False
     )
 
 
 def test_the_command(recordings: list[Path]) -> None:
-    folder, wanted = recordings[0].parent, [element for element in check_each(recordings) if element[1] != "unreadable"]
-    ran = command(folder, "--jobs", 2)
+    folder, wanted = recordings[0].parent, [
+        element for element in list_expected(recordings) if element[1] != "unreadable"
+    ]
+    ran = run_check_many(folder, "--jobs", 2)
     bad = [item for item in wanted if item[1] != "match"]
     assert (ran.returncode, len(ran.stdout.splitlines())) == (1, len(bad))
     assert ran.stderr == f"{len(wanted) - len(bad)} match, {len(bad)} mismatch\n"
-    ran = command(folder, "--report", "json")
+    ran = run_check_many(folder, "--report", "json")
     assert sorted((each["path"], each["outcome"]) for each in map(json.loads, ran.stdout.splitlines())) == wanted
-    suite = xml.fromstring(command(folder, "--report", "junit").stdout)
+    suite = xml.fromstring(run_check_many(folder, "--report", "junit").stdout)
     assert (suite.get("tests"), suite.get("failures")) == (str(len(wanted)), str(len(bad)))
     cases = [(case.get("name"), "match" if case.find("failure") is None else case[0].get("type")) for case in suite]
     assert sorted(cases) == wanted
-    ran = command(recordings[1])
+    ran = run_check_many(recordings[1])
     assert (ran.returncode, ran.stdout, ran.stderr) == (0, "", "1 match\n")
     wrong: list[list[Any]] = [[folder, "--jobs", 0], [folder, "--executor", "host:1"], [folder / "nothing"], []]
     for words in wrong:
-        ran = command(*words)
+        ran = run_check_many(*words)
         assert ran.returncode in (1, 2) and "Traceback" not in ran.stderr
 
 

@@ -7,7 +7,7 @@ from collections.abc import Iterator
 from typing import Any
 
 import pytest
-from chromium import Driver, is_installed, page
+from chromium import Driver, is_installed, open_page
 from test_json import CREATION, REQUEST
 
 from hidlog import webauthn_json
@@ -61,7 +61,7 @@ def browser() -> Iterator[Driver]:
     """Provides a page with a secure origin and Chromium's own virtual authenticator."""
     if not is_installed():
         pytest.skip("chromedriver is missing (apt-get install chromium-driver)")
-    with page() as driver:
+    with open_page() as driver:
         yield driver
 
 

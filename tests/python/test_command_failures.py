@@ -37,10 +37,10 @@ def run_hidlog(folder: Path, *words: str, data: bytes = b"", prepare: Callable[[
 
 
 @pytest.fixture
-def folder(tmp_path: Path, example: Example) -> Path:
+def folder(tmp_path: Path, read_example: Example) -> Path:
     """Provides a directory that contains a log, its capture, and links to both."""
-    (tmp_path / "log").write_bytes(example("registration.log"))
-    (tmp_path / "capture").write_bytes(to_pcapng(example("registration.log")))
+    (tmp_path / "log").write_bytes(read_example("registration.log"))
+    (tmp_path / "capture").write_bytes(to_pcapng(read_example("registration.log")))
     for name in ("log", "capture"):
         (tmp_path / f"{name}.link").symlink_to(name)
         os.link(tmp_path / name, tmp_path / f"{name}.other")
@@ -124,8 +124,8 @@ def test_a_folder_is_no_file(folder: Path, words: str) -> None:
     assert ran.returncode == 2 and b"Traceback" not in ran.stderr and ran.stderr.count(b"3") == 0, ran.stderr
 
 
-def test_an_unreadable_recording_is_a_failure_among_verdicts(folder: Path, example: Example) -> None:
-    (folder / "broken.log").write_bytes(example("failing/stale_sign_count.log"))
+def test_an_unreadable_recording_is_a_failure_among_verdicts(folder: Path, read_example: Example) -> None:
+    (folder / "broken.log").write_bytes(read_example("failing/stale_sign_count.log"))
     assert run_hidlog(folder, "check-many", "log", "broken.log").returncode == 1
     assert run_hidlog(folder, "check-many", "log", "broken.log", "nothing.log").returncode == 2
 
@@ -134,7 +134,7 @@ def test_an_unreadable_recording_is_a_failure_among_verdicts(folder: Path, examp
 def test_a_capture_that_unpacks_to_too_much_is_refused(data: bytes) -> None:
     """A file of about 1 MB that is unpacked to 1 GB is rejected."""
     piece = gzip.compress(TRUNCATED_USBMON + data * ((16 << 20) // len(data)))
-    with pytest.raises(CaptureError, match="unpacks to more than 64 MiB; unpack it first"):
+    with pytest.raises(CaptureError, match="larger than 64 MiB, packed or unpacked; unpack it first"):
         read(piece * 64)
 
 
@@ -187,7 +187,7 @@ def test_numbers_of_any_length(text: bytes) -> None:
         pass
 
 
-def browser(folder: Path, *lines: bytes) -> list[bytes]:
+def run_browser(folder: Path, *lines: bytes) -> list[bytes]:
     ran = run_hidlog(folder, "browser", "--origin", "https://example.com", data=b"\n".join(lines))
     assert ran.returncode == 0, ran.stderr
     return ran.stdout.splitlines()
@@ -210,7 +210,7 @@ def browser(folder: Path, *lines: bytes) -> list[bytes]:
 def test_a_browsers_process_goes_on_after_a_line_that_it_cannot_read(
     folder: Path, line: bytes, error: str, said: str
 ) -> None:
-    first, last = browser(folder, line, b'{"id": 7, "getCredentials": 0}')
+    first, last = run_browser(folder, line, b'{"id": 7, "getCredentials": 0}')
     assert json.loads(last) == {"id": 7, "value": []}
     refusal = json.loads(first) if error else {}
     assert not error or (refusal["error"] == error and said in refusal["message"]), refusal
@@ -219,7 +219,7 @@ def test_a_browsers_process_goes_on_after_a_line_that_it_cannot_read(
 @pytest.mark.parametrize("number, status", [(signal.SIGTERM, 143), (signal.SIGINT, 130), (signal.SIGHUP, 129)])
 def test_a_signal_ends_a_command_in_a_line(folder: Path, number: int, status: int) -> None:
     command = [*HIDLOG, "browser", "--origin", "https://example.com"]
-    with subprocess.Popen(command, stdin=-1, stdout=-1, stderr=-1, preexec_fn=default_signals) as started:
+    with subprocess.Popen(command, stdin=-1, stdout=-1, stderr=-1, preexec_fn=restore_signals) as started:
         assert started.stdin and started.stdout and started.stderr
         started.stdin.write(b'{"id": 1, "getLog": 0}\n')
         started.stdin.flush()
@@ -230,7 +230,7 @@ def test_a_signal_ends_a_command_in_a_line(folder: Path, number: int, status: in
     assert started.returncode == status and said.startswith(b"hidlog browser: ") and said.count(b"\n") == 1, said
 
 
-def default_signals() -> None:
+def restore_signals() -> None:
     for number in (signal.SIGINT, signal.SIGTERM, signal.SIGHUP):
         signal.signal(number, signal.SIG_DFL)
 
@@ -241,7 +241,7 @@ def test_shrink_writes_the_shortest_log_so_far(folder: Path, number: int, status
     (folder / "long").write_bytes(b"".join(b"t %d\n" % index for index in range(100)) + b"p 100 granted\n")
     text = "echo >> runs; [ $(wc -l < runs) -lt 9 ] || { echo > waits; exec sleep 600; }; ! grep -q granted"
     command = [*HIDLOG, "shrink", "long", "sh", "-c", text]
-    with subprocess.Popen(command, cwd=folder, stdout=-1, stderr=-1, preexec_fn=default_signals) as started:
+    with subprocess.Popen(command, cwd=folder, stdout=-1, stderr=-1, preexec_fn=restore_signals) as started:
         assert started.stdout and started.stderr
         while not (folder / "waits").exists() and started.poll() is None:
             time.sleep(0.01)
@@ -285,14 +285,14 @@ def test_live_answers_line_by_line_through_the_library(folder: Path) -> None:
 
 
 def test_a_key_that_is_never_closed_leaves_nothing() -> None:
-    def counted() -> int:
+    def count_open_files() -> int:
         gc.collect()
         return len(os.listdir("/proc/self/fd"))
 
-    before = counted()
+    before = count_open_files()
     for _ in range(3):
         hidlog.Client(hidlog.SecurityKey(process=True))
-    assert counted() == before
+    assert count_open_files() == before
 
 
 @pytest.mark.parametrize(

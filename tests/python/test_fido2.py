@@ -15,8 +15,8 @@ OLD_CLIENT_DATA: Json = {"clientExtensions": {}}
 
 
 def is_supported(case: Case) -> bool:
-    """Returns whether python-fido2's client supports a case: there is no mediation, and all authenticators are of one
-    kind."""
+    """Returns whether python-fido2's client supports a case: one without raw options, options of the key, and
+    mediation."""
     return not set(case) & {"raw", "key", "mediation"}
 
 
@@ -25,13 +25,13 @@ def run_with_fido2(case: Case) -> Json | None:
     with hidlog.SecurityKey() as key:
         call = make_call(key)
 
-        def called(name: str, options: Any, more: Json) -> Json:
+        def call_with_presence(name: str, options: Any, more: Json) -> Json:
             key.presence = case.get("presence", "granted") if name == case["call"] else "granted"
             made: Json = call(name, options, more)
             return made
 
         try:
-            return run_calls(called, case)
+            return run_calls(call_with_presence, case)
         except (ValueError, TypeError, LookupError, AttributeError):
             return None  # a page's own parser would have rejected these options
 

@@ -1,4 +1,4 @@
-"""Every public call with invalid arguments. Each call raises HidlogError at once, and the key still works
+"""Tests public calls with unusual values. A call either accepts the value or raises HidlogError, and the key works
 afterwards."""
 
 from __future__ import annotations
@@ -22,7 +22,7 @@ NESTED.append(NESTED)
 DEEP: Any = []
 for _ in range(5000):
     DEEP = [DEEP]
-INVALID_VALUES: dict[str, Any] = {
+UNUSUAL_VALUES: dict[str, Any] = {
     "None": None,
     "true": True,
     "a negative number": -1,
@@ -96,8 +96,8 @@ def make_named_call(call: Callable[[Key, Any, str], Any], name: str) -> Call:
     return lambda key, value: call(key, value, name)
 
 
-# All calls, each with one invalid value.
-INVALID_CALLS: dict[str, Call] = {
+# For each call: a function that passes one value to it.
+CALLS_WITH_VALUE: dict[str, Call] = {
     **{
         f"{name} {member}": make_named_call(call, member)
         for name, (members, call) in NAMED_CALLS.items()
@@ -148,13 +148,13 @@ INVALID_CALLS: dict[str, Call] = {
 }
 
 
-@pytest.mark.parametrize("name", INVALID_CALLS)
+@pytest.mark.parametrize("name", CALLS_WITH_VALUE)
 def test_each_call_with_each_wrong_value(name: str, tmp_path: Path, monkeypatch: pytest.MonkeyPatch) -> None:
     monkeypatch.chdir(tmp_path)
-    for kind, value in INVALID_VALUES.items():
+    for kind, value in UNUSUAL_VALUES.items():
         with Key(timeout=0.05) as key:
             try:
-                INVALID_CALLS[name](key, value)
+                CALLS_WITH_VALUE[name](key, value)
             except hidlog.HidlogError as error:
                 assert str(error), kind
                 assert len(str(error)) < 3000, (kind, "the text is too long")
@@ -240,7 +240,7 @@ class HostileKey:
         return self._packets.pop(0)
 
 
-def response_packet(data: bytes, command: int = packets.CBOR) -> bytes:
+def make_response_packet(data: bytes, command: int = packets.CBOR) -> bytes:
     return packets.fragment_message(packets.Message(1, command, data))[0]
 
 
@@ -250,14 +250,14 @@ def response_packet(data: bytes, command: int = packets.CBOR) -> bytes:
         b"",
         bytes(3),
         bytes(64 * 2),
-        response_packet(b""),
-        response_packet(b"", packets.ERROR),
-        response_packet(b"\0" + b"\x81" * 50),
-        response_packet(b"\0\xa1"),
-        response_packet(b"\0\xa1\x81\x01\x02"),
-        response_packet(b"\0\x61\xff"),
-        response_packet(b"\0\xff\xff"),
-        response_packet(b"\0\xf9\x00\x00"),
+        make_response_packet(b""),
+        make_response_packet(b"", packets.ERROR),
+        make_response_packet(b"\0" + b"\x81" * 50),
+        make_response_packet(b"\0\xa1"),
+        make_response_packet(b"\0\xa1\x81\x01\x02"),
+        make_response_packet(b"\0\x61\xff"),
+        make_response_packet(b"\0\xff\xff"),
+        make_response_packet(b"\0\xf9\x00\x00"),
         None,
         "text",
     ],
@@ -269,14 +269,14 @@ def test_hostile_keys(answer: Any) -> None:
 
 
 def test_a_hostile_answer_to_init() -> None:
-    class Short(HostileKey):
+    class ShortInitKey(HostileKey):
         def read_packet(self) -> bytes:
             return packets.fragment_message(packets.Message(packets.BROADCAST, packets.INIT, self._written[-1][7:15]))[
                 0
             ]
 
     with pytest.raises(hidlog.HidlogError, match="invalid INIT response"):
-        hidlog.Client(Short())
+        hidlog.Client(ShortInitKey())
 
 
 @pytest.mark.parametrize("cut", range(1, 240, 7))

@@ -118,14 +118,14 @@ def test_wrong_options_are_refused(path: str, value: Any, error: type[Exception]
 
 
 @pytest.mark.parametrize("origin", ["example.com", "", "https://"])
-def test_a_wrong_origin_is_refused(make: Make, origin: str) -> None:
+def test_a_wrong_origin_is_refused(make_key: Make, origin: str) -> None:
     with pytest.raises(hidlog.ArgumentError, match="is not an origin"):
-        make().browser(origin)
+        make_key().browser(origin)
 
 
-def test_a_page_and_a_service_in_json(make: Make) -> None:
+def test_a_page_and_a_service_in_json(make_key: Make) -> None:
     """A minimal service parses the browser's responses with the functions of python-fido2."""
-    browser = make().browser(ORIGIN)
+    browser = make_key().browser(ORIGIN)
     made = json.loads(json.dumps(browser.create({**CREATION, "rp": {"name": "Example"}, "excludeCredentials": []})))
     assert set(made) == {"id", "rawId", "response", "authenticatorAttachment", "clientExtensionResults", "type"}
     response = made["response"]
@@ -157,8 +157,8 @@ def test_a_page_and_a_service_in_json(make: Make) -> None:
     assert parts["userHandle"] == b"alice"
 
 
-def test_what_was_made_both_ways(make: Make) -> None:
-    service = Service(make())
+def test_what_was_made_both_ways(make_key: Make) -> None:
+    service = Service(make_key())
     asked, state = service.server.register_begin({"id": b"alice", "name": "alice"}, resident_key=True)
     made = service.client.make_credential(asked["publicKey"])
     attestation = made.attestation_object.with_string_keys()

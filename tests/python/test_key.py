@@ -13,7 +13,7 @@ from typing import Any
 import pytest
 from fido2.ctap import CtapError
 from fido2.ctap2 import Ctap2
-from service import REFUSED_ERROR, Service, check_refused
+from service import CLIENT_ERRORS, Service, check_refused
 
 import hidlog
 
@@ -23,27 +23,27 @@ TIMEOUT_SECONDS = 60
 Make = Callable[..., hidlog.SecurityKey]
 
 
-def test_registration_and_sign_in(make: Make) -> None:
-    service = Service(make())
+def test_registration_and_sign_in(make_key: Make) -> None:
+    service = Service(make_key())
     alice = service.register(discoverable=False)
     allowed = ({"type": "public-key", "id": bytes(32)}, alice)
     assert [service.sign_in([alice], allowed).authenticator_data.counter for _ in range(3)] == [1, 2, 3]
-    check_refused(REFUSED_ERROR.DEVICE_INELIGIBLE, 0x2E, service.sign_in, [alice])
-    check_refused(REFUSED_ERROR.DEVICE_INELIGIBLE, 0x19, service.register, "alice", (alice,))
+    check_refused(CLIENT_ERRORS.DEVICE_INELIGIBLE, 0x2E, service.sign_in, [alice])
+    check_refused(CLIENT_ERRORS.DEVICE_INELIGIBLE, 0x19, service.register, "alice", (alice,))
 
 
-def test_two_accounts_the_newest_first(make: Make) -> None:
-    service = Service(make())
+def test_two_accounts_the_newest_first(make_key: Make) -> None:
+    service = Service(make_key())
     both = [service.register("alice"), service.register("bob")]
     assert [service.sign_in(both, account=item).user_handle for item in (0, 1)] == [b"bob", b"alice"]
 
 
-def test_presence_as_word_function_and_script(make: Make) -> None:
-    key = make()
+def test_presence_as_word_function_and_script(make_key: Make) -> None:
+    key = make_key()
     service = Service(key)
     alice = service.register()
     key.presence = "denied"
-    check_refused(REFUSED_ERROR.BAD_REQUEST, 0x27, service.sign_in, [alice])
+    check_refused(CLIENT_ERRORS.BAD_REQUEST, 0x27, service.sign_in, [alice])
     asked: list[str] = []
     key.presence = lambda question: asked.append(question) or "granted"  # type: ignore[func-returns-value]
     service.sign_in([alice])
@@ -51,7 +51,7 @@ def test_presence_as_word_function_and_script(make: Make) -> None:
     assert asked == ["Sign in at example.com?", "Register bob at example.com?"]
     key.presence = ["granted", "timeout", "granted"]
     service.register("carol")
-    check_refused(REFUSED_ERROR.BAD_REQUEST, 0x27, service.register, "dora")
+    check_refused(CLIENT_ERRORS.BAD_REQUEST, 0x27, service.register, "dora")
     service.register("dora")
     with pytest.raises(hidlog.PresenceExhaustedError, match="Register eve at example.com"):
         service.register("eve")
@@ -64,18 +64,18 @@ def test_presence_as_word_function_and_script(make: Make) -> None:
 
 
 @pytest.mark.parametrize("wrong", ["grnated", 1, True, ["granted", "yes"], b"granted"])
-def test_a_wrong_presence_is_refused_where_it_is_given(make: Make, wrong: Any) -> None:
-    key = make()
+def test_a_wrong_presence_is_refused_where_it_is_given(make_key: Make, wrong: Any) -> None:
+    key = make_key()
     with pytest.raises(hidlog.ArgumentError, match="must be .*granted.*None"):
         key.presence = wrong
     assert key.presence == "granted"
     with pytest.raises(hidlog.ArgumentError, match="must be .*granted.*None"):
-        make(presence=wrong)
+        make_key(presence=wrong)
     Service(key).register()
 
 
-def test_a_function_that_fails_leaves_the_key_free(make: Make) -> None:
-    key = make(presence=lambda _: 1 / 0)
+def test_a_function_that_fails_leaves_the_key_free(make_key: Make) -> None:
+    key = make_key(presence=lambda _: 1 / 0)
     service = Service(key)
     with pytest.raises(ZeroDivisionError):
         service.register()
@@ -86,15 +86,15 @@ def test_a_function_that_fails_leaves_the_key_free(make: Make) -> None:
     service.register()
 
 
-def test_a_cancel_ends_an_unanswered_wait(make: Make) -> None:
-    key = make(presence=None)
+def test_a_cancel_ends_an_unanswered_wait(make_key: Make) -> None:
+    key = make_key(presence=None)
     event = Event()
     seen = lambda _: event.set()  # noqa: E731
-    check_refused(REFUSED_ERROR.TIMEOUT, 0x2D, Service(key).register, event=event, on_keepalive=seen)
+    check_refused(CLIENT_ERRORS.TIMEOUT, 0x2D, Service(key).register, event=event, on_keepalive=seen)
 
 
-def test_an_unanswered_wait_ends_and_costs_no_processor(make: Make) -> None:
-    key = make(presence=None, timeout=1.0)
+def test_an_unanswered_wait_ends_and_costs_no_processor(make_key: Make) -> None:
+    key = make_key(presence=None, timeout=1.0)
     service = Service(key)
     began, worked = time.monotonic(), time.process_time()
     with pytest.raises(hidlog.KeyTimeoutError, match="the user did nothing for 1.0 s"):
@@ -108,8 +108,8 @@ def test_an_unanswered_wait_ends_and_costs_no_processor(make: Make) -> None:
     service.register()
 
 
-def test_a_read_ends_at_its_time_out(make: Make) -> None:
-    key = make(presence=None)
+def test_a_read_ends_at_its_time_out(make_key: Make) -> None:
+    key = make_key(presence=None)
     client = hidlog.Client(key)
     with pytest.raises(hidlog.KeyTimeoutError, match="timed out waiting for a packet"):
         key.read_packet(timeout=0.05)
@@ -131,9 +131,9 @@ def test_a_read_ends_at_its_time_out(make: Make) -> None:
     assert client.request(4)[1] == ["FIDO_2_0"]
 
 
-def test_an_unfinished_message_times_out(make: Make) -> None:
+def test_an_unfinished_message_times_out(make_key: Make) -> None:
     """CTAP 2.1, section 11.2.5.2: ERR_MSG_TIMEOUT is 0x05."""
-    key = make()
+    key = make_key()
     client = hidlog.Client(key)
     key.write_packet(bytes.fromhex("00000001900064" "01").ljust(64, b"\0"))
     began = time.monotonic()
@@ -143,23 +143,23 @@ def test_an_unfinished_message_times_out(make: Make) -> None:
     assert client.request(4)[1] == ["FIDO_2_0"]
 
 
-def test_another_thread_answers_for_the_user(make: Make) -> None:
-    key = make(presence=None, timeout=10)
+def test_another_thread_answers_for_the_user(make_key: Make) -> None:
+    key = make_key(presence=None, timeout=10)
     timer = threading.Timer(0.15, setattr, (key, "presence", "granted"))
     timer.start()
     Service(key).register()
 
 
-def test_five_thousand_notes(make: Make) -> None:
-    key = make()
+def test_five_thousand_notes(make_key: Make) -> None:
+    key = make_key()
     for number in range(5000):
         key.add_comment(f"note {number}")
     Service(key).register()
     assert key.log.count(b"\n# note ") == 4999 and key.log.startswith(b"# note 0\n")
 
 
-def test_any_note_is_taken(make: Make) -> None:
-    key = make()
+def test_any_note_is_taken(make_key: Make) -> None:
+    key = make_key()
     key.add_comment("two\nlines")
     key.add_comment("ä" * 300)
     key.add_comment("need nothing")
@@ -170,17 +170,17 @@ def test_any_note_is_taken(make: Make) -> None:
         key.add_comment(b"x")  # type: ignore[arg-type]
 
 
-def test_two_keys_at_once(make: Make) -> None:
-    first, second = Service(make()), Service(make())
+def test_two_keys_at_once(make_key: Make) -> None:
+    first, second = Service(make_key()), Service(make_key())
     alice, other = first.register(), second.register()
-    check_refused(REFUSED_ERROR.DEVICE_INELIGIBLE, 0x2E, second.sign_in, [alice], (alice,))
+    check_refused(CLIENT_ERRORS.DEVICE_INELIGIBLE, 0x2E, second.sign_in, [alice], (alice,))
     assert first.sign_in([alice]).credential_id == alice.credential_id
     assert second.sign_in([other]).credential_id == other.credential_id
 
 
-def test_the_clock_of_the_test(make: Make) -> None:
+def test_the_clock_of_the_test(make_key: Make) -> None:
     now = [5000]
-    key = make(clock=lambda: now[0], presence_delay_ms=0)
+    key = make_key(clock=lambda: now[0], presence_delay_ms=0)
     Service(key)
     now[0] = 9000
     Ctap2(key.device()).get_info()
@@ -192,20 +192,20 @@ def test_the_clock_of_the_test(make: Make) -> None:
     assert caught.value.code == 0x30
 
 
-def test_the_same_random_bytes_give_the_same_log(make: Make) -> None:
+def test_the_same_random_bytes_give_the_same_log(make_key: Make) -> None:
     from random import Random
 
     logs = []
     for _ in range(2):
-        key = make(random=Random(7).randbytes)
+        key = make_key(random=Random(7).randbytes)
         hidlog.Client(key).request(4)
         key.credentials.add("example.com", b"x")
         logs.append((key.snapshot(), key.log))
     assert logs[0] == logs[1]
 
 
-def test_faults(make: Make) -> None:
-    key = make()
+def test_faults(make_key: Make) -> None:
+    key = make_key()
     service = Service(key)
     alice = service.register()
     key.faults.bad_signature = True
@@ -241,8 +241,8 @@ def test_faults(make: Make) -> None:
     assert key.log.count(b"\n# fault: ") == 1 + 3 + 1 + 2 + 1 + 1
 
 
-def test_replay_of(make: Make) -> None:
-    key = make()
+def test_replay_of(make_key: Make) -> None:
+    key = make_key()
     client = hidlog.Client(key)
     asked = {1: bytes(32), 2: {"id": "a.example"}, 3: {"id": b"u"}, 4: [{"alg": -7, "type": "public-key"}]}
     made = client.request(1, asked)
@@ -262,8 +262,8 @@ def test_replay_of(make: Make) -> None:
         client.request(4)
 
 
-def test_a_closed_key_says_so(make: Make) -> None:
-    key = make()
+def test_a_closed_key_says_so(make_key: Make) -> None:
+    key = make_key()
     service = Service(key)
     alice = service.register()
     key.close()
@@ -283,7 +283,7 @@ def test_wrong_arguments() -> None:
             key.write_packet(bytes(65))
 
 
-def test_a_program_that_ends(make: Make) -> None:
+def test_a_program_that_ends(make_key: Make) -> None:
     with pytest.raises(hidlog.MissingDependencyError, match="/nowhere cannot be started"):
         hidlog.SecurityKey(process=True, program="/nowhere")
     with pytest.raises(hidlog.KeyClosedError, match="hidlog ended with status 0"):

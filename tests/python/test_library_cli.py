@@ -37,8 +37,10 @@ def run_both(words: list[str], given: bytes, folder: Path) -> tuple[tuple[int, b
 
 
 @pytest.mark.parametrize("command", ["check", "replay", "quiet", "live", "show", "show --explain"])
-def test_logs_are_as_the_program_writes_them(example: Callable[[str], bytes], tmp_path: Path, command: str) -> None:
-    good, changed = example("sign_in.log"), example("sign_in.log").replace(b"granted", b"denied")
+def test_logs_are_as_the_program_writes_them(
+    read_example: Callable[[str], bytes], tmp_path: Path, command: str
+) -> None:
+    good, changed = read_example("sign_in.log"), read_example("sign_in.log").replace(b"granted", b"denied")
     for log in (good, changed, b"", b"t 1\nt x\n", b"t " + b"1" * 300 + b"\n"):
         own, theirs = run_both(command.split(), log, tmp_path)
         if command != "show --explain":
@@ -47,10 +49,10 @@ def test_logs_are_as_the_program_writes_them(example: Callable[[str], bytes], tm
             assert (own[:2], own[2].splitlines()[:1]) == (theirs[:2], theirs[2].splitlines()[:1])
 
 
-def test_files_and_snapshots(example: Callable[[str], bytes], tmp_path: Path) -> None:
-    (tmp_path / "log").write_bytes(example("sign_in_again.log"))
+def test_files_and_snapshots(read_example: Callable[[str], bytes], tmp_path: Path) -> None:
+    (tmp_path / "log").write_bytes(read_example("sign_in_again.log"))
     (tmp_path / "other").write_bytes(b"t 05\n")
-    (tmp_path / "key").write_bytes(example("example_com.snapshot"))
+    (tmp_path / "key").write_bytes(read_example("example_com.snapshot"))
     (tmp_path / "bad").write_bytes(b"\xa0")
     for words in (
         ["check", "--load", "key", "log"],
@@ -62,16 +64,16 @@ def test_files_and_snapshots(example: Callable[[str], bytes], tmp_path: Path) ->
         ["replay", "--load", "bad", "log"],
         ["show", "--plain", "log"],
     ):
-        own, theirs = run_both(words, example("sign_in_again.log"), tmp_path)
+        own, theirs = run_both(words, read_example("sign_in_again.log"), tmp_path)
         assert own == theirs, words
 
 
-def test_a_snapshot_that_is_not_that_of_its_sums(example: Callable[[str], bytes], tmp_path: Path) -> None:
+def test_a_snapshot_that_is_not_that_of_its_sums(read_example: Callable[[str], bytes], tmp_path: Path) -> None:
     """The expected texts are those in docs/use/LOG_FORMAT.md and in the tests of the program."""
-    words, data = [sys.executable, "-c", WITHOUT_PROGRAM, "check", "--load", "key", "-"], example(
+    words, data = [sys.executable, "-c", WITHOUT_PROGRAM, "check", "--load", "key", "-"], read_example(
         "example_com.snapshot"
     )
-    key, sums, log = tmp_path / "key", tmp_path / "key.hidlog-sum", example("sign_in_again.log")
+    key, sums, log = tmp_path / "key", tmp_path / "key.hidlog-sum", read_example("sign_in_again.log")
     key.write_bytes(data)
     number = b" %016x\n" % key.stat().st_ino
     own, other = (sha256(item).hexdigest().encode() for item in (data, b"other"))

@@ -10,7 +10,7 @@ import sys
 import pytest
 
 # Locust replaces the modules for threads and sockets, so it is imported in a separate process.
-REPORTS = """
+REPORTS_CODE = """
 import json
 from hidlog.locust import Users
 from hidlog import SecurityKey
@@ -46,7 +46,9 @@ print(json.dumps([[sorted(report) for report in reports], users.waiting["idle"] 
 @pytest.mark.skipif(importlib.util.find_spec("locust") is None, reason="python3-locust is missing")
 def test_only_changed_keys_are_reported() -> None:
     """A new key, a sign-in and a changed flag are reported once. A key without changes is not reported."""
-    ran = subprocess.run([sys.executable, "-W", "ignore", "-c", REPORTS], capture_output=True, text=True, check=False)
+    ran = subprocess.run(
+        [sys.executable, "-W", "ignore", "-c", REPORTS_CODE], capture_output=True, text=True, check=False
+    )
     assert ran.returncode == 0, ran.stderr
     reports, is_idle_unchanged, counts = json.loads(ran.stdout)
     assert reports == [["new"], [], ["active"], [], ["changed"], ["active"], []]

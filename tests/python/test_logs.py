@@ -18,14 +18,14 @@ Example = Callable[[str], bytes]
 
 @pytest.mark.parametrize("name", ["registration.log", "sign_in.log", "selection.log"])
 @pytest.mark.parametrize("kind", [bytes, bytearray, memoryview])
-def test_a_worked_log_is_its_own_replay(example: Example, name: str, kind: type) -> None:
-    log = example(name)
+def test_a_worked_log_is_its_own_replay(read_example: Example, name: str, kind: type) -> None:
+    log = read_example(name)
     assert hidlog.replay(kind(log)).raise_for_fault().text == log
     assert hidlog.check(kind(log)).raise_for_fault().text.startswith(b"same ")
 
 
-def test_a_log_on_a_snapshot(example: Example) -> None:
-    log, snapshot = example("sign_in_again.log"), example("example_com.snapshot")
+def test_a_log_on_a_snapshot(read_example: Example) -> None:
+    log, snapshot = read_example("sign_in_again.log"), read_example("example_com.snapshot")
     assert hidlog.replay(log, memoryview(snapshot)).text == log
     with pytest.raises(hidlog.LogError, match="^line 4: differs at packet 1$"):
         hidlog.check(log).raise_for_fault()
@@ -39,8 +39,8 @@ def test_faults_are_reported() -> None:
         hidlog.replay(b"", b"no snapshot").raise_for_fault()
 
 
-def test_show_writes_what_the_program_writes(example: Example) -> None:
-    for log in (example("sign_in.log"), example("service_presence_denied.log"), b"t 1\nt x\n", b""):
+def test_show_writes_what_the_program_writes(read_example: Example) -> None:
+    for log in (read_example("sign_in.log"), read_example("service_presence_denied.log"), b"t 1\nt x\n", b""):
         for explain, word in ((False, "--plain"), (True, "--explain")):
             theirs = subprocess.run([find_program(), "show", word], input=log, capture_output=True)
             shown = hidlog.show(log, explain=explain)
@@ -55,39 +55,39 @@ def test_a_text_is_a_type_error() -> None:
             command("t 1\n")  # type: ignore[arg-type]
 
 
-def test_what_is_written_may_be_much_longer_than_the_log(example: Example) -> None:
+def test_what_is_written_may_be_much_longer_than_the_log(read_example: Example) -> None:
     ticks = b"".join(b"t %d\n" % (1000 * index) for index in range(5000))
-    start_shrinking = b"\n".join(example("registration.log").splitlines()[:5]) + b"\n"
+    start_shrinking = b"\n".join(read_example("registration.log").splitlines()[:5]) + b"\n"
     text = hidlog.replay(start_shrinking + ticks).raise_for_fault().text
     # There is a KEEPALIVE at the request, and one at each tick except the first, which has the same timestamp as the
     # request.
     assert text.count(b"\n< 00000001bb0001") == 5000
 
 
-def run_commands(*words: str, log: bytes = b"", **variables: str) -> tuple[int, bytes, bytes]:
+def run_command(*words: str, log: bytes = b"", **variables: str) -> tuple[int, bytes, bytes]:
     module = [sys.executable, "-m", "hidlog", *words]
     done = subprocess.run(module, input=log, capture_output=True, env={**os.environ, **variables})
     return done.returncode, done.stdout, done.stderr
 
 
 @pytest.mark.parametrize("command", ["replay", "check", "quiet", "show"])
-def test_each_command_is_the_program(example: Example, command: str) -> None:
-    for log in (example("sign_in.log"), b"t 1\nt x\n"):
+def test_each_command_is_the_program(read_example: Example, command: str) -> None:
+    for log in (read_example("sign_in.log"), b"t 1\nt x\n"):
         theirs = subprocess.run([find_program(), command], input=log, capture_output=True)
-        status, output, faults = run_commands(command, log=log)
+        status, output, faults = run_command(command, log=log)
         assert (status, output) == (theirs.returncode, theirs.stdout)
         assert faults == theirs.stderr
 
 
 def test_a_missing_program_is_said_in_one_line() -> None:
-    status, output, text = run_commands("show", HIDLOG_PROGRAM="/nowhere/hidlog")
+    status, output, text = run_command("show", HIDLOG_PROGRAM="/nowhere/hidlog")
     assert (status, output, text.count(b"\n")) == (2, b"", 1)
     assert text.startswith(b"hidlog: hidlog program not found (tried /nowhere/hidlog)")
 
 
-def test_the_console_script_is_the_program(example: Example, tmp_path: Path) -> None:
+def test_the_console_script_is_the_program(read_example: Example, tmp_path: Path) -> None:
     script = Path(sys.executable).parent / "hidlog"
-    (tmp_path / "session.log").write_bytes(example("sign_in.log"))
+    (tmp_path / "session.log").write_bytes(read_example("sign_in.log"))
     words: list[list[str]] = [
         ["--version"],
         ["show", "--summary", "session.log"],

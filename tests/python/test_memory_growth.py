@@ -9,8 +9,8 @@ from collections.abc import Callable
 import hidlog
 
 
-def test_two_thousand_sign_ins_take_flat_time(make: Callable[..., hidlog.SecurityKey]) -> None:
-    key = make()
+def test_two_thousand_sign_ins_take_flat_time(make_key: Callable[..., hidlog.SecurityKey]) -> None:
+    key = make_key()
     client = hidlog.Client(key)
     client.request(
         1, {1: bytes(32), 2: {"id": "a"}, 3: {"id": b"u"}, 4: [{"alg": -7, "type": "public-key"}], 7: {"rk": True}}

@@ -71,7 +71,7 @@ CREATE = {
     "authenticatorSelection": {"residentKey": "required"}, "excludeCredentials": [],
 }
 
-def refused(error, call, options):
+def expect_error(error, call, options):
     try:
         call(options)
     except error:
@@ -88,8 +88,8 @@ def test_calls(security_key):
     Client(security_key).transact(0x10, b"\\x04")
     security_key.faults.status = None
     security_key.presence = "denied"
-    refused(NotAllowedError, browser.get, {**CHALLENGE, "userVerification": "preferred"})
-    refused(SecurityError, browser.create, {**CREATE, "rp": {"name": "A", "id": "other.example"}})
+    expect_error(NotAllowedError, browser.get, {**CHALLENGE, "userVerification": "preferred"})
+    expect_error(SecurityError, browser.create, {**CREATE, "rp": {"name": "A", "id": "other.example"}})
     assert security_key.credentials[0].sign_count == 5
 """
 
@@ -127,7 +127,7 @@ def test_the_report_says_what_the_key_made_and_who_refused(pytester: pytest.Pyte
     assert ": 0\n" not in result.stdout.str(), "a total that is 0"
 
 
-GONE_SUITE = """
+REMOVED_CREDENTIALS_SUITE = """
 OPTIONS = {
     "challenge": "AAAA", "rp": {"name": "A"}, "pubKeyCredParams": [{"type": "public-key", "alg": -7}],
     "authenticatorSelection": {"requireResidentKey": True},
@@ -148,7 +148,7 @@ def test_without_calls(security_key):
 
 
 def test_the_report_says_why_a_credential_is_gone(pytester: pytest.Pytester) -> None:
-    pytester.makepyfile(test_suite=GONE_SUITE)
+    pytester.makepyfile(test_suite=REMOVED_CREDENTIALS_SUITE)
     result = pytester.runpytest_subprocess()
     result.assert_outcomes(failed=2)
     result.stdout.fnmatch_lines(
@@ -190,20 +190,20 @@ import hidlog
 import pytest
 
 @pytest.fixture
-def broken(security_key):
+def failing_setup(security_key):
     hidlog.Client(security_key).request(4)
     raise ValueError("set-up")
 
 @pytest.fixture
-def breaks(security_key):
+def failing_teardown(security_key):
     yield hidlog.Client(security_key)
     raise ValueError("teardown")
 
-def test_set_up(broken):
+def test_set_up(failing_setup):
     pass
 
-def test_teardown(breaks):
-    breaks.request(4)
+def test_teardown(failing_teardown):
+    failing_teardown.request(4)
 """
 
 

@@ -1,4 +1,4 @@
-"""Invalid input for the parsers of the package. Each parser raises HidlogError with a description."""
+"""Tests the parsers of the package with unusual and invalid input. They accept it, or raise HidlogError with a text."""
 
 from __future__ import annotations
 
@@ -31,7 +31,7 @@ OPTIONS = {
     "create": make_creation_options(timeout=1, excludeCredentials=DESCRIPTORS, hints=["hybrid"], extensions=EXTENSIONS),
     "get": {"challenge": "AAEC", "rpId": "a.example", "allowCredentials": DESCRIPTORS, "extensions": EXTENSIONS},
 }
-READERS: list[Callable[[Any], Any]] = [
+PARSERS: list[Callable[[Any], Any]] = [
     webauthn_json.creation_options,
     webauthn_json.request_options,
     webauthn_json.creation_options_json,
@@ -42,7 +42,7 @@ READERS: list[Callable[[Any], Any]] = [
     build_get_request,
 ]
 # Values of each type, shallow and nested, with valid and invalid base64url.
-WRONG_VALUES: list[Any] = [
+UNUSUAL_VALUES: list[Any] = [
     None,
     True,
     0,
@@ -60,7 +60,7 @@ WRONG_VALUES: list[Any] = [
     ["AA"],
     [["AA", 1]],
 ]
-WRONG_VALUES += [
+UNUSUAL_VALUES += [
     [None],
     [{}],
     {},
@@ -72,12 +72,12 @@ WRONG_VALUES += [
 ]
 
 
-def iter_changes(value: Any, wrong: list[Any]) -> Iterator[Any]:
-    """Yields a value in which each position is replaced by each wrong value, and from which each member is removed."""
+def iter_changed_values(value: Any, wrong: list[Any]) -> Iterator[Any]:
+    """Yields a value in which each position is replaced by each value of `wrong`, and from which each member is removed."""
     yield from wrong
     places = value.items() if isinstance(value, dict) else enumerate(value) if isinstance(value, list) else ()
     for place, inner in places:
-        for changed in iter_changes(inner, wrong):
+        for changed in iter_changed_values(inner, wrong):
             copied = value.copy()
             copied[place] = changed
             yield copied
@@ -95,8 +95,8 @@ def make_responses() -> dict[str, Any]:
 
 @pytest.mark.parametrize("name", ["create", "get", "made", "found"])
 def test_json_with_a_wrong_value_in_each_place(name: str) -> None:
-    for value in iter_changes({**OPTIONS, **make_responses()}[name], WRONG_VALUES):
-        for read in READERS:
+    for value in iter_changed_values({**OPTIONS, **make_responses()}[name], UNUSUAL_VALUES):
+        for read in PARSERS:
             try:
                 read(value)
             except hidlog.HidlogError as error:
@@ -141,10 +141,10 @@ def test_a_browser_refuses_them_by_the_name_of_the_dom(options: dict[str, Any]) 
     "line", [b">", b"<", b"< 00", b"> 5 0011", b"> 5 zz", b"> x " + b"0" * 128, b"< " + b"g" * 128]
 )
 @pytest.mark.parametrize("after", [1, 2, 3])
-def test_a_recording_with_a_line_that_is_no_packet(example: Example, line: bytes, after: int) -> None:
+def test_a_recording_with_a_line_that_is_no_packet(read_example: Example, line: bytes, after: int) -> None:
     """The invalid line is before the first packet, at a packet of the key, or at a packet of the client. The error
     message is that of the program."""
-    lines = example("registration.log").splitlines()
+    lines = read_example("registration.log").splitlines()
     assert [item[:1] for item in lines[:4]] == [b"#", b">", b"<", b">"]
     log = b"\n".join([*lines[:after], line, *lines[after:]]) + b"\n"
     for read in (hidlog.SecurityKey.from_recording, lambda log: hidlog.check(log).raise_for_fault()):
@@ -182,8 +182,8 @@ def test_what_is_wrong_in_a_snapshot_is_said(value: Any, text: str) -> None:
         hidlog.replay(b"", data).raise_for_fault()
 
 
-def test_snapshots_with_a_wrong_value_in_each_place(example: Example) -> None:
-    whole = cbor.decode(example("example_com.snapshot"))
+def test_snapshots_with_a_wrong_value_in_each_place(read_example: Example) -> None:
+    whole = cbor.decode(read_example("example_com.snapshot"))
     wrong: list[Any] = [
         None,
         True,
@@ -202,7 +202,7 @@ def test_snapshots_with_a_wrong_value_in_each_place(example: Example) -> None:
         {1: 2},
         [{}],
     ]
-    for value in iter_changes(whole, [*wrong, [[1] * 9], [b"abcdefghi"]]):
+    for value in iter_changed_values(whole, [*wrong, [[1] * 9], [b"abcdefghi"]]):
         try:
             read_snapshot(cbor.encode(value))
         except hidlog.SnapshotError as error:

@@ -84,7 +84,7 @@ def use_long_lists(key: Key, browser: hidlog.Browser) -> Any:
     ]
 
 
-def unplug(key: Key, browser: hidlog.Browser) -> Any:
+def restart_key(key: Key, browser: hidlog.Browser) -> Any:
     made = browser.create(make_creation_options())
     key.restart()
     return [
@@ -100,7 +100,7 @@ def remove_private_key(key: Key, browser: hidlog.Browser) -> Any:
     return get_result(lambda: browser.get(REQUEST_OPTIONS))
 
 
-def time_out(key: Key, browser: hidlog.Browser) -> Any:
+def use_short_timeouts(key: Key, browser: hidlog.Browser) -> Any:
     key.presence_delay_ms = 700
     limits = (1, 250, 699, 700, 720, 760, 900, 1500)
     return [
@@ -151,9 +151,9 @@ STEPS: dict[str, Steps] = {
         for steps in (
             use_accounts,
             use_long_lists,
-            unplug,
+            restart_key,
             remove_private_key,
-            time_out,
+            use_short_timeouts,
             interleave_client,
             change_credentials,
         )
@@ -176,14 +176,14 @@ def test_both_ways_are_the_same(name: str, options: dict[str, Any], monkeypatch:
     served: list[bool] = []
     serve = Key.serve
 
-    def counted(self: Key, channel: int, data: bytes, limit: int) -> bytes | None:
+    def count_served(self: Key, channel: int, data: bytes, limit: int) -> bytes | None:
         response = serve(self, channel, data, limit)
         served.append(response is not None)
         return response
 
-    monkeypatch.setattr(Key, "serve", counted)
+    monkeypatch.setattr(Key, "serve", count_served)
     at_once = run_steps(STEPS[name], options)
-    assert any(served) or name.startswith("denied") or name == "time_outs"
+    assert any(served) or name.startswith("denied") or name == "use_short_timeouts"
     monkeypatch.setattr(Key, "serve", lambda *_: None)
     assert run_steps(STEPS[name], options) == at_once
     for snapshot, log in at_once[1]:

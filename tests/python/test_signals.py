@@ -33,8 +33,8 @@ def list_names(key: hidlog.SecurityKey) -> list[str]:
     return [credential.user_name for credential in key.credentials]
 
 
-def test_signals_remove_and_rename_credentials(make: Make) -> None:
-    with make() as key:
+def test_signals_remove_and_rename_credentials(make_key: Make) -> None:
+    with make_key() as key:
         browser = key.browser(ORIGIN)
         ann, bob = register(browser, "ann"), register(browser, "bob")
         anna = {"rpId": RP_ID, "userId": b64url_encode(b"ann"), "name": "anna", "displayName": "Anna"}
@@ -56,9 +56,10 @@ def test_signals_remove_and_rename_credentials(make: Make) -> None:
         assert list_names(key) == []
 
 
-def test_signals_keep_the_credentials_of_others(make: Make) -> None:
-    """Of other relying parties, and those that are not discoverable, except that a credential is named by its ID."""
-    with make() as key:
+def test_signals_keep_the_credentials_of_others(make_key: Make) -> None:
+    """Signals do not affect credentials of other relying parties. Only signal_unknown_credential affects a credential
+    that is not discoverable."""
+    with make_key() as key:
         browser = key.browser(ORIGIN)
         hidden = register(browser, "ann", "discouraged")
         other = key.credentials.add("other.example", b"ann", "ann").id
@@ -71,8 +72,8 @@ def test_signals_keep_the_credentials_of_others(make: Make) -> None:
         assert [credential.id for credential in key.credentials] == [other]
 
 
-def test_a_page_id_that_is_not_the_cores(make: Make) -> None:
-    with make() as key:
+def test_a_page_id_that_is_not_the_cores(make_key: Make) -> None:
+    with make_key() as key:
         key.credentials.add(RP_ID, b"ann", "ann", credential_id=b"short")
         browser = key.browser(ORIGIN)
         details = {"rpId": RP_ID, "userId": b64url_encode(b"ann"), "name": "é" * 40, "displayName": ""}

@@ -17,12 +17,12 @@ import hidlog
 FAILING_LOGS = Path(os.environ["HIDLOG_EXAMPLES"]) / "failing"
 
 
-def list_checks(log: bytes, snapshot: bytes | None = None) -> list[tuple[str, str]]:
+def list_outcomes(log: bytes, snapshot: bytes | None = None) -> list[tuple[str, str]]:
     return [(signature.kind, signature.outcome) for signature in hidlog.verify_signatures(log, snapshot)]
 
 
-def test_a_keys_own_session(make: Callable[..., hidlog.SecurityKey]) -> None:
-    key = make()
+def test_a_keys_own_session(make_key: Callable[..., hidlog.SecurityKey]) -> None:
+    key = make_key()
     service = Service(key)
     service.sign_in([service.register()])
     found = hidlog.verify_signatures(key.log)
@@ -37,25 +37,25 @@ def test_each_bit_that_is_signed_counts() -> None:
     """A changed bit in the request's hash, in the flags of the response, or in the signature is reported at the
     response."""
     lines = (FAILING_LOGS / "changed_request.log").read_bytes().splitlines(True)
-    assert list_checks(b"".join(lines)) == [("attestation", "good"), ("assertion", "wrong")]
+    assert list_outcomes(b"".join(lines)) == [("attestation", "good"), ("assertion", "wrong")]
     asked = next(at for at, it in enumerate(lines) if b"02a2016b6578616d706c652e636f6d" in it)
     begin = lines[asked].index(b"025820") + 6
     mended = bytearray(lines[asked])
     mended[begin + 7 : begin + 8] = b"%x" % (int(mended[begin + 7 : begin + 8], 16) ^ 1)
     good = [*lines[:asked], bytes(mended), *lines[asked + 1 :]]
-    assert list_checks(b"".join(good)) == [("attestation", "good"), ("assertion", "good")]
+    assert list_outcomes(b"".join(good)) == [("attestation", "good"), ("assertion", "good")]
     whole = b"".join(good)
     counter = b"470100000001"
     assert whole.count(counter) == 1
-    assert list_checks(whole.replace(counter, b"470500000001"))[1] == ("assertion", "wrong")
+    assert list_outcomes(whole.replace(counter, b"470500000001"))[1] == ("assertion", "wrong")
 
 
 def test_the_public_key_may_be_of_the_snapshot() -> None:
     log, alice, bob = (
         (FAILING_LOGS / item).read_bytes() for item in ("wrong_snapshot.log", "alice.snapshot", "bob.snapshot")
     )
-    assert list_checks(log, alice) == [("assertion", "good")]
-    assert list_checks(log) == list_checks(log, bob) == [("assertion", "unknown")]
+    assert list_outcomes(log, alice) == [("assertion", "good")]
+    assert list_outcomes(log) == list_outcomes(log, bob) == [("assertion", "unknown")]
     assert "use --load with its snapshot" in hidlog.verify_signatures(log)[0].text
     with pytest.raises(hidlog.SnapshotError):
         hidlog.verify_signatures(log, b"no snapshot")

@@ -11,7 +11,7 @@ from typing import Any
 
 import pytest
 from fido2.ctap import CtapError
-from service import REFUSED_ERROR, Service, check_refused
+from service import CLIENT_ERRORS, Service, check_refused
 
 import hidlog
 from hidlog import cbor
@@ -20,8 +20,8 @@ from hidlog.credentials import write_snapshot
 Make = Callable[..., hidlog.SecurityKey]
 
 
-def test_save_and_load(make: Make, tmp_path: Path) -> None:
-    key = make()
+def test_save_and_load(make_key: Make, tmp_path: Path) -> None:
+    key = make_key()
     alice = Service(key).register()
     Service(key).sign_in([alice])
     key.save(tmp_path / "key.json")
@@ -33,8 +33,8 @@ def test_save_and_load(make: Make, tmp_path: Path) -> None:
         hidlog.SecurityKey.load(tmp_path / "wrong")
 
 
-def test_loss_of_power(make: Make) -> None:
-    key = make()
+def test_loss_of_power(make_key: Make) -> None:
+    key = make_key()
     service = Service(key)
     alice = service.register()
     key.restart()
@@ -46,8 +46,8 @@ def test_loss_of_power(make: Make) -> None:
     assert len(key.recordings) == 2
 
 
-def test_credentials(make: Make) -> None:
-    key = make()
+def test_credentials(make_key: Make) -> None:
+    key = make_key()
     service = Service(key)
     alice = service.register()
     held = key.credentials.get(alice.credential_id)
@@ -63,13 +63,13 @@ def test_credentials(make: Make) -> None:
     assert service.sign_in([alice]).user_handle == b"alice"
     key.credentials.clear()
     assert len(key.credentials) == 0
-    check_refused(REFUSED_ERROR.DEVICE_INELIGIBLE, 0x2E, service.sign_in, [alice])
+    check_refused(CLIENT_ERRORS.DEVICE_INELIGIBLE, 0x2E, service.sign_in, [alice])
 
 
-def test_an_added_credential_replaces_that_of_its_user(make: Make) -> None:
+def test_an_added_credential_replaces_that_of_its_user(make_key: Make) -> None:
     """An added credential replaces another one of the same user, as in a registration (docs/use/PROFILE.md,
     authenticatorMakeCredential). Other credentials are kept."""
-    key = make()
+    key = make_key()
     first = key.credentials.add("example.com", b"alice")
     other = key.credentials.add("example.org", b"alice")
     hidden = key.credentials.add("example.com", b"alice", discoverable=False)
@@ -88,7 +88,7 @@ def test_an_added_credential_replaces_that_of_its_user(make: Make) -> None:
         key.credentials.add("example.com", credential_id=second.id)
 
 
-def test_a_given_private_key_signs(make: Make) -> None:
+def test_a_given_private_key_signs(make_key: Make) -> None:
     from cryptography.hazmat.primitives import serialization
     from cryptography.hazmat.primitives.asymmetric import ec
 
@@ -96,16 +96,16 @@ def test_a_given_private_key_signs(make: Make) -> None:
     form = (serialization.Encoding.DER, serialization.PrivateFormat.PKCS8, serialization.NoEncryption())
     both: list[Any] = [private, private.private_bytes(*form)]
     for private_key in both:
-        key = make()
+        key = make_key()
         added = key.credentials.add("example.com", b"u", private_key=private_key)
         assert added.public_key_x == private.public_key().public_numbers().x.to_bytes(32, "big")
         assert Service(key).sign_in([_read_cose_key(added)]).user_handle == b"u"
-    with pytest.raises(hidlog.ArgumentError, match="must be on P-256"):
+    with pytest.raises(hidlog.ArgumentError, match="must be a P-256"):
         key.credentials.add("example.com", private_key=ec.generate_private_key(ec.SECP384R1()))
 
 
-def test_credentials_change_only_while_nothing_is_served(make: Make) -> None:
-    key = make(presence=None)
+def test_credentials_change_only_while_nothing_is_served(make_key: Make) -> None:
+    key = make_key(presence=None)
     hidlog.Client(key)
     key.write_packet(bytes.fromhex("00000001900001" "0b").ljust(64, b"\0"))
     with pytest.raises(hidlog.KeyBusyError):
@@ -120,7 +120,7 @@ def _read_cose_key(credential: hidlog.Credential) -> Any:
     return AttestedCredentialData.create(bytes(16), credential.id, public)
 
 
-def change_at_random(key: hidlog.SecurityKey, chance: Random) -> None:
+def change_credentials_at_random(key: hidlog.SecurityKey, chance: Random) -> None:
     """Adds, changes and removes credentials of three users at two services, at random."""
     for _ in range(60):
         ids = [credential.id for credential in key.credentials]
@@ -149,7 +149,7 @@ def test_both_forms_hold_the_same_after_changes() -> None:
         keys = []
         for process in (False, True):
             with hidlog.SecurityKey(process=process, random=Random(seed).randbytes) as key:
-                change_at_random(key, Random(seed))
+                change_credentials_at_random(key, Random(seed))
                 keys.append((list(key.credentials), key.snapshot(), key.recordings, sorted(key.private_keys)))
         assert keys[0] == keys[1]
         held, _, recordings, private = keys[0]
@@ -168,8 +168,8 @@ def test_a_change_leaves_the_others_where_they_are() -> None:
             assert [credential.id for credential in key.credentials] == ids
 
 
-def test_private_keys_of_replaced_credentials_go(make: Make) -> None:
-    key = make()
+def test_private_keys_of_replaced_credentials_go(make_key: Make) -> None:
+    key = make_key()
     for _ in range(3):
         key.credentials.add("example.com", b"ann")
     assert len(key.credentials) == len(key.private_keys) == 1
@@ -194,8 +194,8 @@ def test_a_refused_snapshot_leaves_the_key_as_it_was() -> None:
         assert Service(key).sign_in([alice]).authenticator_data.counter == 1
 
 
-def test_wrong_credentials_are_refused(make: Make) -> None:
-    key = make()
+def test_wrong_credentials_are_refused(make_key: Make) -> None:
+    key = make_key()
     with pytest.raises(hidlog.ArgumentError, match="no credential with ID 00"):
         key.credentials.remove(bytes(32))
     with pytest.raises(hidlog.ArgumentError, match="sign_count is -1; it must be 0 to 4294967295"):
@@ -204,16 +204,16 @@ def test_wrong_credentials_are_refused(make: Make) -> None:
         key.credentials.add("example.com", bytes(65))
     made = key.credentials.add("example.com", b"alice")
     full = [replace(made, id=bytes([index]) * 32, user_id=bytes([index])) for index in range(64)]
-    with make(snapshot=write_snapshot(full)) as other:
+    with make_key(snapshot=write_snapshot(full)) as other:
         assert list(other.credentials) == full
         with pytest.raises(hidlog.ArgumentError, match="the key is full: it has 64 credentials"):
             other.credentials.add("example.com", b"one more")
         # A registration beyond the capacity fails with CTAP2_ERR_KEY_STORE_FULL.
-        check_refused(REFUSED_ERROR.CONFIGURATION_UNSUPPORTED, 0x28, Service(other).register)
+        check_refused(CLIENT_ERRORS.CONFIGURATION_UNSUPPORTED, 0x28, Service(other).register)
 
 
-def test_the_clock_goes_on_as_credentials_change(make: Make) -> None:
-    key = make()
+def test_the_clock_goes_on_as_credentials_change(make_key: Make) -> None:
+    key = make_key()
     key.advance_time(20_000)
     key.credentials.add("example.com", b"u")
     assert 20_000 < key.time_ms < 20_100
@@ -223,8 +223,8 @@ def test_the_clock_goes_on_as_credentials_change(make: Make) -> None:
     assert key.time_ms == 0
 
 
-def test_without_a_recording(make: Make) -> None:
-    key = make(record=False)
+def test_without_a_recording(make_key: Make) -> None:
+    key = make_key(record=False)
     alice = Service(key).register()
     assert Service(key).sign_in([alice]).authenticator_data.counter == 1
     assert key.log == b""
@@ -235,7 +235,7 @@ def test_without_a_recording(make: Make) -> None:
         assert key.credentials.get(alice.credential_id).sign_count == 1
 
 
-def test_a_snapshot_at_its_limits(make: Make) -> None:
+def test_a_snapshot_at_its_limits(make_key: Make) -> None:
     """The snapshot equals the output of a generic CBOR encoder. The core loads the snapshot, and returns the same
     credentials."""
     point = hidlog.SecurityKey().credentials.add("example.com")
@@ -255,17 +255,17 @@ def test_a_snapshot_at_its_limits(make: Make) -> None:
     members = ("rp_id_hash", "id", "public_key_x", "public_key_y", "user_id", "discoverable", "sign_count", "user_name")
     rows = [dict(enumerate((getattr(entry, name) for name in members), 1)) for entry in listed]
     assert write_snapshot(listed) == cbor.encode({1: 2, 2: rows})
-    with make(snapshot=write_snapshot(listed)) as key:
+    with make_key(snapshot=write_snapshot(listed)) as key:
         assert list(key.credentials) == listed and len(key.credentials) == len(listed)
         assert key.snapshot() == write_snapshot(listed)
     with pytest.raises(hidlog.ArgumentError, match="must have 32 bytes"):
         write_snapshot([replace(point, id=b"short")])
 
 
-def test_a_key_as_text(make: Make) -> None:
+def test_a_key_as_text(make_key: Make) -> None:
     """A key that is loaded from the text of `dumps` has the same credentials. Their signature counters are above those
     that a service has seen."""
-    with make() as key:
+    with make_key() as key:
         alice = Service(key).register()
         Service(key).sign_in([alice])
         text, held = key.dumps(), list(key.credentials)
@@ -283,8 +283,8 @@ def test_a_key_as_text(make: Make) -> None:
             hidlog.SecurityKey.loads(wrong)  # type: ignore[arg-type]
 
 
-def test_recordings_are_forgotten(make: Make) -> None:
-    with make() as key:
+def test_recordings_are_forgotten(make_key: Make) -> None:
+    with make_key() as key:
         key.credentials.add("example.com", b"alice")
         hidlog.Client(key).request(4)
         before = key.snapshot()

@@ -1,6 +1,7 @@
-"""Every command with a full, closed or broken standard stream: one line of error, and its own exit status.
+"""Tests every command with a full, closed or broken standard stream: it prints one line of error, and exits with its
+own status.
 
-The program's commands behave exactly as the program, byte for byte, also through the library.
+Commands that the program also has behave exactly as the program, byte for byte, also through the library.
 """
 
 from __future__ import annotations
@@ -23,7 +24,7 @@ from test_library_cli import WITHOUT_PROGRAM
 
 WITH_PROGRAM = [sys.executable, "-m", "hidlog"]
 WITHOUT_PROGRAM_COMMAND = [sys.executable, "-c", WITHOUT_PROGRAM]
-LINE = b'{"id": 1, "log": 0}\n'
+BROWSER_LINE = b'{"id": 1, "log": 0}\n'
 WRITING_FAILED = b"hidlog: writing failed\n"
 # Commands of the program that all write output.
 PROGRAM_COMMANDS = [
@@ -74,7 +75,7 @@ def folder(tmp_path_factory: pytest.TempPathFactory) -> Path:
 
 
 @contextmanager
-def output(kind: str) -> Iterator[int]:
+def open_failing_stream(kind: str) -> Iterator[int]:
     """Provides a file descriptor to which writing fails."""
     if kind == "full":
         number = os.open("/dev/full", os.O_WRONLY)
@@ -90,7 +91,7 @@ def output(kind: str) -> Iterator[int]:
         os.close(number)
 
 
-def limit_files() -> None:
+def limit_file_size() -> None:
     """Makes writes to a file fail after its tenth byte. SIGXFSZ kills processes that do not ignore it."""
     resource.setrlimit(resource.RLIMIT_CORE, (0, 0))
     resource.setrlimit(resource.RLIMIT_FSIZE, (10, 10))
@@ -99,9 +100,9 @@ def limit_files() -> None:
 def run_command(command: list[str], words: str, folder: Path, kind: str, stream: int = 1) -> tuple[int, bytes, bytes]:
     """Returns the result of a command with one standard stream (output, error or input) that is full, closed or
     broken."""
-    log = LINE if "browser" in words else (folder / "same.log").read_bytes()
+    log = BROWSER_LINE if "browser" in words else (folder / "same.log").read_bytes()
     line = ["sh", "-c", f'exec "$@" {stream}>&-', "sh", *command] if kind == "closed" else command
-    with output("broken" if kind == "closed" else kind) as number:
+    with open_failing_stream("broken" if kind == "closed" else kind) as number:
         streams = {1: subprocess.PIPE, 2: subprocess.PIPE, **({} if kind == "closed" else {stream: number})}
         ran = subprocess.run(
             [*line, *words.split()],
@@ -110,7 +111,7 @@ def run_command(command: list[str], words: str, folder: Path, kind: str, stream:
             stderr=streams[2],
             cwd=folder,
             timeout=600,
-            preexec_fn=limit_files if kind == "short" else None,
+            preexec_fn=limit_file_size if kind == "short" else None,
         )
     return ran.returncode, ran.stdout or b"", ran.stderr or b""
 
@@ -167,7 +168,7 @@ def test_the_packages_commands_end_with_a_line(folder: Path, words: str, kind: s
 @pytest.mark.parametrize("kind", ["full", "closed", "broken"])
 @pytest.mark.parametrize("words", [*PYTHON_COMMANDS, *MIXED_COMMANDS])
 def test_standard_error_changes_no_status(folder: Path, words: str, kind: str) -> None:
-    right = subprocess.run([*WITH_PROGRAM, *words.split()], input=LINE, cwd=folder, capture_output=True)
+    right = subprocess.run([*WITH_PROGRAM, *words.split()], input=BROWSER_LINE, cwd=folder, capture_output=True)
     status, text, _ = run_command(WITH_PROGRAM, words, folder, kind, 2)
     assert (status, text) == (right.returncode, right.stdout) and right.returncode in (0, 1)
 

@@ -21,10 +21,10 @@ THREAD_COUNT = 4
 TIMEOUT_SECONDS = 60
 
 
-def test_four_threads_lose_nothing(make: Make) -> None:
+def test_four_threads_lose_nothing(make_key: Make) -> None:
     """Each thread registers 100 times at a site of its own, for 15 users in turn, and signs in after each
     registration."""
-    key = make()
+    key = make_key()
 
     def register(thread: int) -> list[str]:
         browser, made = key.browser(f"https://site{thread}.example"), []
@@ -40,8 +40,8 @@ def test_four_threads_lose_nothing(make: Make) -> None:
     assert [len(key.credentials.for_rp(f"site{index}.example")) for index in range(THREAD_COUNT)] == [15] * THREAD_COUNT
 
 
-def test_four_threads_with_one_browser(make: Make) -> None:
-    browser = make().browser("https://example.com")
+def test_four_threads_with_one_browser(make_key: Make) -> None:
+    browser = make_key().browser("https://example.com")
     with ThreadPoolExecutor(THREAD_COUNT) as pool:
         made = list(
             pool.map(lambda element: str(browser.create(make_creation_options(f"user {element}"))["id"]), range(40))
@@ -50,8 +50,8 @@ def test_four_threads_with_one_browser(make: Make) -> None:
         assert [item["id"] for item in pool.map(browser.get, allowed)] == made
 
 
-def test_clients_of_several_threads(make: Make) -> None:
-    key = make()
+def test_clients_of_several_threads(make_key: Make) -> None:
+    key = make_key()
     parameters = {1: bytes(32), 2: {"id": "a"}, 4: [{"alg": -7, "type": "public-key"}]}
 
     def register(number: int) -> bytes:
@@ -63,9 +63,9 @@ def test_clients_of_several_threads(make: Make) -> None:
         assert len(set(pool.map(register, range(20)))) == 20
 
 
-def test_raw_packets_of_two_threads_have_a_queue_a_channel(make: Make) -> None:
+def test_raw_packets_of_two_threads_have_a_queue_a_channel(make_key: Make) -> None:
     """Each thread sends a PING on a separate channel. Then both threads read the responses."""
-    key, meeting = make(), threading.Barrier(2)
+    key, meeting = make_key(), threading.Barrier(2)
     found: dict[bytes, bytes] = {}
 
     def ping(letter: bytes) -> None:
@@ -77,7 +77,7 @@ def test_raw_packets_of_two_threads_have_a_queue_a_channel(make: Make) -> None:
         message = packets.Message(int.from_bytes(answer[15:19], "big"), packets.PING, letter * 50)
         key.write_packet(packets.fragment_message(message)[0])
         meeting.wait(TIMEOUT_SECONDS)
-        collector, whole = packets.Collector(), None
+        collector, whole = packets.MessageReassembler(), None
         while whole is None:
             whole = collector.add(key.read_packet(timeout=TIMEOUT_SECONDS))
         found[letter] = whole.data
@@ -87,15 +87,15 @@ def test_raw_packets_of_two_threads_have_a_queue_a_channel(make: Make) -> None:
     assert found == {b"a": b"a" * 50, b"b": b"b" * 50}
 
 
-def test_a_thread_that_only_reads_gets_all_packets(make: Make) -> None:
-    key = make()
+def test_a_thread_that_only_reads_gets_all_packets(make_key: Make) -> None:
+    key = make_key()
     key.write_packet(packets.fragment_message(packets.Message(packets.BROADCAST, packets.INIT, b"12345678"))[0])
     with ThreadPoolExecutor(1) as pool:
         assert pool.submit(key.read_packet).result(TIMEOUT_SECONDS)[7:15] == b"12345678"
 
 
-def test_a_function_of_presence_that_uses_the_key_is_refused(make: Make) -> None:
-    key = make()
+def test_a_function_of_presence_that_uses_the_key_is_refused(make_key: Make) -> None:
+    key = make_key()
     browser = key.browser("https://example.com")
     key.presence = lambda _: str(browser.get(REQUEST_OPTIONS)["type"])
     with pytest.raises(hidlog.KeyBusyError, match="a presence callback cannot send a request"):
@@ -104,8 +104,8 @@ def test_a_function_of_presence_that_uses_the_key_is_refused(make: Make) -> None
     browser.create(make_creation_options())
 
 
-def test_credentials_change_while_another_thread_registers(make: Make) -> None:
-    key, ended = make(), threading.Event()
+def test_credentials_change_while_another_thread_registers(make_key: Make) -> None:
+    key, ended = make_key(), threading.Event()
     browser, other = key.browser("https://example.com"), key.browser("https://other.example")
 
     def update() -> None:
@@ -141,8 +141,8 @@ CHILD_CALLS: list[tuple[str, Callable[[hidlog.SecurityKey, Any], Any]]] = [
 
 @pytest.mark.skipif(not hasattr(os, "fork"), reason="there is no os.fork")
 @pytest.mark.filterwarnings("ignore:This process.*is multi-threaded:DeprecationWarning")
-def test_a_child_of_fork_is_refused_and_the_parent_goes_on(make: Make) -> None:
-    key = make()
+def test_a_child_of_fork_is_refused_and_the_parent_goes_on(make_key: Make) -> None:
+    key = make_key()
     browser = key.browser("https://example.com")
     made = browser.create(make_creation_options())
     child = os.fork()
@@ -166,8 +166,8 @@ def test_a_child_of_fork_is_refused_and_the_parent_goes_on(make: Make) -> None:
 
 @pytest.mark.skipif(not hasattr(os, "fork"), reason="there is no os.fork")
 @pytest.mark.filterwarnings("ignore:This process.*is multi-threaded:DeprecationWarning")
-def test_a_child_that_lives_on_does_not_hold_up_its_parent(make: Make) -> None:
-    key = make()
+def test_a_child_that_lives_on_does_not_hold_up_its_parent(make_key: Make) -> None:
+    key = make_key()
     hidlog.Client(key)
     ours, theirs = os.pipe()
     child = os.fork()

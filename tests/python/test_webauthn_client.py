@@ -39,7 +39,7 @@ def build_request(
     return ClientCall(ceremony, options, "optional", origin, authenticator).request().message
 
 
-def client_data_hash(ceremony: str) -> bytes:
+def compute_client_data_hash(ceremony: str) -> bytes:
     return sha256((CLIENT_DATA % ceremony).encode()).digest()
 
 
@@ -48,7 +48,7 @@ def test_a_registration_is_what_ctap_says() -> None:
     listed = [{"type": "public-key", "id": ID_TEXT}, {"type": "another", "id": "AA"}]
     options = {**CREATION, "excludeCredentials": listed, "authenticatorSelection": {"residentKey": "preferred"}}
     expected = {
-        1: client_data_hash("create"),
+        1: compute_client_data_hash("create"),
         2: {"id": "example.com", "name": "Example"},
         3: {"id": b"\xff\xef", "name": "ann", "displayName": "Ann"},
         4: [{"alg": -7, "type": "public-key"}],
@@ -64,7 +64,7 @@ def test_a_registration_is_what_ctap_says() -> None:
 
 def test_a_sign_in_is_what_ctap_says() -> None:
     """The parameters of authenticatorGetAssertion are those of CTAP 2.1, section 6.2."""
-    expected: dict[int, Any] = {1: "login.example.com", 2: client_data_hash("get")}
+    expected: dict[int, Any] = {1: "login.example.com", 2: compute_client_data_hash("get")}
     assert build_request("get", REQUEST) == b"\x02" + cbor.encode(expected)
     expected |= {1: "example.com", 3: [{"id": ID, "type": "public-key"}, {"id": b"", "type": "public-key"}]}
     listed = [{"type": "public-key", "id": ID_TEXT}, {"type": "public-key", "id": ""}]

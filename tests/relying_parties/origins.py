@@ -110,11 +110,11 @@ class LoadService:
 
     def register_options(self) -> Json:
         """Begins a registration."""
-        return self._options("/register/options")
+        return self._request_options("/register/options")
 
     def login_options(self) -> Json:
         """Begins a sign-in."""
-        return self._options("/login/options")
+        return self._request_options("/login/options")
 
     def register(self, answer: Json) -> Optional[str]:
         """Ends a registration."""
@@ -124,7 +124,7 @@ class LoadService:
         """Ends a sign-in."""
         return self._get_result("/login", answer)
 
-    def _options(self, path: str) -> Json:
+    def _request_options(self, path: str) -> Json:
         options: Json = self._client.post(path, json={"name": "alice"}).get_json()
         return options
 
@@ -146,7 +146,7 @@ def find_failures(service: PythonService | LoadService) -> list[str]:
     found = [
         f"register {origin!r}: {why}"
         for origin in OTHER_ORIGINS
-        if "origin" not in (why := register(origin) or "taken")
+        if "origin" not in (why := register(origin) or "accepted")
     ]
     # The same client data with the service's own origin is accepted, so only the origin was wrong.
     if (refused := register(OWN_ORIGIN)) is not None:
@@ -156,7 +156,7 @@ def find_failures(service: PythonService | LoadService) -> list[str]:
     if (refused := service.login(browser.get(service.login_options()))) is not None:
         found.append(f"a sign-in at its own origin is refused: {refused}")
     found += [
-        f"login {origin!r}: {why}" for origin in OTHER_ORIGINS if "origin" not in (why := login(origin) or "taken")
+        f"login {origin!r}: {why}" for origin in OTHER_ORIGINS if "origin" not in (why := login(origin) or "accepted")
     ]
     return found
 

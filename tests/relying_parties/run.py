@@ -1,11 +1,11 @@
 #!/usr/bin/env python3
-"""Verifies registrations and sign-ins of the key with relying party libraries of other makers, valid and invalid ones.
+"""Verifies registrations and sign-ins of the key with libraries for relying parties. Some of them are invalid.
 
     tests/relying_parties/run.py [NAME ..]     default: all installed libraries: python, perl, ruby, go
 
 The key registers and signs in with python-fido2's client; with user verification, at a service of http://localhost,
 with the package's browser. Each library gets the same cases as JSON, and must accept the valid ones and reject the
-invalid ones. The last line is `N passed, N failed, N skipped`. Exit status 1 if a library differs, 3 if none is
+invalid ones. The last line is `N passed, N failed, N skipped`. Exit status 1 if a verdict is wrong, 3 if no library is
 installed. Needs python3-fido2 and python3-cryptography.
 """
 
@@ -66,7 +66,7 @@ LIBRARIES = {
         ["go", "run", f"{HERE}/judge.go"],
     ),
 }
-# What libraries can't do, by the texts of their errors: with OpenSSL 3, with an algorithm, or without failing.
+# The errors with which a library gives no verdict: with OpenSSL 3, for an algorithm, or because it crashes.
 KNOWN_WITHOUT_VERDICT = {
     "ruby": [
         "pkeys are immutable on OpenSSL 3.0",
@@ -115,7 +115,8 @@ def make_sign_in_case(key: SecurityKey, made: Case, challenge: bytes, rp_id: str
     return {**made, "kind": "assertion", "challenge": text(challenge), "counter": 0, "credential": answer}
 
 
-def iter_changed_cases(case: Case, **members: Any) -> Case:
+def change_members(case: Case, **members: Any) -> Case:
+    """Returns the case with these members changed."""
     return {**deepcopy(case), **members}
 
 
@@ -243,7 +244,7 @@ def check_format(title: str, made: Json, attestation: str, requested: str) -> No
         raise SystemExit(f"run.py: {title}: expected {expected}, got {found['fmt']} {sorted(found['attStmt'])}")
     aaguid = bytes(16) if requested == "none" else bytes.fromhex(AAGUID.replace("-", ""))
     if found["authData"][37:53] != aaguid:
-        raise SystemExit(f"run.py: {title}: the AAGUID is {found['authData'][37:53].hex()}")
+        raise SystemExit(f"run.py: {title}: expected the AAGUID {aaguid.hex()}, got {found['authData'][37:53].hex()}")
 
 
 def read_attested_key(made: Json) -> str:
@@ -283,18 +284,18 @@ def make_cases(key: SecurityKey) -> list[tuple[str, bool, Case]]:
     other_rp = make_sign_in_case(key, made, second, "evil.example")
     return [
         ("a registration", True, made),
-        ("a registration with a repeated challenge", False, iter_changed_cases(made, challenge=text(second))),
+        ("a registration with a repeated challenge", False, change_members(made, challenge=text(second))),
         ("a registration at another origin", False, other_origin),
         ("a registration for another RP", False, elsewhere),
         ("a registration with a wrong signature", False, replace_attestation_signature(made)),
         ("a sign-in", True, found),
-        ("a second sign-in", True, iter_changed_cases(again, counter=1)),
+        ("a second sign-in", True, change_members(again, counter=1)),
         ("a sign-in with a wrong signature", False, flip_last_bit(found, "signature")),
         ("a sign-in with changed authenticator data", False, flip_last_bit(found, "authenticatorData")),
-        ("a sign-in with a repeated challenge", False, iter_changed_cases(found, challenge=text(third))),
-        ("a sign-in whose counter fell", False, iter_changed_cases(again, counter=7)),
-        ("a sign-in whose counter did not rise", False, iter_changed_cases(again, counter=2)),
-        ("a sign-in at another origin", False, iter_changed_cases(found, origin="https://www.example.com")),
+        ("a sign-in with a repeated challenge", False, change_members(found, challenge=text(third))),
+        ("a sign-in whose counter fell", False, change_members(again, counter=7)),
+        ("a sign-in whose counter did not rise", False, change_members(again, counter=2)),
+        ("a sign-in at another origin", False, change_members(found, origin="https://www.example.com")),
         ("a sign-in for another RP", False, other_rp),
     ]
 

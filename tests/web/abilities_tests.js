@@ -1,9 +1,9 @@
-// Tests the authenticator options of the page's key, which are outside the verified core: user verification,
-// transports, IDs of other lengths, and backup flags. compare.js compares the options with Chromium's virtual
-// authenticator.
+// Tests the authenticator options of the page's key: user verification, transports, discoverable credentials,
+// credential IDs of other lengths, backup flags, and the options of DevTools. compare.js compares the options with
+// Chromium's virtual authenticator.
 import { install, SecurityKey, sendDevToolsCommand } from "../../bindings/web/dist/security_key.mjs";
 import { expect, results } from "./harness.js";
-import { createCredential, getAssertion, getAssertionBy, makeOptionsForUser, expectError, toBase64url, makeKeyTest } from "./options.js";
+import { createCredential, getAssertion, getAssertionWith, makeOptionsForUser, expectError, toBase64url, makeKeyTest } from "./options.js";
 
 const VERIFYING_OPTIONS = { hasUserVerification: true, isUserVerified: true };
 const required = { authenticatorSelection: { userVerification: "required", residentKey: "required" } };
@@ -27,7 +27,7 @@ const testPlatformKey = async (key) => {
     const made = await createCredential({ authenticatorSelection: { authenticatorAttachment: "platform" } });
     expect(made.authenticatorAttachment === "platform" && made.response.getTransports().join() === "internal", "made");
     expect(await PublicKeyCredential.isUserVerifyingPlatformAuthenticatorAvailable(), "it says so");
-    const used = await getAssertionBy(made);
+    const used = await getAssertionWith(made);
     expect(used.authenticatorAttachment === "platform" && used.toJSON().authenticatorAttachment === "platform", "used");
     const other = { authenticatorSelection: { authenticatorAttachment: "cross-platform" } };
     await expectError(createCredential(other), "NotAllowedError", "cross-platform");
@@ -78,9 +78,9 @@ const testCredentialIdLengths = async (key) => {
 
 const testBackupFlags = async (key) => {
     const made = await createCredential();
-    expect(readFlags(made) === 0x59 && readFlags(await getAssertionBy(made)) === 0x19, "BE and BS");
+    expect(readFlags(made) === 0x59 && readFlags(await getAssertionWith(made)) === 0x19, "BE and BS");
     await key.setCredentialProperties(made.id, { backupState: false });
-    expect(readFlags(await getAssertionBy(made)) === 0x09, "BE alone");
+    expect(readFlags(await getAssertionWith(made)) === 0x09, "BE alone");
     const { backupEligibility, backupState } = await key.getCredential(made.id);
     expect(backupEligibility && !backupState, "shown");
     const added = await key.addCredential({ rpId: "localhost", backupEligibility: false });

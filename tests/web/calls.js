@@ -1,5 +1,5 @@
-// Calls for both Chromium's virtual authenticator and the key. Each call registers or signs in with an option or an
-// invalid argument, and returns what a page sees.
+// Calls for both Chromium's virtual authenticator and the key, which return what a page sees. Most calls register or
+// sign in with an option or an invalid argument; the others call static methods, or read members of credentials.
 import { moreCalls } from "./member_calls.js";
 
 const TIMEOUT_MS = 400;
@@ -23,7 +23,7 @@ const makeOptionsWithout = (...path) => {
 
 const makeOptionsWithUser = (more) => makeCreationOptions({ user: { ...makeCreationOptions().user, ...more } });
 const makeOptionsWithSelection = (authenticatorSelection) => makeCreationOptions({ authenticatorSelection });
-const makeAllowList = (made, more = {}) => ({
+const makeRequestOptions = (made, more = {}) => ({
     challenge: makeChallenge(), allowCredentials: [{ type: "public-key", id: made.rawId, ...more }],
 });
 
@@ -61,22 +61,25 @@ const describeSignIn = (used) => {
     };
 };
 
+/** Registers with these options, and returns what the page sees. */
 const create = async (publicKey, more = {}) =>
     describeRegistration(await navigator.credentials.create({ publicKey, ...more }));
 const register = (more) => navigator.credentials.create({ publicKey: makeCreationOptions(more) });
+
+/** Signs in with these options, and returns what the page sees. */
 const get = async (publicKey, more = {}) => describeSignIn(await navigator.credentials.get({ publicKey, ...more }));
 
-/** Registers, and signs in with these options. */
-const signIn = (options = {}, more = {}) => async () => get({ ...makeAllowList(await register()), ...options }, more);
+/** Returns a call that registers, and signs in with these options. */
+const makeSignIn = (options = {}, more = {}) => async () => get({ ...makeRequestOptions(await register()), ...options }, more);
 
-/** Two concurrent requests. */
-const runBoth = async (first, second) => {
+/** Starts two requests, and returns the name of each one's error, or "done". */
+const runConcurrently = async (first, second) => {
     const outcomes = await Promise.allSettled([first(), second()]);
     return outcomes.map((outcome) => outcome.reason?.name ?? "done");
 };
 
-/** Calls made while the key waits for the user. */
-const callWhileWaiting = (environment, later) => async () => {
+/** Returns a call that is made while the authenticator waits for the user. */
+const makeWaitingCall = (environment, later) => async () => {
     await environment.presence(false);
     try {
         return await later();
@@ -143,7 +146,7 @@ const registrations = {
     "create, no type": () => create(makeCreationOptions({ pubKeyCredParams: [{ alg: -7 }] })),
 };
 
-const optionsOfRegistration = {
+const registrationOptions = {
     "create, timeout 0": () => create(makeCreationOptions({ timeout: 0 })),
     "create, timeout -1": () => create(makeCreationOptions({ timeout: -1 })),
     "create, timeout 2^32": () => create(makeCreationOptions({ timeout: 2 ** 32 })),
@@ -153,7 +156,7 @@ const optionsOfRegistration = {
     "create, excludeCredentials empty": () => create(makeCreationOptions({ excludeCredentials: [] })),
     "create, excludeCredentials null": () => create(makeCreationOptions({ excludeCredentials: null })),
     "create, excluded": async () =>
-        create(makeCreationOptions({ excludeCredentials: makeAllowList(await register()).allowCredentials })),
+        create(makeCreationOptions({ excludeCredentials: makeRequestOptions(await register()).allowCredentials })),
     "create, excluded under an unknown type": async () =>
         create(makeCreationOptions({ excludeCredentials: [{ type: "other", id: (await register()).rawId }] })),
     "create, excluded without a type": async () =>
@@ -233,80 +236,80 @@ const extensionCalls = {
     "create, credBlob": () => create(makeCreationOptions({ extensions: { credBlob: toBytes(1) } })),
     "create, payment": () => create(makeCreationOptions({ extensions: { payment: { isPayment: true } } })),
     "create, uvm": () => create(makeCreationOptions({ extensions: { uvm: true } })),
-    "get, appid": signIn({ extensions: { appid: location.origin } }),
-    "get, appid of another site": signIn({ extensions: { appid: "https://example.com" } }),
-    "get, appid no URL": signIn({ extensions: { appid: "x" } }),
-    "get, appidExclude": signIn({ extensions: { appidExclude: location.origin } }),
-    "get, unknown extension": signIn({ extensions: { unknown: 1 } }),
-    "get, credProps": signIn({ extensions: { credProps: true } }),
-    "get, largeBlob read": signIn({ extensions: { largeBlob: { read: true } } }),
-    "get, largeBlob write": signIn({ extensions: { largeBlob: { write: toBytes(1) } } }),
-    "get, largeBlob read and write": signIn({ extensions: { largeBlob: { read: true, write: toBytes(1) } } }),
-    "get, largeBlob support": signIn({ extensions: { largeBlob: { support: "required" } } }),
-    "get, prf": signIn({ extensions: { prf: { eval: { first: toBytes(1) } } } }),
-    "get, prf a wrong credential": signIn({ extensions: { prf: { evalByCredential: { "!": { first: toBytes(1) } } } } }),
-    "get, prf without first": signIn({ extensions: { prf: { eval: {} } } }),
-    "get, getCredBlob": signIn({ extensions: { getCredBlob: true } }),
-    "get, uvm": signIn({ extensions: { uvm: true } }),
+    "get, appid": makeSignIn({ extensions: { appid: location.origin } }),
+    "get, appid of another site": makeSignIn({ extensions: { appid: "https://example.com" } }),
+    "get, appid no URL": makeSignIn({ extensions: { appid: "x" } }),
+    "get, appidExclude": makeSignIn({ extensions: { appidExclude: location.origin } }),
+    "get, unknown extension": makeSignIn({ extensions: { unknown: 1 } }),
+    "get, credProps": makeSignIn({ extensions: { credProps: true } }),
+    "get, largeBlob read": makeSignIn({ extensions: { largeBlob: { read: true } } }),
+    "get, largeBlob write": makeSignIn({ extensions: { largeBlob: { write: toBytes(1) } } }),
+    "get, largeBlob read and write": makeSignIn({ extensions: { largeBlob: { read: true, write: toBytes(1) } } }),
+    "get, largeBlob support": makeSignIn({ extensions: { largeBlob: { support: "required" } } }),
+    "get, prf": makeSignIn({ extensions: { prf: { eval: { first: toBytes(1) } } } }),
+    "get, prf a wrong credential": makeSignIn({ extensions: { prf: { evalByCredential: { "!": { first: toBytes(1) } } } } }),
+    "get, prf without first": makeSignIn({ extensions: { prf: { eval: {} } } }),
+    "get, getCredBlob": makeSignIn({ extensions: { getCredBlob: true } }),
+    "get, uvm": makeSignIn({ extensions: { uvm: true } }),
 };
 
 const signIns = {
-    "get": signIn(),
+    "get": makeSignIn(),
     "get, no publicKey": () => navigator.credentials.get({}),
     "get, nothing": () => navigator.credentials.get(),
     "get, publicKey null": () => navigator.credentials.get({ publicKey: null }),
     "get, publicKey empty": () => navigator.credentials.get({ publicKey: {} }),
-    "get, challenge a text": signIn({ challenge: "abcd" }),
-    "get, challenge null": signIn({ challenge: null }),
-    "get, rpId of this host": signIn({ rpId: "localhost" }),
-    "get, rpId empty": signIn({ rpId: "" }),
-    "get, rpId of another site": signIn({ rpId: "example.com" }),
-    "get, rpId in capitals": signIn({ rpId: "LOCALHOST" }),
-    "get, allowCredentials a text": signIn({ allowCredentials: "x" }),
-    "get, allowCredentials null": signIn({ allowCredentials: null }),
-    "get, an unknown id": () => get(makeAllowList({ rawId: toBytes(9) })),
-    "get, an id of 0 bytes": () => get(makeAllowList({ rawId: toBytes() })),
+    "get, challenge a text": makeSignIn({ challenge: "abcd" }),
+    "get, challenge null": makeSignIn({ challenge: null }),
+    "get, rpId of this host": makeSignIn({ rpId: "localhost" }),
+    "get, rpId empty": makeSignIn({ rpId: "" }),
+    "get, rpId of another site": makeSignIn({ rpId: "example.com" }),
+    "get, rpId in capitals": makeSignIn({ rpId: "LOCALHOST" }),
+    "get, allowCredentials a text": makeSignIn({ allowCredentials: "x" }),
+    "get, allowCredentials null": makeSignIn({ allowCredentials: null }),
+    "get, an unknown id": () => get(makeRequestOptions({ rawId: toBytes(9) })),
+    "get, an id of 0 bytes": () => get(makeRequestOptions({ rawId: toBytes() })),
     "get, an unknown id and a known one": async () => get({
         challenge: makeChallenge(),
-        allowCredentials: [{ type: "public-key", id: toBytes(9) }, ...makeAllowList(await register()).allowCredentials],
+        allowCredentials: [{ type: "public-key", id: toBytes(9) }, ...makeRequestOptions(await register()).allowCredentials],
     }),
     "get, 65 unknown ids": () => get({
         challenge: makeChallenge(),
         allowCredentials: Array.from({ length: 65 }, (_, at) => ({ type: "public-key", id: toBytes(at) })),
     }),
-    "get, an unknown type": async () => get(makeAllowList(await register(), { type: "other" })),
-    "get, no type": async () => get(makeAllowList(await register(), { type: undefined })),
+    "get, an unknown type": async () => get(makeRequestOptions(await register(), { type: "other" })),
+    "get, no type": async () => get(makeRequestOptions(await register(), { type: undefined })),
     "get, transports of another kind": async () =>
-        get(makeAllowList(await register(), { transports: ["internal"] }), { signal: AbortSignal.timeout(TIMEOUT_MS) }),
-    "get, unknown transports": async () => get(makeAllowList(await register(), { transports: ["pigeon"] })),
-    "get, transports a text": async () => get(makeAllowList(await register(), { transports: "usb" })),
-    "get, userVerification required": signIn({ userVerification: "required" }),
-    "get, userVerification discouraged": signIn({ userVerification: "discouraged" }),
-    "get, userVerification unknown": signIn({ userVerification: "maybe" }),
-    "get, timeout 0": signIn({ timeout: 0 }),
-    "get, timeout -1": signIn({ timeout: -1 }),
-    "get, mediation unknown": signIn({}, { mediation: "now" }),
-    "get, mediation silent": signIn({}, { mediation: "silent" }),
-    "get, mediation required": signIn({}, { mediation: "required" }),
-    "get, aborted before": signIn({}, { signal: AbortSignal.abort() }),
-    "get, aborted before with a reason": signIn({}, { signal: AbortSignal.abort("enough") }),
-    "get, password too": signIn({}, { password: true }),
+        get(makeRequestOptions(await register(), { transports: ["internal"] }), { signal: AbortSignal.timeout(TIMEOUT_MS) }),
+    "get, unknown transports": async () => get(makeRequestOptions(await register(), { transports: ["pigeon"] })),
+    "get, transports a text": async () => get(makeRequestOptions(await register(), { transports: "usb" })),
+    "get, userVerification required": makeSignIn({ userVerification: "required" }),
+    "get, userVerification discouraged": makeSignIn({ userVerification: "discouraged" }),
+    "get, userVerification unknown": makeSignIn({ userVerification: "maybe" }),
+    "get, timeout 0": makeSignIn({ timeout: 0 }),
+    "get, timeout -1": makeSignIn({ timeout: -1 }),
+    "get, mediation unknown": makeSignIn({}, { mediation: "now" }),
+    "get, mediation silent": makeSignIn({}, { mediation: "silent" }),
+    "get, mediation required": makeSignIn({}, { mediation: "required" }),
+    "get, aborted before": makeSignIn({}, { signal: AbortSignal.abort() }),
+    "get, aborted before with a reason": makeSignIn({}, { signal: AbortSignal.abort("enough") }),
+    "get, password too": makeSignIn({}, { password: true }),
     "get, discoverable": async () => {
         await register({ authenticatorSelection: { residentKey: "required" } });
         return get({ challenge: makeChallenge() });
     },
     "get, discoverable by its id": async () =>
-        get(makeAllowList(await register({ authenticatorSelection: { residentKey: "required" } }))),
+        get(makeRequestOptions(await register({ authenticatorSelection: { residentKey: "required" } }))),
 };
 
-const callWhileUserIsAsked = (environment) => ({
-    "two at the same time": callWhileWaiting(environment, () => runBoth(
+const listPendingCalls = (environment) => ({
+    "two at the same time": makeWaitingCall(environment, () => runConcurrently(
         () => navigator.credentials.create({ publicKey: makeCreationOptions({ timeout: 300 }) }),
         () => navigator.credentials.get({ publicKey: { challenge: makeChallenge() } }),
     )),
-    "aborted, and at once another": callWhileWaiting(environment, () => {
+    "aborted, and at once another": makeWaitingCall(environment, () => {
         const controller = new AbortController();
-        return runBoth(
+        return runConcurrently(
             () => navigator.credentials.create({ publicKey: makeCreationOptions(), signal: controller.signal }),
             async () => {
                 controller.abort();
@@ -319,31 +322,31 @@ const callWhileUserIsAsked = (environment) => ({
         const controller = new AbortController();
         const first = navigator.credentials.create({ publicKey: makeCreationOptions(), signal: controller.signal });
         controller.abort();
-        return runBoth(() => first, () => register());
+        return runConcurrently(() => first, () => register());
     },
-    "a time-out": callWhileWaiting(environment, () => create(makeCreationOptions({ timeout: 200 }))),
+    "a time-out": makeWaitingCall(environment, () => create(makeCreationOptions({ timeout: 200 }))),
 });
 
 const conditional = {
     "conditional, then aborted": async () => {
         const more = { mediation: "conditional", signal: AbortSignal.timeout(200) };
-        return runBoth(() => navigator.credentials.get({ publicKey: { challenge: makeChallenge() }, ...more }), () => null);
+        return runConcurrently(() => navigator.credentials.get({ publicKey: { challenge: makeChallenge() }, ...more }), () => null);
     },
-    "conditional, then create": () => runBoth(
+    "conditional, then create": () => runConcurrently(
         () => navigator.credentials.get({ publicKey: { challenge: makeChallenge() }, mediation: "conditional" }),
         () => register(),
     ),
     "conditional, then get": async () => {
         const made = await register();
-        return runBoth(
+        return runConcurrently(
             () => navigator.credentials.get({ publicKey: { challenge: makeChallenge() }, mediation: "conditional" }),
-            () => navigator.credentials.get({ publicKey: makeAllowList(made) }),
+            () => navigator.credentials.get({ publicKey: makeRequestOptions(made) }),
         );
     },
     "conditional twice": async () => {
         const signal = AbortSignal.timeout(300);
         const publicKey = { challenge: makeChallenge() };
-        return runBoth(
+        return runConcurrently(
             () => navigator.credentials.get({ publicKey, mediation: "conditional", signal }),
             () => navigator.credentials.get({ publicKey, mediation: "conditional", signal }),
         );
@@ -351,11 +354,11 @@ const conditional = {
     "conditional, with an allow list": async () => {
         const signal = AbortSignal.timeout(300);
         const made = await register();
-        return get(makeAllowList(made), { mediation: "conditional", signal });
+        return get(makeRequestOptions(made), { mediation: "conditional", signal });
     },
 };
 
-const isKnownError = (name, ...words) => async () => {
+const callStaticMethod = (name, ...words) => async () => {
     const found = await PublicKeyCredential[name](...words);
     return found;
 };
@@ -365,9 +368,9 @@ const makeCreationJson = (more) => ({
 });
 
 const statics = {
-    "isUserVerifyingPlatformAuthenticatorAvailable": isKnownError("isUserVerifyingPlatformAuthenticatorAvailable"),
-    "isConditionalMediationAvailable": isKnownError("isConditionalMediationAvailable"),
-    "getClientCapabilities": isKnownError("getClientCapabilities"),
+    "isUserVerifyingPlatformAuthenticatorAvailable": callStaticMethod("isUserVerifyingPlatformAuthenticatorAvailable"),
+    "isConditionalMediationAvailable": callStaticMethod("isConditionalMediationAvailable"),
+    "getClientCapabilities": callStaticMethod("getClientCapabilities"),
     "parseCreationOptionsFromJSON": async () => {
         const parsed = PublicKeyCredential.parseCreationOptionsFromJSON({
             challenge: "AQID", rp: { name: "A" }, user: { id: "AQ", name: "a", displayName: "A" },
@@ -382,14 +385,14 @@ const statics = {
         };
     },
     "parseCreationOptionsFromJSON, no base64url":
-        isKnownError("parseCreationOptionsFromJSON", makeCreationJson({ challenge: "a+b/" })),
+        callStaticMethod("parseCreationOptionsFromJSON", makeCreationJson({ challenge: "a+b/" })),
     "parseCreationOptionsFromJSON, padded": async () => {
         const parsed = PublicKeyCredential.parseCreationOptionsFromJSON(makeCreationJson({ challenge: "AQ==" }));
         return parsed.challenge.byteLength;
     },
     "parseCreationOptionsFromJSON, no user":
-        isKnownError("parseCreationOptionsFromJSON", { challenge: "AQ", rp: { name: "A" } }),
-    "parseCreationOptionsFromJSON, nothing": isKnownError("parseCreationOptionsFromJSON"),
+        callStaticMethod("parseCreationOptionsFromJSON", { challenge: "AQ", rp: { name: "A" } }),
+    "parseCreationOptionsFromJSON, nothing": callStaticMethod("parseCreationOptionsFromJSON"),
     "parseRequestOptionsFromJSON": async () => {
         const parsed = PublicKeyCredential.parseRequestOptionsFromJSON({
             challenge: "AQID", rpId: "localhost",
@@ -397,7 +400,7 @@ const statics = {
         });
         return { names: Object.keys(parsed).sort(), id: parsed.allowCredentials[0].id.byteLength };
     },
-    "parseRequestOptionsFromJSON, no challenge": isKnownError("parseRequestOptionsFromJSON", {}),
+    "parseRequestOptionsFromJSON, no challenge": callStaticMethod("parseRequestOptionsFromJSON", {}),
     "what navigator.credentials is": async () => [
         navigator.credentials instanceof CredentialsContainer, String(navigator.credentials),
         navigator.credentials.create.name, navigator.credentials.create.length, navigator.credentials.get.length,
@@ -410,21 +413,21 @@ const statics = {
 
 /** All calls by name. @param environment functions of the authenticator */
 export const listCalls = (environment) => ({
-    ...registrations, ...optionsOfRegistration, ...extensionCalls, ...signIns, ...statics, ...moreCalls,
-    ...callWhileUserIsAsked(environment), ...conditional,
+    ...registrations, ...registrationOptions, ...extensionCalls, ...signIns, ...statics, ...moreCalls,
+    ...listPendingCalls(environment), ...conditional,
 });
 
 // After this time, a call is considered pending forever. No other call waits for more than half a second.
-const NEVER_MS = 30_000;
+const PENDING_MS = 30_000;
 
-const waitForNever = () => new Promise((done, fail) => {
-    setTimeout(() => fail(new Error("the call never ended")), NEVER_MS);
+const rejectAfterTimeout = () => new Promise((done, fail) => {
+    setTimeout(() => fail(new Error("the call never ended")), PENDING_MS);
 });
 
 /** The result of a call: a value, or an error's name and message. */
 export const getResult = async (call) => {
     try {
-        return { value: (await Promise.race([call(), waitForNever()])) ?? null };
+        return { value: (await Promise.race([call(), rejectAfterTimeout()])) ?? null };
     } catch (error) {
         return { error: error?.name ?? String(error), text: error?.message ?? "" };
     }

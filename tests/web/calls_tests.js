@@ -4,11 +4,14 @@ import { install } from "../../bindings/web/dist/security_key.mjs";
 import { listCalls, summarizeResult, getResult } from "./calls.js";
 import { loadFrame, loadResult } from "./frames.js";
 import { expect, results } from "./harness.js";
-import { createCredential, makeCreationOptions, getAssertion, getAssertionBy, makeOptionsForUser, toBase64url, makeKeyTest } from "./options.js";
+import { createCredential, makeCreationOptions, getAssertion, getAssertionWith, makeOptionsForUser, toBase64url, makeKeyTest } from "./options.js";
 import { AUTHENTICATOR_KINDS, mayDiffer } from "./reasons.js";
 import { isSelfAttested } from "./signatures.js";
 
-/** The calls whose result differs from that of Chromium's virtual authenticator with the same options. */
+/**
+ * Returns a message for each call whose result differs from that of Chromium's virtual authenticator with the same
+ * options, except for the differences that reasons.js lists.
+ */
 const findDifferences = async (kind, expected) => {
     const key = install(AUTHENTICATOR_KINDS[kind]);
     const calls = listCalls({
@@ -51,7 +54,7 @@ const testToJson = async () => {
     expect(made.response instanceof AuthenticatorAttestationResponse, "its type");
     const used = JSON.parse(JSON.stringify(await getAssertion()));
     expect(used.response.userHandle === "YW5u" && used.rawId === made.id && used.type === "public-key", "a sign-in");
-    const other = JSON.parse(JSON.stringify(await getAssertionBy(await createCredential())));
+    const other = JSON.parse(JSON.stringify(await getAssertionWith(await createCredential())));
     expect(!("userHandle" in other.response), "a sign-in without a user handle");
 };
 

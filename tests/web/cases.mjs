@@ -10,13 +10,13 @@ const { creation, request, cases } = readJson("browser_cases.json");
 const RECORDED = readJson("browser_cases_chromium.json");
 const DIFFERENCES = readJson("browser_cases_differences.json");
 const RP_ID_HASH = createHash("sha256").update("localhost").digest();
-const HAS_CREDENTIAL = 0x40;
+const ATTESTED_DATA_FLAG = 0x40;
 
 const decode = (text) => Buffer.from(text, "base64url");
 const encode = (bytes) => Buffer.from(bytes).toString("base64url");
 
 /** Options with the IDs of earlier registrations, and with long values expanded. */
-const fill = (value, ids) => {
+const expandValue = (value, ids) => {
     if (typeof value === "string" && value.startsWith("$")) {
         return ids[Number(value.slice(1))];
     }
@@ -24,7 +24,7 @@ const fill = (value, ids) => {
         return value;
     }
     if (Array.isArray(value)) {
-        return value.map((item) => fill(item, ids));
+        return value.map((item) => expandValue(item, ids));
     }
     if ("$bytes" in value) {
         return encode(new Uint8Array(value.$bytes));
@@ -32,14 +32,14 @@ const fill = (value, ids) => {
     if ("$repeat" in value) {
         return Array.from({ length: value.$repeat }, (_, index) => ({ type: "public-key", id: encode([index, 255]) }));
     }
-    return Object.fromEntries(Object.entries(value).map(([name, inner]) => [fill(name, ids), fill(inner, ids)]));
+    return Object.fromEntries(Object.entries(value).map(([name, inner]) => [expandValue(name, ids), expandValue(inner, ids)]));
 };
 
 const makeOptions = ({ call, options = {}, without = [], raw, wrapped }, ids) => {
     if (raw) {
         return raw;
     }
-    const made = structuredClone({ ...(call === "create" ? creation : request), ...fill(options, ids) });
+    const made = structuredClone({ ...(call === "create" ? creation : request), ...expandValue(options, ids) });
     const path = [...without];
     const last = path.pop();
     delete path.reduce((inner, name) => inner[name], made)[last];
@@ -58,7 +58,7 @@ const selectMembers = (credential, ids) => {
     const id = ids.includes(credential.id) ? ids.indexOf(credential.id) : "new";
     return {
         ...credential, id, rawId: credential.rawId === credential.id ? id : "another", clientData, flags: data[32],
-        response: data[32] & HAS_CREDENTIAL ? { ...response, idBytes: data.readUInt16BE(53) } : response,
+        response: data[32] & ATTESTED_DATA_FLAG ? { ...response, idBytes: data.readUInt16BE(53) } : response,
         isForLocalhost: data.subarray(0, 32).equals(RP_ID_HASH),
     };
 };
@@ -72,7 +72,7 @@ const makeAuthenticatorOptions = ({ verification = "none", attachment, ...key } 
 });
 
 /** Makes the calls of a case, and returns the result of the last call. */
-const run = async (test, browser) => {
+const runCase = async (test, browser) => {
     await browser.start(makeAuthenticatorOptions(test.key));
     const ids = [];
     for (const more of test.before ?? []) {
@@ -94,7 +94,7 @@ const run = async (test, browser) => {
  * The result that the key must return: Chromium's, or another one with a reason. Chromium's simulated user cannot deny,
  * so the results of a denial are those of WebAuthn (section 5.1.3).
  */
-const getExpected = ({ name }) => {
+const getExpectedResult = ({ name }) => {
     const recorded = RECORDED[name] ?? { error: "NotAllowedError" };
     const found = DIFFERENCES.find(({ results, implementations = ["npm"] }) =>
         name in results && implementations.includes("npm"));
@@ -110,7 +110,7 @@ const getExpected = ({ name }) => {
  */
 export const runCases = async (browser) => {
     for (const test of cases) {
-        assert.deepEqual(await run(test, browser), getExpected(test), test.name);
+        assert.deepEqual(await runCase(test, browser), getExpectedResult(test), test.name);
     }
     return cases.length;
 };

@@ -1,5 +1,5 @@
-// Runs the cases of browser_cases.json on the key in node, and tests calls for which the key's script writes the client
-// data.
+// Runs the cases of browser_cases.json on the key in node, and tests long challenges and texts, empty user handles,
+// transports, and credProps.
 import assert from "node:assert/strict";
 import { test } from "node:test";
 import { install } from "../../bindings/web/dist/security_key.mjs";
@@ -121,7 +121,8 @@ test("transports that the core's client does not know", async () => {
     }
 });
 
-// As in Chromium, credProps.rk is omitted, since a FIDO 2.0 key may make any credential discoverable.
+// As in Chromium, credProps.rk is omitted for a FIDO 2.0 key with discoverable credentials, since such a key may make
+// any credential discoverable.
 test("credProps by protocol", async () => {
     const options = { publicKey: { challenge: new Uint8Array(1), rp: { name: "A" }, user: USER,
         pubKeyCredParams: PARAMETERS, extensions: { credProps: true } } };

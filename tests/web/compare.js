@@ -3,7 +3,7 @@
 import { install } from "../../bindings/web/dist/security_key.mjs";
 import { listCalls, summarizeResult, getResult } from "./calls.js";
 import { post, results } from "./harness.js";
-import { createCredential, getAssertionBy } from "./options.js";
+import { createCredential, getAssertionWith } from "./options.js";
 import { AUTHENTICATOR_KINDS, findReason } from "./reasons.js";
 
 // The names of protocols in DevTools.
@@ -12,8 +12,8 @@ const PROTOCOLS = {
     ctap2_1: { protocol: "ctap2", ctap2Version: "ctap2_1" },
 };
 const ROUNDS = 60;
-const MAX_SHOWN = 20;
-const TRIES = 3;
+const MAX_SHOWN_CALLS = 20;
+const MAX_ATTEMPTS = 3;
 
 /** The leaves of a value, with their paths. */
 const listLeaves = (value, path = "") => {
@@ -47,7 +47,7 @@ const collectResults = async (environment) => {
     return outcomes;
 };
 
-/** The median time of a registration and a sign-in in milliseconds, or "no" if they fail. */
+/** The median time of a registration and a sign-in in milliseconds, or "no" if a registration fails. */
 const measureMedian = async () => {
     if (await createCredential().then(() => false, () => true)) {
         return "no";
@@ -55,7 +55,7 @@ const measureMedian = async () => {
     const all = [];
     for (let round = 0; round < ROUNDS; round += 1) {
         const begun = performance.now();
-        await getAssertionBy(await createCredential({ user: { id: Uint8Array.of(round), name: "ann", displayName: "Ann" } }));
+        await getAssertionWith(await createCredential({ user: { id: Uint8Array.of(round), name: "ann", displayName: "Ann" } }));
         all.push(performance.now() - begun);
     }
     return all.sort((one, other) => one - other)[ROUNDS / 2].toFixed(2);
@@ -73,34 +73,34 @@ const reportDifferences = (kind, found, count, sameTexts) => {
     results.figures.push(`${kind}: ${count} calls, ${count - other} with equal results except counter and fmt;`
         + ` ${sameTexts}`);
     for (const [reason, names] of lines) {
-        const shown = names.size > MAX_SHOWN ? `${names.size} calls` : [...names].join("; ");
+        const shown = names.size > MAX_SHOWN_CALLS ? `${names.size} calls` : [...names].join("; ");
         results.figures.push(`    ${reason ?? "NO REASON"}: ${shown}`);
     }
     const error = [...(lines.get(undefined) ?? [])].join("\n");
     results.tests.push({ name: `${count} calls compared with Chromium's virtual authenticator, ${kind}`, error });
 };
 
-/** Counts errors with the same name, and how many of them have the same message. */
-const countSameMessages = (native, own) => {
+/** Describes how many of the errors with the same name have the same message. */
+const describeSameMessages = (native, own) => {
     const both = [...native].filter(([name, outcome]) => outcome.error && outcome.error === own.get(name).error);
     const same = both.filter(([name, outcome]) => outcome.text === own.get(name).text);
     return `${same.length} of ${both.length} errors have the same message`;
 };
 
-const sendDevTools = (command, parameters = {}) => post("/devtools", { command, parameters });
+const sendChromiumCommand = (command, parameters = {}) => post("/devtools", { command, parameters });
 
 /** The results of Chromium's authenticator with these abilities, and the median time of a registration and sign-in. */
 const runInChromium = async (abilities) => {
     const options = { ...abilities, ...PROTOCOLS[abilities.protocol ?? "ctap2"], automaticPresenceSimulation: true };
-    const made = await sendDevTools("WebAuthn.addVirtualAuthenticator", { options });
+    const made = await sendChromiumCommand("WebAuthn.addVirtualAuthenticator", { options });
     try {
         const outcomes = await collectResults({
-            presence: (enabled) => sendDevTools("WebAuthn.setAutomaticPresenceSimulation", { enabled, ...made }),
-            clear: () => sendDevTools("WebAuthn.clearCredentials", made),
+            presence: (enabled) => sendChromiumCommand("WebAuthn.setAutomaticPresenceSimulation", { enabled, ...made }),
+            clear: () => sendChromiumCommand("WebAuthn.clearCredentials", made),
         });
         return { outcomes, time: await measureMedian() };
     } finally {
-        await sendDevTools("WebAuthn.removeVirtualAuthenticator", made);
+        await sendChromiumCommand("WebAuthn.removeVirtualAuthenticator", made);
     }
 };
 
@@ -119,7 +119,7 @@ const runWithKey = async (abilities) => {
 };
 
 /** The results of both authenticators with the same abilities, and the differences. */
-const runBoth = async (kind, abilities) => {
+const compareResults = async (kind, abilities) => {
     const [one, other] = [await runInChromium(abilities), await runWithKey(abilities)];
     const found = [...one.outcomes].flatMap(([name, outcome]) =>
         findDifferences(kind, name, outcome, other.outcomes.get(name)));
@@ -130,16 +130,16 @@ const runBoth = async (kind, abilities) => {
  * Compares both authenticators, and returns the results of Chromium's calls. Tries again if a difference is
  * unexplained, since it may be due to timing.
  */
-const compareBoth = async (kind, abilities) => {
-    let seen = await runBoth(kind, abilities);
-    for (let time = 1; time < TRIES && seen.found.some((difference) => difference.reason === undefined); time += 1) {
+const compareAuthenticators = async (kind, abilities) => {
+    let seen = await compareResults(kind, abilities);
+    for (let time = 1; time < MAX_ATTEMPTS && seen.found.some((difference) => difference.reason === undefined); time += 1) {
         const unexplained = seen.found.filter((difference) => difference.reason === undefined);
         const what = unexplained.map(({ name, path }) => `${name}: ${path}`);
         results.figures.push(`${kind}: tried again after ${what.join("; ")}`);
-        seen = await runBoth(kind, abilities);
+        seen = await compareResults(kind, abilities);
     }
     const { one: { outcomes: native, time }, other: { outcomes: own, time: ownTime }, found } = seen;
-    reportDifferences(kind, found, native.size, countSameMessages(native, own));
+    reportDifferences(kind, found, native.size, describeSameMessages(native, own));
     results.figures.push(`    a registration and a sign-in: Chromium ${time} ms, the key ${ownTime} ms`);
     return Object.fromEntries([...native].map(([name, outcome]) => [name, summarizeResult(outcome)]));
 };
@@ -148,7 +148,7 @@ try {
     const ends = {};
     const only = new URLSearchParams(location.search).get("kind");
     for (const [kind, abilities] of Object.entries(AUTHENTICATOR_KINDS).filter(([name]) => !only || name === only)) {
-        ends[kind] = await compareBoth(kind, abilities);
+        ends[kind] = await compareAuthenticators(kind, abilities);
     }
     results.logs["chromium_outcomes.json"] = `${JSON.stringify(ends, null, 1)}\n`;
 } catch (error) {

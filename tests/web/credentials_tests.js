@@ -1,11 +1,11 @@
-// Tests the methods of a virtual authenticator: credentials, events and faults.
+// Tests the methods of a virtual authenticator, for credentials, presence, events and faults, and DevTools commands.
 import { installedKey, sendDevToolsCommand } from "../../bindings/web/dist/security_key.mjs";
 import { expect, results } from "./harness.js";
-import { readSignCount, createCredential, getAssertion, getAssertionBy, makeOptionsForUser, P256, expectError, toBase64url, makeKeyTest } from "./options.js";
+import { readSignCount, createCredential, getAssertion, getAssertionWith, makeOptionsForUser, P256, expectError, toBase64url, makeKeyTest } from "./options.js";
 import { importPublicKey, isSignedBy } from "./signatures.js";
 
 // A delay in milliseconds that does not end during a test, even on a slow machine.
-const NEVER_MS = 1_000_000;
+const LONG_DELAY_MS = 1_000_000;
 
 /** A key pair that the key did not create: PKCS #8 and public key. */
 const makeForeignKey = async () => {
@@ -38,7 +38,7 @@ const OTHER_ALGORITHMS = [
 ];
 
 /** Adds a credential with a private key of another algorithm, and signs in with it. */
-const signInWithOther = async (key, algorithm) => {
+const signInWithAlgorithm = async (key, algorithm) => {
     const { privateKey, publicKey } = await crypto.subtle.generateKey(algorithm, true, ["sign", "verify"]);
     const added = { rpId: "localhost", isResidentCredential: true,
         privateKey: new Uint8Array(await crypto.subtle.exportKey("pkcs8", privateKey)) };
@@ -59,7 +59,7 @@ const testOtherAlgorithms = async (key) => {
         // Older browsers do not support Ed25519.
         const isThere = await crypto.subtle.generateKey(algorithm, false, ["sign", "verify"]).then(() => true, () => false);
         if (isThere) {
-            await signInWithOther(key, algorithm);
+            await signInWithAlgorithm(key, algorithm);
         }
     }
 };
@@ -83,7 +83,7 @@ const testCredentialProperties = async (key) => {
     expect(readSignCount(await getAssertion()) === 101 && (await key.getCredential(made.id)).userName === "anna", "changed");
     await createCredential(makeOptionsForUser("bob"));
     await key.removeCredential(made.id);
-    await expectError(getAssertionBy(made), "NotAllowedError", "NO_CREDENTIALS");
+    await expectError(getAssertionWith(made), "NotAllowedError", "NO_CREDENTIALS");
     await key.removeAllCredentials();
     await expectError(getAssertion(), "NotAllowedError");
     expect(!(await key.getCredentials()).length, "none is left");
@@ -151,7 +151,7 @@ const testDevToolsCommands = async () => {
     expect(installedKey() === null, "uninstalled");
 };
 
-const testFaults = async (key) => {
+const testAssertionFaults = async (key) => {
     const made = await createCredential(makeOptionsForUser("ann"));
     const publicKey = await importPublicKey(made.response.getPublicKey());
     const first = await getAssertion();
@@ -174,7 +174,7 @@ const testFaults = async (key) => {
     results.logs["faults.log"] = key.log();
 };
 
-const testStatusFault = async (key) => {
+const testResponseFaults = async (key) => {
     await createCredential(makeOptionsForUser("ann"));
     key.faults.status = "KEY_STORE_FULL";
     await expectError(createCredential(), "NotAllowedError", "0x28");
@@ -194,7 +194,7 @@ const testStatusFault = async (key) => {
         await getAssertion();
         expect(performance.now() - begun > delay - 10, "after the delay");
     }
-    key.faults.delay = NEVER_MS;
+    key.faults.delay = LONG_DELAY_MS;
     await expectError(getAssertion({ timeout: 100 }), "NotAllowedError");
     key.faults.clear();
     await getAssertion();
@@ -212,6 +212,6 @@ export const credentialsTests = {
     "the 65th registration": makeKeyTest(testFullKey),
     "private keys of other algorithms": makeKeyTest(testOtherAlgorithms),
     "DevTools commands": testDevToolsCommands,
-    "faults in signatures, counters and authenticator data": makeKeyTest(testFaults),
-    "faults in responses": makeKeyTest(testStatusFault),
+    "faults in signatures, counters and authenticator data": makeKeyTest(testAssertionFaults),
+    "faults in responses": makeKeyTest(testResponseFaults),
 };

@@ -2,8 +2,9 @@
 """Opens logs in bindings/web/index.html, and checks that its card says who is at fault, in which line and why, without
 a click.
 
-The failing examples, with the causes of docs/use/TROUBLESHOOTING.md; captures of sessions in which nobody is at fault;
-recordings of authenticators with a planted fault, and of conforming ones. The exit status is 3 without chromedriver.
+The logs are the failing examples, with the causes of docs/use/TROUBLESHOOTING.md; captures of sessions in which nobody
+is at fault; and recordings of authenticators with an injected fault and of conforming ones. The exit status is 3 without
+chromedriver.
 """
 
 from __future__ import annotations
@@ -20,7 +21,7 @@ from driver import Driver, is_installed  # noqa: E402
 from judge_parity import iter_recordings, judge_in_python  # noqa: E402
 
 PAGE = TOP / "bindings" / "web" / "index.html"
-FAILING = TOP / "examples" / "failing"
+FAILING_FOLDER = TOP / "examples" / "failing"
 CAPTURES = TOP / "tests" / "captures" / "data"
 
 # For each failing example: the side, the line, and a part of the reason, as docs/use/TROUBLESHOOTING.md has them.
@@ -38,8 +39,8 @@ EXAMPLES = {
     "wrong_snapshot": ("capture", 7, "allowList names no credential of this RP on this key"),
 }
 # A capture whose packets are cut off: the page cannot read it.
-UNREADABLE = "partly.snap80.pcapng"
-CONFORMING = ("plain ", "fingerprint_and_pin ", "attestation_x5c_eddsa ")
+UNREADABLE_CAPTURE = "partly.snap80.pcapng"
+CONFORMING_PREFIXES = ("plain ", "fingerprint_and_pin ", "attestation_x5c_eddsa ")
 
 OPEN_SCRIPT = """
 const [name, text, done] = arguments;
@@ -73,8 +74,8 @@ def diagnose(driver: Any, name: str, data: bytes) -> Dict[str, Any]:
     return driver.run(READ_SCRIPT)
 
 
-def compare(name: str, card: Dict[str, Any], side: str, line: int, reason: str) -> Iterator[str]:
-    """Yields what a card and its row lack."""
+def iter_differences(name: str, card: Dict[str, Any], side: str, line: int, reason: str) -> Iterator[str]:
+    """Yields how a card and its row differ from what is expected."""
     if (card["side"], card["line"]) != (side, str(line)) or reason.lower() not in card["text"].lower():
         yield f"{name}: not {side}, line {line}, {reason}, but {card['side']}, line {card['line']}: {card['text']}"
     is_marked = card["row"] == str(line) and side in card["mark"] and card["isInSight"] and card["hasDetail"]
@@ -82,40 +83,40 @@ def compare(name: str, card: Dict[str, Any], side: str, line: int, reason: str) 
         yield f"{name}: the row of line {line} isn't marked, selected, in sight or explained: {card}"
 
 
-def check_examples(driver: Any) -> Iterator[str]:
-    """Yields what is wrong with the cards of the failing examples, all of which are named."""
-    names = sorted(path.stem for path in FAILING.glob("*.log"))
+def iter_example_errors(driver: Any) -> Iterator[str]:
+    """Yields what is wrong with the cards of the failing examples, and whether EXAMPLES has all of them."""
+    names = sorted(path.stem for path in FAILING_FOLDER.glob("*.log"))
     if names != sorted(EXAMPLES):
         yield f"the failing examples are {names}"
     for name, expected in EXAMPLES.items():
-        card = diagnose(driver, f"{name}.log", (FAILING / f"{name}.log").read_bytes())
-        yield from compare(name, card, *expected)
+        card = diagnose(driver, f"{name}.log", (FAILING_FOLDER / f"{name}.log").read_bytes())
+        yield from iter_differences(name, card, *expected)
 
 
-def check_captures(driver: Any) -> Iterator[str]:
+def iter_capture_errors(driver: Any) -> Iterator[str]:
     """Yields what is wrong with the cards of the captures."""
     for path in sorted([*CAPTURES.glob("*.pcap"), *CAPTURES.glob("*.pcapng"), *CAPTURES.glob("*.log")]):
         card = diagnose(driver, path.name, path.read_bytes())
-        if path.name == UNREADABLE:
-            yield from compare(path.name, card, "capture", 0, "no security key with complete packets found")
+        if path.name == UNREADABLE_CAPTURE:
+            yield from iter_differences(path.name, card, "capture", 0, "no security key with complete packets found")
         else:
-            yield from compare(path.name, card, "none", 0, "no rule of CTAP 2.1 is violated")
+            yield from iter_differences(path.name, card, "none", 0, "no rule of CTAP 2.1 is violated")
 
 
-def check_recordings(driver: Any) -> Iterator[str]:
-    """Yields what is wrong with the cards of recordings of authenticators: a planted fault is the key's."""
+def iter_recording_errors(driver: Any) -> Iterator[str]:
+    """Yields what is wrong with the cards of recordings of authenticators: the card must blame the key for an injected fault."""
     for name, log in iter_recordings():
         expected = judge_in_python(log)["findings"]
         must = [finding for finding in expected if finding["level"] == "must"]
         card = diagnose(driver, "recorded.log", log)
-        if name.startswith(CONFORMING):
+        if name.startswith(CONFORMING_PREFIXES):
             if card["side"] == "key" or "the key violates" in card["text"]:
                 yield f"{name}: the key is blamed: {card['text']}"
         elif any(finding["side"] == "key" for finding in must) and "the key" not in card["text"].lower():
             yield f"{name}: the key is not named: {card['text']}"
         if must:
             first = must[0]
-            yield from compare(name, card, first["side"], first["line"], first["rule"])
+            yield from iter_differences(name, card, first["side"], first["line"], first["rule"])
         elif card["level"] == "fault":
             yield f"{name}: no MUST is violated, but: {card['text']}"
 
@@ -126,9 +127,9 @@ def main() -> int:
         print("tests/web: chromedriver is missing (apt-get install chromium-driver)", file=sys.stderr)
         return 3
     checks: List[Tuple[str, Any]] = [
-        ("failing examples", check_examples),
-        ("captures", check_captures),
-        ("recordings of authenticators", check_recordings),
+        ("failing examples", iter_example_errors),
+        ("captures", iter_capture_errors),
+        ("recordings of authenticators", iter_recording_errors),
     ]
     failed = 0
     with Driver() as driver:

@@ -1,5 +1,5 @@
 // Tests that the page's diagnosis does not find the key at fault in recordings of a conforming key, even if the
-// recordings are truncated, begin late or lack packets of the host.
+// recordings are truncated, begin late or lack packets of the host, and that it finds a key that responds too early.
 import assert from "node:assert/strict";
 import { readdirSync, readFileSync } from "node:fs";
 import { test } from "node:test";
@@ -35,14 +35,14 @@ test("credentials of before the recording are missing, or are those of its snaps
 });
 
 /**
- * Sessions of which parts are diagnosed: registrations and sign-ins with real keys, errors, denied requests, and two
+ * Sessions that are cut and then diagnosed: registrations and sign-ins with real keys, errors, denied requests, and two
  * hosts.
  */
-const PARTS = ["examples/service_registration.log", "examples/failing/denied_user.log", "examples/two_hosts.log",
+const CUT_SESSIONS = ["examples/service_registration.log", "examples/failing/denied_user.log", "examples/two_hosts.log",
     "examples/time_out.log", "examples/service_two_accounts.log"];
 
 test("a log that is cut after any line is not blamed on the key", async () => {
-    for (const name of PARTS) {
+    for (const name of CUT_SESSIONS) {
         const lines = readLines(name);
         for (let count = 1; count < lines.length; count += 1) {
             const verdict = await diagnose(encode(lines.slice(0, count)));
@@ -52,7 +52,7 @@ test("a log that is cut after any line is not blamed on the key", async () => {
 });
 
 test("a log that begins at any message is not blamed on the key", async () => {
-    for (const name of PARTS) {
+    for (const name of CUT_SESSIONS) {
         const lines = readLines(name);
         for (let from = 1; from < lines.length; from += 1) {
             if (/^> \d+ [0-9a-f]{8}[89a-f]/.test(lines[from])) {
@@ -76,14 +76,14 @@ test("a log without one packet of a longer request lacks it, and neither host no
     }
 });
 
-/** A log of another key, which responds to a request of which the host sent one packet of three. */
-const EARLY = [
+/** A log of another key, which responds to a request after the first of its three packets. */
+const EARLY_RESPONSE_LOG = [
     "> 0 ffffffff8600081122334455667788", "< ffffffff860011112233445566778800000005020102030c",
     "> 1 0000000590009001", "< 0000000590000112",
 ].map((line) => line.replace(/[0-9a-f]+$/, (digits) => digits.padEnd(128, "0")));
 
 test("another key that responds too early is blamed itself", async () => {
-    const verdict = await diagnose(encode(EARLY));
+    const verdict = await diagnose(encode(EARLY_RESPONSE_LOG));
     assert.deepEqual([verdict.side, verdict.line], ["key", 4], describeVerdict(verdict));
 });
 

@@ -8,9 +8,9 @@ import time
 import urllib.error
 import urllib.request
 
-# Generous: only a page that hangs takes this long.
+# Timeouts in seconds. Only a page that hangs takes this long.
 TIMEOUT_SECONDS = 600
-START_SECONDS = 600
+START_TIMEOUT_SECONDS = 600
 
 
 def find_free_port():
@@ -38,7 +38,7 @@ class Driver:
     def __enter__(self):
         options = {"args": ["--headless=new", "--no-sandbox", "--disable-dev-shm-usage"]}
         capabilities = {"capabilities": {"alwaysMatch": {"goog:chromeOptions": options}}}
-        end = time.monotonic() + START_SECONDS
+        end = time.monotonic() + START_TIMEOUT_SECONDS
         while not self._session:
             try:
                 self._session = f"/session/{self.call('/session', capabilities)['sessionId']}"
@@ -59,7 +59,7 @@ class Driver:
             self._process.wait()
 
     def call(self, path, parameters):
-        """Sends a WebDriver command and returns its value: a GET where parameters is None, otherwise a POST."""
+        """Sends a WebDriver command and returns its value: a GET if `parameters` is None, otherwise a POST."""
         headers = {"Content-Type": "application/json"}
         body = None if parameters is None else json.dumps(parameters).encode()
         request = urllib.request.Request(f"{self._address}{self._session}{path}", body, headers)
@@ -78,7 +78,7 @@ class Driver:
         """Opens a page."""
         self.call("/url", {"url": url})
 
-    def window(self):
+    def get_window(self):
         """Returns the WebDriver handle of the current tab."""
         return self.call("/window", None)
 
@@ -92,7 +92,7 @@ class Driver:
         """Makes another tab the current one."""
         self.call("/window", {"handle": handle})
 
-    def devtools(self, command, **parameters):
+    def send_devtools_command(self, command, **parameters):
         """Sends a DevTools command and returns its result."""
         return self.call("/goog/cdp/execute", {"cmd": command, "params": parameters})
 

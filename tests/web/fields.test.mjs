@@ -63,8 +63,8 @@ test("the bytes of an assertion's fields, by hand", () => {
     assert.deepEqual(find("rpIdHash"), [[72, 104]]);
     assert.deepEqual(find("flags 01 UP"), [[104, 105]]);
     assert.deepEqual(find("signCount 1"), [[105, 109]]);
-    // Then follow 03 58 46 and 70 bytes, of which 16 are in this packet, and 04 a1 62 69 64 41 01, of which 41 01 is in
-    // the last packet.
+    // Then follow 03 58 46 and 70 bytes, 16 of them in this packet, and 04 a1 62 69 64 41 01, with 41 01 in the last
+    // packet.
     assert.deepEqual(find("3 signature"), [[109, 128], [133, 187]]);
     assert.deepEqual(find("4 user"), [[187, 192], [197, 199]]);
 });

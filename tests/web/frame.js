@@ -1,12 +1,12 @@
-// The script of a page in a frame: installs a key with the options in the page's address, and stores the result of a
-// first registration.
+// The script of a page in a frame: installs a key with the storage that the address names. With `tell` in the address,
+// registers once, and posts the result to the parent page.
 "use strict";
 
 const words = new URLSearchParams(location.search);
 const storages = { session: () => sessionStorage, local: () => localStorage };
 const storage = storages[words.get("store")]?.();
 globalThis.key = hidlogKey.install(storage ? { storage } : {});
-// The WebAuthn functions that the first script of the page sees.
+// Whether the key is installed before the page's first script.
 globalThis.atFirst = { isKey: hidlogKey.installedKey() === key };
 
 const makePublicKeyOptions = (name = "ann") => ({
@@ -22,7 +22,7 @@ globalThis.signIn = async () => {
     return new DataView(used.response.authenticatorData).getUint32(33);
 };
 
-const describe = ({ response }) => {
+const copyResponse = ({ response }) => {
     const { clientDataJSON, attestationObject } = response;
     return {
         clientDataJSON, attestationObject, publicKey: response.getPublicKey(),
@@ -32,7 +32,7 @@ const describe = ({ response }) => {
 
 if (parent !== window && words.has("tell")) {
     register().then(
-        describe,
+        copyResponse,
         (error) => ({ error: error.name, text: error.message }),
     ).then((outcome) => parent.postMessage(outcome, "*"));
 }

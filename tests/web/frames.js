@@ -1,6 +1,6 @@
 // Loads frames for tests. Each frame is a page with its own key.
 
-/** Loads a page in a frame, and returns its window. */
+/** Loads a page in a new frame, and returns the frame. */
 export const loadFrame = async (address, allow = "") => {
     const frame = document.createElement("iframe");
     frame.allow = allow;

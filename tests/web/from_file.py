@@ -9,8 +9,8 @@ from driver import Driver, is_installed
 
 PAGE = Path(__file__).resolve().parents[2] / "bindings" / "web" / "index.html"
 
-# Drops 5 MB of sessions, and notes whether a worker answered.
-CAPTURE_MESSAGES = """
+# Drops 5 MB of sessions, and records whether a worker responded.
+DROP_LONG_LOG_SCRIPT = """
     globalThis.Worker = class extends Worker {
         constructor(...args) {
             super(...args);
@@ -25,7 +25,7 @@ CAPTURE_MESSAGES = """
 """
 
 # What a screen reader must find, by role and name.
-ROLES = [
+REQUIRED_ROLES = [
     ("tree", "The lines of the log"),
     ("region", "Diagnosis"),
     ("region", "What happened"),
@@ -45,41 +45,43 @@ ROLES = [
 
 
 def find_missing_roles(driver):
-    """Returns the ROLES missing from Chromium's accessibility tree, and the selected row if that is missing."""
+    """Returns the REQUIRED_ROLES missing from Chromium's accessibility tree, and the selected row if that is missing."""
     driver.run("document.getElementById('scroller').focus(); arguments[0]()")
-    nodes = [node for node in driver.devtools("Accessibility.getFullAXTree")["nodes"] if not node.get("ignored")]
+    nodes = [
+        node for node in driver.send_devtools_command("Accessibility.getFullAXTree")["nodes"] if not node.get("ignored")
+    ]
     found = [
         (node["role"]["value"], node.get("name", {}).get("value", ""), node.get("properties", [])) for node in nodes
     ]
     texts = " ".join(name for _, name, _ in found)
 
-    def is_there(role, name):
+    def has_role(role, name):
         return any(kind == role and (name in label or (role == "status" and name in texts)) for kind, label, _ in found)
 
-    wrong = [role for role in ROLES if not is_there(*role)]
+    wrong = [role for role in REQUIRED_ROLES if not has_role(*role)]
     listed = next(properties for kind, _, properties in found if kind == "tree")
     if not any(property_["name"] == "activedescendant" for property_ in listed):
         wrong.append("the selected row")
     return wrong
 
 
-def find_folder_fault(driver):
+def find_dropped_folder_error(driver):
     """Drops a folder, as a file manager does. Returns what is wrong, or an empty string."""
     folder = str(PAGE.parent)
     data = {"items": [], "files": [folder], "dragOperationsMask": 1}
     for kind in ("dragEnter", "dragOver", "drop"):
-        driver.devtools("Input.dispatchDragEvent", type=kind, x=300, y=400, data=data)
+        driver.send_devtools_command("Input.dispatchDragEvent", type=kind, x=300, y=400, data=data)
     driver.wait_for("document.getElementById('notice').textContent")
     notice = driver.run("arguments[0](document.getElementById('notice').textContent)")
     return "" if notice == "web is a folder. Drop the log in it." else f"FAILED  a dropped folder: {notice}"
 
 
-def find_no_script_fault(driver):
+def find_no_script_error(driver):
     """Opens the page without JavaScript. Returns what is wrong, or an empty string."""
-    driver.devtools("Emulation.setScriptExecutionDisabled", value=True)
+    driver.send_devtools_command("Emulation.setScriptExecutionDisabled", value=True)
     driver.open(PAGE.as_uri())
-    nodes = driver.devtools("Accessibility.getFullAXTree")["nodes"]
-    driver.devtools("Emulation.setScriptExecutionDisabled", value=False)
+    nodes = driver.send_devtools_command("Accessibility.getFullAXTree")["nodes"]
+    driver.send_devtools_command("Emulation.setScriptExecutionDisabled", value=False)
     texts = [node.get("name", {}).get("value", "") for node in nodes if not node.get("ignored")]
     return "" if "This page needs JavaScript" in texts else f"FAILED  the page without JavaScript: {texts}"
 
@@ -91,13 +93,13 @@ def main():
     with Driver() as driver:
         driver.open(PAGE.as_uri())
         driver.wait_for("document.documentElement.dataset.ready")
-        faults = [find_folder_fault(driver), find_no_script_fault(driver)]
+        faults = [find_dropped_folder_error(driver), find_no_script_error(driver)]
         driver.open("about:blank")
         driver.open(f"{PAGE.as_uri()}#registration")
         driver.wait_for("document.getElementById('diagnosis').dataset.side === 'none'")
         driver.wait_for("document.body.textContent.includes('authenticatorMakeCredential → CTAP2_OK')")
         wrong = find_missing_roles(driver)
-        driver.run(CAPTURE_MESSAGES)
+        driver.run(DROP_LONG_LOG_SCRIPT)
         driver.wait_for("/^[\\d,]+ registrations: done\\./.test(document.getElementById('story').textContent)")
         driver.wait_for("document.documentElement.dataset.answered === 'yes'")
     print("ok  the page from a file, and its worker")

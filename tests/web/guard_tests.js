@@ -1,5 +1,5 @@
-// Tests in which pages a key can be installed, and that it is installed once: frames without an own URL, the option
-// `origin`, and a script that is loaded twice.
+// Tests in which pages a key can be installed, and that it is installed once: frames without a URL of their own, the
+// option `origin`, and a script that is loaded twice. Also tests the script's version and licence.
 import { version } from "../../bindings/web/dist/security_key.mjs";
 import { expect, getRejection } from "./harness.js";
 
@@ -14,7 +14,7 @@ const loadScript = (page) => new Promise((done, fail) => {
     page.document.head.append(script);
 });
 
-const REGISTER = `navigator.credentials.create({ publicKey: {
+const REGISTER_SCRIPT = `navigator.credentials.create({ publicKey: {
     challenge: new Uint8Array(32), rp: { name: "A" }, user: { id: Uint8Array.of(1), name: "a", displayName: "A" },
     pubKeyCredParams: [{ type: "public-key", alg: -7 }],
 } })`;
@@ -39,7 +39,7 @@ const testInheritedOrigins = async () => {
         await withFrame(attributes, async (page) => {
             await loadScript(page);
             const key = page.hidlogKey.install();
-            const made = await page.eval(REGISTER);
+            const made = await page.eval(REGISTER_SCRIPT);
             const data = JSON.parse(new TextDecoder().decode(made.response.clientDataJSON));
             expect(data.origin === location.origin && data.crossOrigin === false, JSON.stringify(data));
             key.uninstall();
@@ -48,10 +48,10 @@ const testInheritedOrigins = async () => {
 };
 
 /** If the script is loaded twice, the installed key is kept. */
-const testLoadedTwice = async () => withFrame({ src: "about:blank" }, async (page) => {
+const testScriptLoadedTwice = async () => withFrame({ src: "about:blank" }, async (page) => {
     await loadScript(page);
     const [first, key] = [page.hidlogKey, page.hidlogKey.install()];
-    await page.eval(REGISTER);
+    await page.eval(REGISTER_SCRIPT);
     await loadScript(page);
     expect(page.hidlogKey === first && page.hidlogKey.installedKey() === key, "the same instance");
     expect((await key.getCredentials()).length === 1, "its credential");
@@ -61,7 +61,7 @@ const testLoadedTwice = async () => withFrame({ src: "about:blank" }, async (pag
 });
 
 /** The option `origin` is checked in the same way as the page's origin. */
-const testOptionOrigin = async () => withFrame({ src: "about:blank" }, async (page) => {
+const testOriginOption = async () => withFrame({ src: "about:blank" }, async (page) => {
     await loadScript(page);
     const origins = ["https://accounts.bank.com", "https://bank.com", "chrome-extension://abcdef", "https://localhost.com"];
     for (const origin of origins) {
@@ -81,7 +81,7 @@ const testOptionOrigin = async () => withFrame({ src: "about:blank" }, async (pa
 const testOpaqueOrigin = async () => {
     const text = `<!doctype html><script src="${new URL(SCRIPT, location.href)}"></script><script>
         hidlogKey.install();
-        ${REGISTER}.then(() => "registered", (error) => error.name).then((told) => parent.postMessage(told, "*"));
+        ${REGISTER_SCRIPT}.then(() => "registered", (error) => error.name).then((told) => parent.postMessage(told, "*"));
         </script>`;
     const told = new Promise((done) => addEventListener("message", ({ data }) => done(data), { once: true }));
     const frame = document.createElement("iframe");
@@ -104,8 +104,8 @@ const testVersion = async () => {
 
 export const guardTests = {
     "frames inherit an origin": testInheritedOrigins,
-    "a script that is loaded twice": testLoadedTwice,
-    "the option origin is guarded": testOptionOrigin,
+    "a script that is loaded twice": testScriptLoadedTwice,
+    "the option origin is guarded": testOriginOption,
     "an opaque origin gets no credential": testOpaqueOrigin,
     "the version and the licence": testVersion,
 };

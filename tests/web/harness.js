@@ -23,7 +23,7 @@ export const sleep = (milliseconds) => new Promise((done) => setTimeout(done, mi
 
 // Maximum number of polls for a condition: five minutes in an idle page. A busy page polls less often.
 const MAX_POLLS = 30_000;
-const BEAT_MS = 5000;
+const HEARTBEAT_MS = 5000;
 
 /** Waits until a condition is true, even on a busy machine. */
 export const waitUntil = async (condition, text) => {
@@ -47,7 +47,7 @@ export const post = async (path, body) => {
 
 /** Starts a worker that reports that the page is alive, however long a test takes. */
 const startHeartbeat = () => {
-    const text = `setInterval(() => fetch("${location.origin}/lives", { method: "POST", body: "{}" }), ${BEAT_MS})`;
+    const text = `setInterval(() => fetch("${location.origin}/lives", { method: "POST", body: "{}" }), ${HEARTBEAT_MS})`;
     return new Worker(URL.createObjectURL(new Blob([text], { type: "text/javascript" })));
 };
 

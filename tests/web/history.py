@@ -1,6 +1,6 @@
 #!/usr/bin/env python3
-"""A key in sessionStorage and one in localStorage over reload, back and forward: counters rise by one, and all pages
-are one log, which `hidlog check` (the program in HIDLOG_PROGRAM) accepts."""
+"""Tests keys in sessionStorage and localStorage over reload, back and forward: the signature counter increases by one
+at each sign-in, and the pages' recordings are one log, which `hidlog check` (the program in HIDLOG_PROGRAM) accepts."""
 
 import os
 import subprocess
@@ -9,12 +9,12 @@ import threading
 from http.server import ThreadingHTTPServer
 
 from driver import Driver, is_installed
-from serve import TOP, Handler
+from serve import TOP, PageHandler
 
-SIGN_IN = "signIn().then(arguments[0], (error) => arguments[0](String(error)))"
-# Whether the page is the one that was left: restored from the browser's back/forward cache, with its key in memory.
-WAS_KEPT = "arguments[0](globalThis.mark === location.href); globalThis.mark = location.href"
-READ_RECORDINGS = "arguments[0](key.recordings().map(({ snapshot, log }) => [snapshot.length, log]))"
+SIGN_IN_SCRIPT = "signIn().then(arguments[0], (error) => arguments[0](String(error)))"
+# Returns whether the page was restored from the browser's back/forward cache, with its key in memory.
+WAS_RESTORED_SCRIPT = "arguments[0](globalThis.mark === location.href); globalThis.mark = location.href"
+READ_RECORDINGS_SCRIPT = "arguments[0](key.recordings().map(({ snapshot, log }) => [snapshot.length, log]))"
 
 
 def list_steps(driver, page):
@@ -39,7 +39,7 @@ def list_steps(driver, page):
     }
 
 
-def find_fault(driver, page):
+def find_error(driver, page):
     """Registers, and signs in after each navigation. Returns what is wrong, and how many pages the browser had kept."""
     driver.open(page)
     driver.run("register('ann').then(arguments[0], (error) => arguments[0](String(error)))")
@@ -47,11 +47,11 @@ def find_fault(driver, page):
     steps = list_steps(driver, page)
     for number, (name, step) in enumerate(steps.items(), start=1):
         step()
-        kept += driver.run(WAS_KEPT)
-        counter = driver.run(SIGN_IN)
+        kept += driver.run(WAS_RESTORED_SCRIPT)
+        counter = driver.run(SIGN_IN_SCRIPT)
         if counter != number:
             return f"after {name} the counter is {counter}, not {number}", kept
-    ((snapshot, log),) = driver.run(READ_RECORDINGS)
+    ((snapshot, log),) = driver.run(READ_RECORDINGS_SCRIPT)
     if snapshot or log.count("\ns ") != len(steps) + 1:
         return f"a log with {log.count('s ')} signatures, which begins with {snapshot} bytes of snapshot", kept
     program = os.environ.get("HIDLOG_PROGRAM", os.path.join(TOP, "hidlog"))
@@ -63,13 +63,13 @@ def main():
     if not is_installed():
         print("tests/web: chromedriver is missing (apt-get install chromium-driver)", file=sys.stderr)
         return 3
-    server = ThreadingHTTPServer(("127.0.0.1", 0), Handler)
+    server = ThreadingHTTPServer(("127.0.0.1", 0), PageHandler)
     threading.Thread(target=server.serve_forever, daemon=True).start()
     status = 0
     for store in ("session", "local"):
         with Driver() as driver:
             page = f"http://localhost:{server.server_address[1]}/tests/web/frame.html?store={store}"
-            wrong, kept = find_fault(driver, page)
+            wrong, kept = find_error(driver, page)
         print(
             f"FAILED  reload, back and forward, {store}Storage: {wrong}"
             if wrong

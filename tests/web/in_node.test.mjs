@@ -50,7 +50,7 @@ test("the first call reports what is missing, in one line", async () => {
 
 const noJsdom = { skip: !existsSync(JSDOM) && "node-jsdom is missing" };
 
-/** A page of jsdom at an address, with the key's script, and the messages of its console. */
+/** A page of jsdom at an address, with the key's script, and the warnings in its console. */
 const openPage = (url) => {
     process.env.NODE_PATH = "/usr/share/nodejs";
     createRequire(import.meta.url)("node:module").Module._initPaths();

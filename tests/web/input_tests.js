@@ -155,7 +155,7 @@ const testExample = async () => {
 };
 
 /** A file that only begins like a snapshot is rejected. */
-const testNoSnapshot = async () => {
+const testFalseSnapshot = async () => {
     await openLog("a.bin", Uint8Array.of(0xa2, 0x41, 1, 2, 3));
     const told = "Cannot open a.bin: not a text file: the first bytes are a2 41 01 02.";
     expect(readNotice() === told, readNotice());
@@ -190,6 +190,6 @@ run({
     "input while the page loads": testEarlyInput,
     "input before the core": testSlowCore,
     "the example blames nobody": testExample,
-    "a file that begins like a snapshot": testNoSnapshot,
+    "a file that begins like a snapshot": testFalseSnapshot,
     "statuses have names": testStatusNames,
 });

@@ -1,7 +1,7 @@
 #!/usr/bin/env python3
 """Checks that the page and the Python package judge each log alike, in Chromium, under the page's own CSP.
 
-    tests/web/judge_parity.py             the examples, captures and clients' logs, and recordings of wrong and
+    tests/web/judge_parity.py             the examples, captures and clients' logs, and recordings of faulty and
                                           conforming authenticators
     tests/web/judge_parity.py FOLDER      also the logs of a folder
 """
@@ -28,7 +28,7 @@ from proved_walk import judge  # noqa: E402
 PAGE = TOP / "bindings" / "web" / "index.html"
 LONG_BYTES = 1_400_000
 FOLDERS = ("examples", "tests/captures/data", "conformance/clients/logs", "conformance/recorded", "conformance/fuzzed")
-# Every EACH-th wrong authenticator is recorded, and these conforming ones in every SESSIONS-th session.
+# Every EACH-th faulty authenticator is recorded, and these conforming ones are recorded in every SESSIONS-th session.
 EACH, CONFORMING, SESSIONS = 7, ("plain", "fingerprint_and_pin", "attestation_x5c_eddsa"), 45
 
 JUDGE_SCRIPT = """
@@ -49,7 +49,7 @@ def judge_in_python(log: bytes) -> Dict[str, Any]:
 
 
 def iter_recordings() -> Iterator[Tuple[str, bytes]]:
-    """Yields recordings of wrong authenticators and of conforming ones, with their names."""
+    """Yields recordings of faulty authenticators and of conforming ones, with their names."""
     for name in list(judged.MUTANTS)[::EACH]:
         try:
             for session, log, _ in itertools.islice(judged.iter_recordings(name), 1):
@@ -73,7 +73,7 @@ def iter_logs(folders: List[str]) -> Iterator[Tuple[str, bytes]]:
         for path in sorted((TOP / folder).rglob("*.log")):
             yield str(path), path.read_bytes()
     yield "no log", b"> 1 zz\n"
-    # More than the page judges at once.
+    # The page judges a log of this length in several parts.
     session = (TOP / "examples" / "failing" / "excluded_credential.log").read_bytes()
     long = session * (1 + LONG_BYTES // len(session))
     yield "a long log", long

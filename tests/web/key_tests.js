@@ -5,19 +5,19 @@ import { makeCreationOptions, P256 } from "./options.js";
 import { importPublicKey } from "./signatures.js";
 
 // A delay in milliseconds that does not end during a test, even on a slow machine.
-const NEVER_MS = 1_000_000;
+const LONG_DELAY_MS = 1_000_000;
 
-const fromText = (text) => {
+const decodeBase64url = (text) => {
     const plain = atob(text.replaceAll("-", "+").replaceAll("_", "/"));
     return Uint8Array.from(plain, (letter) => letter.charCodeAt(0));
 };
 
 /** Converts the JSON options of a server, as a page does. */
 const decodeOptions = ({ publicKey }) => {
-    const listIds = (list) => list?.map((descriptor) => ({ ...descriptor, id: fromText(descriptor.id) }));
-    const options = { ...publicKey, challenge: fromText(publicKey.challenge) };
+    const listIds = (list) => list?.map((descriptor) => ({ ...descriptor, id: decodeBase64url(descriptor.id) }));
+    const options = { ...publicKey, challenge: decodeBase64url(publicKey.challenge) };
     if (publicKey.user) {
-        options.user = { ...publicKey.user, id: fromText(publicKey.user.id) };
+        options.user = { ...publicKey.user, id: decodeBase64url(publicKey.user.id) };
     }
     options.excludeCredentials = listIds(publicKey.excludeCredentials);
     options.allowCredentials = listIds(publicKey.allowCredentials);
@@ -111,13 +111,13 @@ const testDelayedPresence = async (key) => {
     key.delay = 250;
     await register({ user: "ann" });
     expect(/^t \d+\n< 00000001bb000102/m.test(key.log()), "KEEPALIVE while the user is awaited");
-    key.delay = NEVER_MS;
+    key.delay = LONG_DELAY_MS;
     await expectError(signIn({ user: "ann" }, { publicKey: { timeout: 120 } }), "NotAllowedError");
     expect(/^> \d+ 0000000191/m.test(key.log()), "CANCEL at the time-out");
 };
 
 const testAbort = async (key) => {
-    key.delay = NEVER_MS;
+    key.delay = LONG_DELAY_MS;
     const abort = new AbortController();
     setTimeout(() => abort.abort(), 150);
     await expectError(register({ user: "ann" }, { signal: abort.signal }), "AbortError");

@@ -13,13 +13,13 @@ import sys
 from pathlib import Path
 
 from driver import Driver, is_installed
-from diagnoses import FAILING, OPEN_SCRIPT, PAGE
+from diagnoses import FAILING_FOLDER, OPEN_SCRIPT, PAGE
 
 # A window of 1,400 pixels zoomed to 200 % has the layout of 700 pixels.
 WIDTHS = ((1400, 900), (800, 900), (700, 450), (375, 780))
 SCHEMES = (("light", "none"), ("dark", "none"), ("light", "active"))
 ROW_HEIGHT = 26
-NARROW = 1000
+NARROW_WIDTH = 1000
 
 MEASURE_SCRIPT = """
 const box = (id) => {
@@ -45,20 +45,20 @@ def open_log(driver, name):
     """Opens a failing example in a new page, and waits for the card."""
     driver.open(PAGE.as_uri())
     driver.wait_for("document.documentElement.dataset.ready")
-    data = (FAILING / f"{name}.log").read_bytes()
+    data = (FAILING_FOLDER / f"{name}.log").read_bytes()
     driver.run(OPEN_SCRIPT, f"{name}.log", base64.b64encode(data).decode())
     driver.wait_for("document.getElementById('diagnosis').dataset.level")
     driver.run("requestAnimationFrame(() => requestAnimationFrame(() => arguments[0]()))")
 
 
-def press(driver, key):
+def press_key(driver, key):
     """Presses a key. Tab moves the focus only with its Windows virtual key code."""
     codes = {"windowsVirtualKeyCode": 9} if key == "Tab" else {}
     for kind in ("keyDown", "keyUp"):
-        driver.devtools("Input.dispatchKeyEvent", type=kind, key=key, code=key, **codes)
+        driver.send_devtools_command("Input.dispatchKeyEvent", type=kind, key=key, code=key, **codes)
 
 
-def check_state(driver, width, height):
+def iter_layout_errors(driver, width, height):
     """Yields what is wrong with the layout."""
     seen = driver.run(MEASURE_SCRIPT)
     where = f"{width} x {height}"
@@ -69,39 +69,39 @@ def check_state(driver, width, height):
     if seen["detail"]["height"] < 2 * ROW_HEIGHT:
         yield f"{where}: the detail has {seen['detail']['height']} pixels"
     is_below = seen["detail"]["top"] >= seen["scroller"]["bottom"] - 1
-    if is_below != (width < NARROW):
+    if is_below != (width < NARROW_WIDTH):
         yield f"{where}: the detail is {'below' if is_below else 'beside'} the list"
-    if seen["says"] < 0.45 * min(width, NARROW):
+    if seen["says"] < 0.45 * min(width, NARROW_WIDTH):
         yield f"{where}: a row's text has {seen['says']} pixels"
     if "at fault" not in seen["mark"]:
         yield f"{where}: the row isn't marked in words"
 
 
-def check_layouts(driver, folder):
-    """Yields what is wrong at each width and scheme. Writes screenshots to a folder, if there is one."""
+def iter_errors_of_all_layouts(driver, folder):
+    """Yields what is wrong at each width and scheme. Writes screenshots to a folder, if one is given."""
     for width, height in WIDTHS:
         for scheme, forced in SCHEMES:
-            driver.devtools(
+            driver.send_devtools_command(
                 "Emulation.setDeviceMetricsOverride", width=width, height=height, deviceScaleFactor=1, mobile=False
             )
             features = [
                 {"name": "prefers-color-scheme", "value": scheme},
                 {"name": "forced-colors", "value": forced},
             ]
-            driver.devtools("Emulation.setEmulatedMedia", features=features)
+            driver.send_devtools_command("Emulation.setEmulatedMedia", features=features)
             open_log(driver, "stale_sign_count")
-            yield from check_state(driver, width, height)
+            yield from iter_layout_errors(driver, width, height)
             if folder:
-                image = driver.devtools("Page.captureScreenshot", format="png")["data"]
+                image = driver.send_devtools_command("Page.captureScreenshot", format="png")["data"]
                 Path(folder, f"{width}_{scheme}_{forced}.png").write_bytes(base64.b64decode(image))
 
 
-def check_keyboard(driver):
+def iter_keyboard_errors(driver):
     """Yields what is wrong with the use by keyboard."""
     open_log(driver, "wrong_rp_id")
     driver.run("document.getElementById('open').focus(); arguments[0]()")
     for key, expected in (("ArrowRight", "example"), ("ArrowLeft", "open"), ("ArrowLeft", "menu-button")):
-        press(driver, key)
+        press_key(driver, key)
         if (focused := driver.run(FOCUS_SCRIPT)) != expected:
             yield f"{key} in the toolbar moves to {focused}, not {expected}"
     driver.run("document.getElementById('scroller').focus(); arguments[0]()")
@@ -115,7 +115,7 @@ def check_keyboard(driver):
     )
     for key, expected in steps:
         if key:
-            press(driver, key)
+            press_key(driver, key)
             driver.run("requestAnimationFrame(() => arguments[0]())")
         selected = driver.run(SELECTED_SCRIPT)
         if expected[3] is None:
@@ -129,7 +129,10 @@ def main():
         print("tests/web: chromedriver is missing (apt-get install chromium-driver)", file=sys.stderr)
         return 3
     with Driver() as driver:
-        wrong = [*check_layouts(driver, sys.argv[1] if len(sys.argv) > 1 else ""), *check_keyboard(driver)]
+        wrong = [
+            *iter_errors_of_all_layouts(driver, sys.argv[1] if len(sys.argv) > 1 else ""),
+            *iter_keyboard_errors(driver),
+        ]
     print("\n".join([*wrong, f"{'FAILED' if wrong else 'ok'}  layout and keyboard"]))
     return 1 if wrong else 0
 

@@ -5,11 +5,14 @@ import { getElement, chooseValue, encodeText, readNotice, openLog, getPage, list
 
 const isQuiet = new URLSearchParams(location.search).has("quiet");
 const MAX_MS_TO_FIRST_ROW = isQuiet ? 1000 : Infinity;
-const MAX_MS_TO_NAMES = isQuiet ? 15_000 : Infinity;
+const MAX_MS_TO_EXPLANATIONS = isQuiet ? 15_000 : Infinity;
 const MAX_BLOCKED_MS = isQuiet ? 200 : Infinity;
 const MAX_MS_PER_LETTER = isQuiet ? 50 : Infinity;
 
-/** Starts to measure the longest time for which the page is blocked. */
+/**
+ * Starts to measure the longest time for which the page is blocked. Returns a function that stops, and returns this
+ * time in milliseconds.
+ */
 const watchLongestBlock = () => {
     let [last, longest] = [performance.now(), 0];
     const timer = getPage().setInterval(() => {
@@ -75,7 +78,7 @@ const testExplanations = async (opened) => {
     const took = performance.now() - opened;
     results.figures.push(`all rows named ${formatSeconds(took)} after the file was dropped: the page never stopped for more than`
         + ` ${longest.toFixed(0)} ms`);
-    expect(took < MAX_MS_TO_NAMES, `${took} ms to the last names`);
+    expect(took < MAX_MS_TO_EXPLANATIONS, `${took} ms to the last names`);
     expect(listTexts().at(-1).includes("CTAP2_OK"), listTexts().at(-1));
     expect(longest < MAX_BLOCKED_MS, `it stopped for ${longest} ms`);
 };

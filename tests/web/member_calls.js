@@ -1,5 +1,5 @@
 // Further calls for Chromium's virtual authenticator and the key: members of credentials, JSON options with their
-// defaults, and the Signal API (WebAuthn Level 3, sections 5.1 and 5.1.10).
+// defaults, extensions, and the Signal API (WebAuthn Level 3, sections 5.1 and 5.1.10).
 
 const toBytes = (...list) => Uint8Array.of(...list);
 const makeChallenge = () => new Uint8Array(32).fill(7);
@@ -14,7 +14,7 @@ const signIn = async (list, more = {}) => navigator.credentials.get({ publicKey:
     challenge: makeChallenge(), allowCredentials: list.map(({ rawId }) => ({ type: "public-key", id: rawId })), ...more,
 } });
 
-/** The prototypes of an object. */
+/** The prototypes of an object, without Object.prototype. */
 const listPrototypes = (object) => {
     const found = [];
     let next = Object.getPrototypeOf(object);
@@ -56,8 +56,8 @@ const ATTESTATION_MEMBERS = ["clientDataJSON", "attestationObject", "getAuthenti
     "getPublicKeyAlgorithm", "getTransports"];
 const ASSERTION_MEMBERS = ["clientDataJSON", "authenticatorData", "signature", "userHandle"];
 
-/** Calls a function without its object. The function must throw; if it does not, returns the value. */
-const callUnbound = (read) => async () => {
+/** Returns a call that registers and signs in, and returns what a function reads from both credentials, as a string. */
+const makeMemberCall = (read) => async () => {
     const made = await register();
     const used = await signIn([made]);
     return String(read(made, used));
@@ -73,32 +73,32 @@ const members = {
         const used = await signIn([await register()]);
         return describeObject(used.response, ASSERTION_MEMBERS);
     },
-    "toJSON unbound": callUnbound(({ toJSON }) => toJSON()),
-    "getClientExtensionResults unbound": callUnbound(({ getClientExtensionResults }) => getClientExtensionResults()),
-    "getTransports unbound": callUnbound(({ response: { getTransports } }) => getTransports()),
-    "getPublicKey of a sign-in": callUnbound((made, used) => made.response.getPublicKey.call(used.response)),
-    "toJSON of an object": callUnbound(({ toJSON }) => toJSON.call({})),
-    "the getter of rawId on an object": callUnbound((made) => getGetter(made, "rawId").call({})),
-    "the getter of id on the prototype": callUnbound((made) => Object.getPrototypeOf(made).id),
-    "the getter of signature on a credential": callUnbound((made, used) =>
+    "toJSON unbound": makeMemberCall(({ toJSON }) => toJSON()),
+    "getClientExtensionResults unbound": makeMemberCall(({ getClientExtensionResults }) => getClientExtensionResults()),
+    "getTransports unbound": makeMemberCall(({ response: { getTransports } }) => getTransports()),
+    "getPublicKey of a sign-in": makeMemberCall((made, used) => made.response.getPublicKey.call(used.response)),
+    "toJSON of an object": makeMemberCall(({ toJSON }) => toJSON.call({})),
+    "the getter of rawId on an object": makeMemberCall((made) => getGetter(made, "rawId").call({})),
+    "the getter of id on the prototype": makeMemberCall((made) => Object.getPrototypeOf(made).id),
+    "the getter of signature on a credential": makeMemberCall((made, used) =>
         getGetter(used.response, "signature").call(made)),
-    "an attribute of a prototype": callUnbound(() => PublicKeyCredential.prototype.rawId),
-    "assigning id": callUnbound((made) => {
+    "an attribute of a prototype": makeMemberCall(() => PublicKeyCredential.prototype.rawId),
+    "assigning id": makeMemberCall((made) => {
         made.id = "x";
         return made.id === "x";
     }),
-    "deleting rawId": callUnbound((made) => delete made.rawId && made.rawId instanceof ArrayBuffer),
-    "a new member": callUnbound((made) => {
+    "deleting rawId": makeMemberCall((made) => delete made.rawId && made.rawId instanceof ArrayBuffer),
+    "a new member": makeMemberCall((made) => {
         made.note = 1;
         return Object.keys(made);
     }),
-    "the same buffers each time": callUnbound((made, used) => [
+    "the same buffers each time": makeMemberCall((made, used) => [
         made.rawId === made.rawId, made.response === made.response, used.response.signature === used.response.signature,
         made.response.getAuthenticatorData() === made.response.getAuthenticatorData(),
         made.response.getTransports() === made.response.getTransports(),
         made.getClientExtensionResults() === made.getClientExtensionResults(), made.toJSON() === made.toJSON(),
     ].join()),
-    "a clone": callUnbound((made) => structuredClone(made)),
+    "a clone": makeMemberCall((made) => structuredClone(made)),
     "JSON.stringify": async () => Object.keys(JSON.parse(JSON.stringify(await register()))).sort(),
     "store": async () => navigator.credentials.store(await register()),
     "store, nothing": async () => navigator.credentials.store(),
@@ -107,7 +107,7 @@ const members = {
 
 // ---- options as JSON
 
-/** Returns a value in which buffers are replaced by arrays of bytes. */
+/** Returns a value that can be compared as JSON: buffers and arrays are replaced by strings. */
 const describeValue = (value) => {
     if (value instanceof ArrayBuffer) {
         return `ArrayBuffer ${[...new Uint8Array(value)]}`;
@@ -121,49 +121,49 @@ const describeValue = (value) => {
     return Object.fromEntries(Object.keys(value).sort().map((name) => [name, describeValue(value[name])]));
 };
 
-const parse = (name, json) => async () => describeValue(PublicKeyCredential[`parse${name}OptionsFromJSON`](json));
+const makeParseCall = (name, json) => async () => describeValue(PublicKeyCredential[`parse${name}OptionsFromJSON`](json));
 const CREATION = {
     challenge: "AQ", rp: { name: "A" }, user: { id: "AQ", name: "a", displayName: "A" }, pubKeyCredParams: [],
 };
 
 const json = {
-    "creation JSON, the least": parse("Creation", CREATION),
-    "creation JSON, a selection": parse("Creation", { ...CREATION, authenticatorSelection: {} }),
-    "creation JSON, a selection that requires": parse("Creation", {
+    "creation JSON, the least": makeParseCall("Creation", CREATION),
+    "creation JSON, a selection": makeParseCall("Creation", { ...CREATION, authenticatorSelection: {} }),
+    "creation JSON, a selection that requires": makeParseCall("Creation", {
         ...CREATION, authenticatorSelection: { residentKey: "required", userVerification: "required" },
     }),
-    "creation JSON, an excluded credential": parse("Creation", {
+    "creation JSON, an excluded credential": makeParseCall("Creation", {
         ...CREATION, excludeCredentials: [{ id: "AQI", type: "public-key" }],
     }),
-    "creation JSON, lists": parse("Creation", {
+    "creation JSON, lists": makeParseCall("Creation", {
         ...CREATION, excludeCredentials: [{ id: "AQI", type: "public-key", transports: ["usb"] }], hints: ["hybrid"],
         attestationFormats: ["packed"], timeout: 1000,
     }),
-    "creation JSON, extensions": parse("Creation", {
+    "creation JSON, extensions": makeParseCall("Creation", {
         ...CREATION, extensions: { credProps: true, largeBlob: { support: "required" }, prf: {} },
     }),
-    "creation JSON, a text": parse("Creation", "x"),
-    "creation JSON, null": parse("Creation", null),
-    "request JSON, the least": parse("Request", { challenge: "AQ" }),
-    "request JSON, a list": parse("Request", {
+    "creation JSON, a text": makeParseCall("Creation", "x"),
+    "creation JSON, null": makeParseCall("Creation", null),
+    "request JSON, the least": makeParseCall("Request", { challenge: "AQ" }),
+    "request JSON, a list": makeParseCall("Request", {
         challenge: "AQ", allowCredentials: [{ id: "AQI", type: "public-key" }],
     }),
-    "request JSON, all members": parse("Request", {
+    "request JSON, all members": makeParseCall("Request", {
         challenge: "AQ", allowCredentials: [], hints: ["security-key"], rpId: "localhost", timeout: 5,
         userVerification: "required",
     }),
-    "request JSON, extensions": parse("Request", {
+    "request JSON, extensions": makeParseCall("Request", {
         challenge: "AQ", extensions: { appid: "https://a.example", largeBlob: { write: "AQI" }, prf: {
             evalByCredential: { AQI: { first: "AQ", second: "Ag" } },
         } },
     }),
-    "request JSON, an id that is no base64url": parse("Request", {
+    "request JSON, an id that is no base64url": makeParseCall("Request", {
         challenge: "AQ", allowCredentials: [{ id: "a+b", type: "public-key" }],
     }),
-    "request JSON, null": parse("Request", null),
+    "request JSON, null": makeParseCall("Request", null),
 };
 
-// ---- extensions that both browsers check
+// ---- extensions whose arguments both Chromium and the key check
 
 const checkedExtensions = {
     "get, prf of a foreign credential": async () => {
@@ -201,23 +201,23 @@ const signal = async (name, options) => {
 };
 const rpId = "localhost";
 
-/** Registers a discoverable credential, signals, and signs in without a list. */
-const signInAfter = (name, makeOptions) => async () => {
+/** Returns a call that registers a discoverable credential, signals, and signs in without an allow list. */
+const makeSignInAfterSignal = (name, makeOptions) => async () => {
     const made = await registerDiscoverable();
     const signalled = await signal(name, makeOptions(made));
     return [signalled, await signIn([]).then(() => "signed in", (error) => error.name)].join();
 };
 
 const signals = {
-    "signal an unknown credential": signInAfter("UnknownCredential", ({ id }) => ({ rpId, credentialId: id })),
-    "signal another unknown credential": signInAfter("UnknownCredential", () => ({ rpId, credentialId: "AQID" })),
-    "signal no accepted credentials": signInAfter("AllAcceptedCredentials", () =>
+    "signal an unknown credential": makeSignInAfterSignal("UnknownCredential", ({ id }) => ({ rpId, credentialId: id })),
+    "signal another unknown credential": makeSignInAfterSignal("UnknownCredential", () => ({ rpId, credentialId: "AQID" })),
+    "signal no accepted credentials": makeSignInAfterSignal("AllAcceptedCredentials", () =>
         ({ rpId, userId: "AQID", allAcceptedCredentialIds: [] })),
-    "signal all accepted credentials": signInAfter("AllAcceptedCredentials", ({ id }) =>
+    "signal all accepted credentials": makeSignInAfterSignal("AllAcceptedCredentials", ({ id }) =>
         ({ rpId, userId: "AQID", allAcceptedCredentialIds: [id] })),
-    "signal accepted credentials of another user": signInAfter("AllAcceptedCredentials", () =>
+    "signal accepted credentials of another user": makeSignInAfterSignal("AllAcceptedCredentials", () =>
         ({ rpId, userId: "AQIE", allAcceptedCredentialIds: [] })),
-    "signal user details": signInAfter("CurrentUserDetails", () =>
+    "signal user details": makeSignInAfterSignal("CurrentUserDetails", () =>
         ({ rpId, userId: "AQID", name: "anna", displayName: "Anna" })),
     "signal, no options": () => signal("UnknownCredential"),
     "signal, no credential ID": () => signal("UnknownCredential", { rpId }),

@@ -1,4 +1,4 @@
-// Tests files that are opened by mistake in bindings/web/index.html, and files that are made to deceive the user.
+// Tests changed, wrong and hostile files in bindings/web/index.html, several files at once, and reloading.
 import { expect, run, waitUntil } from "./harness.js";
 import {
     chooseValue, dropFile, encodeText, fetchBytes, fetchExample, frame, getElement, getPage, listRows, listTexts, openLog,
@@ -16,7 +16,7 @@ const dropFiles = (files) => {
 };
 
 /** A log that mail programs, chats or editors have changed is restored when opened, and matches the key. */
-const testCopiedLogs = async () => {
+const testRestoredLogs = async () => {
     const text = await fetchText("service_registration.log");
     const copies = [
         ["a mail's quotation", mapLines(text, (line) => `> ${line}`), "a quotation"],
@@ -255,7 +255,7 @@ const testLongLines = async () => {
 };
 
 run({
-    "logs copied by mail, chats and editors": testCopiedLogs,
+    "logs copied by mail, chats and editors": testRestoredLogs,
     "blanks that a log can have": testUnchangedLog,
     "other files": testOtherFiles,
     "texts that hidlog import converts": testImportableTexts,

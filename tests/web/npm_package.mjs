@@ -1,5 +1,6 @@
 // Tests the npm package that is installed in FOLDER/node_modules: npm_package.mjs FOLDER. Compares the output of the
-// package's command with that of the program, byte for byte, and runs the code of the README.
+// package's command with that of the program, byte for byte, runs the cases recorded from Chromium, passes invalid
+// arguments, and runs the code of the README.
 import assert from "node:assert/strict";
 import { spawn, spawnSync } from "node:child_process";
 import { readdirSync, readFileSync, writeFileSync } from "node:fs";
@@ -13,7 +14,7 @@ const folder = process.argv[2];
 const command = join(folder, "node_modules/hidlog/cli.mjs");
 const program = process.env.HIDLOG_PROGRAM ?? join(TOP, "release/hidlog");
 
-/** Runs a command. */
+/** Runs a command in FOLDER, and returns its exit status and output. */
 const runCommand = (file, words, input = "", variables = { HIDLOG_CLI: "wasm" }) => {
     const env = { ...process.env, ...variables };
     const { status, stdout, stderr } = spawnSync(file, words, { input, env, cwd: folder, maxBuffer: 2 ** 28 });
@@ -26,14 +27,14 @@ const logs = [join(TOP, "examples/registration.log"), ...listLogs("examples/fail
     ...listLogs("crates/hidlog_cli/data/capacity_64").filter((_, place) => place % 3 === 0)];
 const calls = logs.flatMap((log) => [["check", log], ["replay", log], ["live", log], ["quiet", log],
     ["show", log], ["show", "--explain", log]]);
-const listFailingLog = (name) => join(TOP, "examples/failing", name);
-calls.push(["check", "--load", listFailingLog("alice.snapshot"), listFailingLog("wrong_snapshot.log")],
-    ["check", "--load", listFailingLog("bob.snapshot"), listFailingLog("wrong_snapshot.log")], ["check", ...logs.slice(0, 4)]);
+const getFailingLogPath = (name) => join(TOP, "examples/failing", name);
+calls.push(["check", "--load", getFailingLogPath("alice.snapshot"), getFailingLogPath("wrong_snapshot.log")],
+    ["check", "--load", getFailingLogPath("bob.snapshot"), getFailingLogPath("wrong_snapshot.log")], ["check", ...logs.slice(0, 4)]);
 /** The result without the explanation of an error, which only the program prints. */
-const dropReason = ({ stderr, ...rest }) => ({ ...rest, stderr: stderr.split("\n")[0] });
+const dropExplanation = ({ stderr, ...rest }) => ({ ...rest, stderr: stderr.split("\n")[0] });
 for (const words of calls) {
     const ends = [runCommand("node", [command, ...words]), runCommand(program, words)];
-    const [own, theirs] = words.includes("--explain") ? ends.map(dropReason) : ends;
+    const [own, theirs] = words.includes("--explain") ? ends.map(dropExplanation) : ends;
     assert.deepEqual(own, theirs, words.join(" "));
 }
 const log = readFileSync(logs[0]);

@@ -1,4 +1,4 @@
-// Options and assertions shared by the tests of the key.
+// Functions shared by the tests of the key: options, registrations, sign-ins and expected errors.
 import { install } from "../../bindings/web/dist/security_key.mjs";
 import { expect, getRejection } from "./harness.js";
 
@@ -20,7 +20,7 @@ export const createCredential = (more = {}, rest = {}) =>
 export const getAssertion = (more = {}, rest = {}) =>
     navigator.credentials.get({ publicKey: { challenge: new Uint8Array(32), rpId: "localhost", ...more }, ...rest });
 
-export const getAssertionBy = (made, rest = {}) => getAssertion({ allowCredentials: [{ type: "public-key", id: made.rawId }] }, rest);
+export const getAssertionWith = (made, rest = {}) => getAssertion({ allowCredentials: [{ type: "public-key", id: made.rawId }] }, rest);
 
 /** Encodes bytes as base64url. */
 export const toBase64url = (bytes) =>

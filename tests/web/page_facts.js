@@ -37,7 +37,7 @@
     const hasOwnText = (element) => [...element.childNodes].some((node) => node.nodeType === 3 && node.data.trim());
 
     /** Texts with a contrast of less than 4.5:1 to their background (WCAG 2.1, 1.4.3). */
-    const findFaintTexts = (page) => {
+    const findLowContrastTexts = (page) => {
         const faint = [];
         const check = (element, colour, name) => {
             const ratio = computeContrast(colour, findBackground(page, element));
@@ -55,7 +55,7 @@
         return [...new Set(faint)];
     };
 
-    const overlap = (one, other) => Math.min(one.right, other.right) - Math.max(one.left, other.left) > TOLERANCE
+    const isOverlapping = (one, other) => Math.min(one.right, other.right) - Math.max(one.left, other.left) > TOLERANCE
         && Math.min(one.bottom, other.bottom) - Math.max(one.top, other.top) > TOLERANCE;
 
     /** Controls that overlap, and parts of the page that overlap. An open menu or dialog may overlap the page. */
@@ -66,7 +66,7 @@
                 .filter((element) => isVisible(page, element) && !element.closest("[role=menu], dialog"));
             all.forEach((one, at) => all.slice(at + 1).forEach((other) => {
                 const isInside = one.contains(other) || other.contains(one);
-                if (!isInside && overlap(one.getBoundingClientRect(), other.getBoundingClientRect())) {
+                if (!isInside && isOverlapping(one.getBoundingClientRect(), other.getBoundingClientRect())) {
                     found.push(`${describe(one)} and ${describe(other)}`);
                 }
             }));
@@ -75,7 +75,7 @@
     };
 
     /** Controls whose text is cut off, and a page that is wider than its window. */
-    const findCutOff = (page) => {
+    const findCutOffTexts = (page) => {
         const { documentElement } = page.document;
         const isCut = (element) => element.scrollWidth > element.clientWidth + TOLERANCE;
         const cut = [...page.document.querySelectorAll("button, .button")]
@@ -88,10 +88,10 @@
         || element.textContent.trim() || element.labels?.length);
 
     // The roles that an element of a role may contain.
-    const OWNED = { tree: ["treeitem"], menu: ["menuitem"], tablist: ["tab"], grid: ["row", "rowgroup"], row: ["gridcell", "columnheader"] };
+    const ALLOWED_CHILD_ROLES = { tree: ["treeitem"], menu: ["menuitem"], tablist: ["tab"], grid: ["row", "rowgroup"], row: ["gridcell", "columnheader"] };
 
     /** Controls without a name, references to missing elements, and roles inside roles that may not contain them. */
-    const findRoleFaults = (page) => {
+    const findRoleErrors = (page) => {
         const { document } = page;
         const faults = [...document.querySelectorAll(`${CONTROLS}, [role=tree], [role=toolbar], [role=grid]`)]
             .filter((element) => !hasName(element)).map((element) => `${describe(element)} has no name`);
@@ -100,7 +100,7 @@
                 .filter((element) => isVisible(page, element) && !document.getElementById(element.getAttribute(name)));
             faults.push(...dangling.map((element) => `${name} of ${describe(element)} is ${element.getAttribute(name)}`));
         }
-        for (const [role, owned] of Object.entries(OWNED)) {
+        for (const [role, owned] of Object.entries(ALLOWED_CHILD_ROLES)) {
             const inner = [...document.querySelectorAll(`[role=${role}] > [role]`)].filter((each) => !owned.includes(each.getAttribute("role")));
             faults.push(...inner.map((each) => `${role} contains ${each.getAttribute("role")}`));
         }
@@ -108,8 +108,8 @@
         return chosen === 1 ? faults : [...faults, `${chosen} tabs are selected`];
     };
 
-    /** Whether the focused element has a visible focus mark and is in the viewport. */
-    const checkFocus = (page) => {
+    /** Describes the focused element: its ID, whether its focus mark is visible, and whether it is in the viewport. */
+    const describeFocus = (page) => {
         const element = page.document.activeElement;
         const { outlineStyle, outlineWidth } = page.getComputedStyle(element);
         const box = element.getBoundingClientRect();
@@ -117,5 +117,5 @@
         return { id: element.id || describe(element), isMarked: outlineStyle !== "none" && parseFloat(outlineWidth) >= 2, isInSight };
     };
 
-    globalThis.pageFacts = { checkFocus, findCutOff, findFaintTexts, findOverlaps, findRoleFaults };
+    globalThis.pageFacts = { describeFocus, findCutOffTexts, findLowContrastTexts, findOverlaps, findRoleErrors };
 })();

@@ -1,4 +1,5 @@
-// Runs the snippets of bindings/web/README.md unchanged.
+// Runs the JavaScript and HTML snippets of bindings/web/README.md unchanged, and compares the Python snippet with the
+// example.
 import "../../bindings/web/dist/security_key.mjs";
 import { expect, results } from "./harness.js";
 import { createCredential, getAssertion, makeOptionsForUser } from "./options.js";
@@ -29,8 +30,8 @@ const testSnippets = async () => {
     results.figures.push(`${texts.length} snippets of bindings/web/README.md run in turn`);
 };
 
-/** Loads a document with the scripts of the README in a frame, and returns a result from the document. */
-const loadDocument = async (html) => {
+/** Loads a document in a frame, and returns whether the document installs a key. */
+const doesInstallKey = async (html) => {
     const frame = document.createElement("iframe");
     const loaded = new Promise((done) => frame.addEventListener("load", done, { once: true }));
     frame.srcdoc = `<!doctype html><base href="${new URL("../../bindings/web/", location.href)}">${html}`;
@@ -43,7 +44,7 @@ const loadDocument = async (html) => {
 
 const testScriptTags = async () => {
     const [{ text }] = (await readBlocks()).filter(({ kind }) => kind === "html");
-    expect(await loadDocument(text), "the key is in place");
+    expect(await doesInstallKey(text), "the key is in place");
 };
 
 /**

@@ -14,13 +14,13 @@ export const AUTHENTICATOR_KINDS = {
     "backed up": { ...usb, defaultBackupEligibility: true, defaultBackupState: true },
 };
 
-const DISCOVERABLE = "Chromium's makes discoverable credentials only with user verification; this key always";
-const WAITS = "the sign-in waits until the test selects an account; Chromium's signs in immediately";
-const CAPABILITIES = "they describe this key";
-const ABSENT = "no such authenticator: rejected immediately; Chromium waits";
+const DISCOVERABLE_REASON = "Chromium's makes discoverable credentials only with user verification; this key always";
+const WAITING_REASON = "the sign-in waits until the test selects an account; Chromium's signs in immediately";
+const CAPABILITIES_REASON = "they describe this key";
+const NO_AUTHENTICATOR_REASON = "no such authenticator: rejected immediately; Chromium waits";
 const ES256_ONLY = "the key supports only ES256";
 const WITHOUT_VERIFICATION = ["not verifying", "backed up"];
-const EVERY_CALL = null;
+const ALL_CALLS = null;
 
 /**
  * Reasons: the calls, the path of the difference, and the exact values of Chromium and of the key as JSON; a missing
@@ -28,8 +28,8 @@ const EVERY_CALL = null;
  * @type {[string[] | null, string, string, string, string, string[]?][]}
  */
 const REASONS = [
-    [EVERY_CALL, "value.counter", "1", "0", "a new credential's counter is 0 (docs/use/PROFILE.md)"],
-    [EVERY_CALL, "value.fmt", '"none"', '"packed"', "a self attestation without AAGUID is passed on, as in WebAuthn"],
+    [ALL_CALLS, "value.counter", "1", "0", "a new credential's counter is 0 (docs/use/PROFILE.md)"],
+    [ALL_CALLS, "value.fmt", '"none"', '"packed"', "a self attestation without AAGUID is passed on, as in WebAuthn"],
     [["create, attestation direct", "create, attestation indirect", "create, attestation enterprise"], "value.fmt",
         "done", '"packed"', "Chromium's U2F key has an attestation certificate", ["a U2F key"]],
     [["create, residentKey required", "create, residentKey preferred", "create, requireResidentKey",
@@ -37,44 +37,44 @@ const REASONS = [
         "get, discoverable by its id", "signal an unknown credential", "signal another unknown credential",
         "signal no accepted credentials", "signal all accepted credentials",
         "signal accepted credentials of another user", "signal user details"],
-    "error", '"NotAllowedError"', "done", DISCOVERABLE, WITHOUT_VERIFICATION],
+    "error", '"NotAllowedError"', "done", DISCOVERABLE_REASON, WITHOUT_VERIFICATION],
     [["create, RS256 alone"], "error", "done", '"NotAllowedError"', ES256_ONLY],
     [["create, RS256 and ES256"], "value.algorithm", "-257", "-7", ES256_ONLY],
     [["create, RS256 and ES256"], "value.spkiBytes", "294", "91", ES256_ONLY],
     [["create, mediation conditional"], "error", '"TimeoutError"', '"NotAllowedError"',
         "the key does not support conditional registration"],
     [["create, attachment platform", "create, attachment cross-platform", "get, transports of another kind"], "error",
-        '"TimeoutError"', '"NotAllowedError"', ABSENT],
-    [["conditional, with an allow list"], "error", '"NotAllowedError"', '"TimeoutError"', WAITS],
-    [["conditional, then aborted"], "value", '["NotAllowedError","done"]', '["TimeoutError","done"]', WAITS],
+        '"TimeoutError"', '"NotAllowedError"', NO_AUTHENTICATOR_REASON],
+    [["conditional, with an allow list"], "error", '"NotAllowedError"', '"TimeoutError"', WAITING_REASON],
+    [["conditional, then aborted"], "value", '["NotAllowedError","done"]', '["TimeoutError","done"]', WAITING_REASON],
     [["conditional, then create", "conditional, then get"], "value", '["NotAllowedError","OperationError"]',
-        '["AbortError","done"]', WAITS],
+        '["AbortError","done"]', WAITING_REASON],
     [["conditional, then create", "conditional, then get"], "value", '["NotAllowedError","done"]',
-        '["AbortError","done"]', WAITS],
+        '["AbortError","done"]', WAITING_REASON],
     [["conditional, then create"], "value", '["NotAllowedError","OperationError"]', '["AbortError","NotAllowedError"]',
-        WAITS],
+        WAITING_REASON],
     [["conditional, then create"], "value", '["NotAllowedError","NotAllowedError"]', '["AbortError","NotAllowedError"]',
-        WAITS],
+        WAITING_REASON],
     ...["OperationError", "NotAllowedError"].map((second) => [["conditional twice"], "value",
-        `["NotAllowedError","${second}"]`, '["TimeoutError","OperationError"]', WAITS]),
+        `["NotAllowedError","${second}"]`, '["TimeoutError","OperationError"]', WAITING_REASON]),
     [["aborted, and another in the same turn"], "value", '["done","done"]', '["AbortError","done"]',
         "an aborted request ends immediately; Chromium's response may come first"],
     [["a clone"], "error", '"DataCloneError"', "done", "a script's objects can be cloned: the clone is empty"],
-    [["isConditionalMediationAvailable"], "value", "false", "true", CAPABILITIES],
-    [["getClientCapabilities"], "value.conditionalGet", "false", "true", CAPABILITIES],
+    [["isConditionalMediationAvailable"], "value", "false", "true", CAPABILITIES_REASON],
+    [["getClientCapabilities"], "value.conditionalGet", "false", "true", CAPABILITIES_REASON],
     ...["conditionalCreate", "relatedOrigins", "extension:appid", "extension:appidExclude", "extension:credBlob",
         "extension:credentialProtectionPolicy", "extension:hmacCreateSecret", "extension:largeBlob",
         "extension:minPinLength", "extension:prf"].map((name) =>
-        [["getClientCapabilities"], `value.${name}`, "true", "false", CAPABILITIES]),
+        [["getClientCapabilities"], `value.${name}`, "true", "false", CAPABILITIES_REASON]),
     ...["extension:enforceCredentialProtectionPolicy", "extension:getCredBlob", "immediateGet"].map((name) =>
-        [["getClientCapabilities"], `value.${name}`, "true", "done", CAPABILITIES]),
+        [["getClientCapabilities"], `value.${name}`, "true", "done", CAPABILITIES_REASON]),
     ...["extension:cmtgKey", "extension:crossDeviceFallbackUrl", "extension:payment"].map((name) =>
-        [["getClientCapabilities"], `value.${name}`, "false", "done", CAPABILITIES]),
+        [["getClientCapabilities"], `value.${name}`, "false", "done", CAPABILITIES_REASON]),
 ];
 
-/** Finds a reason for a difference between exact values, or undefined. */
+/** Returns the reason for a difference between these exact values, or undefined. */
 export const findReason = (kind, name, path, native, own) =>
-    REASONS.find(([calls, part, one, other, , kinds]) => (calls === EVERY_CALL || calls.includes(name)) && part === path
+    REASONS.find(([calls, part, one, other, , kinds]) => (calls === ALL_CALLS || calls.includes(name)) && part === path
         && one === native && other === own && (!kinds || kinds.includes(kind)))?.[4];
 
 /** The result of a call with this JSON value or error, in the form of summarizeResult in calls.js. */

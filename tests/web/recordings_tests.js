@@ -36,7 +36,7 @@ const testNavigations = async () => {
     sessionStorage.clear();
 };
 
-const testDeniedStorage = async () => {
+const testRecordedDenialsAndFaults = async () => {
     sessionStorage.clear();
     const key = new SecurityKey({ storage: sessionStorage, presence: "denied" });
     await expectError(key.create({ publicKey: makeCreationOptions() }), "NotAllowedError");
@@ -91,7 +91,7 @@ const testChangeDuringRequest = async () => {
     localStorage.clear();
 };
 
-const testBounds = async () => {
+const testMaximumLengths = async () => {
     sessionStorage.clear();
     let key = new SecurityKey({ storage: sessionStorage });
     for (let page = 0; page < 4; page += 1) {
@@ -118,7 +118,7 @@ const testBounds = async () => {
     sessionStorage.clear();
 };
 
-const testForeignState = async () => {
+const testChangedRecordings = async () => {
     sessionStorage.clear();
     const key = new SecurityKey({ storage: sessionStorage });
     await key.create({ publicKey: makeCreationOptions(makeOptionsForUser("ann")) });
@@ -181,10 +181,10 @@ const testInvalidStates = async () => {
 
 export const recordingsTests = {
     "one log over five navigations": testNavigations,
-    "denials and faults are recorded": testDeniedStorage,
+    "denials and faults are recorded": testRecordedDenialsAndFaults,
     "one log of two tabs": testTwoTabs,
     "a pending request of a tab": testChangeDuringRequest,
-    "recordings are bounded": testBounds,
-    "a recording of other credentials": testForeignState,
+    "recordings are bounded": testMaximumLengths,
+    "a recording that was changed": testChangedRecordings,
     "invalid states leave a working key": testInvalidStates,
 };

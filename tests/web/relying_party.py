@@ -26,7 +26,7 @@ def verify_packed(attestation, client_data_hash):
 
 
 def to_plain_json(value):
-    """Returns an options object as JSON can hold it."""
+    """Returns options converted to types of JSON, with byte strings as base64url."""
     if isinstance(value, bytes):
         return websafe_encode(value)
     if isinstance(value, Mapping):
@@ -37,7 +37,7 @@ def to_plain_json(value):
 
 
 class RelyingParty:
-    """Registers users and signs them in. It keeps each user's credentials, and each credential's last counter."""
+    """Registers users and signs them in. It keeps each user's credentials, and each credential's last signature counter."""
 
     def __init__(self, origin):
         entity = PublicKeyCredentialRpEntity(id="localhost", name="A service under test")
@@ -47,13 +47,13 @@ class RelyingParty:
         self._state = None
         self._credentials = {}
 
-    def _of(self, user):
+    def _list_credentials(self, user):
         return self._credentials.setdefault(user, [])
 
     def register_begin(self, user, exclude=False, resident=False, verification=None):
         """Returns the options of a registration."""
         entity = {"id": user.encode(), "name": user, "displayName": f"User {user}"}
-        known = [credential.data for credential in self._of(user)] if exclude else None
+        known = [credential.data for credential in self._list_credentials(user)] if exclude else None
         parameters = {
             RESIDENT_KEY: resident if RESIDENT_KEY == "resident_key" else "required" if resident else "discouraged"
         }
@@ -64,17 +64,17 @@ class RelyingParty:
         """Verifies a registration, including its attestation."""
         attestation = AttestationObject(websafe_decode(attestationObject))
         data = self._server.register_complete(self._state, ClientData(websafe_decode(clientDataJSON)), attestation)
-        self._of(user).append(SimpleNamespace(data=data.credential_data, counter=data.counter))
+        self._list_credentials(user).append(SimpleNamespace(data=data.credential_data, counter=data.counter))
         return {"id": websafe_encode(data.credential_data.credential_id), "format": attestation.fmt}
 
     def sign_in_begin(self, user=None, verification=None):
         """Returns the options of a sign-in: with the allow list of a user, or without one."""
-        known = [credential.data for credential in self._of(user)] if user else None
+        known = [credential.data for credential in self._list_credentials(user)] if user else None
         options, self._state = self._server.authenticate_begin(known, user_verification=verification)
         return to_plain_json(options)
 
     def sign_in_complete(self, id, clientDataJSON, authenticatorData, signature, userHandle=None, **_):
-        """Verifies a sign-in: the signature, and that the counter rose."""
+        """Verifies a sign-in: the signature, and that the signature counter increased."""
         known = [credential for kept in self._credentials.values() for credential in kept]
         data = AuthenticatorData(websafe_decode(authenticatorData))
         used = self._server.authenticate_complete(

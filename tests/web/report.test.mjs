@@ -135,7 +135,7 @@ test("the last 40 calls", async () => {
     assert.match(lines[0], /, counter 6, /);
 });
 
-/** Runs a function while console.error collects. */
+/** Runs a function, and returns the lines that it writes with console.error. */
 const collectErrors = (run) => {
     const { error } = console;
     const lines = [];
@@ -160,7 +160,7 @@ test("as Vitest calls it: what the page did since reportOnFailure", async () => 
     assert.throws(() => key.reportOnFailure(), TypeError);
 });
 
-const FAILING = `
+const FAILING_TEST_SCRIPT = `
 import { beforeEach, test } from "node:test";
 import { install } from "${MODULE}";
 const key = install({ origin: "${ORIGIN}" });
@@ -176,7 +176,7 @@ test("fails", async () => {
 
 test("in node's test runner, only of the test that fails", async () => {
     const folder = mkdtempSync(join(tmpdir(), "report"));
-    writeFileSync(join(folder, "failing.test.mjs"), FAILING);
+    writeFileSync(join(folder, "failing.test.mjs"), FAILING_TEST_SCRIPT);
     const env = { ...process.env };
     delete env.NODE_TEST_CONTEXT;
     const output = await new Promise((done) => {

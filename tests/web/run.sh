@@ -13,7 +13,7 @@ trap 'rm -rf "$work"' EXIT
 failed=0
 ran=0
 
-run_pages() {
+run_browser_tests() {
     local browser=$1
     shift
     echo "== $("$1" --version 2>/dev/null)"
@@ -29,13 +29,13 @@ run_pages() {
         "$with_fido2" "$here/two_tabs.py" || [ $? = 3 ] || failed=1
         "$with_fido2" "$here/history.py" || [ $? = 3 ] || failed=1
         "$here/walks_fuzzed.py" --program "$program" || [ $? = 3 ] || failed=1
-        run_examples
+        run_examples_and_node_tests
     fi
     check_logs "$work/$browser"
 }
 
-# Runs the examples with Debian's Selenium and with node.
-run_examples() {
+# Runs the examples with Debian's Selenium, and the examples and this folder's tests with node.
+run_examples_and_node_tests() {
     local example
     if /usr/bin/python3 -c 'import selenium' 2>/dev/null && command -v chromedriver >/dev/null; then
         for example in "$top"/examples/web/*.py; do
@@ -52,7 +52,7 @@ run_examples() {
             failed=1
         fi
     else
-        echo "tests/web: node is missing" >&2
+        echo "tests/web: node is missing (apt-get install nodejs)" >&2
     fi
 }
 
@@ -83,7 +83,7 @@ fi
 wanted=${1:-all}
 if [ "$wanted" != firefox ]; then
     if command -v chromium >/dev/null; then
-        run_pages chromium chromium --headless=new --no-sandbox --disable-dev-shm-usage --enable-logging=stderr \
+        run_browser_tests chromium chromium --headless=new --no-sandbox --disable-dev-shm-usage --enable-logging=stderr \
             --user-data-dir=PROFILE
     else
         echo "tests/web: chromium is missing (apt-get install chromium)" >&2
@@ -91,7 +91,7 @@ if [ "$wanted" != firefox ]; then
 fi
 if [ "$wanted" != chromium ]; then
     if command -v firefox-esr >/dev/null; then
-        run_pages firefox firefox-esr --headless --no-remote --profile PROFILE
+        run_browser_tests firefox firefox-esr --headless --no-remote --profile PROFILE
     else
         echo "tests/web: firefox-esr is missing (apt-get install firefox-esr)" >&2
     fi

@@ -3,7 +3,7 @@
 
     tests/web/screenshots.py
 
-They show the diagnosis of a recorded session whose second sign-in doesn't raise the counter. The exit status is 3 if
+They show the diagnosis of a recorded session whose second sign-in doesn't increase the signature counter. The exit status is 3 if
 chromium or chromedriver is missing.
 """
 
@@ -21,18 +21,18 @@ LOG = TOP / "examples" / "failing" / "stale_sign_count.log"
 
 def open_log(driver, path):
     """Opens a log in the page as the Open button does."""
-    document = driver.devtools("DOM.getDocument")["root"]["nodeId"]
-    node = driver.devtools("DOM.querySelector", nodeId=document, selector="#file")["nodeId"]
-    driver.devtools("DOM.setFileInputFiles", nodeId=node, files=[str(path)])
+    document = driver.send_devtools_command("DOM.getDocument")["root"]["nodeId"]
+    node = driver.send_devtools_command("DOM.querySelector", nodeId=document, selector="#file")["nodeId"]
+    driver.send_devtools_command("DOM.setFileInputFiles", nodeId=node, files=[str(path)])
     driver.wait_for("document.getElementById('diagnosis').dataset.level")
 
 
 def write_screenshot(driver, scheme, path):
     """Writes a screenshot in the light or dark color scheme."""
     features = [{"name": "prefers-color-scheme", "value": scheme}]
-    driver.devtools("Emulation.setEmulatedMedia", features=features)
+    driver.send_devtools_command("Emulation.setEmulatedMedia", features=features)
     driver.run("requestAnimationFrame(() => requestAnimationFrame(arguments[0]))")
-    result = driver.devtools("Page.captureScreenshot", format="png")
+    result = driver.send_devtools_command("Page.captureScreenshot", format="png")
     path.write_bytes(base64.b64decode(result["data"]))
     print(path.relative_to(TOP))
 
@@ -43,11 +43,11 @@ def main():
         return 3
     with Driver() as driver:
         size = {"width": WIDTH, "height": HEIGHT, "deviceScaleFactor": 1, "mobile": False}
-        driver.devtools("Emulation.setDeviceMetricsOverride", **size)
+        driver.send_devtools_command("Emulation.setDeviceMetricsOverride", **size)
         driver.open(f"file://{TOP}/bindings/web/index.html")
         open_log(driver, LOG)
         write_screenshot(driver, "light", TOP / "docs" / "use" / "web_light.png")
-        driver.devtools("Emulation.setDeviceMetricsOverride", **PHONE_METRICS)
+        driver.send_devtools_command("Emulation.setDeviceMetricsOverride", **PHONE_METRICS)
         driver.open(f"file://{TOP}/bindings/web/index.html")
         open_log(driver, LOG)
         write_screenshot(driver, "dark", TOP / "docs" / "use" / "web_phone.png")

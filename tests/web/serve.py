@@ -61,7 +61,7 @@ def read_peak_memory(process):
 
 
 def read_session_peak_memory(session):
-    """Returns the largest read_peak_memory() of a session's processes."""
+    """Returns the largest peak resident memory of a session's processes, in megabytes."""
     with contextlib.suppress(OSError):
         return max(
             read_peak_memory(name) for name in os.listdir("/proc") if name.isdigit() and is_in_session(session, name)
@@ -76,7 +76,7 @@ def make_long_log(name, megabytes):
     return part, megabytes * 1024 * 1024 // len(part)
 
 
-class Handler(SimpleHTTPRequestHandler):
+class PageHandler(SimpleHTTPRequestHandler):
     """Serves the files and the relying party, and collects the pages' results."""
 
     def __init__(self, *rest):
@@ -184,7 +184,7 @@ def run_browser(arguments, url, server):
     return why
 
 
-def report(results, folder):
+def print_results(results, folder):
     """Prints the result of each test of a page and writes its logs. Returns whether all passed."""
     for name, text in results["logs"].items():
         data = b64decode(text) if name.endswith(".snapshot") else text.encode()
@@ -201,7 +201,7 @@ def report(results, folder):
 def main():
     folder, listed, *arguments = sys.argv[1:]
     first, *rest = listed.split(",")
-    server = ThreadingHTTPServer(("127.0.0.1", 0), Handler)
+    server = ThreadingHTTPServer(("127.0.0.1", 0), PageHandler)
     origin = f"http://localhost:{server.server_address[1]}"
     server.relying_party, server.results, server.is_done = RelyingParty(origin), [], threading.Event()
     server.pages = [f"{origin}/tests/web/{page}" for page in rest]
@@ -209,7 +209,7 @@ def main():
     server.test = (first, "the first", time.monotonic(), 0.0)
     threading.Thread(target=server.serve_forever, daemon=True).start()
     why = run_browser(arguments, f"{origin}/tests/web/{first}", server)
-    passed = [report(result, folder) for result in server.results]
+    passed = [print_results(result, folder) for result in server.results]
     print(f"    the browser's largest process had {server.memory} MB at its peak")
     if why:
         print(f"FAILED  {why}")

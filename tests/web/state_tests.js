@@ -89,7 +89,7 @@ const testChangesWhileWaiting = async () => {
     localStorage.clear();
 };
 
-const testChangesInWait = async (key) => {
+const testChangesDuringRequest = async (key) => {
     await createCredential(makeOptionsForUser("ann"));
     key.presence = "none";
     const waiting = getAssertion();
@@ -99,7 +99,7 @@ const testChangesInWait = async (key) => {
     expect((await waiting).id === added.credentialId, "the credential that was added while the user was asked");
 };
 
-const testRejectedState = async () => {
+const testInvalidOrClearedStorage = async () => {
     sessionStorage.setItem("hidlogKey", "{");
     await expectError(() => new SecurityKey({ storage: sessionStorage }), "TypeError", "another value");
     sessionStorage.clear();
@@ -134,7 +134,7 @@ const testFullStorage = async () => {
     expect(readSignCount(await key.get(getOptions)) === 3, "and the next");
 };
 
-/** A storage for a test, which stores its values in an object. */
+/** A storage for a test, which keeps its values in a Map. */
 const makeObjectStorage = () => {
     const items = new Map();
     return {
@@ -144,7 +144,7 @@ const makeObjectStorage = () => {
 };
 
 /** Counts the characters that are written to a storage, until `stop` is called. */
-const countWritten = (storage) => {
+const countWrittenCharacters = (storage) => {
     const owner = storage instanceof Storage ? Storage.prototype : storage;
     const { setItem } = owner;
     const counted = { written: 0, stop: () => Object.assign(owner, { setItem }) };
@@ -156,12 +156,12 @@ const countWritten = (storage) => {
 };
 
 const SIGN_INS = 1000;
-const BLOCK = 50;
-const MAX_STORED = 1_300_000;
+const SIGN_INS_PER_BLOCK = 50;
+const MAX_STORED_CHARACTERS = 1_300_000;
 
 /** Signs in, and returns the characters written for each sign-in. */
 const signInOften = async (key, storage, options) => {
-    const counted = countWritten(storage);
+    const counted = countWrittenCharacters(storage);
     const written = [];
     try {
         for (let count = 0; count < SIGN_INS; count += 1) {
@@ -187,10 +187,10 @@ const testConstantCost = (name, makeStorage) => async () => {
     const options = { publicKey: { ...getOptions.publicKey, allowCredentials } };
     const written = await signInOften(key, storage, options);
     const sum = (list) => list.reduce((total, count) => total + count, 0);
-    const [first, last] = [sum(written.slice(0, BLOCK)), sum(written.slice(-BLOCK))];
-    results.figures.push(`a sign-in writes ${(first / BLOCK).toFixed(0)} characters to ${name} among the first`
-        + ` ${BLOCK}, and ${(last / BLOCK).toFixed(0)} among the last of ${SIGN_INS}`);
-    expect(first > 0 && last < 1.05 * first, `${first} characters for the first ${BLOCK}, ${last} for the last`);
+    const [first, last] = [sum(written.slice(0, SIGN_INS_PER_BLOCK)), sum(written.slice(-SIGN_INS_PER_BLOCK))];
+    results.figures.push(`a sign-in writes ${(first / SIGN_INS_PER_BLOCK).toFixed(0)} characters to ${name} among the first`
+        + ` ${SIGN_INS_PER_BLOCK}, and ${(last / SIGN_INS_PER_BLOCK).toFixed(0)} among the last of ${SIGN_INS}`);
+    expect(first > 0 && last < 1.05 * first, `${first} characters for the first ${SIGN_INS_PER_BLOCK}, ${last} for the last`);
     key.close();
     const next = new SecurityKey({ storage, clock });
     const signIns = next.recordings().map(({ log }) => log.split("\ns ").length - 1);
@@ -198,13 +198,13 @@ const testConstantCost = (name, makeStorage) => async () => {
     keepRecording(`a_thousand_${name.replace(" ", "_")}`, next.recordings().at(-1));
     const stored = storage.items ? [...storage.items.values()] : Object.values(storage);
     const whole = stored.join("").length;
-    expect(whole < MAX_STORED, `${whole} characters are stored`);
+    expect(whole < MAX_STORED_CHARACTERS, `${whole} characters are stored`);
     next.close();
     storage.clear?.();
 };
 
-/** A storage of the browser, after it was cleared. */
-const emptyStorage = (name) => () => {
+/** Clears a storage of the browser, and returns it. */
+const clearStorage = (name) => {
     const storage = globalThis[name];
     storage.clear();
     return storage;
@@ -212,13 +212,13 @@ const emptyStorage = (name) => () => {
 
 export const stateTests = {
     "a thousand sign-ins with an object as storage": testConstantCost("an object", makeObjectStorage),
-    "a thousand sign-ins with sessionStorage": testConstantCost("sessionStorage", emptyStorage("sessionStorage")),
-    "a thousand sign-ins with localStorage": testConstantCost("localStorage", emptyStorage("localStorage")),
+    "a thousand sign-ins with sessionStorage": testConstantCost("sessionStorage", () => clearStorage("sessionStorage")),
+    "a thousand sign-ins with localStorage": testConstantCost("localStorage", () => clearStorage("localStorage")),
     "the state is a value that can be stored": makeKeyTest(testStateAsValue),
     "the state in storage survives reloads": testReloads,
     "two tabs sharing storage lose no counter increment": testSharedStorage,
     "changes by another tab are seen while the user is asked": testChangesWhileWaiting,
-    "credentials are added while the user is asked": makeKeyTest(testChangesInWait),
-    "storage that is cleared, or has another value": testRejectedState,
+    "credentials are added while the user is asked": makeKeyTest(testChangesDuringRequest),
+    "storage that is cleared, or has another value": testInvalidOrClearedStorage,
     "storage that fails": testFullStorage,
 };

@@ -1,6 +1,6 @@
 #!/usr/bin/env python3
-"""Puts bindings/web/index.html in each of its states in Chromium, and checks what readers need: that nothing overlaps, is
-cut off, faint or wider than the window, that roles and names fit, and the state's own facts.
+"""Puts bindings/web/index.html in each of its states in Chromium, and checks what readers need: that nothing overlaps,
+is cut off, faint or wider than the window, that roles and names are right, and that the state's own conditions hold.
 
     tests/web/states.py                      prints what is wrong
     tests/web/states.py FOLDER [NAME ..]     also writes a screenshot of each state, or of those named
@@ -16,26 +16,26 @@ import tempfile
 from pathlib import Path
 from typing import Any, Callable, Dict, Iterator, List, NamedTuple, Tuple
 
-from diagnoses import CAPTURES, FAILING, OPEN_SCRIPT, PAGE, TOP
+from diagnoses import CAPTURES, FAILING_FOLDER, OPEN_SCRIPT, PAGE, TOP
 from driver import Driver, is_installed
-from layout import press
+from layout import press_key
 
-FACTS = Path(__file__).with_name("page_facts.js").read_text(encoding="utf-8")
+FACTS_SCRIPT = Path(__file__).with_name("page_facts.js").read_text(encoding="utf-8")
 EXAMPLES = TOP / "examples"
 DESKTOP, NARROW, PHONE = (1400, 900), (800, 900), (375, 780)
 # A window of 1,400 x 900 pixels, zoomed to 200 %, has the layout of half of it.
 ZOOMED = (700, 450)
 
 GENERAL_SCRIPT = (
-    FACTS
+    FACTS_SCRIPT
     + """
 const isForced = matchMedia("(forced-colors: active)").matches;
-arguments[0]([...isForced ? [] : pageFacts.findFaintTexts(window).map((text) => `faint: ${text}`),
-    ...pageFacts.findOverlaps(window).map((text) => `overlap: ${text}`), ...pageFacts.findCutOff(window),
-    ...pageFacts.findRoleFaults(window)]);
+arguments[0]([...isForced ? [] : pageFacts.findLowContrastTexts(window).map((text) => `faint: ${text}`),
+    ...pageFacts.findOverlaps(window).map((text) => `overlap: ${text}`), ...pageFacts.findCutOffTexts(window),
+    ...pageFacts.findRoleErrors(window)]);
 """
 )
-FOCUS_SCRIPT = FACTS + "arguments[0](pageFacts.checkFocus(window));"
+FOCUS_SCRIPT = FACTS_SCRIPT + "arguments[0](pageFacts.describeFocus(window));"
 PASTE_SCRIPT = """
 const data = new DataTransfer();
 data.setData("text", arguments[0]);
@@ -59,7 +59,7 @@ FRAMES_SCRIPT = "requestAnimationFrame(() => requestAnimationFrame(() => argumen
 
 
 class State(NamedTuple):
-    """A state of the page: its name, its window, how to get there, and JavaScript expressions that are then true."""
+    """A state of the page: its name, its window, how to get there, and JavaScript expressions that must be true then."""
 
     name: str
     size: Tuple[int, int]
@@ -74,22 +74,22 @@ def click(driver: Any, element: str) -> None:
     driver.run(f"document.getElementById('{element}').click(); arguments[0]()")
 
 
-def drop(driver: Any, path: Path) -> None:
+def drop_file(driver: Any, path: Path) -> None:
     """Drops a file on the page."""
     driver.run(OPEN_SCRIPT, path.name, base64.b64encode(path.read_bytes()).decode())
 
 
-def open_file(path: Path) -> Callable[[Any], None]:
+def make_file_opener(path: Path) -> Callable[[Any], None]:
     """Returns a function that opens a file, and waits for its diagnosis."""
 
     def enter(driver: Any) -> None:
-        drop(driver, path)
+        drop_file(driver, path)
         driver.wait_for("document.getElementById('diagnosis').dataset.level")
 
     return enter
 
 
-open_stale = open_file(FAILING / "stale_sign_count.log")
+open_stale = make_file_opener(FAILING_FOLDER / "stale_sign_count.log")
 
 
 def open_long(driver: Any) -> None:
@@ -110,14 +110,14 @@ def open_example(driver: Any) -> None:
     driver.wait_for("document.getElementById('diagnosis').dataset.level")
 
 
-def open_text(name: str, text: str) -> Callable[[Any], None]:
+def make_text_opener(name: str, text: str) -> Callable[[Any], None]:
     """Returns a function that opens a text."""
 
     def enter(driver: Any) -> None:
         with tempfile.TemporaryDirectory() as folder:
             path = Path(folder, name)
             path.write_text(text, encoding="ascii")
-            open_file(path)(driver)
+            make_file_opener(path)(driver)
 
     return enter
 
@@ -131,12 +131,13 @@ def refuse_paste(driver: Any) -> None:
     )
 
 
-def open_two(name: str, other: str) -> Callable[[Any], None]:
+def make_pair_opener(name: str, other: str) -> Callable[[Any], None]:
     """Returns a function that opens two failing examples side by side."""
 
     def enter(driver: Any) -> None:
         files = [
-            [f"{each}.log", base64.b64encode((FAILING / f"{each}.log").read_bytes()).decode()] for each in (name, other)
+            [f"{each}.log", base64.b64encode((FAILING_FOLDER / f"{each}.log").read_bytes()).decode()]
+            for each in (name, other)
         ]
         driver.run(OPEN_TWO_SCRIPT, files)
         driver.wait_for("hidlogViewer.state.isComparing && document.getElementById('diagnosis').dataset.level")
@@ -170,7 +171,7 @@ arguments[1]();
 
 def select_registration(driver: Any) -> None:
     """Selects a transaction."""
-    open_file(FAILING / "wrong_rp_id.log")(driver)
+    make_file_opener(FAILING_FOLDER / "wrong_rp_id.log")(driver)
     driver.run(SELECT_SCRIPT, "Registration: done")
 
 
@@ -180,24 +181,24 @@ def select_field(driver: Any) -> None:
     driver.run(CHOOSE_SCRIPT, "-2 x:")
 
 
-def draw(driver: Any) -> None:
+def show_drawing(driver: Any) -> None:
     """Shows a session with a long pause as a drawing."""
     text = (EXAMPLES / "sign_in.log").read_text(encoding="ascii")
     for before in ("> 400 ", "p 410 ", "s 420 "):
         text = text.replace(before, f"{before[:2]}60{before[2:]}")
-    open_text("pause.log", text)(driver)
+    make_text_opener("pause.log", text)(driver)
     click(driver, "drawing-tab")
     driver.wait_for("hidlogViewer.state.layout.scale > 0")
 
 
 def darken_drawing(driver: Any) -> None:
     """Shows a session as a drawing, and then changes the colour scheme to dark."""
-    draw(driver)
+    show_drawing(driver)
     set_look(driver, DESKTOP, "dark", "none")
 
 
-def search(text: str) -> Callable[[Any], None]:
-    """Returns a function that searches a log."""
+def make_search(text: str) -> Callable[[Any], None]:
+    """Returns a function that searches a log for a text."""
 
     def enter(driver: Any) -> None:
         open_stale(driver)
@@ -215,36 +216,36 @@ def open_menu(driver: Any) -> None:
     """Opens the menu by the keyboard."""
     open_stale(driver)
     driver.run("document.getElementById('menu-button').focus(); arguments[0]()")
-    press(driver, "ArrowDown")
+    press_key(driver, "ArrowDown")
 
 
 def show_keys(driver: Any) -> None:
-    """Shows the keys."""
+    """Opens the dialog with the keyboard shortcuts."""
     open_stale(driver)
     click(driver, "menu-button")
     click(driver, "keys")
 
 
-def walk(driver: Any) -> None:
+def walk_by_keyboard(driver: Any) -> None:
     """Goes by Tab through all controls to the fields and their bytes, and selects a field, by the keyboard alone."""
     open_stale(driver)
     driver.run("document.activeElement.blur(); arguments[0]()")
     seen: List[Dict[str, Any]] = []
     for _ in range(40):
-        press(driver, "Tab")
+        press_key(driver, "Tab")
         seen.append(driver.run(FOCUS_SCRIPT))
         if seen[-1]["id"] == "hex":
             break
     driver.run("globalThis.walked = arguments[0]; arguments[1]()", seen)
     driver.run("document.querySelector('.fields').focus(); arguments[0]()")
     for _ in range(9):
-        press(driver, "ArrowDown")
+        press_key(driver, "ArrowDown")
 
 
-WALKED = ("open", "example", "view", "menu-button", "search", "channel", "fold", "scroller", "copy-text", "hex")
+KEYBOARD_STOPS = ("open", "example", "view", "menu-button", "search", "channel", "fold", "scroller", "copy-text", "hex")
 CARD = "document.getElementById('diagnosis').dataset"
-ROW = "document.querySelector('.row[aria-selected=true]')"
-MARKED_ROW = f"{ROW}.querySelector('.finding').textContent === 'key at fault'"
+SELECTED_ROW = "document.querySelector('.row[aria-selected=true]')"
+MARKED_ROW = f"{SELECTED_ROW}.querySelector('.finding').textContent === 'key at fault'"
 KEY_AT_FAULT = (f"{CARD}.side === 'key' && {CARD}.line === '66'", MARKED_ROW)
 # The card's title and the selected row are inside the window.
 IN_SIGHT = tuple(
@@ -277,13 +278,13 @@ STATES = (
     State(
         "capture",
         DESKTOP,
-        open_file(CAPTURES / "python_cancel.pcapng"),
+        make_file_opener(CAPTURES / "python_cancel.pcapng"),
         (*HAS_NO_FAULT, "document.getElementById('detail-title').textContent.startsWith('Registration: cancelled')"),
     ),
     State(
         "fine",
         DESKTOP,
-        open_file(EXAMPLES / "sign_in.log"),
+        make_file_opener(EXAMPLES / "sign_in.log"),
         (
             *HAS_NO_FAULT,
             "document.getElementById('diagnosis').textContent.includes('The log matches the key')",
@@ -313,7 +314,7 @@ STATES = (
     State(
         "not_a_log",
         DESKTOP,
-        open_text("words.txt", "what is this\n"),
+        make_text_opener("words.txt", "what is this\n"),
         (f"{CARD}.side === 'capture'", "document.getElementById('notice').className === 'fault'"),
     ),
     State(
@@ -322,7 +323,7 @@ STATES = (
     State(
         "two_logs",
         DESKTOP,
-        open_two("stale_sign_count", "wrong_rp_id"),
+        make_pair_opener("stale_sign_count", "wrong_rp_id"),
         (
             "document.querySelector('.pair[aria-selected=true] .word').textContent === '≠ other bytes'",
             "document.getElementById('two-summary').textContent.startsWith('First difference: line 32 ')",
@@ -364,17 +365,17 @@ STATES = (
     State(
         "drawing",
         DESKTOP,
-        draw,
+        show_drawing,
         (
             "!document.getElementById('drawing').hidden",
             "hidlogViewer.state.rows.some((_, place) => hidlogViewer.state.layout.pause(place).isCut)",
         ),
     ),
-    State("search", DESKTOP, search("signcount"), ("document.querySelectorAll('#space .row').length > 0",)),
+    State("search", DESKTOP, make_search("signcount"), ("document.querySelectorAll('#space .row').length > 0",)),
     State(
         "nothing_found",
         DESKTOP,
-        search("no such words"),
+        make_search("no such words"),
         ("document.getElementById('count').textContent.startsWith('0 of ')",),
     ),
     State("narrow", NARROW, select_field, ("document.querySelectorAll('.byte.marked').length === 35",)),
@@ -392,7 +393,7 @@ STATES = (
     State(
         "phone_two_logs",
         PHONE,
-        open_two("stale_sign_count", "wrong_rp_id"),
+        make_pair_opener("stale_sign_count", "wrong_rp_id"),
         ("document.querySelector('.pair[aria-selected=true] .word').textContent === '≠ other bytes'",),
     ),
     State(
@@ -401,8 +402,8 @@ STATES = (
         darken_drawing,
         ("drawing.getContext('2d').getImageData(30, 2, 1, 1).data[0] < 60",),
     ),
-    State("forced_drawing", NARROW, draw, (HAS_DARK_ON_BRIGHT,), "light", "active"),
-    State("phone_drawing", PHONE, draw, ("!document.getElementById('drawing').hidden",)),
+    State("forced_drawing", NARROW, show_drawing, (HAS_DARK_ON_BRIGHT,), "light", "active"),
+    State("phone_drawing", PHONE, show_drawing, ("!document.getElementById('drawing').hidden",)),
     State(
         "dark",
         DESKTOP,
@@ -426,16 +427,16 @@ STATES = (
     State(
         "zoomed_two_logs",
         ZOOMED,
-        open_two("stale_sign_count", "wrong_rp_id"),
+        make_pair_opener("stale_sign_count", "wrong_rp_id"),
         ("document.querySelector('.pair[aria-selected=true]').getBoundingClientRect().height > 0",),
     ),
     State(
         "keyboard",
         DESKTOP,
-        walk,
+        walk_by_keyboard,
         (
             "walked.every(({ isMarked, isInSight }) => isMarked && isInSight)",
-            f"{list(WALKED)!r}.every((name) => walked.some(({{ id }}) => id === name))",
+            f"{list(KEYBOARD_STOPS)!r}.every((name) => walked.some(({{ id }}) => id === name))",
             "document.querySelectorAll('.byte.marked').length > 0",
             *KEY_AT_FAULT,
         ),
@@ -443,7 +444,7 @@ STATES = (
 )
 
 
-# In these windows, colour schemes and forced colours the states of a large window are looked at, too.
+# The states of a large window are also checked in these windows, colour schemes and forced colours.
 LOOKS = (
     ("dark", DESKTOP, "dark", "none"),
     ("forced", DESKTOP, "light", "active"),
@@ -458,17 +459,19 @@ LOOKS = (
 def set_look(driver: Any, size: Tuple[int, int], scheme: str, forced: str) -> None:
     """Sets the window's size, the colour scheme, and whether colours are forced."""
     width, height = size
-    driver.devtools("Emulation.setDeviceMetricsOverride", width=width, height=height, deviceScaleFactor=1, mobile=False)
+    driver.send_devtools_command(
+        "Emulation.setDeviceMetricsOverride", width=width, height=height, deviceScaleFactor=1, mobile=False
+    )
     features = [{"name": "prefers-color-scheme", "value": scheme}, {"name": "forced-colors", "value": forced}]
-    driver.devtools("Emulation.setEmulatedMedia", features=features)
+    driver.send_devtools_command("Emulation.setEmulatedMedia", features=features)
 
 
 def write_screenshot(driver: Any, path: Path) -> None:
     """Writes a screenshot of the window."""
-    path.write_bytes(base64.b64decode(driver.devtools("Page.captureScreenshot", format="png")["data"]))
+    path.write_bytes(base64.b64decode(driver.send_devtools_command("Page.captureScreenshot", format="png")["data"]))
 
 
-def check_looks(driver: Any, state: State, folder: str) -> Iterator[str]:
+def iter_look_errors(driver: Any, state: State, folder: str) -> Iterator[str]:
     """Yields what is wrong with a state of a large window in other windows and colours."""
     if (state.size, state.scheme, state.forced) != (DESKTOP, "light", "none"):
         return
@@ -490,7 +493,7 @@ def enter_state(driver: Any, state: State) -> None:
     driver.run(FRAMES_SCRIPT)
 
 
-def check_state(driver: Any, state: State) -> Iterator[str]:
+def iter_state_errors(driver: Any, state: State) -> Iterator[str]:
     """Yields what is wrong in a state."""
     for text in driver.run(GENERAL_SCRIPT):
         yield f"{state.name}: {text}"
@@ -511,10 +514,10 @@ def main() -> int:
             if names and state.name not in names:
                 continue
             enter_state(driver, state)
-            wrong += check_state(driver, state)
+            wrong += iter_state_errors(driver, state)
             if folder:
                 write_screenshot(driver, Path(folder, f"{state.name}.png"))
-            wrong += check_looks(driver, state, folder)
+            wrong += iter_look_errors(driver, state, folder)
     print(
         "\n".join(
             [*wrong, f"{'FAILED' if wrong else 'ok'}  {len(STATES)} states of the page, in {1 + len(LOOKS)} looks"]

@@ -71,6 +71,8 @@ const testLateExplanations = async () => {
     await waitUntil(() => listRows().length === 1 && listTexts()[0].includes("Sign-in: done at example.com"), "the row's words");
     const { side, text } = await waitForCard();
     expect(side === "key" && text.includes("The log has signCount 7; the key sends signCount 2."), text);
+    expect(getElement("search").value === "signcount 7", "the search is kept when the verdict comes");
+    getElement("diagnosis").querySelector("button").click();
     const readDetail = () => getElement("detail-text").textContent;
     await waitUntil(() => readDetail().includes("The log: signCount 7"), "the detail");
     expect(readDetail().includes("The key: signCount 2"), readDetail());
@@ -122,7 +124,7 @@ const testCancel = async () => {
 };
 
 /** Six open channels are tracked. For a further channel, the page shows that it is not tracked. */
-const testForgottenChannels = async () => {
+const testUntrackedChannels = async () => {
     const makePacket = (channel) => `> 0 0000000${channel}90000104${"0".repeat(112)}\n`;
     await openLog("seven.log", encodeText([1, 2, 3, 4, 5, 6, 7].map(makePacket).join("")), true);
     chooseValue("view", "recorded");
@@ -136,5 +138,5 @@ run({
     "a long examination": testLongExamination,
     "a whole examination": testWholeExamination,
     "reading is cancelled": testCancel,
-    "more channels than are followed": testForgottenChannels,
+    "more channels than are followed": testUntrackedChannels,
 });

@@ -1,5 +1,5 @@
 #!/usr/bin/env python3
-"""Two tabs of one browser share one key in localStorage. Sign-ins at the same time never lose or repeat a counter, and
+"""Two tabs of one browser share one key in localStorage. Sign-ins at the same time never skip or repeat a value of the signature counter, and
 five navigations in each tab are recorded as one log, which `hidlog check` (the program in HIDLOG_PROGRAM) accepts."""
 
 import os
@@ -9,10 +9,10 @@ import threading
 from http.server import ThreadingHTTPServer
 
 from driver import Driver, is_installed
-from serve import TOP, Handler
+from serve import TOP, PageHandler
 
 ROUNDS = 30
-START_SIGN_INS = """window.found = (async () => {
+START_SIGN_INS_SCRIPT = """window.found = (async () => {
     const counters = [];
     while (counters.length < arguments[0]) {
         counters.push(await signIn());
@@ -21,15 +21,15 @@ START_SIGN_INS = """window.found = (async () => {
 })(); arguments[1]();"""
 
 
-def sign_in_twice(driver, page):
+def sign_in_from_both_tabs(driver, page):
     """Registers in one tab and signs in from both. Returns the counters that each tab saw."""
     driver.open(page)
-    tabs = [driver.window(), driver.open_tab()]
+    tabs = [driver.get_window(), driver.open_tab()]
     driver.open(page)
     driver.run("register('ann').then(arguments[0])")
     for tab in tabs:
         driver.switch(tab)
-        driver.run(START_SIGN_INS, ROUNDS)
+        driver.run(START_SIGN_INS_SCRIPT, ROUNDS)
     found = []
     for tab in tabs:
         driver.switch(tab)
@@ -38,14 +38,16 @@ def sign_in_twice(driver, page):
 
 
 NAVIGATION_COUNT = 5
-READ_RECORDINGS = "arguments[0](key.recordings().map(({ index, snapshot, log }) => [index, snapshot.length, log]))"
+READ_RECORDINGS_SCRIPT = (
+    "arguments[0](key.recordings().map(({ index, snapshot, log }) => [index, snapshot.length, log]))"
+)
 
 
-def check_recordings_over_navigations(driver, page):
+def find_recording_error(driver, page):
     """Registers, then navigates and signs in, alternately in two tabs. Returns what is wrong with the recording."""
     driver.open(page)
     driver.run("localStorage.clear(); arguments[0]()")
-    tabs = [driver.window(), driver.open_tab()]
+    tabs = [driver.get_window(), driver.open_tab()]
     driver.switch(tabs[0])
     driver.open(page)
     driver.run("register('ann').then(arguments[0])")
@@ -55,7 +57,7 @@ def check_recordings_over_navigations(driver, page):
         counter = driver.run("signIn().then(arguments[0], (error) => arguments[0](String(error)))")
         if counter != number + 1:
             return f"sign-in {number + 1} has the counter {counter}"
-    ((index, snapshot, log),) = driver.run(READ_RECORDINGS)
+    ((index, snapshot, log),) = driver.run(READ_RECORDINGS_SCRIPT)
     if (index, snapshot) != (1, 0) or log.count("\ns ") != 2 * NAVIGATION_COUNT + 1:
         signatures = log.count("\ns ")
         return f"recording {index} begins with {snapshot} bytes of snapshot, and has {signatures} signatures"
@@ -68,12 +70,12 @@ def main():
     if not is_installed():
         print("tests/web: chromedriver is missing (apt-get install chromium-driver)", file=sys.stderr)
         return 3
-    server = ThreadingHTTPServer(("127.0.0.1", 0), Handler)
+    server = ThreadingHTTPServer(("127.0.0.1", 0), PageHandler)
     threading.Thread(target=server.serve_forever, daemon=True).start()
     with Driver() as driver:
         page = f"http://localhost:{server.server_address[1]}/tests/web/frame.html?store=local"
-        one, other = sign_in_twice(driver, page)
-        wrong = check_recordings_over_navigations(driver, page)
+        one, other = sign_in_from_both_tabs(driver, page)
+        wrong = find_recording_error(driver, page)
     print(
         f"FAILED  one log of two tabs: {wrong}" if wrong else f"ok  one log of {2 * NAVIGATION_COUNT} pages in two tabs"
     )

@@ -8,7 +8,7 @@ import {
 
 const LOG_NAMES = ["first", "get_info", "registration", "selection", "sign_in", "sign_in_again", "time_out", "two_hosts"];
 
-/** There are as many rows as lines, and the rows of packets show the command. */
+/** There are at most as many rows as lines, and the rows of packets show the command. */
 const makeShowTest = (name) => async () => {
     const bytes = await fetchExample(`${name}.log`);
     await openLog(`${name}.log`, bytes);
@@ -82,7 +82,7 @@ const testChannelFilter = async () => {
 };
 
 /** The rows that differ from what the key sends, by their line numbers. */
-const listDiffering = () =>
+const listDifferingRows = () =>
     listRows().filter((row) => row.classList.contains("differs")).map((row) => row.firstChild.textContent);
 
 const testMarkedDifference = async () => {
@@ -91,7 +91,7 @@ const testMarkedDifference = async () => {
     await openLog("changed.log", encodeText(changed));
     const { side, line, text: told } = await waitForCard();
     expect(side === "key" && line === "6", `${side} ${line}: ${told}`);
-    expect(listDiffering().join() === "6", "the line that is named is marked");
+    expect(listDifferingRows().join() === "6", "the line that is named is marked");
     const detail = getElement("detail-text").textContent;
     expect(detail.startsWith("line 6 differs: packet 1 for line 5"), detail);
     expect(detail.includes("The key sends:\n< 00000001bb000102"), "what is sent is shown");
@@ -100,17 +100,17 @@ const testMarkedDifference = async () => {
 const SIGN_IN_COUNTER = "470100000002";
 
 /** Changes and opens a log of two sign-ins. Returns the detail's first line, the marked line and the detail's marks. */
-const checkChangedLog = async (change) => {
+const openChangedLog = async (change) => {
     const lines = new TextDecoder().decode(await fetchExample("sign_in.log")).split("\n");
     change(lines, lines.findIndex((line) => line.includes(SIGN_IN_COUNTER)));
     await openLog("changed.log", encodeText(lines.join("\n")));
     await waitForCard();
     const marks = [...getElement("detail-text").querySelectorAll("mark")].map((mark) => mark.textContent.trim());
-    return { told: getElement("detail-text").textContent.split("\n")[0], marked: listDiffering().join(), marks };
+    return { told: getElement("detail-text").textContent.split("\n")[0], marked: listDifferingRows().join(), marks };
 };
 
 const testDifferingMember = async () => {
-    const { told, marked, marks } = await checkChangedLog((lines, at) => {
+    const { told, marked, marks } = await openChangedLog((lines, at) => {
         lines[at] = lines[at].replace(SIGN_IN_COUNTER, "470100000007");
     });
     expect(told === "line 35 differs: packet 2 for line 33" && marked === "35", told + marked);
@@ -167,18 +167,18 @@ const testMissingSnapshot = async () => {
 };
 
 const testMissingPacket = async () => {
-    const { told, marked } = await checkChangedLog((lines, at) => lines.splice(at, 1));
+    const { told, marked } = await openChangedLog((lines, at) => lines.splice(at, 1));
     expect(told === "line 35 differs: packet 2 for line 33" && marked === "35", told + marked);
-    const cut = await checkChangedLog((lines, at) => lines.splice(at, 9));
+    const cut = await openChangedLog((lines, at) => lines.splice(at, 9));
     const sentence = "line 33 differs: packet 2 of the key's response is missing";
     expect(cut.told === sentence && cut.marked === "33", cut.told + cut.marked);
 };
 
 const testExtraPacket = async () => {
-    const { told, marked } = await checkChangedLog((lines) => lines.splice(3, 0, lines[2]));
+    const { told, marked } = await openChangedLog((lines) => lines.splice(3, 0, lines[2]));
     const sentence = "line 4 is unexpected: the key sends 1 packets for line 2";
     expect(told === sentence && marked === "4", told + marked);
-    const first = await checkChangedLog((lines) => lines.splice(1, 0, lines[2]));
+    const first = await openChangedLog((lines) => lines.splice(1, 0, lines[2]));
     const before = "line 2 is unexpected: the key sends 0 packets before any input";
     expect(first.told === before && first.marked === "2", first.told + first.marked);
 };
@@ -283,9 +283,9 @@ const recordDrawnTexts = () => {
 
 /**
  * Jumps, and expects that exactly the visible rows exist, or in the drawing at most one text for each row. The rows
- * have equal distances.
+ * have equal distances. Returns the number of drawn texts.
  */
-const checkJump = async (top, drawn, pitch) => {
+const jumpAndCountTexts = async (top, drawn, pitch) => {
     const scroller = getElement("scroller");
     drawn.clear();
     scroller.scrollTop = top;
@@ -296,14 +296,14 @@ const checkJump = async (top, drawn, pitch) => {
     expect(listRows().length <= inSight && listRows().length === last - first + 1, `${listRows().length} rows of ${inSight}`);
     const isLast = last === Number(getElement("count").textContent.split(" ")[0]);
     expect(isLast || last * pitch >= scroller.scrollTop + scroller.clientHeight, "rows to the end of the sight");
-    expect(drawn.size <= inSight + HEAD_COUNT, `${drawn.size} texts are drawn`);
+    expect(drawn.size <= inSight + EXTRA_TEXT_COUNT, `${drawn.size} texts are drawn`);
     return drawn.size;
 };
 
-// The names of the lifelines, and the text of the scale.
-const HEAD_COUNT = 4;
-// Pixels between lines: a row, and in the drawing a millisecond.
-const PITCH = { table: 26, drawing: 46 };
+// Number of drawn texts that belong to no row: the names of the lifelines, and the text of the scale.
+const EXTRA_TEXT_COUNT = 4;
+// Pixels between rows: the height of a row in the table, and a row with a millisecond in the drawing.
+const ROW_DISTANCES = { table: 26, drawing: 46 };
 
 /** In a log of 10,000 lines, only visible rows are created after a jump. The times are reported, but not checked. */
 const testScrolling = async () => {
@@ -322,7 +322,7 @@ const testScrolling = async () => {
         const from = performance.now();
         let texts = 0;
         for (let jump = 1; jump <= JUMP_COUNT; jump += 1) {
-            texts += await checkJump((jump * getElement("scroller").scrollHeight) / JUMP_COUNT, drawn, PITCH[mode]);
+            texts += await jumpAndCountTexts((jump * getElement("scroller").scrollHeight) / JUMP_COUNT, drawn, ROW_DISTANCES[mode]);
         }
         expect((texts > 0) === (mode === "drawing"), "drawn in the drawing alone");
         const each = (performance.now() - from) / JUMP_COUNT;
@@ -422,7 +422,7 @@ const testContrast = async () => {
     await waitForCard();
     for (const theme of ["light", "dark"]) {
         getPage().document.documentElement.dataset.theme = theme;
-        const faint = globalThis.pageFacts.findFaintTexts(getPage());
+        const faint = globalThis.pageFacts.findLowContrastTexts(getPage());
         expect(!faint.length, `${theme}: ${faint.join("; ")}`);
     }
 };

@@ -7,10 +7,10 @@ import {
 
 const getTree = () => getPage().document.querySelector("[role=tree].fields");
 const listItems = () => [...getTree().querySelectorAll("[role=treeitem]")];
-const getChosen = () => getTree().querySelector("[aria-selected=true]");
-const listMarked = () => [...getElement("hex").querySelectorAll(".byte.marked")].map((cell) => cell.textContent).join("");
+const getSelectedItem = () => getTree().querySelector("[aria-selected=true]");
+const listMarkedBytes = () => [...getElement("hex").querySelectorAll(".byte.marked")].map((cell) => cell.textContent).join("");
 
-const press = (element, key) =>
+const pressKeyOn = (element, key) =>
     element.dispatchEvent(new (getPage().KeyboardEvent)("keydown", { key, bubbles: true, cancelable: true }));
 
 const findItem = (start) => {
@@ -37,20 +37,20 @@ const openRegistration = async () => {
 const testFieldBytes = async () => {
     await openRegistration();
     findItem("2 rp:").click();
-    expect(listMarked() === "02a16269646b6578616d706c652e636f6d", listMarked());
+    expect(listMarkedBytes() === "02a16269646b6578616d706c652e636f6d", listMarkedBytes());
     expect(getElement("hex-status").textContent === "17 bytes: line 4, bytes 44 to 60", getElement("hex-status").textContent);
     // The user entity begins in the first packet, and ends in the second packet.
     findItem("3 user:").click();
-    expect(listMarked() === "03a16269644101", listMarked());
+    expect(listMarkedBytes() === "03a16269644101", listMarkedBytes());
     expect(getElement("hex-status").textContent === "7 bytes: line 4, bytes 61 to 63; line 5, bytes 5 to 8",
         getElement("hex-status").textContent);
     const cells = [...getElement("hex").querySelectorAll(".byte")];
     expect(cells.length === 128, `${cells.length} bytes`);
     cells[9 + 10].click();
-    expect(getChosen().textContent.trim().startsWith("1 clientDataHash"), getChosen().textContent);
-    expect(listMarked() === `015820${"11".repeat(32)}`, listMarked());
+    expect(getSelectedItem().textContent.trim().startsWith("1 clientDataHash"), getSelectedItem().textContent);
+    expect(listMarkedBytes() === `015820${"11".repeat(32)}`, listMarkedBytes());
     cells[0].click();
-    expect(getChosen().textContent.trim() === "channel 00000001" && listMarked() === "00000001", getChosen().textContent);
+    expect(getSelectedItem().textContent.trim() === "channel 00000001" && listMarkedBytes() === "00000001", getSelectedItem().textContent);
 };
 
 /** The fields are a tree after ARIA's tree view pattern: roles, levels, positions and arrow keys. */
@@ -62,7 +62,7 @@ const testFieldTree = async () => {
     expect(read(findItem("request 01")) === "1,2,2,true", read(findItem("request 01")));
     expect(read(findItem("1 clientDataHash")) === "2,1,5,", read(findItem("1 clientDataHash")));
     expect(read(findItem("2 rp")) === "2,2,5,false", read(findItem("2 rp")));
-    const chosen = () => `${getChosen()?.textContent.trim().split(" ").slice(0, 2).join(" ")} ${getChosen()?.getAttribute("aria-expanded")}`;
+    const describeSelection = () => `${getSelectedItem()?.textContent.trim().split(" ").slice(0, 2).join(" ")} ${getSelectedItem()?.getAttribute("aria-expanded")}`;
     const count = listItems().length;
     const steps = [
         ["ArrowDown", "CBOR 91, false"], ["ArrowDown", "request 01 true"], ["ArrowLeft", "request 01 false"],
@@ -71,9 +71,9 @@ const testFieldTree = async () => {
         ["Enter", "2 rp: false"], ["ArrowLeft", "request 01 true"], ["End", "7 options: false"], ["Home", "CBOR 91, false"],
     ];
     for (const [key, expected] of steps) {
-        press(tree, key);
-        expect(chosen() === expected, `after ${key}: ${chosen()}, not ${expected}`);
-        expect(tree.getAttribute("aria-activedescendant") === getChosen().id, `${key} is announced`);
+        pressKeyOn(tree, key);
+        expect(describeSelection() === expected, `after ${key}: ${describeSelection()}, not ${expected}`);
+        expect(tree.getAttribute("aria-activedescendant") === getSelectedItem().id, `${key} is announced`);
     }
     expect(listItems().length === count, "all are as before");
     const row = listRows().find((each) => each.getAttribute("aria-selected") === "true");
@@ -90,7 +90,7 @@ const readCopied = () => {
 };
 
 /** Copies with a key or a button, and returns the text that the page puts on the clipboard. */
-const copyBy = (act) => {
+const copyWith = (act) => {
     let copied = null;
     getPage().document.execCommand = () => {
         copied = readCopied();
@@ -103,16 +103,16 @@ const copyBy = (act) => {
 const testCopying = async () => {
     await openRegistration();
     const lines = new TextDecoder().decode(await fetchExample("registration.log")).split("\n");
-    const all = copyBy(() => getElement("copy-bytes").click());
+    const all = copyWith(() => getElement("copy-bytes").click());
     expect(all === lines[3].slice(-128) + lines[4].slice(-128), all);
     expect(readNotice() === "Copied 128 bytes.", readNotice());
-    expect(copyBy(() => getElement("copy-lines").click()) === lines[4], "the line");
-    const text = copyBy(() => getElement("copy-text").click());
+    expect(copyWith(() => getElement("copy-lines").click()) === lines[4], "the line");
+    const text = copyWith(() => getElement("copy-text").click());
     expect(text.includes('\n  2 rp: {"id": "example.com"}\n'), text);
     getTree().focus();
     findItem("2 rp:").click();
-    expect(copyBy(() => press(getTree(), "b")) === "02a16269646b6578616d706c652e636f6d", "the field's bytes");
-    expect(copyBy(() => press(getTree(), "c")) === '2 rp: {"id": "example.com"}', "the field's text");
+    expect(copyWith(() => pressKeyOn(getTree(), "b")) === "02a16269646b6578616d706c652e636f6d", "the field's bytes");
+    expect(copyWith(() => pressKeyOn(getTree(), "c")) === '2 rp: {"id": "example.com"}', "the field's text");
     expect(readCopied() === '2 rp: {"id": "example.com"}', "Ctrl+C in the tree");
     getElement("scroller").focus();
     expect(readCopied() === null, "elsewhere the browser copies");
@@ -125,14 +125,14 @@ const testMenu = async () => {
     const isOpen = () => !getElement("menu").hidden && getElement("menu-button").getAttribute("aria-expanded") === "true";
     getElement("menu-button").focus();
     expect(!isOpen() && getElement("menu-button").getAttribute("aria-haspopup") === "menu", "closed at first");
-    press(getElement("menu-button"), "ArrowDown");
+    pressKeyOn(getElement("menu-button"), "ArrowDown");
     expect(isOpen() && getFocusedId() === "compare", `open at ${getFocusedId()}`);
     for (const [key, expected] of [["ArrowDown", "download"], ["End", "keys"], ["ArrowDown", "compare"], ["ArrowUp", "keys"],
         ["Home", "compare"], ["s", "save"], ["t", "theme"]]) {
-        press(document.activeElement, key);
+        pressKeyOn(document.activeElement, key);
         expect(getFocusedId() === expected, `after ${key} at ${getFocusedId()}`);
     }
-    press(document.activeElement, "Escape");
+    pressKeyOn(document.activeElement, "Escape");
     expect(!isOpen() && getFocusedId() === "menu-button", "Escape closes it");
     getElement("menu-button").click();
     getElement("keys").click();
@@ -157,7 +157,7 @@ const recordDrawnTexts = () => {
 };
 
 /** The position of each row in the drawing, by line number. */
-const readTops = () => Object.fromEntries(listRows().map((row) =>
+const readRowPositions = () => Object.fromEntries(listRows().map((row) =>
     [row.firstChild.textContent, Number(/translateY\(([\d.]+)px\)/.exec(row.style.transform)[1])]));
 
 /**
@@ -170,8 +170,8 @@ const testTimeScale = async () => {
     await waitForCard();
     const drawn = recordDrawnTexts();
     getElement("drawing-tab").click();
-    await waitUntil(() => readTops()[4] > 3 * 26, "the times");
-    const tops = readTops();
+    await waitUntil(() => readRowPositions()[4] > 3 * 26, "the times");
+    const tops = readRowPositions();
     const getSpacing = (line) => tops[line] - tops[line - 1] - 26;
     expect(getSpacing(2) > 8 && getSpacing(2) === getSpacing(3), `12 ms: ${getSpacing(2)} and ${getSpacing(3)}`);
     expect(getSpacing(4) === 2 * getSpacing(2), `24 ms: ${getSpacing(4)}`);
@@ -192,7 +192,7 @@ const testDrawnMark = async () => {
     expect(drawn.includes("key at fault") && drawn.includes("key at fault, line 66"), drawn.join());
 };
 
-const openTwo = async (name, bytes, otherName, otherBytes) => {
+const openTwoLogs = async (name, bytes, otherName, otherBytes) => {
     await openLog(name, bytes);
     await waitForCard();
     const files = new (getPage().DataTransfer)();
@@ -217,7 +217,7 @@ const testTwoLogs = async () => {
     // count as a difference.
     lines[34] = lines[34].replace("470100000002", "470100000007");
     lines[30] = lines[30].replace("p 410", "p 415");
-    await openTwo("one.log", encodeText(text), "other.log", encodeText(lines.join("\n")));
+    await openTwoLogs("one.log", encodeText(text), "other.log", encodeText(lines.join("\n")));
     const summary = getElement("two-summary").textContent;
     expect(summary.startsWith("First difference: line 35 of one.log and line 35 of other.log, other bytes. 1 of "), summary);
     const [chosen] = listPairs().filter(({ isChosen }) => isChosen);
@@ -236,25 +236,25 @@ const testTwoLogs = async () => {
 const testAlignedLogs = async () => {
     const text = new TextDecoder().decode(await fetchExample("registration.log"));
     const shorter = text.split("\n").filter((_, at) => at !== 7).join("\n").replace("granted", "denied");
-    await openTwo("one.log", encodeText(text), "other.log", encodeText(shorter));
+    await openTwoLogs("one.log", encodeText(text), "other.log", encodeText(shorter));
     const listDifferences = () => listPairs().filter(({ texts }) => texts[1] !== "=").map(({ texts }) => texts.join("|"));
     expect(listDifferences().length === 2, listDifferences().join("\n"));
     expect(listDifferences()[0] === "8 KEEPALIVE 1 02  STATUS_UPNEEDED|≠ first only|", listDifferences()[0]);
-    const chosen = () => listPairs().find(({ isChosen }) => isChosen).texts[0];
+    const readSelectedText = () => listPairs().find(({ isChosen }) => isChosen).texts[0];
     const kept = readCard().level;
     expect(listDifferences()[1] === "10 presence: granted|≠ differs|9 presence: denied", listDifferences()[1]);
-    press(getElement("two-scroller"), "n");
-    expect(chosen() === "10 presence: granted" && readCard().level === kept, chosen());
-    press(getElement("two-scroller"), "n");
-    expect(chosen() === "8 KEEPALIVE 1 02  STATUS_UPNEEDED", `around: ${chosen()}`);
-    press(getElement("two-scroller"), "ArrowDown");
-    expect(chosen() === "10 presence: granted", chosen());
-    await openTwo("one.log", encodeText(text), "same.log", encodeText(text));
+    pressKeyOn(getElement("two-scroller"), "n");
+    expect(readSelectedText() === "10 presence: granted" && readCard().level === kept, readSelectedText());
+    pressKeyOn(getElement("two-scroller"), "n");
+    expect(readSelectedText() === "8 KEEPALIVE 1 02  STATUS_UPNEEDED", `around: ${readSelectedText()}`);
+    pressKeyOn(getElement("two-scroller"), "ArrowDown");
+    expect(readSelectedText() === "10 presence: granted", readSelectedText());
+    await openTwoLogs("one.log", encodeText(text), "same.log", encodeText(text));
     expect(getElement("two-summary").textContent === "Both logs have the same packets and replies.", "the same log");
 };
 
 /** A file that is not a log does not replace the shown log. */
-const testUnreadableOther = async () => {
+const testUnreadableSecondLog = async () => {
     await openLog("one.log", await fetchExample("registration.log"));
     await waitForCard();
     const before = listTexts().join();
@@ -277,5 +277,5 @@ run({
     "the mark in the drawing": testDrawnMark,
     "two logs": testTwoLogs,
     "lines of one log alone": testAlignedLogs,
-    "a file that cannot be compared": testUnreadableOther,
+    "a file that cannot be compared": testUnreadableSecondLog,
 });

@@ -13,20 +13,20 @@ import urllib.parse
 from http.server import ThreadingHTTPServer
 
 from driver import Driver, is_installed
-from serve import Handler
+from serve import PageHandler
 
-# Generous: only a page that hangs takes this long.
+# A timeout in seconds. Only a page that hangs takes this long.
 TIMEOUT_SECONDS = 1500
-EXPECTED_RESULTS = os.path.join(os.path.dirname(os.path.abspath(__file__)), "chromium_outcomes.json")
+RESULTS_PATH = os.path.join(os.path.dirname(os.path.abspath(__file__)), "chromium_outcomes.json")
 
 
-class ComparingHandler(Handler):
+class ComparingHandler(PageHandler):
     """Also passes the page's DevTools commands on to the browser."""
 
     def handle_request(self, path, request):
         """Responds to a request of the page."""
         if path == "/devtools":
-            return self.server.driver.devtools(request["command"], **request["parameters"])
+            return self.server.driver.send_devtools_command(request["command"], **request["parameters"])
         return super().handle_request(path, request)
 
 
@@ -34,7 +34,7 @@ def run_page(driver, server, kind):
     """Opens the page for a kind of authenticator, or for all, and returns the results that it posts."""
     query = f"?kind={urllib.parse.quote(kind)}" if kind else ""
     server.driver = driver
-    driver.devtools("WebAuthn.enable")
+    driver.send_devtools_command("WebAuthn.enable")
     driver.open(f"http://localhost:{server.server_address[1]}/tests/web/compare.html{query}")
     return server.results[0] if server.is_done.wait(TIMEOUT_SECONDS) else None
 
@@ -54,11 +54,11 @@ def main():
         return 1
     outcomes = results["logs"].get("chromium_outcomes.json", "")
     if "--write" in sys.argv:
-        with open(EXPECTED_RESULTS, "w", encoding="utf-8") as file:
+        with open(RESULTS_PATH, "w", encoding="utf-8") as file:
             file.write(outcomes)
-    with open(EXPECTED_RESULTS, encoding="utf-8") as file:
+    with open(RESULTS_PATH, encoding="utf-8") as file:
         if not kind and file.read() != outcomes:
-            name = os.path.basename(EXPECTED_RESULTS)
+            name = os.path.basename(RESULTS_PATH)
             print(f"    {name} is from another version of Chromium: run virtual_authenticator.py --write")
     for line in results["figures"]:
         print(f"    {line}")

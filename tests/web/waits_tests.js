@@ -2,7 +2,7 @@
 // sign-in.
 import { install, SecurityKey } from "../../bindings/web/dist/security_key.mjs";
 import { expect, results, waitUntil, sleep } from "./harness.js";
-import { readSignCount, createCredential, makeCreationOptions, getAssertion, getAssertionBy, makeOptionsForUser, expectError, makeKeyTest } from "./options.js";
+import { readSignCount, createCredential, makeCreationOptions, getAssertion, getAssertionWith, makeOptionsForUser, expectError, makeKeyTest } from "./options.js";
 
 const testThrowingPresence = async (key) => {
     const mistake = new RangeError("an error in the test");
@@ -21,7 +21,7 @@ const testThrowingPresence = async (key) => {
     await createCredential();
 };
 
-const testUnknownPresence = async (key) => {
+const testInvalidProperties = async (key) => {
     await expectError(() => { key.presence = "grantd"; }, "TypeError", "granted");
     await expectError(() => { key.delay = -1; }, "TypeError", "milliseconds");
     await expectError(() => { key.presense = "denied"; }, "TypeError");
@@ -48,7 +48,7 @@ const testAbortEndsAtOnce = async (key) => {
     await sleep(20);
     key.presence = "granted";
     controller.abort();
-    const second = getAssertionBy(made);
+    const second = getAssertionWith(made);
     await expectError(first, "AbortError");
     expect(readSignCount(await second) === 1, "the next is served");
 };
@@ -58,18 +58,18 @@ const testAbortAtAnyTime = async (key) => {
     const made = await createCredential();
     for (let turns = 0; turns < 30; turns += 1) {
         const controller = new AbortController();
-        const first = getAssertionBy(made, { signal: controller.signal }).catch((error) => error);
+        const first = getAssertionWith(made, { signal: controller.signal }).catch((error) => error);
         for (let turn = 0; turn < turns; turn += 1) {
             await null;
         }
         controller.abort(new RangeError("enough"));
-        await getAssertionBy(made);
+        await getAssertionWith(made);
         const outcome = await first;
         expect(outcome.name === "RangeError" || outcome.id === made.id, `after ${turns} turns: ${outcome}`);
     }
 };
 
-const testStorageError = () => {
+const makeSharedStorageOptions = () => {
     localStorage.clear();
     return { storage: localStorage };
 };
@@ -95,7 +95,7 @@ const testPresenceChange = async (key) => {
     await waiting;
 };
 
-/** Ticks have a distance of at least 100 ms. Missed ticks are not repeated, so there are fewer on a slow machine. */
+/** Ticks are at least 100 ms apart. Missed ticks are not repeated, so there are fewer on a slow machine. */
 const testTicks = async (key) => {
     key.presence = "none";
     const listTicks = () => key.log().match(/^t \d+$/gm)?.length ?? 0;
@@ -123,11 +123,11 @@ const testSelectAccount = async (key) => {
     expect((await chosen).userName === "ann" && readSignCount(used) === 1, "the selection ends with the sign-in");
 };
 
-const testTakeover = async (key) => {
+const testReplacedRequest = async (key) => {
     const made = await createCredential(makeOptionsForUser("ann"));
     const conditional = getAssertion({}, { mediation: "conditional" });
     await sleep(20);
-    await getAssertionBy(made);
+    await getAssertionWith(made);
     await expectError(conditional, "AbortError", "took over");
     const controller = new AbortController();
     const other = getAssertion({}, { mediation: "conditional", signal: controller.signal });
@@ -172,13 +172,13 @@ const FIRST_SIGN_INS = 40;
 const ROUNDS = 25;
 // If the cost grew with the log, the ratio would be far higher. Other processes cannot cause such a ratio.
 const MAX_RATIO = 5;
-const TRIES = 3;
+const MAX_ATTEMPTS = 3;
 
 /** Returns the lower quartile of times, which other processes on the machine hardly affect. */
-const lowerQuartile = (times) => times.sort((one, other) => one - other)[times.length / 4];
+const computeLowerQuartile = (times) => times.sort((one, other) => one - other)[times.length / 4];
 
 /** Registers with a new key, and returns a function that signs in. */
-const makeSigner = async (key) => {
+const prepareSignIn = async (key) => {
     const made = await key.create({ publicKey: makeCreationOptions() });
     const publicKey = { challenge: new Uint8Array(32), allowCredentials: [{ type: "public-key", id: made.rawId }] };
     return () => key.get({ publicKey });
@@ -196,25 +196,25 @@ const measureSignIn = async (signIn) => {
 const measureAlternately = async (signInLate) => {
     const [first, late] = [[], []];
     for (let round = 0; round < ROUNDS; round += 1) {
-        const signIn = await makeSigner(new SecurityKey());
+        const signIn = await prepareSignIn(new SecurityKey());
         for (let count = 0; count < FIRST_SIGN_INS; count += 1) {
             first.push(await measureSignIn(signIn));
             late.push(await measureSignIn(signInLate));
         }
     }
-    const [one, other] = [lowerQuartile(first), lowerQuartile(late)];
+    const [one, other] = [computeLowerQuartile(first), computeLowerQuartile(late)];
     results.figures.push(`a sign-in takes ${one.toFixed(2)} ms among the first ${FIRST_SIGN_INS}, and ${other.toFixed(2)} ms`
         + " after the 1,000th (lower quartiles)");
     return other / one;
 };
 
 const testConstantTime = async () => {
-    const signInLate = await makeSigner(new SecurityKey());
+    const signInLate = await prepareSignIn(new SecurityKey());
     for (let count = 0; count < 1000; count += 1) {
         await signInLate();
     }
     let least = Infinity;
-    for (let tries = 0; tries < TRIES && least >= MAX_RATIO; tries += 1) {
+    for (let tries = 0; tries < MAX_ATTEMPTS && least >= MAX_RATIO; tries += 1) {
         least = Math.min(least, await measureAlternately(signInLate));
     }
     expect(least < MAX_RATIO, `the 1,000th sign-in takes ${least.toFixed(2)} times as long as the first`);
@@ -222,16 +222,16 @@ const testConstantTime = async () => {
 
 export const waitsTests = {
     "a presence that throws leaves the key free": makeKeyTest(testThrowingPresence),
-    "unknown names are rejected": makeKeyTest(testUnknownPresence),
+    "unknown names are rejected": makeKeyTest(testInvalidProperties),
     "unknown options are rejected": testUnknownOptions,
     "an aborted request ends immediately": makeKeyTest(testAbortEndsAtOnce),
     "a request is aborted at any point": makeKeyTest(testAbortAtAnyTime),
-    "a request with storage shared by tabs is aborted at any point": makeKeyTest(testAbortAtAnyTime, testStorageError),
+    "a request with storage shared by tabs is aborted at any point": makeKeyTest(testAbortAtAnyTime, makeSharedStorageOptions),
     "a second request is an OperationError": makeKeyTest(testSecondRequest),
     "presence is granted while a request waits": makeKeyTest(testPresenceChange),
     "a wait follows the clock": makeKeyTest(testTicks),
     "conditional mediation waits for a selection": makeKeyTest(testSelectAccount),
-    "conditional mediation is replaced and aborted": makeKeyTest(testTakeover),
+    "conditional mediation is replaced and aborted": makeKeyTest(testReplacedRequest),
     "uninstalling a key aborts its requests": testUninstall,
     "static methods describe the key": testStaticMethods,
     "the 1,000th sign-in costs as much as the first": testConstantTime,

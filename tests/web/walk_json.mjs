@@ -7,7 +7,7 @@ import { readSession } from "./session_in_node.mjs";
 const [CBOR, KEEPALIVE] = [0x10, 0x3b];
 const OBJECT_KINDS = { host: "packet", key: "packet", presence: "presence", "new key": "key", signature: "signature" };
 
-/** The word for how a transaction ended, as in `show --json`. */
+/** How a transaction ended, as in `show --json`. */
 const getEnd = ({ answer, by, code, end }) => {
     if (code !== null) {
         return { end: "error", code };

@@ -28,10 +28,10 @@ const describeEnd = ({ answer, by, received, code, end, isWhole, length }) => {
 /** The transactions of a log, as text. */
 const describeTransactions = (name) => {
     const session = readSession(new Uint8Array(readFileSync(resolvePath(name))));
-    const checkWalk = (line) => !["comment", "need", "count", "empty"].includes(line.kind);
+    const isInputOrPacket = (line) => !["comment", "need", "count", "empty"].includes(line.kind);
     const transactions = Array.from({ length: session.transactions }, (_, place) => session.transaction(place));
     return [
-        ...session.slice(0, session.length).filter(checkWalk).map(({ number, transaction }) =>
+        ...session.slice(0, session.length).filter(isInputOrPacket).map(({ number, transaction }) =>
             `${number} of ${transaction ? transaction.line.number : "none"}`),
         ...transactions.map((transaction) => {
             const { line, channel, command, length } = transaction;
@@ -104,7 +104,7 @@ test("sessions of other keys follow the rules", () => {
 });
 
 const makeContinuation = (at, channel, sequence) => `> ${at} ${channel}${toHex(sequence)}${"00".repeat(59)}`;
-const padPacket = (line, length) => line.replace("0039", length.toString(16).padStart(4, "0"));
+const setLength = (line, length) => line.replace("0039", length.toString(16).padStart(4, "0"));
 const FIRST_DATA = Array(57).fill(4);
 
 // The core's output for logs, written by hand from hidlog.h.
@@ -114,22 +114,22 @@ const LOG_TEXTS = {
         ["1 1 1", "3 0 0", "4 1 4 s1:46", "5 0 0"],
     ],
     "a PING's answer of two packets": [
-        [padPacket(makeHostLine(0, ONE, 1, FIRST_DATA), 60), makeContinuation(1, ONE, 0), padPacket(makeKeyLine(ONE, 1, FIRST_DATA), 60),
+        [setLength(makeHostLine(0, ONE, 1, FIRST_DATA), 60), makeContinuation(1, ONE, 0), setLength(makeKeyLine(ONE, 1, FIRST_DATA), 60),
             makeContinuation(0, ONE, 0).replace("> 0", "<")],
         ["1 1 1", "2 1 1", "3 1 3", "4 1 3 a1"],
     ],
     "a response with a missing packet": [
-        [makeHostLine(0, ONE, CBOR, [4]), padPacket(makeKeyLine(ONE, CBOR, FIRST_DATA), 60), makeKeyLine(ONE, KEEPALIVE, [1])],
+        [makeHostLine(0, ONE, CBOR, [4]), setLength(makeKeyLine(ONE, CBOR, FIRST_DATA), 60), makeKeyLine(ONE, KEEPALIVE, [1])],
         ["1 1 1", "2 1 2", "3 0 3 c1"],
     ],
     "a late packet, and one out of sequence": [
-        [padPacket(makeHostLine(0, ONE, CBOR, FIRST_DATA), 300), makeContinuation(1, ONE, 0), makeContinuation(2, ONE, 5), makeContinuation(700, ONE, 1),
+        [setLength(makeHostLine(0, ONE, CBOR, FIRST_DATA), 300), makeContinuation(1, ONE, 0), makeContinuation(2, ONE, 5), makeContinuation(700, ONE, 1),
             makeKeyLine(ONE, ERROR, [5])],
         ["1 1 1", "2 1 1", "3 1 0", "4 1 1", "5 1 5 l4 e1:5"],
     ],
     "an INIT that drops a message, and a message that replaces another": [
-        [padPacket(makeHostLine(0, ONE, CBOR, FIRST_DATA), 300), makeHostLine(1, ONE, 6, [1, 2, 3, 4, 5, 6, 7, 8]),
-            makeKeyLine(ONE, 6, [1, 2, 3, 4, 5, 6, 7, 8, 0, 0, 0, 1, 2, 1, 0, 0, 4]), padPacket(makeHostLine(2, ONE, CBOR, FIRST_DATA), 300),
+        [setLength(makeHostLine(0, ONE, CBOR, FIRST_DATA), 300), makeHostLine(1, ONE, 6, [1, 2, 3, 4, 5, 6, 7, 8]),
+            makeKeyLine(ONE, 6, [1, 2, 3, 4, 5, 6, 7, 8, 0, 0, 0, 1, 2, 1, 0, 0, 4]), setLength(makeHostLine(2, ONE, CBOR, FIRST_DATA), 300),
             makeHostLine(3, ONE, PING, [4]), makeKeyLine(ONE, PING, [4])],
         ["1 1 1", "2 2 2", "3 2 3 d1:2 a2", "4 4 4", "5 5 5", "6 5 6 r4:5 a5"],
     ],

@@ -22,7 +22,7 @@ sys.dont_write_bytecode = True
 TOP = Path(__file__).resolve().parents[2]
 sys.path.insert(0, str(TOP / "tests" / "fuzz"))
 
-from transactions import FindingError, HostGenerator, Machine, check_objects, read_needs
+from transactions import FindingError, HostGenerator, TransportModel, check_objects, read_needs
 
 
 def write_log(program: str, name: str, path: Path) -> None:
@@ -53,7 +53,7 @@ def main() -> int:
             live = subprocess.run(
                 [options.program, "live", str(path)], capture_output=True, check=True, timeout=600
             ).stdout
-            machine = Machine(path.read_bytes().splitlines(), read_needs(live.splitlines()))
+            machine = TransportModel(path.read_bytes().splitlines(), read_needs(live.splitlines()))
             transactions += len(machine.transactions)
             try:
                 check_objects(json.loads(objects), machine)

@@ -178,11 +178,12 @@ test("ends are described correctly for every cause", () => {
 
 const noJsdom = { skip: !existsSync(JSDOM) && "node-jsdom is missing" };
 const isMessageLine = (line) => /^(request|answer) /.test(line);
-// The line of a request or response may have only the code and the name, if the CBOR members have own lines.
+// The line of a request or response may have only the code and the name, if the CBOR members have lines of
+// their own.
 const shortenLines = (lines) => lines.map((line) => (isMessageLine(line)
     ? line.split(" ").slice(0, 2).join(" ") + (/ {2}\w+$/.exec(line)?.[0] ?? "") : line));
 
-/** The page, ready for a log. */
+/** Opens the page in jsdom, and waits until it is ready for a log. */
 const openPage = async () => {
     process.env.NODE_PATH = "/usr/share/nodejs";
     createRequire(import.meta.url)("node:module").Module._initPaths();
@@ -246,18 +247,18 @@ class PageDriver {
         }
     }
 
-    /** Selects each row, and reads its explanation. */
-    chooseAll(expected, name) {
+    /** Selects each row, and compares its detail with the expected explanation. Returns the number of rows. */
+    checkAllRows(expected, name) {
         const { selectRow, rowAt, state } = this.window.hidlogViewer;
         for (let place = 0; place < state.rows.length; place += 1) {
             selectRow(place);
             const row = rowAt(place);
-            this.look(row, expected, `${name}, row ${place} of ${state.rows.length}, line ${row.line.number}`);
+            this.checkRow(row, expected, `${name}, row ${place} of ${state.rows.length}, line ${row.line.number}`);
         }
         return state.rows.length;
     }
 
-    look(row, expected, where) {
+    checkRow(row, expected, where) {
         const { line, transaction } = row;
         const shown = this.at("detail-text").querySelector("[role=tree]").textContent.split("\n");
         const refusal = transaction?.code ? transaction.by.message : null;
@@ -291,15 +292,15 @@ test("each row that is chosen has them, before a search and after it", noJsdom, 
             assert.equal(hands.at("view").disabled, false, name);
             window.hidlogViewer.setView("recorded");
             hands.fold(true);
-            looked += hands.chooseAll(expected, name);
+            looked += hands.checkAllRows(expected, name);
             for (const words of ["already", "line", "rpid", "a"]) {
                 await hands.seek(words);
-                looked += hands.chooseAll(expected, `${name}, ${words} sought`);
+                looked += hands.checkAllRows(expected, `${name}, ${words} sought`);
             }
             hands.fold(false);
-            looked += hands.chooseAll(expected, `${name}, lines with a`);
+            looked += hands.checkAllRows(expected, `${name}, lines with a`);
             await hands.seek("");
-            looked += hands.chooseAll(expected, `${name}, all lines`);
+            looked += hands.checkAllRows(expected, `${name}, all lines`);
         }
         assert.ok(looked > 5000, `${looked} rows`);
     } finally {

@@ -170,7 +170,7 @@ def serve_in_thread(handler: Any, port: int = 0) -> Iterator[int]:
 
 
 class VictimServer:
-    """A server at the port, with or without the gate, and the requests that reach the driver behind it."""
+    """A server at a port, with or without the gate. It records the requests that reach the driver."""
 
     def __init__(self, has_gate: bool):
         self.handler: Any = type("Noted", (RecordingDriver,), {"asked": [], "connections": []})
@@ -183,7 +183,7 @@ class VictimServer:
 
     @contextmanager
     def listen(self, port: int = 0) -> Iterator[int]:
-        """Listens."""
+        """Starts the server, and provides its port."""
         with serve_in_thread(self.handler, 0 if self.has_gate else port) as driver:
             if not self.has_gate:
                 yield driver
@@ -215,7 +215,7 @@ class VictimServer:
 
 @contextmanager
 def open_browser(name: str, url: str) -> Iterator[None]:
-    """Opens an address."""
+    """Opens an address in a browser, which is closed at the end."""
     with TemporaryDirectory(ignore_cleanup_errors=True) as work_dir:
         if name == "chromium":
             words = ["chromium", "--headless=new", "--no-sandbox", "--disable-dev-shm-usage", "--no-first-run"]
@@ -277,7 +277,7 @@ def check_browser(name: str) -> None:
     gated, saw = test_dns_rebinding(name, has_gate=True)
     assert gated.requests == [] and set(saw) == {403}, (gated.requests, saw)
     print(
-        f"ok  {name}: a name that is led to the port: {len(bare.requests)} requests reach a driver, and none the gate's"
+        f"ok  {name}: a host name that is rebound to the port: {len(bare.requests)} requests reach a driver, and none the gate's"
     )
 
 

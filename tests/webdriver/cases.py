@@ -1,6 +1,6 @@
 #!/usr/bin/env python3
 """Runs the registrations and sign-ins of tests/python/browser_cases.json by URL, with `hidlog webdriver`, and compares the
-results with the expected ones. Checks the recordings. All authenticators are of one document.
+results with the expected ones. Checks the recordings. All authenticators are added in one document.
 
     tests/webdriver/cases.py           exits with 3 if chromedriver is missing
 """
@@ -16,7 +16,7 @@ from functools import partial
 from pathlib import Path
 from typing import Any
 
-from run import ENVIRONMENT, Files, call, find_free_port, proxy_command, start_process, start_server
+from run import ENVIRONMENT, FileHandler, call, find_free_port, make_proxy_command, start_process, start_server
 
 HERE = Path(__file__).resolve().parent
 TOP = HERE.parents[1]
@@ -24,8 +24,8 @@ sys.path[:0] = [str(TOP / "tests" / "python"), ENVIRONMENT["PYTHONPATH"]]
 os.environ.setdefault("HIDLOG_EXAMPLES", str(TOP / "examples"))
 
 import hidlog  # noqa: E402
-from implementations import ALIKE, CASES, RUN_SCRIPT, WAIT_MS, Case, Json, ServiceError  # noqa: E402
-from implementations import get_expected, run_calls, to_devtools_options  # noqa: E402
+from implementations import EXTENDED_CASES, CASES, RUN_SCRIPT, Case, Json, ServiceError  # noqa: E402
+from implementations import get_expected_result, get_wait_ms, run_calls, to_devtools_options  # noqa: E402
 
 # The members of DevTools' options that WebDriver has, too.
 OPTIONS = ["transport", "hasResidentKey", "hasUserVerification", "isUserVerified"]
@@ -48,10 +48,10 @@ class Session:
         assert status == 200, (path, given, value)
         return value
 
-    def end(self) -> None:
+    def end_session(self) -> None:
         call("DELETE", self._url)
 
-    def start(self, key: Json) -> None:
+    def set_up_key(self, key: Json) -> None:
         """Adds an authenticator."""
         devtools = to_devtools_options(key)
         extensions = key.get("extensions", [])
@@ -60,10 +60,10 @@ class Session:
         given = {**options, "protocol": protocol, "extensions": extensions, "isUserConsenting": True}
         self._key = f"/webauthn/authenticator/{self._post('/webauthn/authenticator', given)}"
 
-    def call(self, method: str, options: Any, more: Json, presence: str) -> Json:
-        """Calls create or get in the page."""
+    def call(self, method: str, options: Any, more: Json, presence: str, wait_ms: int) -> Json:
+        """Calls create or get in the page, and stops the call after `wait_ms` milliseconds."""
         self._post(f"{self._key}/presence", {"presence": presence})
-        answer = self._post("/execute/async", {"script": RUN_SCRIPT, "args": [method, options, more, WAIT_MS]})
+        answer = self._post("/execute/async", {"script": RUN_SCRIPT, "args": [method, options, more, wait_ms]})
         if "error" in answer:
             raise ServiceError(answer["error"], answer["text"])
         made: Json = answer["json"]
@@ -83,11 +83,11 @@ class Session:
 
 def run_case(case: Case, session: Session) -> Json:
     """Runs a case, and returns the result."""
-    session.start(case.get("key", {}))
+    session.set_up_key(case.get("key", {}))
 
     def call_page(name: str, options: Any, more: Json) -> Json:
         presence = case.get("presence", "granted") if name == case["call"] else "granted"
-        return session.call(name, options, more, presence)
+        return session.call(name, options, more, presence, get_wait_ms(case, name))
 
     result = run_calls(call_page, case, session.fail)
     session.remove()
@@ -98,17 +98,17 @@ def main() -> int:
     if not shutil.which("chromedriver"):
         print("tests/webdriver: chromedriver is missing (apt-get install chromium-driver)", file=sys.stderr)
         return 3
-    page, cases = partial(Files, directory=str(HERE)), {**CASES, **ALIKE}
+    page, cases = partial(FileHandler, directory=str(HERE)), {**CASES, **EXTENDED_CASES}
     with start_server(page) as port, tempfile.TemporaryDirectory() as folder:
-        with start_process(proxy_command("chromedriver", Path(folder)), find_free_port()) as url:
+        with start_process(make_proxy_command("chromedriver", Path(folder)), find_free_port()) as url:
             session = Session(url, f"http://localhost:{port}/page.html")
             try:
                 found = {name: run_case(case, session) for name, case in cases.items()}
             finally:
-                session.end()
-    wrong = {name: result for name, result in found.items() if result != get_expected(name, "url")}
+                session.end_session()
+    wrong = {name: result for name, result in found.items() if result != get_expected_result(name, "url")}
     for name, result in wrong.items():
-        print(f"FAILED  {name}: {json.dumps(result)}, expected {json.dumps(get_expected(name, 'url'))}")
+        print(f"FAILED  {name}: {json.dumps(result)}, expected {json.dumps(get_expected_result(name, 'url'))}")
     print(f"{'FAILED' if wrong else 'ok'}  {len(found)} cases by URL, {len(wrong)} not as expected")
     return 1 if wrong else 0
 

@@ -35,14 +35,14 @@ sys.path.insert(0, str(HERE))
 sys.path.insert(0, str(HERE.parent / "program"))
 
 import injection
-from injection import Place
-from processes import Run, is_running, list_descendants, wait_until
+from injection import InjectedFault
+from processes import RunningProxy, is_running, list_descendants, wait_until
 
 DRIVER = f"{sys.executable} {HERE / 'processes.py'} --drive"
 OPTIONS = {"protocol": "ctap2", "transport": "usb"}
 LOG = "> 0 00\n"
 TIMEOUT_SECONDS = 600
-# Excludes system calls that fail only if memory is short, because then Python ends.
+# The system calls that are made to fail. Calls that fail only if memory is short are excluded: Python then exits.
 TRACED_CALLS = [
     "socket",
     "connect",
@@ -72,7 +72,7 @@ TRACED_CALLS += ["mkdir", "unlink", "newfstatat", "fstat", "lseek", "readlink", 
 FAULTS = {"accept4": ("EMFILE", "EINTR", "ECONNABORTED"), "socket": ("EMFILE", "ENOBUFS"), "mkdir": ("ENOSPC", "EIO")}
 
 
-def call(run: Run, method: str, path: str, given: Any = None) -> tuple[int, Any]:
+def call(run: RunningProxy, method: str, path: str, given: Any = None) -> tuple[int, Any]:
     """Sends a command, and returns the status and the value. The status is 0 if the connection ends without a
     response."""
     try:
@@ -81,7 +81,7 @@ def call(run: Run, method: str, path: str, given: Any = None) -> tuple[int, Any]
         return 0, str(error)
 
 
-def run_scenario(run: Run) -> list[tuple[int, Any]]:
+def run_scenario(run: RunningProxy) -> list[tuple[int, Any]]:
     """Runs a session with an authenticator and a recording. Any command may fail."""
     results = [call(run, "POST", "/session", {})]
     name = results[0][1].get("sessionId", "a") if isinstance(results[0][1], dict) else "a"
@@ -104,16 +104,16 @@ def attach_strace(pid: int, words: list[str]) -> subprocess.Popen[bytes]:
     return tracer
 
 
-def strace_arguments(place: Place, log: Path) -> list[str]:
+def make_strace_arguments(place: InjectedFault, log: Path) -> list[str]:
     """Returns the arguments of strace for a fault. strace reports when it is attached, and can't filter a running
     process."""
-    return [word for word in place.strace_prefix(log) if word not in ("--seccomp-bpf", "-qq")]
+    return [word for word in place.make_strace_prefix(log) if word not in ("--seccomp-bpf", "-qq")]
 
 
 def find_result_error(results: list[tuple[int, Any]]) -> Optional[str]:
     for status, value in results:
         if status not in (0, 200) and set(value or ()) != {"error", "message", "stacktrace"}:
-            return f"no error of WebDriver: {status} {value}"
+            return f"not a WebDriver error: {status} {value}"
     return None
 
 
@@ -122,16 +122,16 @@ def find_file_error(folder: Path, is_killed: bool, is_told: bool) -> Optional[st
     files = [path for path in folder.rglob("*") if path.is_file()]
     logs = [path for path in files if path.suffix == ".log"]
     if any(path.read_text() != LOG or path.stat().st_mode & 0o777 != 0o600 for path in logs):
-        return "a recording isn't whole"
+        return "a recording is incomplete"
     if not is_killed and len(files) != len(logs):
-        return f"files are left: {[path.name for path in files]}"
-    return None if logs or is_killed or is_told else "no recording, and nothing is said of it"
+        return f"unexpected files: {[path.name for path in files]}"
+    return None if logs or is_killed or is_told else "no recording, and no error message"
 
 
-def find_error(place: Place, folder: Path) -> Optional[str]:
+def find_error(place: InjectedFault, folder: Path) -> Optional[str]:
     """Runs a session with a fault, and returns what is wrong with the result."""
-    run = Run(DRIVER, "--recordings", str(folder / "logs"))
-    tracer = attach_strace(run.process.pid, strace_arguments(place, folder / "strace"))
+    run = RunningProxy(DRIVER, "--recordings", str(folder / "logs"))
+    tracer = attach_strace(run.process.pid, make_strace_arguments(place, folder / "strace"))
     below = list_descendants(run.process.pid)
     try:
         results = run_scenario(run)
@@ -147,13 +147,13 @@ def find_error(place: Place, folder: Path) -> Optional[str]:
     if is_killed and place.fault != "KILL":
         return f"it ended with {run.process.returncode}"
     if not wait_until(lambda: not any(map(is_running, below))):
-        return "the driver or what it started runs still"
+        return "the driver or one of its child processes still runs"
     return find_result_error(results) or find_file_error(folder / "logs", is_killed, is_told)
 
 
-def list_places(folder: Path) -> list[Place]:
-    """Returns the system calls of a session without faults, which must succeed."""
-    run = Run(DRIVER, "--recordings", str(folder / "logs"))
+def list_faults(folder: Path) -> list[InjectedFault]:
+    """Returns the faults for each system call of a session. Without faults, the session must succeed."""
+    run = RunningProxy(DRIVER, "--recordings", str(folder / "logs"))
     tracer = attach_strace(run.process.pid, ["strace", "-f", "-o", str(folder / "calls")])
     results = run_scenario(run)
     run.process.terminate()
@@ -166,15 +166,15 @@ def list_places(folder: Path) -> list[Place]:
     counts = {name: max((found[place] for place in found if place[1] == name), default=0) for name in TRACED_CALLS}
     counts = {name: count for name, count in counts.items() if count}
     injection.FAULTS.update(FAULTS)
-    return list(injection.list_places(counts))
+    return list(injection.list_faults(counts))
 
 
 def find_short_io_error() -> Optional[str]:
     """Runs a session with reads and writes of half their size, and returns what is wrong with the result."""
     with TemporaryDirectory() as folder:
-        _, library = injection.short_calls_prefix(Path(folder))
+        _, library = injection.make_short_calls_prefix(Path(folder))
         name, _, value = library.partition("=")
-        run = Run(DRIVER, "--recordings", f"{folder}/logs", env={name: value})
+        run = RunningProxy(DRIVER, "--recordings", f"{folder}/logs", env={name: value})
         results = run_scenario(run)
         run.process.terminate()
         _, text = run.process.communicate(timeout=TIMEOUT_SECONDS)
@@ -189,27 +189,27 @@ def main() -> int:
     parser.add_argument("--count", type=int, default=40)
     parser.add_argument("--seed", type=int, default=1)
     parser.add_argument("--jobs", type=int, default=2)
-    parser.add_argument("--only", help="places whose text has this")
+    parser.add_argument("--only", help="only faults whose text contains this")
     given = parser.parse_args()
     if not shutil.which("strace"):
-        print("tests/webdriver: strace is missing", file=sys.stderr)
+        print("tests/webdriver: strace is missing (apt-get install strace)", file=sys.stderr)
         return 3
     work_dir = Path(os.environ.get("TMPDIR", "/tmp")) / f"faults-{os.getpid()}"
     work_dir.mkdir()
     try:
-        found = [place for place in list_places(work_dir) if not given.only or given.only in str(place)]
+        found = [place for place in list_faults(work_dir) if not given.only or given.only in str(place)]
     finally:
         shutil.rmtree(work_dir)
     some = found if given.all else random.Random(given.seed).sample(found, min(given.count, len(found)))
     begun = time.monotonic()
-    wrong = injection.check_places(some, find_error, given.jobs)
+    wrong = injection.check_faults(some, find_error, given.jobs)
     if shutil.which("gcc") and (text := find_short_io_error()) is not None:
-        wrong.append((Place("each call", 0, "half of the bytes"), text))
+        wrong.append((InjectedFault("each call", 0, "half of the bytes"), text))
     for place, text in wrong:
         print(f"FAILED  {place}: {text}")
     took = "" if sys.stdout.isatty() is False else f" in {time.monotonic() - begun:.0f} s"
     print(
-        f"{'FAILED' if wrong else 'ok'}  {len(some)} of {len(found)} places of hidlog webdriver, {len(wrong)} wrong{took}"
+        f"{'FAILED' if wrong else 'ok'}  {len(some)} of {len(found)} faults of hidlog webdriver, {len(wrong)} wrong{took}"
     )
     return 1 if wrong else 0
 

@@ -24,7 +24,7 @@ POLICY = Policy(PORT, "127.0.0.1", ("chrome", "ci.example:8080"))
 GOOD_POST = Head("POST", "/session", [OWN_HOST], [], [], JSON, ["2"])
 GOOD_GET = Head("GET", "/status", [OWN_HOST])
 
-ACCEPTED = [
+ACCEPTED_HEADS = [
     GOOD_GET,
     GOOD_POST,
     GOOD_GET._replace(method="DELETE", path="/session/a1b2-c3"),
@@ -37,7 +37,7 @@ ACCEPTED = [
     GOOD_GET._replace(path="/session/x/cookie/__Host-id"),
     # A credential ID with padding that is percent-encoded, as the Java client sends it.
     GOOD_GET._replace(method="DELETE", path="/session/x/webauthn/authenticator/y/credentials/AQ%3D%3d"),
-    # The names of this server, and a client that omits port 80.
+    # Other names of this server.
     GOOD_GET._replace(hosts=[f"LocalHost:{PORT}"]),
     GOOD_GET._replace(hosts=[f"[::1]:{PORT}"]),
     # Hosts that the option allows, with any port or with one port.
@@ -50,7 +50,7 @@ ACCEPTED = [
     GOOD_GET._replace(sites=["none"]),
 ]
 
-REFUSED = {
+REJECTED_HEADS = {
     405: [
         GOOD_GET._replace(method=method)
         for method in ("PUT", "OPTIONS", "HEAD", "PATCH", "CONNECT", "TRACE", "get", "", "G T")
@@ -216,20 +216,20 @@ def get_status(head: Head, policy: Policy = POLICY) -> int:
         return int(error.status)
 
 
-def check_table() -> list[str]:
-    """Returns the rows of the table with an unexpected result."""
-    wrong = [f"{head} gets {get_status(head)}" for head in ACCEPTED if get_status(head) != 200]
-    for status, heads in REFUSED.items():
+def find_table_errors() -> list[str]:
+    """Returns the rows of the tables with an unexpected result."""
+    wrong = [f"{head} gets {get_status(head)}" for head in ACCEPTED_HEADS if get_status(head) != 200]
+    for status, heads in REJECTED_HEADS.items():
         wrong += [f"{head} gets {get_status(head)}, not {status}" for head in heads if get_status(head) != status]
     for (address, host), is_right in HOST_CASES.items():
         if (get_status(GOOD_GET._replace(hosts=[host]), Policy(PORT, address)) == 200) != is_right:
             wrong.append(f"{host} at {address}")
     if get_status(GOOD_GET._replace(hosts=["127.0.0.1"]), Policy(80)) != 200:
-        wrong.append("a host without a port is at port 80")
+        wrong.append("127.0.0.1 without a port is rejected at port 80")
     return wrong
 
 
-# The parts of random heads: each member is valid, or contains parts of attacks.
+# The parts from which members of random heads are made, among them parts of attacks.
 HEADER_PARTS = [
     OWN_HOST,
     "localhost",
@@ -278,19 +278,19 @@ HEADER_PARTS += [
 ]
 
 
-def random_head(rng: random.Random) -> Head:
+def make_random_head(rng: random.Random) -> Head:
     """Returns a head in which some members are random and the others valid."""
     head = rng.choice([GOOD_GET, GOOD_POST])
 
-    def text() -> str:
+    def make_text() -> str:
         return "".join(rng.choices(HEADER_PARTS, k=rng.randint(0, 4)))
 
     for name in rng.sample(Head._fields, rng.randint(1, 3)):
         if name in ("method", "path"):
-            value = text() if name == "method" else rng.choice(["/", "/session/", "/status", ""]) + text()
+            value = make_text() if name == "method" else rng.choice(["/", "/session/", "/status", ""]) + make_text()
             head = head._replace(**{name: value})
         else:
-            head = head._replace(**{name: [text() for _ in range(rng.randint(0, 2))]})
+            head = head._replace(**{name: [make_text() for _ in range(rng.randint(0, 2))]})
     return head
 
 
@@ -315,7 +315,7 @@ def find_faults(head: Head) -> list[str]:
     if not is_length and (head.lengths or head.method == "POST"):
         found.append("length")
     if head.method == "POST" or (is_length and int(digits)):
-        kinds = [text.partition(";")[0].strip().lower() for text in head.types]
+        kinds = [make_text.partition(";")[0].strip().lower() for make_text in head.types]
         found += [] if kinds == ["application/json"] else ["type"]
     path = head.path.replace("%3D", "=")
     is_plain = path.isascii() and path.isprintable() and not set(path) & set(' "#%<>?[\\]^`{|}')
@@ -329,20 +329,20 @@ def main() -> int:
     parser.add_argument("--count", type=int, default=20_000)
     parser.add_argument("--seed", type=int, default=1)
     given = parser.parse_args()
-    wrong = check_table()
+    wrong = find_table_errors()
     rng = random.Random(given.seed)
     accepted = 0
     for _ in range(given.count):
-        head = random_head(rng)
+        head = make_random_head(rng)
         is_accepted = get_status(head) == 200
         accepted += is_accepted
         if is_accepted == bool(find_faults(head)):
             wrong.append(
                 f"{head} is {'accepted' if is_accepted else 'refused'}, and has {find_faults(head) or 'no fault'}"
             )
-    for text in wrong[:20]:
-        print(f"FAILED  {text}")
-    rows = len(ACCEPTED) + sum(map(len, REFUSED.values())) + len(HOST_CASES)
+    for make_text in wrong[:20]:
+        print(f"FAILED  {make_text}")
+    rows = len(ACCEPTED_HEADS) + sum(map(len, REJECTED_HEADS.values())) + len(HOST_CASES)
     if not wrong:
         print(f"ok  {rows} heads of the tables, and {given.count} random heads of which {accepted} are accepted")
     return 1 if wrong else 0

@@ -44,8 +44,8 @@ def to_base64(data: bytes) -> str:
     return base64.b64encode(data).decode()
 
 
-class Browser:
-    """A replacement for DevTools, which stores the expressions that are evaluated in documents."""
+class FakeDevTools:
+    """A replacement for DevTools, which stores the replies that are sent to documents."""
 
     def __init__(self) -> None:
         self.replies: list[list[Any]] = []
@@ -59,14 +59,14 @@ class Browser:
         return []
 
 
-class Fixture:
+class AuthenticatorFixture:
     """An authenticator with a credential of the bank, and documents of both origins."""
 
     def __init__(self, folder: Path):
         self.key = Authenticator(read_options(OPTIONS))
         self.folder = folder
         self.recorder = Recorder(folder / "session", "name")
-        self.browser = Browser()
+        self.browser = FakeDevTools()
         self.channel = Channel.__new__(Channel)
         self.channel._devtools = self.browser
         self.channel._authenticator, self.channel._recorder = self.key, self.recorder
@@ -104,7 +104,7 @@ def make_data_to_sign(rp_id: str) -> bytes:
     return sha256(rp_id.encode()).digest() + b"\x01" + bytes(4) + bytes(32)
 
 
-def test_no_foreign_keys(rig: Fixture) -> None:
+def test_no_foreign_keys(rig: AuthenticatorFixture) -> None:
     """A page gets neither credentials nor signatures of another origin, and no private keys of its own origin."""
     point = rig.pkcs8[-64:]
     begun = rig.send(rig.evil, {"id": 1, "name": "begin"})
@@ -142,7 +142,7 @@ def test_no_foreign_keys(rig: Fixture) -> None:
         assert rig.send(Document("t", 4, "4", origin), {"id": 4, "name": "begin"})[1]["credentials"] == [], origin
 
 
-def test_no_foreign_changes(rig: Fixture) -> None:
+def test_no_foreign_changes(rig: AuthenticatorFixture) -> None:
     """A page can't take over, replace or remove credentials of another origin."""
     made = base64.b64decode(rig.send(rig.evil, {"id": 1, "name": "make"})[1]["point"])
     head = rig.pkcs8[:-64]
@@ -186,7 +186,7 @@ def test_no_foreign_changes(rig: Fixture) -> None:
     assert [credential["signCount"] for credential in rig.key.credentials] == [7, 7]
 
 
-def test_bounded_recordings(rig: Fixture) -> None:
+def test_bounded_recordings(rig: AuthenticatorFixture) -> None:
     """A page can't choose file names, and the size of its recordings is bounded."""
     outside = rig.folder / "outside.log"
     good: dict[str, Any] = {"index": 1, "from": 0, "text": LOG, "snapshot": ""}
@@ -222,7 +222,7 @@ def test_bounded_recordings(rig: Fixture) -> None:
         assert "/" not in name and not name.startswith(".") and len(name) < 120, name
 
 
-def test_invalid_messages(rig: Fixture) -> None:
+def test_invalid_messages(rig: AuthenticatorFixture) -> None:
     """Invalid messages have no effect but an error."""
     deep = "[" * 100_000
     for payload in ("", "{", deep, "{}", "[]", "1", '{"id":1}', '{"id":1,"name":"x"}', '{"id":"1","name":"begin"}'):
@@ -278,15 +278,15 @@ CREDENTIAL_MEMBERS = [
 CREDENTIAL_MEMBERS += ["snapshot", "userName", "backupState"]
 
 
-def random_message(rng: random.Random, rig: Fixture) -> dict[str, Any]:
+def make_random_message(rng: random.Random, rig: AuthenticatorFixture) -> dict[str, Any]:
     """Returns a message with random members, some of them valid."""
     values = [*MEMBER_VALUES, to_base64(rig.pkcs8[-64:]), to_base64url(rig.pkcs8)]
 
-    def value(depth: int = 0) -> Any:
+    def make_value(depth: int = 0) -> Any:
         if depth < 2 and rng.random() < 0.4:
             return [
                 {
-                    name: value(depth + 1)
+                    name: make_value(depth + 1)
                     for name in rng.sample(CREDENTIAL_MEMBERS, rng.randint(0, len(CREDENTIAL_MEMBERS)))
                 }
             ]
@@ -300,15 +300,18 @@ def random_message(rng: random.Random, rig: Fixture) -> dict[str, Any]:
         "document": "d",
         "credentials": [],
     }
-    return {**message, **{name: value() for name in rng.sample(MESSAGE_MEMBERS, rng.randint(0, len(MESSAGE_MEMBERS)))}}
+    return {
+        **message,
+        **{name: make_value() for name in rng.sample(MESSAGE_MEMBERS, rng.randint(0, len(MESSAGE_MEMBERS)))},
+    }
 
 
-def fuzz_messages(rig: Fixture, count: int, seed: int) -> int:
+def fuzz_messages(rig: AuthenticatorFixture, count: int, seed: int) -> int:
     """Sends random messages from the evil page, and returns the number of messages that succeeded."""
     rng = random.Random(seed)
     taken = 0
     for _ in range(count):
-        message = random_message(rng, rig)
+        message = make_random_message(rng, rig)
         reply = rig.send(rig.evil, message)
         own = [credential for credential in rig.key.credentials if credential["rpId"] == "bank.example"]
         assert json.dumps(own) == rig.held, message
@@ -332,13 +335,13 @@ def main() -> int:
     for test in (test_no_foreign_keys, test_no_foreign_changes, test_bounded_recordings, test_invalid_messages):
         with TemporaryDirectory() as work_dir:
             try:
-                test(Fixture(Path(work_dir)))
+                test(AuthenticatorFixture(Path(work_dir)))
                 print(f"ok  {test.__doc__}")
             except AssertionError as error:
                 print(f"FAILED  {test.__doc__} {error}"[:2000])
                 failed = True
     with TemporaryDirectory() as work_dir:
-        taken = fuzz_messages(Fixture(Path(work_dir)), given.count, given.seed)
+        taken = fuzz_messages(AuthenticatorFixture(Path(work_dir)), given.count, given.seed)
         print(f"ok  {given.count} random messages, of which {taken} have a value")
     return 1 if failed else 0
 

@@ -43,7 +43,7 @@ def make_credential(rp_id: str, name: str) -> dict[str, Any]:
     return {**made, "userHandle": to_base64url(name.encode()), "signCount": 7}
 
 
-def credential_texts(held: dict[str, Any]) -> set[str]:
+def list_credential_texts(held: dict[str, Any]) -> set[str]:
     """Returns the texts by which a credential would be recognized: its ID and its private key, in each encoding that a
     script may use."""
     found = set()
@@ -57,7 +57,7 @@ def credential_texts(held: dict[str, Any]) -> set[str]:
     return found
 
 
-class Suite(run.Commands):
+class ProxySession(run.CommandTests):
     """A session at the proxy."""
 
     def __init__(self, url: str, page: str, has_devtools: bool):
@@ -74,7 +74,7 @@ class Suite(run.Commands):
         assert status == 200, value
         return value
 
-    def wait(self, script: str) -> Any:
+    def run_async(self, script: str) -> Any:
         status, value = self.post("/execute/async", {"script": f"({script})().then(arguments[0])", "args": []})
         assert status == 200, value
         return value
@@ -85,17 +85,17 @@ class Suite(run.Commands):
         return list(listed)
 
     def read_attacker_data(self) -> str:
-        return str(self.wait("everything"))
+        return str(self.run_async("everything"))
 
     def close(self) -> None:
-        self.end()
+        self.end_session()
 
 
-def find_leak(loot: str, held: dict[str, Any]) -> set[str]:
-    return {text for text in credential_texts(held) if text in loot}
+def find_leaked_texts(loot: str, held: dict[str, Any]) -> set[str]:
+    return {text for text in list_credential_texts(held) if text in loot}
 
 
-def test_other_origin(suite: Suite) -> None:
+def test_other_origin(suite: ProxySession) -> None:
     """A page that replaces built-in functions can't see credentials of another origin."""
     suite.call_page("register", residentKey="required")
     assert suite.post(f"{suite.key}/credential", make_credential("localhost", "the bank's"))[0] == 200
@@ -113,18 +113,18 @@ def test_other_origin(suite: Suite) -> None:
     loot = suite.read_attacker_data()
     assert len(loot) > 10_000 and own["id"] in loot, "the page keeps what comes by"
     for held in secret:
-        assert not find_leak(loot, held), (held["credentialId"], find_leak(loot, held))
+        assert not find_leaked_texts(loot, held), (held["credentialId"], find_leaked_texts(loot, held))
     mine = [credential for credential in suite.list_credentials() if credential["rpId"] == "a.localhost"]
     assert len(mine) == 2
     numbers = [{**credential, "credentialId": credential["privateKey"]} for credential in mine]
     if suite.has_devtools:
-        assert not any(find_leak(loot, number) for number in numbers), "no private key is in a page"
+        assert not any(find_leaked_texts(loot, number) for number in numbers), "no private key is in a page"
         assert suite.call_page("signIn", allow=[secret[0]["credentialId"]]) == "NotAllowedError"
     suite.open(suite.page)
     assert suite.call_page("signIn", allow=[secret[0]["credentialId"]])["id"] == secret[0]["credentialId"]
 
 
-def test_own_storage(suite: Suite) -> None:
+def test_own_storage(suite: ProxySession) -> None:
     """A page's storage has no private key in clear text."""
     suite.call_page("register", residentKey="required")
     storage = "return JSON.stringify([{ ...localStorage }, { ...sessionStorage }])"
@@ -132,10 +132,10 @@ def test_own_storage(suite: Suite) -> None:
     suite.run("localStorage.setItem('x', 1)")
     for held in suite.list_credentials():
         for text in (before, suite.run(storage)):
-            assert not find_leak(text, {**held, "credentialId": held["privateKey"]}), text
+            assert not find_leaked_texts(text, {**held, "credentialId": held["privateKey"]}), text
 
 
-def test_cleared_storage(suite: Suite) -> None:
+def test_cleared_storage(suite: ProxySession) -> None:
     """A page that clears its storage after each call loses no credentials."""
     clear = "localStorage.clear(); sessionStorage.clear(); indexedDB.databases()"
     suite.run(
@@ -150,7 +150,7 @@ def test_cleared_storage(suite: Suite) -> None:
     assert [credential["credentialId"] for credential in suite.list_credentials()] == [made["id"]]
 
 
-def test_navigation(suite: Suite) -> None:
+def test_navigation(suite: ProxySession) -> None:
     """A page that navigates away right after a call loses no credentials."""
     suite.run("register({ residentKey: 'required' }).then((made) => { location.href = `?made=${made.id}`; })")
     end = time.monotonic() + TIMEOUT_SECONDS
@@ -161,17 +161,17 @@ def test_navigation(suite: Suite) -> None:
     assert [credential["credentialId"] for credential in suite.list_credentials()] == [made]
 
 
-ADD_FRAME = """const frame = document.createElement("iframe"); frame.src = arguments[0];
+ADD_FRAME_SCRIPT = """const frame = document.createElement("iframe"); frame.src = arguments[0];
 frame.allow = "publickey-credentials-create *; publickey-credentials-get *";
 frame.onload = arguments[1]; document.body.append(frame);"""
 
 
-def test_frames(suite: Suite) -> None:
+def test_frames(suite: ProxySession) -> None:
     """A frame of another origin can't see the credentials of the page. A frame of the same origin shares them."""
     made = suite.call_page("register", residentKey="required")
     for url, is_same in ((suite.other, False), (suite.hostile, True)):
         suite.open(suite.page)
-        assert suite.post("/execute/async", {"script": ADD_FRAME, "args": [url]})[0] == 200
+        assert suite.post("/execute/async", {"script": ADD_FRAME_SCRIPT, "args": [url]})[0] == 200
         assert suite.post("/frame", {"id": 0})[0] == 200
         suite.list_credentials()
         if is_same:
@@ -179,26 +179,26 @@ def test_frames(suite: Suite) -> None:
         else:
             if suite.has_devtools:
                 assert suite.call_page("signIn") == "NotAllowedError"
-            assert not any(find_leak(suite.read_attacker_data(), held) for held in suite.list_credentials())
+            assert not any(find_leaked_texts(suite.read_attacker_data(), held) for held in suite.list_credentials())
         assert suite.post("/frame", {"id": None})[0] == 200
 
 
-def test_frame_is_current(suite: Suite) -> None:
+def test_frame_is_current(suite: ProxySession) -> None:
     """If an authenticator is added while a frame of another origin is current, it is not installed in that frame."""
     held = make_credential("localhost", "the bank's")
     assert run.call("DELETE", suite.url + suite.key) == (200, {})
     suite.open(suite.page)
-    assert suite.post("/execute/async", {"script": ADD_FRAME, "args": [suite.other]})[0] == 200
+    assert suite.post("/execute/async", {"script": ADD_FRAME_SCRIPT, "args": [suite.other]})[0] == 200
     assert suite.post("/frame", {"id": 0})[0] == 200
     suite.key = suite.add_authenticator(hasUserVerification=True, isUserVerified=True)
     assert suite.post(f"{suite.key}/credential", held)[0] == 200
     suite.list_credentials()
-    assert not find_leak(suite.read_attacker_data(), held)
+    assert not find_leaked_texts(suite.read_attacker_data(), held)
     suite.open(suite.page)
     assert suite.call_page("signIn")["id"] == held["credentialId"]
 
 
-def test_windows(suite: Suite) -> None:
+def test_windows(suite: ProxySession) -> None:
     """A window that a page opens has the key, and its registrations are available in both windows."""
     first = run.call("GET", f"{suite.url}/window")[1]
     suite.run("window.open('page.html?second')")
@@ -218,7 +218,7 @@ def test_windows(suite: Suite) -> None:
     assert suite.call_page("signIn")["id"] == made["id"]
 
 
-def test_removal(suite: Suite) -> None:
+def test_removal(suite: ProxySession) -> None:
     """After the authenticator is removed, no part of it remains in pages."""
     suite.call_page("register")
     assert run.call("DELETE", suite.url + suite.key) == (200, {})
@@ -231,7 +231,7 @@ def test_removal(suite: Suite) -> None:
     assert suite.run(names) == [], "a new document"
 
 
-TESTS: list[Callable[[Suite], None]] = [
+TESTS: list[Callable[[ProxySession], None]] = [
     test_other_origin,
     test_own_storage,
     test_cleared_storage,
@@ -247,7 +247,7 @@ def run_tests(url: str, page: str, has_devtools: bool) -> bool:
     failed = False
     kind = "with DevTools" if has_devtools else "without DevTools"
     for test in TESTS:
-        suite = Suite(url, page, has_devtools)
+        suite = ProxySession(url, page, has_devtools)
         try:
             test(suite)
             print(f"ok  {kind}: {test.__doc__}")
@@ -261,15 +261,15 @@ def run_tests(url: str, page: str, has_devtools: bool) -> bool:
 
 def main() -> int:
     if not shutil.which("chromedriver"):
-        print("tests/webdriver: chromedriver is missing", file=sys.stderr)
+        print("tests/webdriver: chromedriver is missing (apt-get install chromium-driver)", file=sys.stderr)
         return 3
-    with TemporaryDirectory() as work_dir, run.start_server(partial(run.Files, directory=str(HERE))) as port:
+    with TemporaryDirectory() as work_dir, run.start_server(partial(run.FileHandler, directory=str(HERE))) as port:
         page = f"http://localhost:{port}/page.html"
         with run.start_process(["chromedriver", "--log-level=OFF"], run.find_free_port()) as driver:
-            with run.start_process(run.proxy_command(driver, Path(work_dir)), run.find_free_port()) as proxy:
+            with run.start_process(run.make_proxy_command(driver, Path(work_dir)), run.find_free_port()) as proxy:
                 passed = [run_tests(proxy, page, True)]
-            with run.start_server(partial(run.WithoutDevTools, driver)) as bare:
-                words = run.proxy_command(f"http://127.0.0.1:{bare}", Path(work_dir))
+            with run.start_server(partial(run.DriverWithoutDevTools, driver)) as bare:
+                words = run.make_proxy_command(f"http://127.0.0.1:{bare}", Path(work_dir))
                 with run.start_process(words, run.find_free_port()) as proxy:
                     passed.append(run_tests(proxy, page, False))
     return 0 if all(passed) else 1

@@ -5,10 +5,10 @@ const base = { challenge: toBytes("a challenge"), rp: { name: "A service" },
     user: { id: toBytes("ann"), name: "ann", displayName: "Ann" }, pubKeyCredParams: [{ type: "public-key", alg: -7 }] };
 // A timeout that does not expire during a test.
 const TIMEOUT_MS = 600_000;
-const formatFlags = (data) => new Uint8Array(data)[32];
+const readFlags = (data) => new Uint8Array(data)[32];
 const toCharCode = (letter) => letter.charCodeAt(0);
-const encodeId = (text) => Uint8Array.from(atob(text.replace(/-/g, "+").replace(/_/g, "/")), toCharCode);
-const toDescriptors = (list) => list.map((id) => ({ type: "public-key", id: encodeId(id) }));
+const decodeId = (text) => Uint8Array.from(atob(text.replace(/-/g, "+").replace(/_/g, "/")), toCharCode);
+const toDescriptors = (list) => list.map((id) => ({ type: "public-key", id: decodeId(id) }));
 
 /** The message of the last error that a call returned. */
 let lastMessage = "";
@@ -21,7 +21,7 @@ const register = async ({ exclude, name = "ann", ...selection } = {}) => {
     try {
         const made = await navigator.credentials.create({ publicKey });
         window.keyOf = { ...window.keyOf, [made.id]: made.response.getPublicKey() };
-        return { id: made.id, attachment: made.authenticatorAttachment, flags: formatFlags(made.response.getAuthenticatorData()),
+        return { id: made.id, attachment: made.authenticatorAttachment, flags: readFlags(made.response.getAuthenticatorData()),
             transports: made.response.getTransports() };
     } catch (error) {
         lastMessage = error.message;
@@ -29,13 +29,13 @@ const register = async ({ exclude, name = "ann", ...selection } = {}) => {
     }
 };
 
-/** Signs in. */
+/** Signs in. Returns what a page sees, or the name of the error. */
 const signIn = async ({ allow, ...more } = {}) => {
     const allowCredentials = toDescriptors(allow ?? []);
     try {
         const used = await navigator.credentials.get({ publicKey: {
             challenge: base.challenge, allowCredentials, timeout: TIMEOUT_MS, ...more } });
-        return { id: used.id, flags: formatFlags(used.response.authenticatorData), attachment: used.authenticatorAttachment,
+        return { id: used.id, flags: readFlags(used.response.authenticatorData), attachment: used.authenticatorAttachment,
             user: used.response.userHandle && new TextDecoder().decode(used.response.userHandle) };
     } catch (error) {
         lastMessage = error.message;
@@ -43,5 +43,5 @@ const signIn = async ({ allow, ...more } = {}) => {
     }
 };
 const isPlatform = () => PublicKeyCredential.isUserVerifyingPlatformAuthenticatorAvailable();
-// The WebAuthn functions that the page's first script sees.
+// Whether the page's first script sees the browser's own WebAuthn functions.
 document.getElementById("at-first").textContent = String(/native code/.test(navigator.credentials.create));

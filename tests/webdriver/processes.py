@@ -1,6 +1,6 @@
 #!/usr/bin/python3
-"""The end of `hidlog webdriver`: its driver and all child processes end with it, no session hangs, and it prints one
-line.
+"""Tests how `hidlog webdriver` ends: its driver and all child processes end with it, no session hangs, and it prints
+one line.
 
 The driver is a stub in this file that starts a "browser" as chromedriver does. If chromedriver is installed, it is
 tested, too.
@@ -32,7 +32,7 @@ TIMEOUT_SECONDS = 600
 CHROME_OPTIONS = {"goog:chromeOptions": {"args": ["--headless=new", "--no-sandbox", "--disable-dev-shm-usage"]}}
 
 
-class Driver(BaseHTTPRequestHandler):
+class StubDriver(BaseHTTPRequestHandler):
     """A driver whose sessions each start a process, which is in a separate process group and outlives the driver."""
 
     protocol_version = "HTTP/1.1"
@@ -73,7 +73,7 @@ def run_driver(words: list[str]) -> None:
     """Runs this file as a driver. The arguments are --drive and --port=N."""
     port = int(words[-1].partition("=")[2])
     signal.signal(signal.SIGTERM, signal.SIG_IGN if "--stubborn" in words else signal.SIG_DFL)
-    server = ThreadingHTTPServer(("127.0.0.1", port), Driver)
+    server = ThreadingHTTPServer(("127.0.0.1", port), StubDriver)
     server.handle_error = lambda *_: None  # type: ignore[assignment]
     server.serve_forever()
 
@@ -115,8 +115,8 @@ def wait_until(is_so: Any) -> bool:
     return bool(is_so())
 
 
-class Run:
-    """A running proxy, with a session."""
+class RunningProxy:
+    """A running proxy."""
 
     def __init__(self, driver: str, *words: str, env: dict[str, str] | None = None):
         environment = {
@@ -159,8 +159,8 @@ class Run:
 
 
 @contextmanager
-def start_proxy(driver: str, *words: str, env: dict[str, str] | None = None) -> Iterator[Run]:
-    started = Run(driver, *words, env=env)
+def start_proxy(driver: str, *words: str, env: dict[str, str] | None = None) -> Iterator[RunningProxy]:
+    started = RunningProxy(driver, *words, env=env)
     try:
         yield started
     finally:
@@ -204,7 +204,7 @@ def test_driver_exit(driver: str) -> None:
                 os.kill(pid, signal.SIGKILL)
         assert wait_until(lambda: not any(map(is_running, below))), "the browser of a driver that was killed ends"
         status, value = proxy.call("GET", f"{path}/window")
-        assert status == 500 and "no response from" in value["message"], value
+        assert status == 500 and "no valid response from the driver" in value["message"], value
         proxy.process.terminate()
         code, text = proxy.wait_for_end()
         assert code == 0 and "Traceback" not in text, (code, text)
@@ -254,7 +254,7 @@ def test_invalid_arguments(_: str) -> None:
     """Invalid arguments cause an error of one line, and exit status 2."""
     for words, expected in (
         (["--driver", "no-such-driver"], "no-such-driver"),
-        (["--driver", "false"], "false did not start"),
+        (["--driver", "false"], "false exited or did not listen in time"),
         (["--driver", ""], "empty"),
         (["--driver", "ftp://127.0.0.1:1"], "http://HOST:PORT"),
         (["--driver", "http://user:secret@"], "http://HOST:PORT"),
@@ -286,7 +286,7 @@ def test_warnings(_: str) -> None:
             request = urllib.request.Request(f"http://127.0.0.1:{port}/status", headers={"Host": host})
             try:
                 urllib.request.urlopen(request)
-                raise AssertionError("there is no driver")
+                raise AssertionError("a request succeeded without a driver")
             except urllib.error.HTTPError as error:
                 message = json.load(error)["value"]["message"]
                 assert error.code == status and "secret" not in message, (host, error.code, message)
@@ -299,7 +299,7 @@ def test_driver_credentials(_: str) -> None:
     """The user name and password in --driver are sent with Basic authentication, and https uses TLS."""
     seen: list[str | None] = []
 
-    class HeaderRecorder(Driver):
+    class HeaderRecorder(StubDriver):
         def serve(self) -> None:
             seen.append(self.headers.get("Authorization"))
             super().serve()

@@ -21,26 +21,28 @@ from hidlog import cbor
 Json = dict[str, Any]
 
 
-def decode(text: str) -> bytes:
+def decode_base64url(text: str) -> bytes:
     return urlsafe_b64decode(text + "=" * (-len(text) % 4))
 
 
-def encode(data: bytes) -> str:
+def encode_base64url(data: bytes) -> str:
     return urlsafe_b64encode(data).decode().rstrip("=")
 
 
-def make_pkcs8(private: Any) -> str:
+def encode_pkcs8(private: Any) -> str:
     form = encodings.PrivateFormat.PKCS8
-    return encode(private.private_bytes(encodings.Encoding.DER, form, encodings.NoEncryption()))
+    return encode_base64url(private.private_bytes(encodings.Encoding.DER, form, encodings.NoEncryption()))
 
 
 def is_signed(spki: str, used: Json) -> bool:
     """Returns whether the signature of a sign-in is valid for a public key."""
-    return is_signed_by(encodings.load_der_public_key(decode(spki)), used, decode(used["signature"]))
+    return is_signature_valid(
+        encodings.load_der_public_key(decode_base64url(spki)), used, decode_base64url(used["signature"])
+    )
 
 
-def is_signed_by(public: Any, response: Json, signature: bytes) -> bool:
-    signed = decode(response["authData"]) + sha256(decode(response["clientData"])).digest()
+def is_signature_valid(public: Any, response: Json, signature: bytes) -> bool:
+    signed = decode_base64url(response["authData"]) + sha256(decode_base64url(response["clientData"])).digest()
     try:
         if isinstance(public, ed25519.Ed25519PublicKey):
             public.verify(signature, signed)
@@ -53,9 +55,9 @@ def is_signed_by(public: Any, response: Json, signature: bytes) -> bool:
     return True
 
 
-def read_data(response: Json) -> Json:
+def read_authenticator_data(response: Json) -> Json:
     """Returns the members of authenticator data (WebAuthn Level 3, section 6.1)."""
-    data = decode(response["authData"])
+    data = decode_base64url(response["authData"])
     rest = data[37:]
     seen: Json = {"flags": data[32]}
     if data[32] & 0x40:
@@ -63,28 +65,28 @@ def read_data(response: Json) -> Json:
         cose, outputs = cbor.decode_first(rest[end:])
         seen.update(aaguid=rest[:16].hex(), kty=cose[1], alg=cose[3], idBytes=end - 18)
         rest = outputs
-    return {**seen, "extensions": show(cbor.decode(rest)) if rest else None}
+    return {**seen, "extensions": to_json(cbor.decode(rest)) if rest else None}
 
 
-def show(value: Any) -> Any:
+def to_json(value: Any) -> Any:
     """Returns a CBOR value as JSON."""
     if isinstance(value, dict):
-        return {str(name): show(member) for name, member in value.items()}
+        return {str(name): to_json(member) for name, member in value.items()}
     return value.hex() if isinstance(value, bytes) else value
 
 
-def show_attestation(made: Json) -> Any:
+def summarize_attestation(made: Json) -> Any:
     """Returns the attestation that a page gets, and whether the signature is that of the certificate or of the
     credential."""
     if "error" in made:
         return made["error"]
-    attestation = cbor.decode(decode(made["attestation"]))
+    attestation = cbor.decode(decode_base64url(made["attestation"]))
     statement = attestation["attStmt"]
-    seen = {"fmt": attestation["fmt"], "members": sorted(statement), "aaguid": read_data(made)["aaguid"]}
+    seen = {"fmt": attestation["fmt"], "members": sorted(statement), "aaguid": read_authenticator_data(made)["aaguid"]}
     if "sig" not in statement:
         return seen
     chain = [x509.load_der_x509_certificate(one) for one in statement.get("x5c", [])]
-    public = chain[0].public_key() if chain else encodings.load_der_public_key(decode(made["spki"]))
+    public = chain[0].public_key() if chain else encodings.load_der_public_key(decode_base64url(made["spki"]))
     units = [one.subject.get_attributes_for_oid(x509.NameOID.ORGANIZATIONAL_UNIT_NAME)[0].value for one in chain]
-    is_good = is_signed_by(public, made, statement["sig"])
+    is_good = is_signature_valid(public, made, statement["sig"])
     return {**seen, "alg": statement["alg"], "units": units, "signed": is_good}

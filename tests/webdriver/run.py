@@ -33,7 +33,7 @@ SUITES = {"Python": ["/usr/bin/python3", str(HERE / "suite.py")], "Ruby": ["ruby
 # The expected differences from chromedriver, with their reasons.
 KNOWN_DIFFERENCES = {
     "test_broken_private_key": "chromedriver returns unknown error; the standard says invalid argument",
-    "test_two_windows": "Chromium's authenticator is of one window, and the standard's of all in a session",
+    "test_two_windows": "Chromium's authenticator belongs to one window, that of the standard to all windows of the session",
 }
 ENVIRONMENT = {**os.environ, "PYTHONPATH": str(TOP / "bindings" / "python" / "src"), "PYTHONDONTWRITEBYTECODE": "1"}
 PRIVATE_KEY = (
@@ -56,8 +56,8 @@ SEPARATE_TESTS = [
 SEPARATE_TESTS += ["browsers.py", "origins.py", "seen.py", "cases.py"]
 
 
-class Files(SimpleHTTPRequestHandler):
-    """A server for the page under test."""
+class FileHandler(SimpleHTTPRequestHandler):
+    """Serves the page under test."""
 
     def log_message(self, *_: Any) -> None:
         """Does not log requests."""
@@ -72,7 +72,7 @@ def find_free_port() -> int:
 
 @contextmanager
 def start_server(handler: Any) -> Iterator[int]:
-    """Starts a server, and returns its port."""
+    """Starts a server, and provides its port."""
     server = ThreadingHTTPServer(("127.0.0.1", 0), handler)
     server.daemon_threads = True
     threading.Thread(target=server.serve_forever, daemon=True).start()
@@ -91,14 +91,16 @@ def wait_for_port(port: int, started: subprocess.Popen[bytes]) -> None:
             if client.connect_ex(("127.0.0.1", port)) == 0:
                 return
         if started.poll() is not None:
-            raise SystemExit(f"FAILED  {started.args!r} ended with status {started.returncode} before it listened")
+            raise SystemExit(
+                f"FAILED  {started.args!r} ended with status {started.returncode} before it listened on port {port}"
+            )
         time.sleep(0.1)
     raise SystemExit(f"FAILED  {started.args!r} doesn't listen after {TIMEOUT_SECONDS} seconds")
 
 
 @contextmanager
 def start_process(words: list[str], port: int) -> Iterator[str]:
-    """Starts a driver or a proxy, and returns its address."""
+    """Starts a driver or a proxy, and provides its address."""
     started = subprocess.Popen([*words, f"--port={port}"], stdout=subprocess.DEVNULL, env=ENVIRONMENT)
     try:
         wait_for_port(port, started)
@@ -108,7 +110,7 @@ def start_process(words: list[str], port: int) -> Iterator[str]:
         started.wait()
 
 
-def proxy_command(driver: str, folder: Path) -> list[str]:
+def make_proxy_command(driver: str, folder: Path) -> list[str]:
     return [sys.executable, "-m", "hidlog.webdriver", "--driver", driver, "--recordings", str(folder)]
 
 
@@ -132,7 +134,7 @@ def run_suite(language: str, url: str, page: str) -> dict[str, Any]:
 
 
 def print_differences(language: str, at_driver: dict[str, Any], at_proxy: dict[str, Any], kind: str) -> bool:
-    """Prints the differences."""
+    """Prints the differences between two results of a suite. Returns whether all of them are expected."""
     assert len(at_driver) >= MIN_TESTS[language], at_driver
     wrong = {name: (at_driver[name], at_proxy.get(name)) for name in at_driver if at_proxy.get(name) != at_driver[name]}
     for name in set(wrong) & set(KNOWN_DIFFERENCES):
@@ -146,7 +148,7 @@ def print_differences(language: str, at_driver: dict[str, Any], at_proxy: dict[s
     return ok
 
 
-class WithoutDevTools(BaseHTTPRequestHandler):
+class DriverWithoutDevTools(BaseHTTPRequestHandler):
     """A driver without the commands for DevTools and virtual authenticators. It passes other commands on to
     chromedriver."""
 
@@ -177,8 +179,8 @@ class WithoutDevTools(BaseHTTPRequestHandler):
         """Does not log requests."""
 
 
-class Commands:
-    """Tests the commands that only the proxy has."""
+class CommandTests:
+    """A session at the proxy, with tests of commands that only the proxy has."""
 
     def __init__(self, url: str, page: str, has_devtools: bool = True):
         self.page, self.has_devtools = page, has_devtools
@@ -332,12 +334,12 @@ class Commands:
         assert self.post("/execute/sync", first) == (200, is_native), "with DevTools the key is there before the page"
         assert call("DELETE", self.url + key) == (200, {})
 
-    def end(self) -> None:
+    def end_session(self) -> None:
         call("DELETE", self.url)
 
 
 def run_commands(url: str, page: str, has_devtools: bool = True) -> bool:
-    commands = Commands(url, page, has_devtools)
+    commands = CommandTests(url, page, has_devtools)
     failed = False
     for test in (
         commands.test_options,
@@ -353,12 +355,12 @@ def run_commands(url: str, page: str, has_devtools: bool = True) -> bool:
         except AssertionError as error:
             print(f"FAILED  {test.__doc__} {error}")
             failed = True
-    commands.end()
+    commands.end_session()
     return not failed
 
 
 def check_recordings(folder: Path) -> bool:
-    """Checks the saved logs and their snapshots with the program, and all of them with check-many."""
+    """Checks the saved recordings with the program and with check-many. Returns whether all are correct."""
     logs = sorted(folder.rglob("*.log"))
     wrong = []
     for log in logs:
@@ -387,10 +389,10 @@ def check_recordings(folder: Path) -> bool:
 def run_suites(driver: str, page: str, folder: Path) -> list[bool]:
     """Runs each suite with the driver, with the proxy, and with a proxy in front of a driver without DevTools."""
     results = []
-    with start_process(proxy_command(driver, folder), find_free_port()) as proxy, start_server(
-        partial(WithoutDevTools, driver)
+    with start_process(make_proxy_command(driver, folder), find_free_port()) as proxy, start_server(
+        partial(DriverWithoutDevTools, driver)
     ) as bare:
-        with start_process(proxy_command(f"http://127.0.0.1:{bare}", folder), find_free_port()) as late:
+        with start_process(make_proxy_command(f"http://127.0.0.1:{bare}", folder), find_free_port()) as late:
             for language, words in SUITES.items():
                 if not shutil.which(words[0]):
                     print(f"    {words[0]} is missing, and its suite wasn't run")
@@ -404,21 +406,21 @@ def run_suites(driver: str, page: str, folder: Path) -> list[bool]:
     return results
 
 
-def run_parts() -> bool:
+def run_separate_tests() -> bool:
     """Runs the separate tests. Returns whether all passed."""
     statuses = [subprocess.run([sys.executable, str(HERE / part)], check=False).returncode for part in SEPARATE_TESTS]
     return all(status in (0, 3) for status in statuses)
 
 
 def main() -> int:
-    passed = run_parts()
+    passed = run_separate_tests()
     has_selenium = subprocess.run(
         ["/usr/bin/python3", "-c", "import selenium, cryptography"], capture_output=True, check=False
     )
     if not shutil.which("chromedriver") or has_selenium.returncode:
         print("tests/webdriver: chromedriver or python3-selenium is missing", file=sys.stderr)
         return 3 if passed else 1
-    with tempfile.TemporaryDirectory() as work_dir, start_server(partial(Files, directory=str(HERE))) as port:
+    with tempfile.TemporaryDirectory() as work_dir, start_server(partial(FileHandler, directory=str(HERE))) as port:
         folder = Path(work_dir)
         with start_process(["chromedriver", "--log-level=OFF"], find_free_port()) as driver:
             results = run_suites(driver, f"http://localhost:{port}/page.html", folder)

@@ -3,22 +3,22 @@
 "use strict";
 const [name, words, done] = arguments;
 const toBytes = (text) => new TextEncoder().encode(text);
-const toText = (buffer) => btoa(String.fromCharCode(...new Uint8Array(buffer)))
+const toBase64url = (buffer) => btoa(String.fromCharCode(...new Uint8Array(buffer)))
     .replace(/\+/g, "-").replace(/\//g, "_").replace(/=+$/, "");
-const fromText = (text) => Uint8Array.from(atob(text.replace(/-/g, "+").replace(/_/g, "/")), (letter) => letter.charCodeAt(0));
+const fromBase64url = (text) => Uint8Array.from(atob(text.replace(/-/g, "+").replace(/_/g, "/")), (letter) => letter.charCodeAt(0));
 const challenge = toBytes("a challenge");
 
 /** Extension results with buffers as base64url. */
-const plain = (value) => {
+const toPlainValue = (value) => {
     if (value instanceof ArrayBuffer || ArrayBuffer.isView(value)) {
-        return toText(value.buffer ?? value);
+        return toBase64url(value.buffer ?? value);
     }
     return value && typeof value === "object"
-        ? Object.fromEntries(Object.entries(value).map(([member, inner]) => [member, plain(inner)])) : value;
+        ? Object.fromEntries(Object.entries(value).map(([member, inner]) => [member, toPlainValue(inner)])) : value;
 };
 
 /** Extension inputs with texts in `prf`, `largeBlob.write` and `credBlob` as bytes. */
-const toInputs = ({ prf, largeBlob, credBlob, ...rest }) => ({
+const toExtensionInputs = ({ prf, largeBlob, credBlob, ...rest }) => ({
     ...rest,
     ...prf && { prf: { ...prf, ...prf.eval && { eval: Object.fromEntries(
         Object.entries(prf.eval).map(([member, text]) => [member, toBytes(text)])) } } },
@@ -29,14 +29,14 @@ const toInputs = ({ prf, largeBlob, credBlob, ...rest }) => ({
 const create = async ({ user = "ann", algorithms = [-7], mediation = "optional", extensions = {}, ...more }) => {
     const made = await navigator.credentials.create({ mediation, publicKey: {
         challenge, rp: { name: "A service" }, user: { id: toBytes(user), name: user, displayName: `${user} Smith` },
-        pubKeyCredParams: algorithms.map((alg) => ({ type: "public-key", alg })), extensions: toInputs(extensions), ...more,
+        pubKeyCredParams: algorithms.map((alg) => ({ type: "public-key", alg })), extensions: toExtensionInputs(extensions), ...more,
     } });
     const { response } = made;
     return {
         id: made.id, attachment: made.authenticatorAttachment, transports: response.getTransports(),
-        algorithm: response.getPublicKeyAlgorithm(), spki: response.getPublicKey() && toText(response.getPublicKey()),
-        attestation: toText(response.attestationObject), authData: toText(response.getAuthenticatorData()),
-        clientData: toText(response.clientDataJSON), extensions: plain(made.getClientExtensionResults()),
+        algorithm: response.getPublicKeyAlgorithm(), spki: response.getPublicKey() && toBase64url(response.getPublicKey()),
+        attestation: toBase64url(response.attestationObject), authData: toBase64url(response.getAuthenticatorData()),
+        clientData: toBase64url(response.clientDataJSON), extensions: toPlainValue(made.getClientExtensionResults()),
         json: Object.keys(made.toJSON().response).sort(),
     };
 };
@@ -45,15 +45,15 @@ const get = async ({ allow, mediation = "optional", waits = 0, extensions = {}, 
     const used = await navigator.credentials.get({
         mediation, signal: waits ? AbortSignal.timeout(waits) : undefined,
         publicKey: {
-            challenge, extensions: toInputs(extensions),
-            allowCredentials: (allow ?? []).map((id) => ({ type: "public-key", id: fromText(id) })), ...more,
+            challenge, extensions: toExtensionInputs(extensions),
+            allowCredentials: (allow ?? []).map((id) => ({ type: "public-key", id: fromBase64url(id) })), ...more,
         },
     });
     const { response } = used;
     return {
         id: used.id, user: response.userHandle && new TextDecoder().decode(response.userHandle),
-        authData: toText(response.authenticatorData), signature: toText(response.signature),
-        clientData: toText(response.clientDataJSON), extensions: plain(used.getClientExtensionResults()),
+        authData: toBase64url(response.authenticatorData), signature: toBase64url(response.signature),
+        clientData: toBase64url(response.clientDataJSON), extensions: toPlainValue(used.getClientExtensionResults()),
     };
 };
 

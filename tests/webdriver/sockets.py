@@ -113,7 +113,7 @@ def parse_status(response: bytes) -> int:
 
 @contextmanager
 def make_proxy(**limits: float) -> Iterator[ProxyFixture]:
-    """Provides a proxy with other limits than those in server.py."""
+    """Provides a proxy. The arguments replace the limits in server.py with the same names."""
     before = {name: getattr(server_module, name) for name in limits}
     for name, value in limits.items():
         setattr(server_module, name, value)

@@ -42,7 +42,7 @@ class Suite:
 
     # Actions of a page.
 
-    def call(self, name: str, **words: Any) -> Any:
+    def call_page(self, name: str, **words: Any) -> Any:
         """Calls a function of the page."""
         return self.driver.execute_async_script(f"{name}(arguments[0]).then(arguments[1])", words)
 
@@ -54,15 +54,15 @@ class Suite:
             setattr(options, name, value)
         self.driver.add_virtual_authenticator(options)
 
-    def credentials(self) -> Any:
-        """Returns the credentials by user handle, without members that are random."""
+    def list_credentials(self) -> Any:
+        """Returns the user handle, kind and RP ID of each credential, sorted."""
         listed = [credential.to_dict() for credential in self.driver.get_credentials()]
         return sorted(
             (credential.get("userHandle") or "", credential["isResidentCredential"], credential["rpId"])
             for credential in listed
         )
 
-    def credential(self, resident: bool = True, name: bytes = b"\x01\x02\x03\x04", rp: str = "localhost") -> Any:
+    def make_credential(self, resident: bool = True, name: bytes = b"\x01\x02\x03\x04", rp: str = "localhost") -> Any:
         """Returns a credential that can be added."""
         if resident:
             return Credential.create_resident_credential(name, rp, b"bob", decode_base64url(PRIVATE_KEY), 3)
@@ -82,7 +82,7 @@ class Suite:
         options = OPTIONS()
         options.protocol, options.has_resident_key = OPTIONS.Protocol.U2F, False
         self.driver.add_virtual_authenticator(options)
-        return self.credentials()
+        return self.list_credentials()
 
     def test_remove_authenticator(self) -> Any:
         self.add_authenticator()
@@ -91,49 +91,49 @@ class Suite:
 
     def test_add_resident_credential(self) -> Any:
         self.add_authenticator(protocol=OPTIONS.Protocol.CTAP2)
-        self.driver.add_credential(self.credential())
-        return self.credentials()
+        self.driver.add_credential(self.make_credential())
+        return self.list_credentials()
 
     def test_add_non_resident_credential(self) -> Any:
         self.add_authenticator(
             protocol=OPTIONS.Protocol.U2F, has_resident_key=False, has_user_verification=False, is_user_verified=False
         )
-        self.driver.add_credential(self.credential(False))
-        return self.credentials()
+        self.driver.add_credential(self.make_credential(False))
+        return self.list_credentials()
 
     def test_resident_credential_with_u2f(self) -> Any:
         self.add_authenticator(
             protocol=OPTIONS.Protocol.U2F, has_resident_key=False, has_user_verification=False, is_user_verified=False
         )
-        return self.get_error_name(self.driver.add_credential, self.credential())
+        return self.get_error_name(self.driver.add_credential, self.make_credential())
 
     def test_remove_credential(self) -> Any:
         self.add_authenticator()
-        self.driver.add_credential(self.credential(False))
-        self.driver.add_credential(self.credential(False, b"\x05"))
+        self.driver.add_credential(self.make_credential(False))
+        self.driver.add_credential(self.make_credential(False, b"\x05"))
         self.driver.remove_credential(encode_base64url(b"\x05"))
         return [encode_base64url(decode_base64url(credential.id)) for credential in self.driver.get_credentials()]
 
     def test_remove_all_credentials(self) -> Any:
         self.add_authenticator()
-        self.driver.add_credential(self.credential())
+        self.driver.add_credential(self.make_credential())
         self.driver.remove_all_credentials()
-        return self.credentials()
+        return self.list_credentials()
 
     def test_set_user_verified(self) -> Any:
         self.add_authenticator(is_user_verified=False)
-        before = self.call("register", userVerification="required")
+        before = self.call_page("register", userVerification="required")
         self.driver.set_user_verified(True)
-        return before, self.call("register", userVerification="required")["flags"]
+        return before, self.call_page("register", userVerification="required")["flags"]
 
     # ---- tests like those in real test suites
 
     def test_register(self) -> Any:
         self.add_authenticator()
-        made = self.call("register")
+        made = self.call_page("register")
         (held,) = self.driver.get_credentials()
         return (
-            self.credentials(),
+            self.list_credentials(),
             encode_base64url(decode_base64url(held.id)) == made["id"],
             made["flags"],
             made["transports"],
@@ -141,77 +141,77 @@ class Suite:
 
     def test_register_resident(self) -> Any:
         self.add_authenticator()
-        self.call("register", residentKey="required")
-        return self.credentials()
+        self.call_page("register", residentKey="required")
+        return self.list_credentials()
 
     def test_sign_in(self) -> Any:
         self.add_authenticator()
-        made = self.call("register")
+        made = self.call_page("register")
         counts = []
         for _ in range(2):
-            used = self.call("signIn", allow=[made["id"]])
+            used = self.call_page("signIn", allow=[made["id"]])
             counts.append(self.driver.get_credentials()[0].sign_count)
         return used["id"] == made["id"], used["flags"], used["user"], counts[1] - counts[0]
 
     def test_sign_in_discoverable(self) -> Any:
         self.add_authenticator()
-        made = self.call("register", residentKey="required")
-        used = self.call("signIn")
+        made = self.call_page("register", residentKey="required")
+        used = self.call_page("signIn")
         return used["id"] == made["id"], used["user"], used["flags"]
 
     def test_sign_in_with_an_added_credential(self) -> Any:
         self.add_authenticator()
-        self.driver.add_credential(self.credential())
-        used = self.call("signIn")
+        self.driver.add_credential(self.make_credential())
+        used = self.call_page("signIn")
         return used["user"], used["id"], self.driver.get_credentials()[0].sign_count
 
     def test_sign_in_after_removal(self) -> Any:
         self.add_authenticator()
-        made = self.call("register")
+        made = self.call_page("register")
         self.driver.remove_credential(made["id"])
-        return self.call("signIn", allow=[made["id"]])
+        return self.call_page("signIn", allow=[made["id"]])
 
     def test_user_fails(self) -> Any:
         self.add_authenticator()
-        made = self.call("register", userVerification="required")
+        made = self.call_page("register", userVerification="required")
         self.driver.set_user_verified(False)
-        required = self.call("signIn", allow=[made["id"]], userVerification="required")
-        return required, self.call("signIn", allow=[made["id"]], userVerification="discouraged")["flags"]
+        required = self.call_page("signIn", allow=[made["id"]], userVerification="required")
+        return required, self.call_page("signIn", allow=[made["id"]], userVerification="discouraged")["flags"]
 
     def test_no_verification(self) -> Any:
         self.add_authenticator(has_user_verification=False, is_user_verified=False)
-        return self.call("register", userVerification="required"), self.call("register")["flags"]
+        return self.call_page("register", userVerification="required"), self.call_page("register")["flags"]
 
     def test_platform(self) -> Any:
         self.add_authenticator(transport=OPTIONS.Transport.INTERNAL)
-        made = self.call("register", authenticatorAttachment="platform")
-        return self.call("isPlatform"), made["attachment"], made["transports"], made["flags"]
+        made = self.call_page("register", authenticatorAttachment="platform")
+        return self.call_page("isPlatform"), made["attachment"], made["transports"], made["flags"]
 
     def test_no_resident_keys(self) -> Any:
         self.add_authenticator(has_resident_key=False)
-        resident = self.get_error_name(self.driver.add_credential, self.credential())
+        resident = self.get_error_name(self.driver.add_credential, self.make_credential())
         return (
             resident,
-            self.call("register", residentKey="required"),
-            self.call("register", residentKey="preferred")["flags"],
+            self.call_page("register", residentKey="required"),
+            self.call_page("register", residentKey="preferred")["flags"],
         )
 
     def test_exclude(self) -> Any:
         self.add_authenticator()
-        made = self.call("register")
-        return self.call("register", exclude=[made["id"]]), self.call("register", exclude=["AQ"])["flags"]
+        made = self.call_page("register")
+        return self.call_page("register", exclude=[made["id"]]), self.call_page("register", exclude=["AQ"])["flags"]
 
     def test_reload(self) -> Any:
         self.add_authenticator()
-        made = self.call("register", residentKey="required")
+        made = self.call_page("register", residentKey="required")
         self.driver.refresh()
         self.driver.get(self.page + "?other")
-        used = self.call("signIn")
-        return used["id"] == made["id"], self.credentials()
+        used = self.call_page("signIn")
+        return used["id"] == made["id"], self.list_credentials()
 
     def test_two_windows(self) -> Any:
         self.add_authenticator()
-        made = self.call("register", residentKey="required")
+        made = self.call_page("register", residentKey="required")
         first = self.driver.current_window_handle
         self.driver.switch_to.new_window("tab")
         self.driver.get(self.page)
@@ -228,9 +228,9 @@ class Suite:
             "document.body.append(frame)"
         )
         self.driver.switch_to.frame(0)
-        made = self.call("register")
+        made = self.call_page("register")
         self.driver.switch_to.default_content()
-        return self.call("signIn", allow=[made["id"]])["id"] == made["id"], self.credentials()
+        return self.call_page("signIn", allow=[made["id"]])["id"] == made["id"], self.list_credentials()
 
     def test_unknown_credential(self) -> Any:
         self.add_authenticator()
@@ -243,7 +243,7 @@ class Suite:
 
     def test_moves_a_credential(self) -> Any:
         self.add_authenticator()
-        made = self.call("register", residentKey="required")
+        made = self.call_page("register", residentKey="required")
         (held,) = self.driver.get_credentials()
         self.driver.remove_virtual_authenticator()
         self.add_authenticator()
@@ -255,15 +255,15 @@ class Suite:
             9,
         )
         self.driver.add_credential(Credential.create_resident_credential(*words))
-        return self.call("signIn")["id"] == made["id"]
+        return self.call_page("signIn")["id"] == made["id"]
 
     def test_before_a_page(self) -> Any:
         self.driver.get("about:blank")
         self.add_authenticator()
-        self.driver.add_credential(self.credential())
-        held = self.credentials()
+        self.driver.add_credential(self.make_credential())
+        held = self.list_credentials()
         self.driver.get(self.page)
-        return held, self.call("signIn")["user"]
+        return held, self.call_page("signIn")["user"]
 
     def test_without_authenticator(self) -> Any:
         return self.driver.execute_script("return document.getElementById('at-first').textContent")

@@ -33,7 +33,7 @@ def compute_accept(key: str) -> str:
 
 @contextmanager
 def start_server(after: bytes, head: str = "") -> Iterator[tuple[str, list[bytes]]]:
-    """Starts a server that sends some bytes after its handshake. Returns its URL, and the bytes that it receives after
+    """Starts a server that sends some bytes after its handshake. Provides its URL, and the bytes that it receives after
     the client's handshake."""
     listening = socket.create_server(("127.0.0.1", 0))
     got: list[bytes] = []

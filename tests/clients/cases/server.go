@@ -1,5 +1,5 @@
-// A program for tests/clients/browser_cases.py, which describes the protocol: makes the calls that standard input names,
-// in a browser of the Go module.
+// A program for tests/clients/browser_cases.py, which describes the protocol: reads calls of create and get from
+// standard input, and makes them in a browser of the Go module.
 package main
 
 import (

@@ -1,5 +1,5 @@
-//! A program for tests/clients/browser_cases.py, which describes the protocol: makes the calls that standard input names,
-//! in a browser of the Rust crate.
+//! A program for tests/clients/browser_cases.py, which describes the protocol: reads calls of create and get from
+//! standard input, and makes them in a browser of the Rust crate.
 use hidlog::{Browser, Error, Presence, SecurityKey, Verification};
 use std::io::{stdin, BufRead};
 
