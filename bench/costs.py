@@ -8,15 +8,15 @@
     slope     exponent of the growth of a cost: 1 is linear, 2 quadratic. The cost is the number of Python function
               calls for some sign-ins (import, export, judge, mermaid, sign-ins) or recordings (check-many), and the
               program's instructions for some credentials
-    stored    characters that the thousandth sign-in of the key for pages writes to a storage, by those of the first
-    growth    bytes of memory for each byte that the input is longer, by tracemalloc
+    stored    characters that the thousandth sign-in of the key for pages writes to storage, divided by the first's
+    growth    bytes of memory for each additional byte of input, by tracemalloc
     memory    bytes of a key in C; and of a key in Python, its library's memory included, by tracemalloc
     calls     Python function calls of a report of Locust's worker, for each user whose key did not change; and of
               `judge`, for each sign-in
 
-The limits are in LIMITS; a flow's is 3 % over its last measurement, but a registration's at most 1.6 of bench/peer's,
-and a sign-in's 1.4. Exit status: 1 if a cost is over its limit, 3 if something is missing: valgrind for flows, nodejs for
-stored, wabt and a C compiler for the portable library, python3-locust for calls.
+The limits are in LIMITS. A flow's limit is 3 % above its last measurement, but at most 1.6 times bench/peer's for a
+registration, and 1.4 times for a sign-in. Exit status: 1 if a cost is over its limit, 3 if something is missing:
+valgrind for flows, nodejs for stored, wabt and a C compiler for the portable library, python3-locust for calls.
 """
 
 from __future__ import annotations
@@ -30,7 +30,7 @@ import tempfile
 from pathlib import Path
 from typing import Callable, Iterator
 
-from flows import count_instructions, write_registrations
+from flows import count_instructions, make_registrations_log
 
 TOP = Path(__file__).resolve().parents[1]
 # Debian's Python, which has the modules that tests/run --install installs.
@@ -66,8 +66,8 @@ KEY_SIGN_IN_COUNTS = (1000, 2000)
 # Session lengths for memory. The shorter session has more packets than an import keeps in memory at a time. The longer
 # session is much longer, since released memory may not be collected yet.
 LONG_SIGN_IN_COUNTS = (800, 6400)
-# Dependencies of each kind of cost besides Python: a command, or a module of Debian's Python.
-NEEDS = {
+# Dependencies of each kind of cost besides Python: commands, or modules of Debian's Python.
+DEPENDENCIES = {
     "flow": ("valgrind",),
     "portable": ("valgrind", "wasm2c", "cc", "make"),
     "slope": ("valgrind",),
@@ -76,7 +76,7 @@ NEEDS = {
 }
 MODULES = ("locust",)
 # Runs a program, and prints the number of calls of Python and C functions as the last line of stderr.
-COUNTED = """
+COUNT_CALLS_CODE = """
 import itertools, runpy, sys, threading
 calls = itertools.count()
 def count(frame, event, argument):
@@ -94,9 +94,9 @@ sys.setprofile(None)
 print(next(calls), file=sys.stderr)
 sys.exit(status)
 """
-COUNTED_SCRIPT = COUNTED.replace("run_module", "run_path").replace(", alter_sys=True", "")
+COUNT_SCRIPT_CALLS_CODE = COUNT_CALLS_CODE.replace("run_module", "run_path").replace(", alter_sys=True", "")
 # Runs a module, and prints its peak memory as the last line of stderr.
-TRACED = """
+PEAK_MEMORY_CODE = """
 import runpy, sys, tracemalloc
 tracemalloc.start()
 try:
@@ -108,7 +108,7 @@ else:
 print(tracemalloc.get_traced_memory()[1], file=sys.stderr)
 sys.exit(status)
 """
-SIGN_INS = """
+SIGN_INS_CODE = """
 import sys, hidlog
 from hidlog import SecurityKey
 made = {"challenge": "AAAA", "rp": {"id": "example.com", "name": "A"}, "user": {"id": "AQ", "name": "a", "displayName": "A"},
@@ -120,7 +120,7 @@ with SecurityKey() as key:
         browser.get({"challenge": "AAAA", "rpId": "example.com"})
     key.save_log(sys.argv[2])
 """
-REPORT = """
+REPORT_CODE = """
 import sys
 from hidlog import SecurityKey
 from hidlog.locust import Users
@@ -138,7 +138,7 @@ sys.setprofile(None)
 assert report == {}
 print(calls / count)
 """
-MEMORY = """
+MEMORY_CODE = """
 import gc, tracemalloc
 from hidlog import SecurityKey
 spare = SecurityKey()
@@ -149,7 +149,7 @@ keys = [SecurityKey() for _ in range(50)]
 counts = [len(key.credentials) for key in keys]
 print(tracemalloc.get_traced_memory()[0] // 50)
 """
-KEY_SIZE = """
+KEY_SIZE_CODE = """
 from hidlog.core import load_library
 print(load_library().hidlog_key_size())
 """
@@ -165,20 +165,20 @@ def run(*command: str, allowed: int = 0) -> subprocess.CompletedProcess[str]:
     return done
 
 
-def calls(*words: str) -> int:
+def count_calls(*words: str) -> int:
     """Returns the number of function calls of a command of the Python package."""
-    return int(run(PYTHON, "-c", COUNTED, "hidlog", *words, allowed=1).stderr.splitlines()[-1])
+    return int(run(PYTHON, "-c", COUNT_CALLS_CODE, "hidlog", *words, allowed=1).stderr.splitlines()[-1])
 
 
-def flows() -> Iterator[tuple[str, float]]:
-    """Yields the instructions of each flow."""
+def measure_flows() -> Iterator[tuple[str, float]]:
+    """Yields the number of instructions of each flow."""
     for line in run(PYTHON, str(TOP / "bench/flows.py")).stdout.splitlines():
         name, count = line.split()
         yield f"flow {name}", int(count)
 
 
 def count_key_sign_in(folder: str, library: str) -> float:
-    """Returns the instructions of a sign-in of bench/key.c with a library, whose headers are in the folder."""
+    """Returns the number of instructions of a sign-in of bench/key.c with a library. The folder has its headers."""
     program = f"{folder}/key"
     run("cc", "-std=c11", "-O2", "-I", folder, "-o", program, str(TOP / "bench/key.c"), library)
     counts = []
@@ -188,7 +188,7 @@ def count_key_sign_in(folder: str, library: str) -> float:
     return (counts[1] - counts[0]) / (KEY_SIGN_IN_COUNTS[1] - KEY_SIGN_IN_COUNTS[0])
 
 
-def portable() -> Iterator[tuple[str, float]]:
+def measure_portable() -> Iterator[tuple[str, float]]:
     """Yields the instructions of a sign-in with the portable library, divided by those with the proved library."""
     with tempfile.TemporaryDirectory() as folder:
         run(str(TOP / "bindings/c/sources.sh"), folder)
@@ -198,10 +198,12 @@ def portable() -> Iterator[tuple[str, float]]:
     yield "portable sign_in", ours / native
 
 
-def make_session(folder: str, sign_ins: int, interpreter: tuple[str, ...] = ()) -> subprocess.CompletedProcess[str]:
-    """Writes FOLDER/SIGN_INS.log."""
+def write_session_log(
+    folder: str, sign_ins: int, interpreter: tuple[str, ...] = ()
+) -> subprocess.CompletedProcess[str]:
+    """Records a registration and `sign_ins` sign-ins in FOLDER/SIGN_INS.log."""
     script = f"{folder}/sign_ins.py"
-    Path(script).write_text(SIGN_INS, encoding="utf-8")
+    Path(script).write_text(SIGN_INS_CODE, encoding="utf-8")
     return run(PYTHON, *interpreter, script, str(sign_ins), f"{folder}/{sign_ins}.log")
 
 
@@ -216,85 +218,85 @@ def list_commands(folder: str, name: str) -> dict[str, list[str]]:
     }
 
 
-def forget_writer(capture: str) -> None:
+def rename_writer(capture: str) -> None:
     """Changes the name of the program in a capture, so that import does not restore the log from its comments."""
     data = Path(capture).read_bytes()
     Path(capture).write_bytes(data.replace(b"hidlog", b"others"))
 
 
-def to_slope(counts: list[int]) -> float:
-    """Returns the exponent of the growth."""
+def compute_slope(counts: list[int]) -> float:
+    """Returns the exponent of the growth: 1 is linear, 2 quadratic."""
     first, second, third = counts
     return math.log2((third - second) / (second - first))
 
 
-def slopes() -> Iterator[tuple[str, float]]:
+def measure_slopes() -> Iterator[tuple[str, float]]:
     """Yields the slope of each command, measured with logs of SIGN_IN_COUNTS sign-ins, and the slopes of other
     costs."""
     with tempfile.TemporaryDirectory() as folder:
         counts: dict[str, list[int]] = {}
         for sign_ins in SIGN_IN_COUNTS:
-            made = make_session(folder, sign_ins, ("-c", COUNTED_SCRIPT))
+            made = write_session_log(folder, sign_ins, ("-c", COUNT_SCRIPT_CALLS_CODE))
             counts.setdefault("sign-ins", []).append(int(made.stderr.splitlines()[-1]))
             for name, words in list_commands(folder, str(sign_ins)).items():
-                counts.setdefault(name, []).append(calls(*words))
+                counts.setdefault(name, []).append(count_calls(*words))
                 if name == "export":
-                    forget_writer(words[-1])
+                    rename_writer(words[-1])
             recordings = Path(folder, f"recordings{sign_ins}")
             recordings.mkdir()
             for number in range(sign_ins):
                 shutil.copy(TOP / "examples/sign_in.log", recordings / f"{number}.log")
-            counts.setdefault("recordings", []).append(calls("check-many", "--jobs", "1", str(recordings)))
+            counts.setdefault("recordings", []).append(count_calls("check-many", "--jobs", "1", str(recordings)))
     for count in CREDENTIAL_COUNTS:
-        instructions = count_instructions(str(TOP / "release/hidlog"), write_registrations(count))
+        instructions = count_instructions(str(TOP / "release/hidlog"), make_registrations_log(count))
         counts.setdefault("credentials", []).append(instructions)
     for name, found in counts.items():
-        yield f"slope {name}", to_slope(found)
+        yield f"slope {name}", compute_slope(found)
 
 
-def stored() -> Iterator[tuple[str, float]]:
+def measure_stored() -> Iterator[tuple[str, float]]:
     """Yields the number of characters that the thousandth sign-in writes to a page's storage, divided by that of the
     first sign-in."""
     first, last = map(int, run("node", str(TOP / "bench/stored_sign_ins.mjs")).stdout.split())
     yield "stored sign-in", last / first
 
 
-def growth() -> Iterator[tuple[str, float]]:
+def measure_growth() -> Iterator[tuple[str, float]]:
     """Yields, for each command, the additional memory in bytes for each additional byte of input."""
     with tempfile.TemporaryDirectory() as folder:
         peaks: dict[str, list[tuple[int, int]]] = {}
         for sign_ins in LONG_SIGN_IN_COUNTS:
-            make_session(folder, sign_ins)
+            write_session_log(folder, sign_ins)
             for name, words in list_commands(folder, str(sign_ins)).items():
-                peak = int(run(PYTHON, "-c", TRACED, "hidlog", *words, allowed=1).stderr.splitlines()[-1])
+                peak = int(run(PYTHON, "-c", PEAK_MEMORY_CODE, "hidlog", *words, allowed=1).stderr.splitlines()[-1])
                 peaks.setdefault(name, []).append((peak, Path(words[1]).stat().st_size))
                 if name == "export":
-                    forget_writer(words[-1])
+                    rename_writer(words[-1])
     for name, ((peak, size), (larger_peak, larger_size)) in peaks.items():
         yield f"growth {name}", (larger_peak - peak) / (larger_size - size)
 
 
-def memory() -> Iterator[tuple[str, float]]:
-    """Yields the memory of a key in bytes."""
-    yield "memory C key", int(run(PYTHON, "-c", KEY_SIZE).stdout)
-    yield "memory Python key", int(run(PYTHON, "-c", MEMORY).stdout)
+def measure_memory() -> Iterator[tuple[str, float]]:
+    """Yields the memory of a key in C and of a key in Python, in bytes."""
+    yield "memory C key", int(run(PYTHON, "-c", KEY_SIZE_CODE).stdout)
+    yield "memory Python key", int(run(PYTHON, "-c", MEMORY_CODE).stdout)
 
 
-def report_calls() -> Iterator[tuple[str, float]]:
+def measure_calls() -> Iterator[tuple[str, float]]:
     """Yields the number of function calls of a report of Locust's worker for each user whose key did not change, and of
     `judge` for each sign-in."""
-    yield "calls idle user", float(run(PYTHON, "-W", "ignore", "-c", REPORT).stdout)
+    yield "calls idle user", float(run(PYTHON, "-W", "ignore", "-c", REPORT_CODE).stdout)
     with tempfile.TemporaryDirectory() as folder:
         counts = []
         for sign_ins in SIGN_IN_COUNTS[1:]:
-            make_session(folder, sign_ins)
-            counts.append(calls("judge", f"{folder}/{sign_ins}.log"))
+            write_session_log(folder, sign_ins)
+            counts.append(count_calls("judge", f"{folder}/{sign_ins}.log"))
     yield "calls judged sign-in", (counts[1] - counts[0]) / (SIGN_IN_COUNTS[2] - SIGN_IN_COUNTS[1])
 
 
 def find_missing(kinds: list[str]) -> str | None:
     """Returns a missing dependency of the costs, if any."""
-    for name in (need for kind in kinds for need in NEEDS.get(kind, ())):
+    for name in (need for kind in kinds for need in DEPENDENCIES.get(kind, ())):
         if name in MODULES:
             is_there = (
                 subprocess.run([PYTHON, "-c", f"import {name}"], capture_output=True, check=False).returncode == 0
@@ -310,13 +312,13 @@ def main() -> int:
     """Prints each cost and its limit."""
     chosen = tuple(sys.argv[1:]) or ("",)
     kinds: dict[str, Callable[[], Iterator[tuple[str, float]]]] = {
-        "flow": flows,
-        "portable": portable,
-        "slope": slopes,
-        "stored": stored,
-        "growth": growth,
-        "memory": memory,
-        "calls": report_calls,
+        "flow": measure_flows,
+        "portable": measure_portable,
+        "slope": measure_slopes,
+        "stored": measure_stored,
+        "growth": measure_growth,
+        "memory": measure_memory,
+        "calls": measure_calls,
     }
     measured = [kind for kind in kinds if any(name.startswith(kind) or kind.startswith(name) for name in chosen)]
     if missing := find_missing(measured):

@@ -21,7 +21,7 @@ from pathlib import Path
 from typing import Callable
 
 TOP = Path(__file__).resolve().parents[1]
-SIGN_IN_COUNT = 1000
+FLOW_COUNT = 1000
 INIT = "> 0 " + "ffffffff8600080001020304050607".ljust(128, "0")
 # The lines of crates/hidlog_cli/data/capacity_64/sign_in.log, all with one timestamp.
 MAKE_CREDENTIAL = [
@@ -50,14 +50,14 @@ FLOWS: dict[str, Callable[[int], list[str]]] = {
 }
 
 
-def write_log(flow: Callable[[int], list[str]], count: int) -> str:
+def make_log(flow: Callable[[int], list[str]], count: int) -> str:
     """Returns a log with a registration, and then `count` times a flow."""
     lines = [INIT, *make_registration(0), *(line for number in range(1, count + 1) for line in flow(number))]
     return "".join(f"{line.ljust(132, '0') if line.startswith('>') else line}\n" for line in lines)
 
 
-def write_registrations(count: int) -> str:
-    """Returns a log with registrations of up to 255 users."""
+def make_registrations_log(count: int) -> str:
+    """Returns a log with a registration for each of `count` users, at most 255."""
     lines = [INIT]
     for number in range(count):
         first, second = MAKE_CREDENTIAL
@@ -75,24 +75,24 @@ def count_instructions(program: str, log: str) -> int:
             ran = subprocess.run(counted, stdin=source, capture_output=True, text=True, check=True)
     collected = re.search(r"Collected : (\d+)", ran.stderr)
     if DENIED_REGISTRATION.search(ran.stdout) or "\n= " not in ran.stdout or not collected:
-        sys.exit(f"bench/flows.py: {program} refused a request of the flow, or did not play the whole log")
+        sys.exit(f"bench/flows.py: {program} refused a request of the flow, or did not replay the whole log")
     return int(collected[1])
 
 
 def main() -> None:
     if sys.argv[1:2] == ["--logs"]:
         for name, flow in FLOWS.items():
-            Path(sys.argv[2], f"{name}.log").write_text(write_log(flow, SIGN_IN_COUNT), encoding="ascii")
+            Path(sys.argv[2], f"{name}.log").write_text(make_log(flow, FLOW_COUNT), encoding="ascii")
         return
     program = sys.argv[1] if len(sys.argv) > 1 else str(TOP / "release/hidlog")
     if not shutil.which("valgrind") or not Path(program).is_file():
         sys.exit(
             f"bench/flows.py: {program} not found" if shutil.which("valgrind") else "bench/flows.py: valgrind not found"
         )
-    none = count_instructions(program, write_log(make_registration, 0))
+    none = count_instructions(program, make_log(make_registration, 0))
     for name, flow in FLOWS.items():
         print(
-            f"{name:12} {(count_instructions(program, write_log(flow, SIGN_IN_COUNT)) - none) / SIGN_IN_COUNT:10.0f}",
+            f"{name:12} {(count_instructions(program, make_log(flow, FLOW_COUNT)) - none) / FLOW_COUNT:10.0f}",
             flush=True,
         )
 

@@ -60,16 +60,16 @@ const send = (nowMs, channel, command, message) => {
     return queued;
 };
 
-const parseHex = (text) => Uint8Array.from(text, (letter) => letter.charCodeAt(0));
+const toBytes = (text) => Uint8Array.from(text, (letter) => letter.charCodeAt(0));
 
 // {1: hash, 2: {"id": "example.com"}, 3: {"id": h'01'}, 4: [{"alg": -7, "type": "public-key"}], 7: {"rk": true}}
-const makeCredential = parseHex(
+const makeCredential = toBytes(
     "\x01\xa5\x01\x58\x20" + "1".repeat(32) + "\x02\xa1\x62id\x6bexample.com\x03\xa1\x62id\x41\x01" +
     "\x04\x81\xa2\x63alg\x26\x64type\x6apublic-key\x07\xa1\x62rk\xf5",
 );
 
 // {1: "example.com", 2: hash}
-const getAssertion = parseHex("\x02\xa2\x01\x6bexample.com\x02\x58\x20" + "2".repeat(32));
+const getAssertion = toBytes("\x02\xa2\x01\x6bexample.com\x02\x58\x20" + "2".repeat(32));
 
 view.setBigUint64(places.key, at.memory, true);
 bytes.fill(0xaa, places.id, places.id + 32);

@@ -18,7 +18,7 @@ from pathlib import Path
 CRATES = Path(__file__).resolve().parent.parent / "crates"
 OPENING, CLOSING = "([{<", ")]}>"
 # Comments, characters and strings, whose brackets are ignored.
-UNPARSED = re.compile(r"""//[^\n]*|'(?:\\.|[^\\'\n])'|r#".*?"#|"(?:\\.|[^"\\])*\"""", re.DOTALL)
+IGNORED = re.compile(r"""//[^\n]*|'(?:\\.|[^\\'\n])'|r#".*?"#|"(?:\\.|[^"\\])*\"""", re.DOTALL)
 
 
 @dataclass(frozen=True)
@@ -32,7 +32,7 @@ class Function:
 
 
 @dataclass(frozen=True)
-class Value:
+class Parameter:
     """A parameter of a function."""
 
     crate: str
@@ -47,10 +47,10 @@ def find_closing(text: str, start: int) -> int:
     """Returns the index of the bracket that closes the bracket at `start`. Only brackets of this kind are counted."""
     opened, closed = text[start], CLOSING[OPENING.index(text[start])]
     depth = 0
-    for place in range(start, len(text)):
-        depth += (text[place] == opened) - (text[place] == closed)
+    for index in range(start, len(text)):
+        depth += (text[index] == opened) - (text[index] == closed)
         if depth == 0:
-            return place
+            return index
     raise ValueError(f"missing {closed} after {text[start:start + 40]!r}")
 
 
@@ -68,7 +68,7 @@ def split_arguments(text: str) -> list[str]:
 def parse_functions(crate: str, text: str) -> list[Function]:
     """Returns the functions with a body in a file."""
     found = []
-    text = UNPARSED.sub("", text)
+    text = IGNORED.sub("", text)
     for head in re.finditer(r"\bfn (\w+)", text):
         begin = text.index("(", head.end())
         end = find_closing(text, begin)
@@ -84,27 +84,29 @@ def parse_functions(crate: str, text: str) -> list[Function]:
     return found
 
 
-def find_passed_on(function: Function, called: dict[str, list[Function]]) -> dict[str, list[Value]]:
+def find_passed_parameters(function: Function, called: dict[str, list[Function]]) -> dict[str, list[Parameter]]:
     """Returns the parameters that a function only passes on, each with the parameters to which it is passed."""
-    takers: dict[str, list[Value]] = {}
+    takers: dict[str, list[Parameter]] = {}
     count: dict[str, int] = {}
     for call in re.finditer(r"(\.?)\b(\w+)(?:::<[^>]*>)?\(", function.body):
         arguments = split_arguments(function.body[call.end() : find_closing(function.body, call.end() - 1)])
-        for place, argument in enumerate(arguments):
+        for index, argument in enumerate(arguments):
             name = re.sub(r"^(&mut |&|\*)", "", argument)
             if name not in function.parameters or call.group(2) not in called:
                 continue
             count[name] = count.get(name, 0) + 1
             for taker in called[call.group(2)]:
                 parameters = taker.parameters[1:] if call.group(1) else taker.parameters
-                if place < len(parameters):
-                    takers.setdefault(name, []).append(Value(taker.crate, taker.name, parameters[place]))
+                if index < len(parameters):
+                    takers.setdefault(name, []).append(Parameter(taker.crate, taker.name, parameters[index]))
     uses = {name: len(re.findall(rf"(?<![\w.]){name}\b", function.body)) for name in takers}
     return {name: values for name, values in takers.items() if count[name] == uses[name]}
 
 
-def find_chain(value: Value, hands: dict[Value, list[Value]], seen: frozenset[Value]) -> list[Value]:
-    """Returns the longest chain that starts with a value."""
+def find_chain(
+    value: Parameter, hands: dict[Parameter, list[Parameter]], seen: frozenset[Parameter]
+) -> list[Parameter]:
+    """Returns the longest chain that starts with a parameter."""
     following = [
         find_chain(taker, hands, seen | {taker}) for taker in hands[value] if taker in hands and taker not in seen
     ]
@@ -125,10 +127,10 @@ def main() -> int:
         for function in parse_functions(crate, file.read_text(encoding="utf-8")):
             if (crate, function.name) in listed:
                 called.setdefault(function.name, []).append(function)
-    hands: dict[Value, list[Value]] = {}
+    hands: dict[Parameter, list[Parameter]] = {}
     for function in [one for several in called.values() for one in several]:
-        for name, takers in find_passed_on(function, called).items():
-            hands[Value(function.crate, function.name, name)] = takers
+        for name, takers in find_passed_parameters(function, called).items():
+            hands[Parameter(function.crate, function.name, name)] = takers
     inner = {taker for takers in hands.values() for taker in takers}
     chains = [find_chain(value, hands, frozenset({value})) for value in hands if value not in inner]
     for values in sorted(chains, key=lambda values: (-len(values), str(values[0]))):

@@ -66,9 +66,9 @@ def measure_wall_time(words):
     began = time.perf_counter()
     subprocess.run([sys.executable, "-c", words], check=True)
     return time.perf_counter() - began
-print(sorted(taken("import hidlog") - taken("pass") for _ in range(9))[4])
+print(sorted(measure_wall_time("import hidlog") - measure_wall_time("pass") for _ in range(9))[4])
 """
-HELD_CODE = """
+CREDENTIALS_CODE = """
 import time, hidlog
 key = hidlog.SecurityKey()
 for number in range(64):
@@ -96,15 +96,15 @@ MEASUREMENTS = {
     "import": IMPORT_CODE,
     "sign in": SIGN_IN_CODE,
     "register": REGISTER_CODE,
-    "count": HELD_CODE.format("len(key.credentials)"),
-    "change": HELD_CODE.format("key.credentials.update(first, sign_count=number)"),
-    "newest": HELD_CODE.format("key.credentials.update(newest, sign_count=number)"),
+    "count": CREDENTIALS_CODE.format("len(key.credentials)"),
+    "change": CREDENTIALS_CODE.format("key.credentials.update(first, sign_count=number)"),
+    "newest": CREDENTIALS_CODE.format("key.credentials.update(newest, sign_count=number)"),
     "memory": MEMORY_CODE,
 }
 
 
-def format_milliseconds(clone: Path, text: str) -> float:
-    """Runs a measurement with a clone's package."""
+def run_measurement(clone: Path, text: str) -> float:
+    """Runs a measurement with a clone's package. Returns the milliseconds, or megabytes for `memory`."""
     paths = {
         "PYTHONPATH": str(clone / "bindings" / "python" / "src"),
         "HIDLOG_LIBRARY": str(clone / "release" / "libhidlog.so.1"),
@@ -120,7 +120,7 @@ def main() -> int:
         return 2
     other, rounds = Path(sys.argv[1]).resolve(), int(sys.argv[2]) if len(sys.argv) > 2 else 15
     for name, text in MEASUREMENTS.items():
-        pairs = [(format_milliseconds(other, text), format_milliseconds(TOP, text)) for _ in range(rounds)]
+        pairs = [(run_measurement(other, text), run_measurement(TOP, text)) for _ in range(rounds)]
         there, here = (statistics.median(times) for times in zip(*pairs))
         print(f"{name:9} there {there:8.4f}, here {here:8.4f}, ratio {here / there:.3f}", flush=True)
     return 0

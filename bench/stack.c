@@ -1,4 +1,4 @@
-/* Measures the stack use of each function of the C library: the function runs on a thread whose stack is filled with a
+/* Measures the stack use of functions of the C library: each function runs on a thread whose stack is filled with a
  * pattern, and the deepest overwritten byte shows how much stack was used.
  *
  *     stack LOG SNAPSHOT */
@@ -68,7 +68,7 @@ static void replay_lines(void) {
     hidlog_key_replay_lines(&key, session_log.data, session_log.len, out, sizeof out, &result);
 }
 
-/* INIT and its response. */
+/* Sends INIT, and reads the response. */
 static void exchange_init(void) {
     uint8_t bytes[64] = {0xff, 0xff, 0xff, 0xff, 0x86, 0, 8, 0, 1, 2, 3, 4, 5, 6, 7};
     hidlog_key_write_packet(&key, 100000, bytes);
@@ -150,7 +150,7 @@ int main(int count, char **words) {
     };
     size_t own;
     if (count != 3) {
-        fputs("stack LOG SNAPSHOT\n", stderr);
+        fputs("usage: stack LOG SNAPSHOT\n", stderr);
         return 2;
     }
     session_log = read_file(words[1]);

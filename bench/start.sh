@@ -1,7 +1,7 @@
 #!/usr/bin/env bash
 # Measures the program's startup cost and stack use: the instructions (callgrind) of each command for a log with one
 # INIT, and the smallest stack, in kB, with which each command can run a whole session. Then measures the stack use of
-# each function of the C library (bench/stack.c). Needs valgrind, gcc and Python 3.
+# functions of the C library (bench/stack.c). Needs valgrind, gcc and Python 3.
 #
 # glibc clears and copies more than a few kB with `rep stos` and `rep movs`, and Valgrind counts each byte of these as
 # an instruction: 140,000 of 221,000 for an INIT. Since a processor handles ten bytes or more per cycle, a glibc tunable

@@ -5,7 +5,7 @@
 
 Needs chromedriver. Each figure is a median: for a command that the proxy passes on, for a page's registration and
 sign-in with chromedriver's authenticator and with the proxy's authenticator, and for adding and removing an
-authenticator.
+authenticator. Exit status: 1 if a figure of the proxy exceeds its limit.
 """
 
 from __future__ import annotations
@@ -26,8 +26,8 @@ sys.path.insert(0, str(TOP / "tests" / "webdriver"))
 
 import run  # noqa: E402
 
-# Limits for the proxy in milliseconds: for commands in addition to chromedriver's time, otherwise in total.
-MAX_RATIOS = {"a command": 3.0, "sign-in": 25.0, "add authenticator": 20.0, "remove authenticator": 20.0}
+# Limits in milliseconds: for "a command", how much longer it takes with the proxy; otherwise, the proxy's total time.
+LIMITS = {"a command": 3.0, "sign-in": 25.0, "add authenticator": 20.0, "remove authenticator": 20.0}
 OPTIONS = {"protocol": "ctap2", "transport": "usb"}
 OPTIONS |= {name: True for name in ("hasResidentKey", "hasUserVerification", "isUserVerified")}
 
@@ -57,8 +57,8 @@ class Client:
         script += f"{function}(arguments[0]).then((value) => arguments[1]([value, performance.now() - started]))"
         return self.call("POST", "/execute/async", {"script": script, "args": [options]})
 
-    def run_ceremonies(self) -> dict[str, float]:
-        """Runs each operation once, and returns milliseconds."""
+    def measure_operations(self) -> dict[str, float]:
+        """Runs each operation once, and returns the milliseconds of each."""
         took = {}
 
         def measure_call(name: str, method: str, path: str, parameters: Any = None) -> Any:
@@ -80,12 +80,12 @@ class Client:
         self.call("DELETE", "")
 
 
-def measure_median(clients: dict[str, Client], rounds: int) -> dict[str, dict[str, float]]:
+def measure_medians(clients: dict[str, Client], rounds: int) -> dict[str, dict[str, float]]:
     """Returns the medians for each client, from alternating rounds."""
     taken: dict[str, list[dict[str, float]]] = {name: [] for name in clients}
     for number in range(rounds + 3):
         for name, client in clients.items():
-            took = client.run_ceremonies()
+            took = client.measure_operations()
             if number >= 3:
                 taken[name].append(took)
     return {
@@ -94,13 +94,13 @@ def measure_median(clients: dict[str, Client], rounds: int) -> dict[str, dict[st
     }
 
 
-def show(found: dict[str, dict[str, float]]) -> bool:
+def print_figures(found: dict[str, dict[str, float]]) -> bool:
     """Prints the figures. Returns whether all figures of the proxy are within the limits."""
     is_within = True
     print(f"{'milliseconds':34}{'chromedriver':>14}{'proxy':>10}{'more':>10}")
     for name, own in found["chromedriver"].items():
         at_proxy = found["proxy"][name]
-        bound = MAX_RATIOS.get("a command" if name.startswith("a command") else name)
+        bound = LIMITS.get("a command" if name.startswith("a command") else name)
         counted = at_proxy - own if name.startswith("a command") else at_proxy
         is_over = bound is not None and counted >= bound
         is_within = is_within and not is_over
@@ -113,15 +113,15 @@ def main() -> int:
     parser = argparse.ArgumentParser()
     parser.add_argument("--rounds", type=int, default=100)
     options = parser.parse_args()
-    with TemporaryDirectory() as work_dir, run.start_server(partial(run.Files, directory=str(run.HERE))) as port:
+    with TemporaryDirectory() as work_dir, run.start_server(partial(run.FileHandler, directory=str(run.HERE))) as port:
         page = f"http://localhost:{port}/page.html"
         with run.start_process(["chromedriver", "--log-level=OFF"], run.find_free_port()) as driver:
-            with run.start_process(run.proxy_command(driver, Path(work_dir)), run.find_free_port()) as proxy:
+            with run.start_process(run.make_proxy_command(driver, Path(work_dir)), run.find_free_port()) as proxy:
                 clients = {"chromedriver": Client(driver, page), "proxy": Client(proxy, page)}
-                found = measure_median(clients, options.rounds)
+                found = measure_medians(clients, options.rounds)
                 for client in clients.values():
                     client.close()
-    return 0 if show(found) else 1
+    return 0 if print_figures(found) else 1
 
 
 if __name__ == "__main__":

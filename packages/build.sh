@@ -1,10 +1,11 @@
 #!/usr/bin/env bash
 # Builds the packages from release/, docs/ and the language packages: packages/build.sh DIR
 #
-#     hidlog-VERSION-linux-x86_64.tar.gz    the program, hidlog-uhid, the C library, man page, completions, documents
-#     hidlog_VERSION_amd64.deb              the program, its man page, completions for bash, zsh and fish, documents
+#     hidlog-VERSION-linux-{x86_64,aarch64}.tar.gz  the program, the C library, man page, completions, documents; for
+#                                           x86-64 also hidlog-uhid
+#     hidlog_VERSION_{amd64,arm64}.deb      the program, its man page, completions for bash, zsh and fish, documents
 #     libhidlog1_VERSION_{amd64,arm64}.deb  the shared library
-#     libhidlog-dev_VERSION_{amd64,arm64}.deb  the headers, the static library, examples, files for pkg-config
+#     libhidlog-dev_VERSION_{amd64,arm64}.deb  the headers, the static library, examples, a file for pkg-config
 #     hidlog-uhid_VERSION_amd64.deb         the key as a virtual USB device
 #     python3-hidlog_VERSION_amd64.deb      the Python package, with its commands
 #     hidlog-portable-VERSION.tar.gz        the C library's sources for every other system
@@ -27,7 +28,10 @@ to=$(cd "$1" && pwd)
 for tool in dpkg-deb python3 gzip tar; do
     command -v "$tool" >/dev/null || { echo "packages: $tool is missing; nothing was built" >&2; exit 3; }
 done
-(cd "$top/release" && sha256sum --quiet --check SHA256SUMS) || { echo "packages: release/ does not match SHA256SUMS" >&2; exit 1; }
+(cd "$top/release" && sha256sum --quiet --check SHA256SUMS) || {
+    echo "packages: a file of release/ does not match release/SHA256SUMS: run packages/build_release.sh" >&2
+    exit 1
+}
 version=$(sed -n 's/^version: //p' "$top/release/BUILD")
 # All files get one timestamp, the date of the man page, for reproducible builds.
 SOURCE_DATE_EPOCH=$(date -u -d "$(sed -n 's/^\.Dd //p' "$top/docs/use/hidlog.1")" +%s)
@@ -124,7 +128,7 @@ build_tarball() {
         gzip -9n >"$to/$folder-linux-$1.tar.gz"
 }
 
-# Writes the tarball's README: print_readme PROCESSOR
+# Prints the tarball's README: print_readme PROCESSOR
 print_readme() {
     if [ "$1" = x86_64 ]; then
         cat "$top/packages/readme/tarball.md"

@@ -31,9 +31,9 @@ hash_file() {
     sha256sum <"$1" | cut -c1-64
 }
 
-# Proves a crate in a folder, and builds it for a target with the crates that it depends on: build CRATE FOLDER ROOT
-# TARGET FILE WORD.. Proofs that do not depend on the target are checked once.
-build() {
+# Proves a crate in a folder, and builds it for a target with the crates that it depends on: build_crate CRATE FOLDER
+# ROOT TARGET FILE WORD.. Proofs that do not depend on the target are checked once.
+build_crate() {
     local crate=$1 folder=$2 root=$3 target=$4 file=$5 name libraries words
     words=(--crate-name "$crate" "$root" --extern "std=$kit/rlibs/std.rlib" -L "dependency=$kit/rlibs"
         --antt-project "$kit/rattle/logic/antt-project.json" --logic-built "$kit/logic_built" --links "$crate=" "${@:6}")
@@ -57,9 +57,9 @@ build() {
     }
 }
 
-# build_library FOLDER TARGET FILE
+# Builds the C library: build_library FOLDER TARGET FILE
 build_library() {
-    build hidlog_c "$1" src/lib.rt "$2" "$3" --crate-type staticlib
+    build_crate hidlog_c "$1" src/lib.rt "$2" "$3" --crate-type staticlib
 }
 
 # Links the object file of `rt ci` into a static program. If `rt ci` reused the program of an earlier run, rt has
@@ -99,7 +99,7 @@ build_shared() {
 
 # Builds the program for aarch64. The program is proved again, since `rt ci` builds no object file for aarch64.
 build_program_for_aarch64() {
-    build hidlog_cli crates/hidlog_cli src/main.rt aarch64-unknown-linux-gnu "$work/hidlog_aarch64.o"
+    build_crate hidlog_cli crates/hidlog_cli src/main.rt aarch64-unknown-linux-gnu "$work/hidlog_aarch64.o"
     packages/arm64/link.sh "$work/hidlog_aarch64.o" "$made/aarch64/hidlog"
 }
 
@@ -151,7 +151,7 @@ print_linker_for_aarch64() {
 }
 
 # Writes BUILD: the version, the hashes of the sources and the versions of the tools, each as a line `NAME: VALUE`.
-write_build() {
+write_build_file() {
     {
         echo "version: $(sed -n 's/^const VERSION: &str = "\(.*\)";/\1/p' crates/hidlog/src/cli.rt)"
         echo "kit: $(rt version)"
@@ -165,10 +165,10 @@ write_build() {
     } >"$made/BUILD"
 }
 
-# Compares release/ with the files that were built. If this machine has another linker or C library, compares the
-# program's object file; if it has another wasm-opt, compares the module before wasm-opt. The toolchain must have the
-# same logic, but may have another name.
-compare() {
+# Compares release/ with the files that were built. If this machine has another linker or C library, compares the object
+# file of the program for x86-64 instead, and does not compare the program for aarch64. If this machine has another
+# wasm-opt, compares the module before wasm-opt. The toolchain must have the same logic, but may have another name.
+compare_release() {
     local name differ=0
     for name in "${names[@]}"; do
         if cmp -s "release/$name" "$made/$name"; then
@@ -190,18 +190,19 @@ compare() {
     [ "$differ" = 0 ] || fail "release/ is out of date: run packages/build_release.sh"
 }
 
-# Prints a BUILD file without the lines for the linkers and wasm-opt, and without the toolchain's name. The hash of the
-# toolchain's logic is kept.
+# Prints a BUILD file without the lines for the linkers and wasm-opt. Of the toolchain's version, only the hash of its
+# logic is printed.
 print_without_tools() {
     grep -v '^linker\(:\| for\)\|^lowered by:' "$1" | sed 's/^kit: .* logic /kit: logic /'
 }
 
-# Checks whether the BUILD files differ only in the tools. The files include the hashes of the tools' inputs.
+# Checks whether the two BUILD files are equal except for the linkers, wasm-opt and the toolchain's name. BUILD has the
+# hashes of the tools' inputs, so these are equal too.
 differs_only_in_tools() {
     diff <(print_without_tools release/BUILD) <(print_without_tools "$made/BUILD") >/dev/null
 }
 
-# Checks whether the BUILD files differ in this tool, and only in tools: differs_in_tool TOOL
+# Checks whether this tool differs between the two BUILD files, and nothing else but tools does: differs_in_tool TOOL
 differs_in_tool() {
     ! diff <(grep "^$1:" release/BUILD) <(grep "^$1:" "$made/BUILD") >/dev/null && differs_only_in_tools
 }
@@ -218,7 +219,7 @@ write_pkg_config() {
     } >"$made/$1.pc"
 }
 
-# Builds the files that need a further proof. Skipped by --check without `all`.
+# Builds the files that need a proof of their own, which takes long. Skipped by --check without `all`.
 build_slow_files() {
     build_program_for_aarch64
     build_large_library
@@ -237,7 +238,7 @@ build_library crates/hidlog_c x86_64-unknown-linux-gnu "$made/libhidlog.a"
 build_library crates/hidlog_c aarch64-unknown-linux-gnu "$made/aarch64/libhidlog.a"
 build_shared libhidlog
 build_module
-write_build
+write_build_file
 write_pkg_config hidlog
 write_pkg_config hidlog-256 -DHIDLOG_CAPACITY=256
 cp crates/hidlog_c/hidlog.h crates/hidlog_c/hidlog_recording.h crates/hidlog_c/hidlog_standard.h "$made"
@@ -246,7 +247,7 @@ if [ "$*" != --check ]; then
     names+=("${slow[@]}")
 fi
 if [ "$mode" = --check ]; then
-    compare
+    compare_release
     [ $# = 2 ] || echo "not built again, but the hashes match: ${slow[*]}"
 else
     (cd "$made" && sha256sum "${names[@]}" >SHA256SUMS)

@@ -94,7 +94,7 @@ def to_bash(commands: list[Command]) -> str:
     )
 
 
-def quote_zsh(text: str) -> str:
+def quote_shell(text: str) -> str:
     """Quotes a text for a shell."""
     return "'" + text.replace("'", "'\\''") + "'"
 
@@ -102,16 +102,16 @@ def quote_zsh(text: str) -> str:
 def to_zsh(commands: list[Command]) -> str:
     """Returns the completions for zsh."""
 
-    def spec(option: Option) -> str:
-        return quote_zsh(f"{option.long}[{option.summary}]" + (":file:_files" if option.takes_file else ""))
+    def format_option(option: Option) -> str:
+        return quote_shell(f"{option.long}[{option.summary}]" + (":file:_files" if option.takes_file else ""))
 
-    listed = "".join(f"        {quote_zsh(f'{command.name}:{command.summary}')}\n" for command in commands)
+    listed = "".join(f"        {quote_shell(f'{command.name}:{command.summary}')}\n" for command in commands)
 
-    def case(command: Command) -> str:
-        specs = [spec(option) for option in command.options] + ["'*:log:_files'"] * command.takes_logs
+    def format_case(command: Command) -> str:
+        specs = [format_option(option) for option in command.options] + ["'*:log:_files'"] * command.takes_logs
         return f"        {command.name}) _arguments {' '.join(specs)} ;;\n"
 
-    cases = "".join(case(command) for command in commands)
+    cases = "".join(format_case(command) for command in commands)
     return (
         "#compdef hidlog\n"
         "# Completion of hidlog for zsh. Made by packages/completions.py from the program's help.\n"
@@ -128,14 +128,14 @@ def to_fish(commands: list[Command]) -> str:
     lines = ["# Completion of hidlog for fish. Made by packages/completions.py from the program's help."]
     lines.append("complete -c hidlog -n __fish_use_subcommand -f")
     lines += [
-        f"complete -c hidlog -n __fish_use_subcommand -a {command.name} -d {quote_zsh(command.summary)}"
+        f"complete -c hidlog -n __fish_use_subcommand -a {command.name} -d {quote_shell(command.summary)}"
         for command in commands
     ]
     for command in commands:
         for option in command.options:
             file = " -r -F" if option.takes_file else ""
             seen = f"-n '__fish_seen_subcommand_from {command.name}'"
-            lines.append(f"complete -c hidlog {seen} -l {option.long[2:]}{file} -d {quote_zsh(option.summary)}")
+            lines.append(f"complete -c hidlog {seen} -l {option.long[2:]}{file} -d {quote_shell(option.summary)}")
     return "\n".join(lines) + "\n"
 
 

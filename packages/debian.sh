@@ -85,7 +85,7 @@ build_package() {
 
 # Prints the script /usr/bin/hidlog, which runs the program of the package hidlog, or a command of the package
 # python3-hidlog.
-print_command() {
+print_launcher() {
     cat <<'END'
 #!/bin/sh
 # The command hidlog: the program of this package, or a command of the package python3-hidlog.
@@ -109,7 +109,7 @@ build_program_package() {
     local root=$work/$1/hidlog
     install_file 755 "$2" "$root/usr/lib/hidlog/hidlog"
     mkdir -p "$root/usr/bin"
-    print_command >"$root/usr/bin/hidlog"
+    print_launcher >"$root/usr/bin/hidlog"
     chmod 755 "$root/usr/bin/hidlog"
     install_file 644 docs/use/hidlog.1 "$root/usr/share/man/man1/hidlog.1"
     gzip -9n "$root/usr/share/man/man1/hidlog.1"

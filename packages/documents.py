@@ -21,7 +21,7 @@ NOTE = "In this package `./hidlog` is `hidlog`. Paths that are not here are thos
 def rewrite_links(name: str, names: list[str]) -> str:
     """Returns the text of a page for the package."""
 
-    def link(found: re.Match[str]) -> str:
+    def replace_link(found: re.Match[str]) -> str:
         text, target = found[1], found[2]
         if "://" in target or target.removesuffix(".md") in names:
             return found[0]
@@ -29,7 +29,7 @@ def rewrite_links(name: str, names: list[str]) -> str:
         return f"`{path}`" if text in (path, Path(path).name, Path(path).stem) else f"{text} (`{path}` of the sources)"
 
     title, _, rest = (DOCS_FOLDER / f"{name}.md").read_text(encoding="utf-8").partition("\n\n")
-    return f"{title}\n\n{NOTE}{LINK.sub(link, rest)}"
+    return f"{title}\n\n{NOTE}{LINK.sub(replace_link, rest)}"
 
 
 def main() -> int:

@@ -1,13 +1,14 @@
 #!/bin/sh
-# Prints the paths of the files from which release/ is built, one per line: crates.txt, HANDLES, and the folders of
-# sources, definitions and proofs of the program, of the C library and of each crate on which they depend.
+# Prints the paths of the files and folders from which release/ is built, one per line: crates.txt, HANDLES, the C
+# headers, and the folders of sources, definitions and proofs of the program, of the C library and of each crate on
+# which they depend.
 #
 #     packages/release_sources.sh            prints the paths
-#     packages/release_sources.sh --hash     prints the hash of all these files
+#     packages/release_sources.sh --hash     prints a hash of all the files
 set -eu
 cd "$(dirname "$0")/.."
 
-paths() {
+list_sources() {
     echo crates.txt
     echo HANDLES
     echo crates/hidlog_c/hidlog.h
@@ -40,7 +41,7 @@ paths() {
 }
 
 if [ "${1-}" = --hash ]; then
-    paths | xargs -I{} find {} -type f | LC_ALL=C sort | xargs sha256sum | sha256sum | cut -c1-64
+    list_sources | xargs -I{} find {} -type f | LC_ALL=C sort | xargs sha256sum | sha256sum | cut -c1-64
 else
-    paths
+    list_sources
 fi

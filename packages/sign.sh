@@ -52,7 +52,7 @@ provenance=(hidlog-*.provenance.json)
     fail "$2 must have SHA256SUMS and one provenance: use the directory of packages/build.sh"
 sha256sum --quiet --strict --check SHA256SUMS || fail "a file does not match SHA256SUMS: run packages/build.sh again"
 check_provenance "${provenance[0]}"
-# The signatures are kept only if all of them are valid.
+# Removes the signatures, unless all of them are valid.
 remove_partial_signatures() {
     [ -n "${is_done-}" ] || rm -f SHA256SUMS.sig "${provenance[0]}.sig"
 }

@@ -36,7 +36,8 @@ CRATES = {
 }
 # Debian's versions of libc6-dev and libc6-dev-arm64-cross, by the prefix of the checksum of libc.a in release/BUILD.
 LIBC = {"8e5252c4b87e3d58": "2.36-9+deb12u14", "e8e575befa51c934": "2.36-8cross1"}
-# The C libraries in the programs, by the lines in release/BUILD on how they are linked: name, and Debian package.
+# The C libraries that are linked into the programs, by the name of the linker's line in release/BUILD: name, and Debian
+# package.
 LIBRARIES = {"linker": ("glibc", "libc6-dev"), "linker for aarch64": ("glibc-arm64", "libc6-dev-arm64-cross")}
 # Sets of package sources outside release/: directories and files.
 OTHER_SOURCES = {
@@ -50,7 +51,7 @@ OTHER_SOURCES = {
     "portable": ("bindings/c",),
 }
 # The sets of sources of each package, by the prefix of the package's name. The first match is used.
-PACKAGE_PARTS = (
+PACKAGE_SOURCES = (
     ("hidlog-uhid_", ("uhid", "docs")),
     ("python3-hidlog_", ("python", "docs")),
     ("libhidlog", ("docs",)),
@@ -118,7 +119,7 @@ def compute_sha256(paths: tuple[str, ...]) -> str:
     return hashlib.sha256("".join(lines).encode()).hexdigest()
 
 
-def list_packages(folder: Path, version: str) -> dict[str, str]:
+def hash_packages(folder: Path, version: str) -> dict[str, str]:
     """Returns the SHA-256 sums of the packages of this version."""
     found = (package for package in sorted(folder.iterdir()) if version in package.name and package.suffix != ".json")
     return {package.name: hashlib.sha256(package.read_bytes()).hexdigest() for package in found}
@@ -174,10 +175,10 @@ def list_materials(facts: dict[str, str]) -> list[Json]:
     return [*sources, make_spdx_package(kit, facts["kit"], "NOASSERTION"), *crates, *libraries]
 
 
-def list_parts(name: str, version: str, parts: list[Json]) -> list[Json]:
+def list_package_materials(name: str, version: str, parts: list[Json]) -> list[Json]:
     """Returns the materials of a package: all crates, the package's own sources, and the C library of its program."""
     plain = name.replace(version, "VERSION")
-    sets = next(found for front, found in PACKAGE_PARTS if plain.startswith(front))
+    sets = next(found for front, found in PACKAGE_SOURCES if plain.startswith(front))
     own = {f"hidlog-sources-{name}" for name in OTHER_SOURCES if name not in sets}
     own |= {library for library, _ in LIBRARIES.values()}
     if plain == SDIST_PATTERN:
@@ -191,14 +192,16 @@ def make_relationships(packages: list[Json], parts: list[Json], version: str) ->
     """Returns the relationships: the document describes the packages, and each package is generated from its
     materials."""
 
-    def relation(first: str, kind: str, second: str) -> Json:
+    def make_relation(first: str, kind: str, second: str) -> Json:
         return {"spdxElementId": first, "relationshipType": kind, "relatedSpdxElement": second}
 
-    described = [relation("SPDXRef-DOCUMENT", "DESCRIBES", package["SPDXID"]) for package in packages]
+    described = [make_relation("SPDXRef-DOCUMENT", "DESCRIBES", package["SPDXID"]) for package in packages]
     made = (
-        (package["SPDXID"], of["SPDXID"]) for package in packages for of in list_parts(package["name"], version, parts)
+        (package["SPDXID"], of["SPDXID"])
+        for package in packages
+        for of in list_package_materials(package["name"], version, parts)
     )
-    return described + [relation(one, "GENERATED_FROM", other) for one, other in made]
+    return described + [make_relation(one, "GENERATED_FROM", other) for one, other in made]
 
 
 def make_spdx(facts: dict[str, str], sums: dict[str, str]) -> Json:
@@ -262,7 +265,7 @@ def main() -> int:
         print((__doc__ or "").strip(), file=sys.stderr)
         return 2
     folder, facts = Path(words[0]), read_build_info()
-    sums = list_packages(folder, facts["version"])
+    sums = hash_packages(folder, facts["version"])
     for kind, made in (("spdx", make_spdx(facts, sums)), ("provenance", make_provenance(facts, sums))):
         text = json.dumps(made, indent=2) + "\n"
         (folder / f"hidlog-{facts['version']}.{kind}.json").write_text(text, encoding="utf-8")

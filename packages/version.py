@@ -3,7 +3,9 @@
 writes release/BUILD.
 
     packages/version.py           list the files with a different version, and exit with 1 if there are any
-    packages/version.py --write   write the version to them, except in release/, which packages/build_release.sh creates
+    packages/version.py --write   write the version to them, except in CHANGELOG.md and release/
+
+packages/build_release.sh writes the version to the files in release/.
 
 Wheels, Debian packages, npm's, Go's zip and the crates read it from release/BUILD.
 """
@@ -28,22 +30,22 @@ VERSION_PATTERNS = (
     ("bindings/c/program.c", rf'^#define VERSION "({NUMBER})"$'),
     ("tests/program/cases.txt", rf"^\+hidlog ({NUMBER})$"),
 )
-RELEASE_HEADING = (
+RELEASE_PATTERNS = (
     ("release/BUILD", rf"^version: ({NUMBER})$"),
     ("release/hidlog.pc", rf"^Version: ({NUMBER})$"),
     ("release/hidlog-256.pc", rf"^Version: ({NUMBER})$"),
 )
-# The heading of the latest version is written by hand, together with the changes.
-MANUAL_PLACES = ("CHANGELOG.md",)
+# Files in which the version is written by hand: the heading of the latest version, together with the changes.
+MANUAL_FILES = ("CHANGELOG.md",)
 
 
-def version() -> str:
+def read_version() -> str:
     """Returns the version."""
     found = re.search(
         rf'^const VERSION: &str = "({NUMBER})";$', VERSION_SOURCE.read_text(encoding="utf-8"), re.MULTILINE
     )
     if not found:
-        raise SystemExit(f"{VERSION_SOURCE} has no VERSION")
+        raise SystemExit(f"{VERSION_SOURCE} has no line 'const VERSION: &str = ..'")
     return found[1]
 
 
@@ -61,20 +63,20 @@ def replace_version(text: str, pattern: str, number: str) -> str:
 
 def main() -> int:
     """Writes the version, or lists the files with a different version."""
-    number, wrong = version(), []
-    for name, pattern in (*VERSION_PATTERNS, *RELEASE_HEADING):
+    number, wrong = read_version(), []
+    for name, pattern in (*VERSION_PATTERNS, *RELEASE_PATTERNS):
         path = TOP / name
         text = path.read_text(encoding="utf-8")
         found = {place[1] for place in find_versions(text, pattern)}
         if found == {number}:
             continue
-        if sys.argv[1:] == ["--write"] and found and (name, pattern) in VERSION_PATTERNS and name not in MANUAL_PLACES:
+        if sys.argv[1:] == ["--write"] and found and (name, pattern) in VERSION_PATTERNS and name not in MANUAL_FILES:
             path.write_text(replace_version(text, pattern, number), encoding="utf-8")
             continue
         wrong.append(f"{name} has {', '.join(sorted(found)) or 'no version'}, but {VERSION_SOURCE.name} has {number}")
     print(*wrong, sep="\n", end="\n" if wrong else "")
     if not wrong:
-        print(f"{len(VERSION_PATTERNS) + len(RELEASE_HEADING)} files have the version {number}")
+        print(f"{len(VERSION_PATTERNS) + len(RELEASE_PATTERNS)} files have the version {number}")
     return 1 if wrong else 0
 
 

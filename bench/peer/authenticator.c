@@ -66,7 +66,7 @@ static void send_status(uint32_t channel, uint8_t status) {
     transport_send(channel, CBOR, &status, 1);
 }
 
-static void finish(uint8_t status) {
+static void finish_request(uint8_t status) {
     pending.need = NO_NEED;
     send_status(pending.channel, status);
 }
@@ -86,7 +86,7 @@ bool authenticator_is_pending_on(uint32_t channel) {
 }
 
 void authenticator_cancel(void) {
-    finish(KEEPALIVE_CANCEL);
+    finish_request(KEEPALIVE_CANCEL);
 }
 
 void authenticator_abort(void) {
@@ -103,12 +103,12 @@ struct stats authenticator_stats(void) {
     return stats;
 }
 
-/* The following functions decode a member of a request. Each returns OK, or a CTAP2 error status if a type is wrong. */
-
 static struct text read_key(struct reader *reader) {
     struct text key;
     return cbor_read_text(reader, TEXT, &key) ? key : (struct text){0};
 }
+
+/* The following functions decode a member of a request. Each returns OK or a CTAP2 error status. */
 
 static uint8_t read_rp(struct reader *reader, struct request *request) {
     uint64_t pairs;
@@ -422,7 +422,7 @@ static void hash_rp_id(struct text rp_id, uint8_t hash[HASH_BYTES]) {
     }
 }
 
-static void wait_for_need(uint64_t now_ms, enum need need) {
+static void set_need(uint64_t now_ms, enum need need) {
     pending.need = need;
     send_keepalive(now_ms);
 }
@@ -435,7 +435,7 @@ static void begin_make_credential(uint64_t now_ms, const struct request *request
     made->is_discoverable = request->rk;
     pending.is_make_credential = true;
     pending.is_excluded = find_listed_credential(made->rp_id_hash, request) != NULL;
-    wait_for_need(now_ms, PRESENCE);
+    set_need(now_ms, PRESENCE);
 }
 
 static void begin_get_assertion(uint64_t now_ms, const struct request *request) {
@@ -443,11 +443,11 @@ static void begin_get_assertion(uint64_t now_ms, const struct request *request) 
     hash_rp_id(request->rp_id, rp_id_hash);
     pending.used = request->has_list ? find_listed_credential(rp_id_hash, request) : find_newest_credential(rp_id_hash);
     if (pending.used == NULL) {
-        finish(NO_CREDENTIALS);
+        finish_request(NO_CREDENTIALS);
         return;
     }
     if (pending.used->sign_count == UINT32_MAX) {
-        finish(LIMIT_EXCEEDED);
+        finish_request(LIMIT_EXCEEDED);
         return;
     }
     pending.is_make_credential = false;
@@ -455,7 +455,7 @@ static void begin_get_assertion(uint64_t now_ms, const struct request *request) 
     if (!request->up) {
         pending.used->sign_count++;
     }
-    wait_for_need(now_ms, request->up ? PRESENCE : SIGNATURE);
+    set_need(now_ms, request->up ? PRESENCE : SIGNATURE);
 }
 
 static const uint8_t info[] = "\x00\xa6\x01\x81\x68"
@@ -518,17 +518,17 @@ void authenticator_provide_presence(uint64_t now_ms, bool is_granted) {
         return;
     }
     if (pending.is_make_credential && pending.is_excluded) {
-        finish(CREDENTIAL_EXCLUDED);
+        finish_request(CREDENTIAL_EXCLUDED);
     } else if (!is_granted) {
-        finish(OPERATION_DENIED);
+        finish_request(OPERATION_DENIED);
     } else if (pending.is_make_credential && credential_count == MAX_CREDENTIALS &&
                find_credential_of_user(&pending.made) == NULL) {
-        finish(KEY_STORE_FULL);
+        finish_request(KEY_STORE_FULL);
     } else {
         if (!pending.is_make_credential) {
             pending.used->sign_count++;
         }
-        wait_for_need(now_ms, pending.is_make_credential ? KEY_PAIR : SIGNATURE);
+        set_need(now_ms, pending.is_make_credential ? KEY_PAIR : SIGNATURE);
     }
 }
 
@@ -538,12 +538,12 @@ void authenticator_provide_key_pair(uint64_t now_ms, const uint8_t *key_pair) {
         return;
     }
     if (key_pair == NULL) {
-        finish(OTHER);
+        finish_request(OTHER);
         return;
     }
     for (int i = 0; i < credential_count; i++) {
         if (memcmp(credentials[i].id, key_pair, HASH_BYTES) == 0) {
-            finish(OTHER);
+            finish_request(OTHER);
             return;
         }
     }
@@ -553,7 +553,7 @@ void authenticator_provide_key_pair(uint64_t now_ms, const uint8_t *key_pair) {
     pending.need = SIGNATURE;
 }
 
-/* A response to which bytes are appended. */
+/* A response, to which its parts are appended. */
 struct response {
     uint8_t bytes[MAX_RESPONSE_BYTES];
     size_t len;
@@ -636,7 +636,7 @@ void authenticator_provide_signature(uint64_t now_ms, const uint8_t *signature, 
         return;
     }
     if (len == 0) {
-        finish(OTHER);
+        finish_request(OTHER);
         return;
     }
     pending.need = NO_NEED;

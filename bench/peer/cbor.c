@@ -5,7 +5,7 @@
 
 enum { MAX_DEPTH = 4 };
 
-struct check {
+struct checker {
     const uint8_t *start, *next, *end;
     uint64_t compared; /* bytes of map keys compared with the previous key */
 };
@@ -35,7 +35,7 @@ static bool is_utf8(const uint8_t *next, size_t len) {
     return true;
 }
 
-static bool check_head(struct check *check, enum major *major, uint64_t *number) {
+static bool check_head(struct checker *check, enum major *major, uint64_t *number) {
     if (check->next == check->end) {
         return false;
     }
@@ -61,11 +61,11 @@ static bool check_head(struct check *check, enum major *major, uint64_t *number)
     return bytes == 1 ? read >= 24 : read >> (4 * bytes) != 0;
 }
 
-static bool check_item(struct check *check, int level, bool is_key);
+static bool check_item(struct checker *check, int level, bool is_key);
 
 /* Checks a map, whose keys must be in canonical order: shorter keys first, then byte order. Since heads must have their
  * shortest form, comparing the encoded bytes is enough. */
-static bool check_map(struct check *check, uint64_t pairs, int level) {
+static bool check_map(struct checker *check, uint64_t pairs, int level) {
     const uint8_t *last = NULL;
     size_t last_len = 0;
     for (uint64_t i = 0; i < pairs; i++) {
@@ -90,7 +90,7 @@ static bool check_map(struct check *check, uint64_t pairs, int level) {
     return true;
 }
 
-static bool check_item(struct check *check, int level, bool is_key) {
+static bool check_item(struct checker *check, int level, bool is_key) {
     enum major major;
     uint64_t number;
     if (!check_head(check, &major, &number) || (is_key && major >= ARRAY)) {
@@ -119,7 +119,7 @@ static bool check_item(struct check *check, int level, bool is_key) {
 }
 
 bool cbor_check(const uint8_t *encoded, size_t len, uint64_t *steps) {
-    struct check check = {encoded, encoded, encoded + len, 0};
+    struct checker check = {encoded, encoded, encoded + len, 0};
     bool is_canonical = check_item(&check, 1, false) && check.next == check.end;
     *steps = (uint64_t)(check.next - check.start) + check.compared + 1;
     return is_canonical;

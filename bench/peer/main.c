@@ -1,5 +1,5 @@
-/* Reads a log from standard input, in lines of at most 255 bytes, and writes each line followed by the packets sent in
- * response, with one write call. */
+/* Replays a log: reads it from standard input, in lines of at most 255 bytes, and writes each line and the packets
+ * sent in response with one write call. */
 #include "peer.h"
 
 #include <stdio.h>
@@ -16,7 +16,7 @@ static int8_t digit_values[256];
 static char digit_pairs[256][2];
 static uint64_t now_ms;
 
-void log_send(const uint8_t packet[PACKET_BYTES]) {
+void log_sent_packet(const uint8_t packet[PACKET_BYTES]) {
     char *out = text + text_len;
     memcpy(out, "< ", 2);
     for (size_t i = 0; i < PACKET_BYTES; i++) {
@@ -50,8 +50,8 @@ static bool decode_hex(const uint8_t *digits, size_t len, uint8_t *out) {
     return true;
 }
 
-/* Reads a time in milliseconds: a decimal number below 2^64 without leading zeros. */
-static bool read_time(const uint8_t *digits, size_t len, uint64_t *time_ms) {
+/* Parses a time in milliseconds: a decimal number below 2^64 without leading zeros. */
+static bool parse_time(const uint8_t *digits, size_t len, uint64_t *time_ms) {
     *time_ms = 0;
     for (size_t i = 0; i < len; i++) {
         if (digits[i] < '0' || digits[i] > '9' || __builtin_mul_overflow(*time_ms, 10, time_ms) ||
@@ -127,7 +127,7 @@ static bool play_signature(const uint8_t *line, size_t line_len, uint64_t time_m
 
 static bool play_tick(const uint8_t *line, size_t len) {
     uint64_t time_ms;
-    if (!read_time(line + 2, len - 2, &time_ms)) {
+    if (!parse_time(line + 2, len - 2, &time_ms)) {
         return false;
     }
     copy_line(line, len);
@@ -138,7 +138,7 @@ static bool play_tick(const uint8_t *line, size_t len) {
 static bool play_input(const uint8_t *line, size_t len) {
     const uint8_t *space = memchr(line + 2, ' ', len - 2);
     uint64_t time_ms;
-    if (space == NULL || !read_time(line + 2, (size_t)(space - line - 2), &time_ms)) {
+    if (space == NULL || !parse_time(line + 2, (size_t)(space - line - 2), &time_ms)) {
         return false;
     }
     const uint8_t *field = space + 1;
@@ -157,7 +157,7 @@ static bool play_input(const uint8_t *line, size_t len) {
     }
 }
 
-static bool play(const uint8_t *line, size_t len) {
+static bool play_line(const uint8_t *line, size_t len) {
     if (len == 0 || line[0] == '#') {
         copy_line(line, len);
         return flush();
@@ -177,7 +177,7 @@ static bool play(const uint8_t *line, size_t len) {
 }
 
 /* Reads more of the log into the read buffer. Returns the number of bytes, 0 at the end, or -1 on an error. */
-static ssize_t refill_window(void) {
+static ssize_t read_more_input(void) {
     memmove(window, window + window_start, window_len - window_start);
     window_len -= window_start;
     window_start = 0;
@@ -191,7 +191,7 @@ static bool play_log(void) {
         const uint8_t *newline = memchr(window + window_start, '\n', window_len - window_start);
         if (newline != NULL) {
             size_t len = (size_t)(newline - (window + window_start));
-            if (len > MAX_LINE_BYTES || !play(window + window_start, len)) {
+            if (len > MAX_LINE_BYTES || !play_line(window + window_start, len)) {
                 return false;
             }
             window_start += len + 1;
@@ -200,9 +200,10 @@ static bool play_log(void) {
         if (window_len - window_start > MAX_LINE_BYTES) {
             return false;
         }
-        ssize_t count = refill_window();
+        ssize_t count = read_more_input();
         if (count <= 0) {
-            return count == 0 && (window_len == window_start || play(window + window_start, window_len - window_start));
+            return count == 0 &&
+                   (window_len == window_start || play_line(window + window_start, window_len - window_start));
         }
     }
 }

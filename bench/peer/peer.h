@@ -1,15 +1,16 @@
-/* A second implementation of the security key, in C, as a baseline for the speed of `hidlog replay`. Both have the same
- * output for the flows of bench/flows.py.
+/* A second implementation of the security key, in C, as a baseline for the speed of `hidlog replay`. It writes the
+ * same output as `hidlog replay` for the flows of bench/flows.py.
  *
- * The code is scalar, with lookup tables for hexadecimal digits and OpenSSL's SHA-256, which bench/peer.sh runs without
- * and with vector instructions. For a log of INIT, PING, getInfo, makeCredential, getAssertion, replies, ticks and
- * comments, the output equals that of `hidlog replay` byte for byte. Implemented are strict canonical CBOR with a count
- * of its steps, the order of a request's checks, KEEPALIVEs, timeouts, busy channels, unknown channels, wrong sequence
- * numbers, 64 credentials, allow and exclude lists, signature counters, CANCEL, and INIT on an allocated channel.
+ * The code is scalar. It uses lookup tables for hexadecimal digits, and OpenSSL's SHA-256, which bench/peer.sh runs
+ * with and without vector instructions. For a log of INIT, PING, getInfo, makeCredential, getAssertion, replies,
+ * ticks and comments, the output equals that of `hidlog replay` byte for byte. Implemented are strict canonical CBOR
+ * with a count of its steps, the order of a request's checks, KEEPALIVEs, timeouts, busy channels, unknown channels,
+ * wrong sequence numbers, 64 credentials, allow and exclude lists, signature counters, CANCEL, and INIT on an
+ * allocated channel.
  *
- * Not implemented are getNextAssertion (a sign-in with several credentials uses the newest credential, and the response
- * has no numberOfCredentials), reset, selection, user names, snapshots, and the precedence of errors in a request with
- * two errors. */
+ * Not implemented are getNextAssertion (a sign-in with several credentials uses the newest credential, and the
+ * response has no numberOfCredentials), reset, selection, user names, snapshots, and the precedence of errors in a
+ * request with two errors. */
 #ifndef PEER_H
 #define PEER_H
 
@@ -30,8 +31,8 @@ enum {
 
 enum command { PING = 0x01, INIT = 0x06, CBOR = 0x10, CANCEL = 0x11, KEEPALIVE = 0x3b, ERROR = 0x3f };
 
-/* Writes a packet that the key sends as a line of the log, after the input line that caused the packet. */
-void log_send(const uint8_t packet[PACKET_BYTES]);
+/* Writes a packet of the key as a line of the log, after the line of the input that caused the packet. */
+void log_sent_packet(const uint8_t packet[PACKET_BYTES]);
 
 /* The transport. */
 void transport_handle_packet(uint64_t now_ms, const uint8_t packet[PACKET_BYTES]);
@@ -39,7 +40,8 @@ void transport_advance_time(uint64_t now_ms);
 void transport_send(uint32_t channel, enum command command, const uint8_t *message, size_t len);
 size_t transport_peak_message_bytes(void);
 
-/* The authenticator. A pending request belongs to a channel. */
+/* The authenticator. A request is pending until its response is sent, and belongs to the channel on which it was
+ * sent. */
 enum need { NO_NEED, PRESENCE, KEY_PAIR, SIGNATURE };
 struct stats {
     uint64_t requests, bytes, steps;

@@ -41,13 +41,13 @@ void transport_send(uint32_t channel, enum command command, const uint8_t *bytes
     packet[6] = (uint8_t)len;
     size_t sent = len < INIT_DATA_BYTES ? len : INIT_DATA_BYTES;
     memcpy(packet + 7, bytes, sent);
-    log_send(packet);
+    log_sent_packet(packet);
     for (uint8_t sequence = 0; sent < len; sequence++) {
         size_t part = len - sent < CONT_DATA_BYTES ? len - sent : CONT_DATA_BYTES;
         memset(packet + 4, 0, PACKET_BYTES - 4);
         packet[4] = sequence;
         memcpy(packet + 5, bytes + sent, part);
-        log_send(packet);
+        log_sent_packet(packet);
         sent += part;
     }
 }
@@ -88,7 +88,7 @@ static void handle_message(uint64_t now_ms, uint32_t channel, uint8_t command, c
 
 /* Responds to INIT: on the broadcast channel it allocates a channel, on another it aborts that channel's transaction.
  */
-static void send_init_response(uint32_t channel, const uint8_t *nonce, size_t len) {
+static void handle_init(uint32_t channel, const uint8_t *nonce, size_t len) {
     if (message.is_open && message.channel == channel) {
         message.is_open = false;
     }
@@ -116,7 +116,7 @@ static void handle_initialization(uint64_t now_ms, uint32_t channel, const uint8
     } else if ((channel == 0 || channel > last_channel) && (channel != BROADCAST || command != INIT)) {
         send_error(channel, INVALID_CHANNEL);
     } else if (command == INIT) {
-        send_init_response(channel, packet + 7, len);
+        handle_init(channel, packet + 7, len);
     } else if (message.is_open && message.channel == channel) {
         message.is_open = false;
         send_error(channel, INVALID_SEQUENCE);

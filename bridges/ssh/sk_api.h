@@ -1,4 +1,4 @@
-// The interface of SSH_SK_PROVIDER libraries for OpenSSH 8.9 to 9.x, API major version 10, declared after OpenSSH's
+// The interface of SSH_SK_PROVIDER libraries for OpenSSH 8.9 to 9.x, API major version 10, as in OpenSSH's
 // PROTOCOL.u2f and sk-api.h. The provider allocates responses with malloc, and OpenSSH frees them.
 #ifndef SK_API_H
 #define SK_API_H

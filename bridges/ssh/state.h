@@ -8,8 +8,8 @@
 
 enum { APPLICATION = 64 };
 
-// The data of a credential that is not in the snapshot. The snapshot has only the hash of an application (the RP ID),
-// but OpenSSH needs the name.
+// What the snapshot lacks about a credential: the private key, and the name of the application (the RP ID), of which the
+// snapshot has only the hash.
 struct record {
     uint8_t id[32];
     uint8_t secret[32];

@@ -10,7 +10,7 @@
 #include <unistd.h>
 
 #ifndef HIDLOG_VERSION
-#define HIDLOG_VERSION "of a clone"
+#define HIDLOG_VERSION "(built from a clone)"
 #endif
 
 static const char help[] =

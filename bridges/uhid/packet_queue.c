@@ -2,7 +2,8 @@
 
 #include <string.h>
 
-// Offsets in packets of INIT on the broadcast channel: the end of the nonce, and the new channel ID in the response.
+// The length of a channel ID. In INIT packets on the broadcast channel: the end of the nonce, the offset of the new
+// channel ID in the response, and the command byte.
 enum { CHANNEL = 4, NONCE_END = 15, NEW_CHANNEL_AT = 15, INIT = 0x86 };
 
 static const uint8_t broadcast[CHANNEL] = {0xff, 0xff, 0xff, 0xff};

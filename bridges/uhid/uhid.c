@@ -154,7 +154,7 @@ static void free_unused_pairs(void) {
 static bool provide_key_pair(void) {
     char word[MAX_LINE];
     free_unused_pairs();
-    const struct software_key *pair = software_keys_make(&state.vkey.keys);
+    const struct software_key *pair = software_keys_generate(&state.vkey.keys);
     if (pair == NULL) {
         return play_word('k', "no");
     }
@@ -182,7 +182,7 @@ static bool provide_need(const struct hidlog_need *need) {
     case HIDLOG_NEED_SIGNATURE:
         return provide_signature(need);
     case HIDLOG_NEED_PRESENCE:
-        word = user_get_reply(&options.user, now_ms());
+        word = user_take_reply(&options.user, now_ms());
         if (word != NULL) {
             return play_word('p', word);
         }
@@ -268,8 +268,8 @@ static int poll_timeout_ms(uint32_t kind, bool is_idle) {
     return due <= time ? 0 : (int)(due - time);
 }
 
-// Returns what the key needs. If it newly needs user presence, starts asking the user.
-static uint32_t check_need(struct hidlog_need *need) {
+// Returns what the key needs now. Starts asking the user if the key did not need user presence before.
+static uint32_t update_need(struct hidlog_need *need) {
     uint32_t kind = (uint32_t)hidlog_key_get_need(&state.vkey.key, need);
     if (kind == HIDLOG_NEED_PRESENCE && !is_asked) {
         ticked = now_ms();
@@ -286,8 +286,8 @@ static bool run(int signals) {
     struct hidlog_need need;
     bool is_idle = true;
     for (;;) {
-        uint32_t kind = check_need(&need);
-        files[2].fd = is_asked && user_reads_input(&options.user) ? STDIN_FILENO : -1;
+        uint32_t kind = update_need(&need);
+        files[2].fd = is_asked && user_expects_input(&options.user) ? STDIN_FILENO : -1;
         int ready = poll(files, 3, poll_timeout_ms(kind, is_idle));
         if (ready < 0) {
             return print_system_error("poll");
@@ -354,8 +354,8 @@ static bool is_recording_path_allowed(const char *path) {
     return true;
 }
 
-// Writes the path of a recording's initial snapshot to `path`.
-static bool snapshot_path(const char *recorded, char path[PATH]) {
+// Formats the path of a recording's initial snapshot.
+static bool format_snapshot_path(const char *recorded, char path[PATH]) {
     if (snprintf(path, PATH, "%s.snapshot", recorded) >= PATH) {
         errno = ENAMETOOLONG;
         return print_system_error(recorded);
@@ -368,26 +368,29 @@ static bool overwrite_file(const char *path, int file, const uint8_t *bytes, siz
     return (ftruncate(file, 0) == 0 && write_all(file, bytes, len)) || print_system_error(path);
 }
 
-// Opens the recording and its initial snapshot, if any. Neither is truncated unless both can be opened.
-static bool begin_recording(const char *path, const uint8_t *snapshot, size_t len) {
-    char beside[PATH];
-    if (!snapshot_path(path, beside) || !is_recording_path_allowed(path) || !is_recording_path_allowed(beside)) {
+// Opens the recording and its initial snapshot, if any, and overwrites them. Neither is truncated unless both can be
+// opened.
+static bool open_recording(const char *path, const uint8_t *snapshot, size_t len) {
+    char snapshot_path[PATH];
+    if (!format_snapshot_path(path, snapshot_path) || !is_recording_path_allowed(path) ||
+        !is_recording_path_allowed(snapshot_path)) {
         return false;
     }
-    recording = private_file_to_write(path);
-    int file = recording >= 0 && len > 0 ? private_file_to_write(beside) : -1;
+    recording = private_file_open(path);
+    int file = recording >= 0 && len > 0 ? private_file_open(snapshot_path) : -1;
     if (recording < 0 || (len > 0 && file < 0)) {
         return false;
     }
     bool is_written =
-        overwrite_file(path, recording, NULL, 0) && (len == 0 || overwrite_file(beside, file, snapshot, len));
+        overwrite_file(path, recording, NULL, 0) && (len == 0 || overwrite_file(snapshot_path, file, snapshot, len));
     if (file >= 0 && close(file) != 0 && is_written) {
-        is_written = print_system_error(beside);
+        is_written = print_system_error(snapshot_path);
     }
     return is_written;
 }
 
-// Starts the recording, if any. Initializes the key again with an AAGUID of zeros, as `hidlog check` expects.
+// Initializes the key again with an AAGUID of zeros, as `hidlog check` expects, and starts the recording, if a path is
+// given.
 static bool start_recording(const char *path) {
     static const uint8_t aaguid[16];
     static uint8_t snapshot[MAX_SNAPSHOT];
@@ -398,7 +401,7 @@ static bool start_recording(const char *path) {
         fprintf(stderr, "hidlog-uhid: cannot initialize the key with the state file's credentials: error %d\n", error);
         return false;
     }
-    return path == NULL || begin_recording(path, snapshot, len);
+    return path == NULL || open_recording(path, snapshot, len);
 }
 
 // Blocks the signals that end the bridge, and returns a descriptor that becomes readable when one of them arrives.
@@ -420,7 +423,7 @@ static int open_signal_descriptor(void) {
 
 // Creates the device, serves requests until a signal arrives, and saves the key, even if it is new. Saves nothing after
 // an error, since no response to the unsaved changes has been sent.
-static bool play_session(void) {
+static bool run_session(void) {
     int signals = open_signal_descriptor();
     if (signals < 0) {
         return print_system_error("cannot wait for signals");
@@ -442,7 +445,7 @@ int main(int count, char **words) {
     if (setenv("HIDLOG_SK_STATE", options.state, 1) != 0 || !state_open(&state)) {
         return 1;
     }
-    bool is_done = play_session();
+    bool is_done = run_session();
     if (recording >= 0 && close(recording) != 0) {
         is_done = print_system_error("cannot write the recording");
     }

@@ -91,11 +91,11 @@ void user_read_input(struct user *user) {
     ssize_t len = read(STDIN_FILENO, user->typed + user->typed_len, capacity);
     // A line that is too long is discarded.
     user->typed_len = len > 0 ? user->typed_len + (size_t)len : capacity == 0 ? 0 : user->typed_len;
-    user->is_gone = capacity > 0 && (len == 0 || (len < 0 && errno != EINTR && errno != EAGAIN));
+    user->is_input_closed = capacity > 0 && (len == 0 || (len < 0 && errno != EINTR && errno != EAGAIN));
 }
 
-bool user_reads_input(const struct user *user) {
-    return user->kind == USER_ASKED && !user->is_gone;
+bool user_expects_input(const struct user *user) {
+    return user->kind == USER_ASKED && !user->is_input_closed;
 }
 
 // Removes the first typed line, if any. Returns "granted" if the line begins with y, "denied" if it begins with n, or
@@ -111,7 +111,7 @@ static const char *take_line(struct user *user) {
     return first == 'y' ? words[0] : first == 'n' ? words[1] : NULL;
 }
 
-const char *user_get_reply(struct user *user, uint64_t now) {
+const char *user_take_reply(struct user *user, uint64_t now) {
     if (user->kind == USER_ASKED) {
         const char *word = take_line(user);
         return word != NULL ? word : now >= user->due ? words[2] : NULL;

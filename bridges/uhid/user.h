@@ -6,7 +6,7 @@
 #include <stddef.h>
 #include <stdint.h>
 
-// Limits of a script, and the number of seconds after which a person's touch times out.
+// Limits of a script, and the number of seconds after which a question to a person times out.
 enum { USER_TOUCHES = 1000, USER_LINE = 200, USER_SECONDS = 30 };
 enum user_kind { USER_FIXED, USER_ASKED, USER_SCRIPT };
 
@@ -22,7 +22,7 @@ struct user {
     uint64_t due;          // when the user acts
     char typed[USER_LINE]; // typed by a person and not processed yet
     size_t typed_len;
-    bool is_gone; // standard input has ended
+    bool is_input_closed; // standard input has ended
 };
 
 // Parses `granted`, `ask` or `script:FILE`. `after` is the time of a touch in milliseconds, unless the script sets one.
@@ -36,9 +36,9 @@ void user_start_asking(struct user *user, uint64_t now);
 void user_read_input(struct user *user);
 
 // Returns whether the user replies on standard input, and standard input has not ended.
-bool user_reads_input(const struct user *user);
+bool user_expects_input(const struct user *user);
 
-// Returns the user's reply ("granted", "denied" or "timeout"), or NULL if there is none yet.
-const char *user_get_reply(struct user *user, uint64_t now);
+// Takes the user's next reply: "granted", "denied" or "timeout", or NULL if there is none yet.
+const char *user_take_reply(struct user *user, uint64_t now);
 
 #endif

@@ -15,7 +15,7 @@ int main(void) {
     if (key.memory == NULL || hidlog_key_init(&key, aaguid, 0, aaguid, 0) != 0 ||
         hidlog_key_write_packet(&key, 0, packet) != 1 || hidlog_key_read_packet(&key, packet) != 0 ||
         hidlog_key_destroy(&key) != 0) {
-        fputs("init: a call of the library failed\n", stderr);
+        fputs("init: out of memory, or a function of the library failed\n", stderr);
         return 1;
     }
     free(key.memory);

@@ -16,7 +16,7 @@ int main() {
     if (key.memory == nullptr || hidlog_key_init(&key, aaguid.data(), 0, aaguid.data(), 0) != 0 ||
         hidlog_key_write_packet(&key, 0, packet.data()) != 1 || hidlog_key_read_packet(&key, packet.data()) != 0 ||
         hidlog_key_destroy(&key) != 0) {
-        std::fputs("init: a call of the library failed\n", stderr);
+        std::fputs("init: out of memory, or a function of the library failed\n", stderr);
         return 1;
     }
     std::free(key.memory);

@@ -7,7 +7,7 @@ use std::ffi::c_void;
 /// Part of the key's memory, which must be aligned to 16 bytes.
 #[repr(align(16))]
 #[derive(Clone, Copy)]
-struct Block(#[allow(dead_code)] [u8; 16]);
+struct AlignedBlock(#[allow(dead_code)] [u8; 16]);
 
 /// `struct hidlog_key` of hidlog.h.
 #[repr(C)]
@@ -26,7 +26,7 @@ extern "C" {
 
 fn main() {
     // Neither the memory nor the key may move while the key is initialized.
-    let mut memory = vec![Block([0; 16]); (unsafe { hidlog_key_size() } + 15) / 16];
+    let mut memory = vec![AlignedBlock([0; 16]); (unsafe { hidlog_key_size() } + 15) / 16];
     let mut key = Box::new(Key { memory: memory.as_mut_ptr().cast(), state: 0 });
     let aaguid = [0u8; 16];
     let mut packet = [0u8; 64];

@@ -92,7 +92,10 @@ static bool is_overwritable(const char *path, int file) {
     if (facts.st_uid != geteuid()) {
         return print_error(path, "the file belongs to another user; remove it or choose another path");
     }
-    return facts.st_nlink == 1 || print_error(path, "the file has another hard link; remove it or choose another path");
+    if (facts.st_nlink != 1) {
+        return print_error(path, "the file has another hard link; remove this file or choose another path");
+    }
+    return true;
 }
 
 static const char *describe_open_failure(void) {
@@ -134,7 +137,7 @@ long private_file_read(const char *path, uint8_t *bytes, size_t max_len) {
     return len;
 }
 
-int private_file_to_write(const char *path) {
+int private_file_open(const char *path) {
     int file = open(path, O_WRONLY | O_CREAT | O_NOFOLLOW | O_NONBLOCK | O_CLOEXEC, 0600);
     if (file < 0) {
         print_system_error(path, describe_open_failure());
@@ -164,7 +167,7 @@ bool write_all(int file, const uint8_t *bytes, size_t len) {
 }
 
 // Creates a file, writes its contents to disk, and does not follow links. On failure removes the file and sets errno.
-static bool write_new(const char *path, const uint8_t *bytes, size_t len) {
+static bool write_new_file(const char *path, const uint8_t *bytes, size_t len) {
     int file = open(path, O_WRONLY | O_CREAT | O_EXCL | O_NOFOLLOW | O_CLOEXEC, 0600);
     if (file < 0) {
         return false;
@@ -183,7 +186,7 @@ static bool write_new(const char *path, const uint8_t *bytes, size_t len) {
 }
 
 // Opens the directory that contains a file.
-static int open_folder(const char *path) {
+static int open_directory(const char *path) {
     char folder[PATH];
     const char *name = strrchr(path, '/');
     size_t len = name == NULL ? 0 : name == path ? 1 : (size_t)(name - path);
@@ -197,7 +200,7 @@ static int open_folder(const char *path) {
 }
 
 // Renames the new file to `path`, and syncs the directory so that the new name is on disk.
-static bool rename_synced(const char *path, const char *written, int folder) {
+static bool rename_and_sync(const char *path, const char *written, int folder) {
     if (rename(written, path) != 0) {
         int why = errno;
         unlink(written);
@@ -214,13 +217,13 @@ bool private_file_replace(const char *path, const uint8_t *bytes, size_t len) {
     if (!append_suffix(path, ".new", fresh)) {
         return false;
     }
-    int folder = open_folder(path);
+    int folder = open_directory(path);
     // The caller has the lock, so an existing temporary file was left by a program that was killed.
-    bool is_written = folder >= 0 && (unlink(fresh) == 0 || errno == ENOENT) && write_new(fresh, bytes, len);
+    bool is_written = folder >= 0 && (unlink(fresh) == 0 || errno == ENOENT) && write_new_file(fresh, bytes, len);
     if (!is_written) {
         print_system_error(path, "nothing was saved, and the old file is kept");
     }
-    bool is_done = is_written && rename_synced(path, fresh, folder);
+    bool is_done = is_written && rename_and_sync(path, fresh, folder);
     if (folder >= 0) {
         close(folder);
     }

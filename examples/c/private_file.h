@@ -15,13 +15,13 @@ enum { PRIVATE_FILE_NONE = -1, PRIVATE_FILE_REFUSED = -2 };
 int private_file_lock(const char *path);
 
 // Reads a file of at most `max_len` bytes and returns its length. Returns PRIVATE_FILE_NONE only if there is no file,
-// since a file that cannot be opened may have private keys. Rejects links, files that are not regular, and files that
-// others may read or write.
+// since a file that cannot be opened may have private keys. Rejects symbolic links, files that are not regular, and
+// files that others may read or write.
 long private_file_read(const char *path, uint8_t *bytes, size_t max_len);
 
 // Opens a file for the caller to truncate and write. Returns its descriptor, or -1. A new file has mode 0600. Rejects
 // links, files that are not regular, and files that others own or may read or write.
-int private_file_to_write(const char *path);
+int private_file_open(const char *path);
 
 // Writes a temporary file to disk, and renames it to `path`.
 bool private_file_replace(const char *path, const uint8_t *bytes, size_t len);

@@ -2,8 +2,8 @@
 
 #include <string.h>
 
-// Major types of CBOR (RFC 8949), shifted to the high three bits of an item's first byte.
-enum { NUMBER = 0x00, BYTES = 0x40, TEXT = 0x60, ARRAY = 0x80, MAP = 0xa0, NO = 0xf4 };
+// Major types of CBOR (RFC 8949), shifted to the high three bits of an item's first byte, and the item `false`.
+enum { NUMBER = 0x00, BYTES = 0x40, TEXT = 0x60, ARRAY = 0x80, MAP = 0xa0, FALSE = 0xf4 };
 
 // Writes the head of an item in its shortest form, as canonical CBOR requires.
 static uint8_t *write_head(uint8_t *to, unsigned major, uint32_t argument) {
@@ -29,7 +29,7 @@ static uint8_t *write_credential(uint8_t *to, const struct hidlog_credential *cr
     to = write_string(to, 4, BYTES, credential->y, 32);
     to = write_string(to, 5, BYTES, credential->user_id, credential->user_id_len);
     to = write_head(to, NUMBER, 6);
-    *to++ = (uint8_t)(NO + credential->discoverable);
+    *to++ = (uint8_t)(FALSE + credential->discoverable);
     to = write_head(write_head(to, NUMBER, 7), NUMBER, credential->sign_count);
     return write_string(to, 8, TEXT, credential->user_name, credential->user_name_len);
 }

@@ -8,7 +8,7 @@
 #include <openssl/rand.h>
 #include <string.h>
 
-static struct software_key *free_slot(struct software_keys *keys) {
+static struct software_key *find_free_slot(struct software_keys *keys) {
     for (size_t i = 0; i < SOFTWARE_KEYS; i++) {
         if (keys->slots[i].pair == NULL) {
             return &keys->slots[i];
@@ -24,8 +24,8 @@ static bool read_number(const EVP_PKEY *pair, const char *name, uint8_t number[3
     return is_read;
 }
 
-const struct software_key *software_keys_make(struct software_keys *keys) {
-    struct software_key *key = free_slot(keys);
+const struct software_key *software_keys_generate(struct software_keys *keys) {
+    struct software_key *key = find_free_slot(keys);
     EVP_PKEY *pair = key == NULL ? NULL : EVP_EC_gen("P-256");
     if (pair == NULL || RAND_bytes(key->id, sizeof key->id) != 1 ||
         !read_number(pair, OSSL_PKEY_PARAM_EC_PUB_X, key->x) || !read_number(pair, OSSL_PKEY_PARAM_EC_PUB_Y, key->y) ||
@@ -55,7 +55,7 @@ static OSSL_PARAM *make_parameters(const struct software_key *key, BIGNUM *secre
 }
 
 // Returns whether the private key matches the public key.
-static bool is_pair(EVP_PKEY *pair) {
+static bool is_matching_pair(EVP_PKEY *pair) {
     EVP_PKEY_CTX *context = EVP_PKEY_CTX_new_from_pkey(NULL, pair, NULL);
     bool is_one = context != NULL && EVP_PKEY_pairwise_check(context) == 1;
     EVP_PKEY_CTX_free(context);
@@ -63,13 +63,13 @@ static bool is_pair(EVP_PKEY *pair) {
 }
 
 bool software_keys_add(struct software_keys *keys, const struct software_key *key) {
-    struct software_key *slot = free_slot(keys);
+    struct software_key *slot = find_free_slot(keys);
     BIGNUM *secret = BN_bin2bn(key->secret, sizeof key->secret, NULL);
     OSSL_PARAM *parameters = secret == NULL ? NULL : make_parameters(key, secret);
     EVP_PKEY_CTX *context = EVP_PKEY_CTX_new_from_name(NULL, "EC", NULL);
     EVP_PKEY *pair = NULL;
     if (slot != NULL && parameters != NULL && context != NULL && EVP_PKEY_fromdata_init(context) == 1 &&
-        EVP_PKEY_fromdata(context, &pair, EVP_PKEY_KEYPAIR, parameters) == 1 && is_pair(pair)) {
+        EVP_PKEY_fromdata(context, &pair, EVP_PKEY_KEYPAIR, parameters) == 1 && is_matching_pair(pair)) {
         *slot = *key;
         slot->pair = pair;
     } else {

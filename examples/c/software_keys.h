@@ -26,7 +26,7 @@ struct software_keys {
 };
 
 // Generates a P-256 key pair with a random ID. Returns NULL if all slots are used or libcrypto fails.
-const struct software_key *software_keys_make(struct software_keys *keys);
+const struct software_key *software_keys_generate(struct software_keys *keys);
 
 // Adds an existing key pair. Returns false if all slots are used, the key pair is invalid, or libcrypto fails.
 bool software_keys_add(struct software_keys *keys, const struct software_key *key);

@@ -70,7 +70,7 @@ bool virtual_key_tick(struct virtual_key *vkey) {
 }
 
 static int32_t provide_key_pair(struct virtual_key *vkey) {
-    const struct software_key *pair = software_keys_make(&vkey->keys);
+    const struct software_key *pair = software_keys_generate(&vkey->keys);
     if (pair == NULL) {
         return hidlog_key_refuse_key_pair(&vkey->key, now_ms(vkey));
     }

@@ -11,7 +11,7 @@ import sqlite3
 import sys
 
 
-def count_keys(path):
+def read_keys(path):
     """Returns the keys in a file by user name."""
     try:
         return dict(sqlite3.connect(path).execute("select name, text from keys"))
@@ -19,9 +19,9 @@ def count_keys(path):
         return {}
 
 
-def count_sign_ins(before, after):
-    """Returns the number of users whose signature counter has changed."""
-    first, second = count_keys(before), count_keys(after)
+def count_changed_keys(before, after):
+    """Returns the number of users whose key has changed, which each sign-in does."""
+    first, second = read_keys(before), read_keys(after)
     return sum(second[name] != text for name, text in first.items())
 
 
@@ -41,7 +41,7 @@ def main():
         )
     ceremonies = sum(int(row["Request Count"]) for (kind, _), row in rows.items() if kind == "CEREMONY")
     print(f"{name}: {ceremonies} ceremonies, {failed} failed")
-    count = count_sign_ins(*files) if len(files) > 1 else len(count_keys(*files))
+    count = count_changed_keys(*files) if len(files) > 1 else len(read_keys(*files))
     print(f"{name}: {count} users " + ("of the earlier run signed in" if len(files) > 1 else "registered"))
     sys.exit(1 if failed else 4 if count < int(users) or not ceremonies else 0)
 

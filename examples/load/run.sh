@@ -80,7 +80,7 @@ run_locust() {
     "${words[@]}" --master --master-bind-port "$master" --headless --expect-workers "$workers" --host "http://localhost:$port" \
         --users "$users" --spawn-rate "$users" --run-time "${seconds}s" --only-summary --csv "$work/$1" >"$work/output" 2>&1 ||
         { [ -n "${HIDLOG_KILL-}" ] || { cat "$work/output" "$work"/worker* && return 1; }; }
-    # The workers exit when their master exits.
+    # The workers exit after their master has exited.
     wait_for_processes "${ran[@]}"
     wait "${ran[@]}" 2>/dev/null || true
     echo "$1: the service has used $(ps -o cputimes= -p "$service" --ppid "$service" | awk '{ sum += $1 } END { print sum }') s of processor time so far"

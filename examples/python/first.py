@@ -1,5 +1,5 @@
 #!/usr/bin/env python3
-"""Registers and signs in. Prints the data that the service gets, and saves the log as session.log."""
+"""Registers a credential, and signs in with it. Saves the log as session.log."""
 
 from hidlog import SecurityKey
 from hidlog.webauthn_json import authentication

@@ -30,7 +30,7 @@ class SignInPage:
         return self.service.register(self.browser.create(options, **arguments))
 
     def sign_in(self, *allowed, account=0, verification=None):
-        """Signs in, and returns the user handle and the signature counter, both verified by the service."""
+        """Signs in, and returns the user handle and the signature counter of the response that the service accepted."""
         self.key.add_comment("somebody signs in")
         found = self.browser.get(self.service.sign_in_options(allowed, verification), account)
         self.service.sign_in(found)

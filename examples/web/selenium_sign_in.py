@@ -96,7 +96,7 @@ def test_user_denies(driver, url):
     click(driver, "sign-in", "NotAllowedError")
 
 
-def test_service_is_full(driver, url):
+def test_key_is_full(driver, url):
     """A registration fails if the key is full."""
     driver.get(url)
     driver.execute_script('hidlogKey.installedKey().faults.status = "KEY_STORE_FULL"')
@@ -110,7 +110,7 @@ def main():
     threading.Thread(target=server.serve_forever, daemon=True).start()
     driver = start_browser()
     try:
-        for test in (test_registration_and_sign_in, test_user_denies, test_service_is_full):
+        for test in (test_registration_and_sign_in, test_user_denies, test_key_is_full):
             test(driver, f"http://localhost:{server.server_address[1]}/")
             print(f"ok  {test.__name__}")
     finally:

@@ -8,4 +8,4 @@ here=$(cd "$(dirname "${BASH_SOURCE[0]}")" && pwd)
 aarch64-linux-gnu-gcc -static-pie -Wl,--build-id=none -Wl,-z,relro,-z,now -s -std=c11 -O2 -fPIE -Wall -Wextra \
     -ffile-prefix-map="$here=." -o "$2" "$1" "$here/system.c"
 [[ $(aarch64-linux-gnu-readelf -dW "$2") == *"Flags: NOW PIE"* && $(aarch64-linux-gnu-readelf -lW "$2") == *GNU_RELRO* ]] ||
-    { echo "link.sh: the program is not position-independent with read-only relocations" >&2; exit 1; }
+    { echo "packages/arm64/link.sh: $2 is not position-independent with read-only relocations" >&2; exit 1; }

@@ -68,7 +68,7 @@ void rattle_set_errno(int32_t error)
     errno = error;
 }
 
-// The result of an allocation. After a failure, `at` points to the unused block.
+// The result of an allocation. If it failed, `at` points to unused_block.
 struct allocation {
     bool ok;
     uint8_t *at;

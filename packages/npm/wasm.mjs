@@ -71,7 +71,7 @@ const runLive = async (core, file, snapshot) => {
      * Replays the log so far, and prints the new output. Returns whether to continue. The last line, the totals, is
      * printed at the end only.
      */
-    const play = (length, isEnd) => {
+    const printNewOutput = (length, isEnd) => {
         const outcome = core.run("live", log.subarray(0, length), snapshot);
         const totals = outcome.text.lastIndexOf(NEWLINE, outcome.text.length - 2) + 1;
         const end = isEnd || outcome.status ? outcome.text.length : totals;
@@ -82,21 +82,21 @@ const runLive = async (core, file, snapshot) => {
         }
         return !outcome.status;
     };
-    if (!play(0, false)) {
+    if (!printNewOutput(0, false)) {
         return;
     }
     try {
         for await (const chunk of file === "-" ? process.stdin : createReadStream(file)) {
             log = Buffer.concat([log, chunk]);
             const lines = log.lastIndexOf(NEWLINE) + 1;
-            if (!play(log.length - lines > MAX_LINE ? log.length : lines, false)) {
+            if (!printNewOutput(log.length - lines > MAX_LINE ? log.length : lines, false)) {
                 return;
             }
         }
     } catch (error) {
         fail(`cannot read log: ${error.message}`, 1);
     }
-    play(log.length, true);
+    printNewOutput(log.length, true);
 };
 
 const run = async (command, words) => {
