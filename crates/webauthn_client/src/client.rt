@@ -122,8 +122,8 @@ impl<'a> Client<'a> {
         ensures { IfOk result (λ v. IsTrue v → self.now.abilities.verification ≡ Verified) }
     {
         match self.ceremony {
-            Ceremony::Create => registration::requests_verification(self.options, self.abilities),
-            Ceremony::Get => sign_in::requests_verification(self.options, self.abilities),
+            Ceremony::Create => registration::verifies_user(self.options, self.abilities),
+            Ceremony::Get => sign_in::verifies_user(self.options, self.abilities),
         }
     }
 

@@ -1,7 +1,7 @@
 //! Encodes CTAP2 requests in canonical CBOR.
 
 ghost use Rattle.std.specs.Prelude.{◌≡◌, ◌<◌, ◌≤◌, ◌-◌, ◌++◌, OnOk, length};
-ghost use Rattle.ctap_cbor.specs.Head.{head};
+ghost use Rattle.ctap_cbor.specs.Grammar.{head};
 
 use crate::rejection::{Rejection, too_long};
 use arrayvec::ArrayVec;

@@ -49,6 +49,17 @@ fn check_entities(options: &[u8]) -> Result<(), Rejection> {
     Ok(())
 }
 
+/// Checks that binary members are base64url.
+fn check_binary_members(options: &[u8]) -> Result<(), Rejection> {
+    decode_member(required(options, "challenge")?, "challenge")?;
+    check_ids(
+        member(options, "excludeCredentials"),
+        "excludeCredentials.id",
+    )?;
+    decode_member(required(required(options, "user")?, "id")?, "user.id")?;
+    check_extension_bytes(member(options, "extensions"))
+}
+
 /// Checks the types of the options, and that binary members are base64url.
 pub fn check_types(options: &[u8]) -> Result<(), Rejection> {
     dictionary(options, "PublicKeyCredentialCreationOptionsJSON")?;
@@ -56,20 +67,15 @@ pub fn check_types(options: &[u8]) -> Result<(), Rejection> {
         member(options, "authenticatorSelection"),
         "authenticatorSelection",
     )?;
-    let challenge = required(options, "challenge")?;
-    let excluded = member(options, "excludeCredentials");
-    check_descriptors(excluded, "excludeCredentials")?;
-    let extensions = member(options, "extensions");
-    check_extension_types(extensions)?;
+    required(options, "challenge")?;
+    check_descriptors(member(options, "excludeCredentials"), "excludeCredentials")?;
+    check_extension_types(member(options, "extensions"))?;
     if let Some(hints) = member(options, "hints") {
         sequence(hints, "hints")?;
     }
     check_parameters(required(options, "pubKeyCredParams")?)?;
     check_entities(options)?;
-    decode_member(challenge, "challenge")?;
-    check_ids(excluded, "excludeCredentials.id")?;
-    decode_member(required(required(options, "user")?, "id")?, "user.id")?;
-    check_extension_bytes(extensions)
+    check_binary_members(options)
 }
 
 /// Returns a member of `authenticatorSelection` in the options.
@@ -138,31 +144,37 @@ fn put_parameters(message: &mut Message, list: &[u8]) -> Result<(), Rejection> {
     Ok(())
 }
 
-/// Appends the relying party and the user.
-fn put_entities(message: &mut Message, options: &[u8], rp_id: &[u8]) -> Result<(), Rejection> {
+/// Appends a required member of a dictionary, converted to a string.
+fn put_string(
+    message: &mut Message,
+    dictionary: &[u8],
+    name: &'static str,
+) -> Result<(), Rejection> {
+    put_text(
+        message,
+        to_string_value(required(dictionary, name)?)?.as_slice(),
+    )
+}
+
+/// Appends the relying party.
+fn put_rp(message: &mut Message, rp: &[u8], rp_id: &[u8]) -> Result<(), Rejection> {
     put(message, b"\x02\xa2\x62id")?;
     put_text(message, rp_id)?;
     put(message, b"\x64name")?;
-    let user = required(options, "user")?;
-    put_text(
-        message,
-        to_string_value(required(required(options, "rp")?, "name")?)?.as_slice(),
-    )?;
+    put_string(message, rp, "name")
+}
+
+/// Appends the user.
+fn put_user(message: &mut Message, user: &[u8]) -> Result<(), Rejection> {
     put(message, b"\x03\xa3\x62id")?;
     put_bytes(
         message,
         decode_member(required(user, "id")?, "user.id")?.as_slice(),
     )?;
     put(message, b"\x64name")?;
-    put_text(
-        message,
-        to_string_value(required(user, "name")?)?.as_slice(),
-    )?;
+    put_string(message, user, "name")?;
     put(message, b"\x6bdisplayName")?;
-    put_text(
-        message,
-        to_string_value(required(user, "displayName")?)?.as_slice(),
-    )
+    put_string(message, user, "displayName")
 }
 
 /// Checks the values of the options, as browsers do before they check the RP ID.
@@ -188,7 +200,7 @@ fn check_values(options: &[u8], origin: &Origin, abilities: Abilities) -> Result
 }
 
 /// Returns whether the authenticator verifies the user.
-pub fn requests_verification(options: &[u8], abilities: Abilities) -> Result<bool, Rejection>
+pub fn verifies_user(options: &[u8], abilities: Abilities) -> Result<bool, Rejection>
     ensures { IfOk result (λ v. IsTrue v → abilities.verification ≡ Verified) }
 {
     is_verified(
@@ -202,6 +214,38 @@ pub fn requests_verification(options: &[u8], abilities: Abilities) -> Result<boo
 pub fn create_client_data(options: &[u8], origin: &Origin) -> Result<ClientData, Rejection> {
     let challenge = decode_member(required(options, "challenge")?, "challenge")?;
     write_client_data(Ceremony::Create, challenge.as_slice(), origin)
+}
+
+/// Appends the parameters of a request, whose options were checked.
+fn put_request(
+    message: &mut Message,
+    options: &[u8],
+    origin: &Origin,
+    rp_id: &[u8],
+    is_discoverable: bool,
+) -> Result<(), Rejection> {
+    let excluded = member(options, "excludeCredentials").unwrap_or(b"");
+    let has_excluded = public_key_count(excluded) > 0;
+    let members = 4 + u64::from(has_excluded) + u64::from(is_discoverable);
+    put(message, b"\x01")?;
+    put_head(message, 5, members)?;
+    put(message, b"\x01")?;
+    put_bytes(
+        message,
+        &Sha256::digest(create_client_data(options, origin)?.as_slice()),
+    )?;
+    put_rp(message, required(options, "rp")?, rp_id)?;
+    put_user(message, required(options, "user")?)?;
+    put(message, b"\x04")?;
+    put_parameters(message, required(options, "pubKeyCredParams")?)?;
+    if has_excluded {
+        put(message, b"\x05")?;
+        put_descriptors(message, excluded)?;
+    }
+    if is_discoverable {
+        put(message, b"\x07\xa1\x62rk\xf5")?;
+    }
+    Ok(())
 }
 
 /// Appends the request of a registration.
@@ -222,28 +266,8 @@ pub fn encode_request(
         None => select_rp_id(None, origin, suffix)?,
     };
     check_abilities(options, abilities)?;
-    requests_verification(options, abilities)?;
+    verifies_user(options, abilities)?;
     let is_discoverable = is_discoverable(options, abilities)?;
     check_large_blob(member(options, "extensions"), is_discoverable)?;
-    let excluded = member(options, "excludeCredentials").unwrap_or(b"");
-    let has_excluded = public_key_count(excluded) > 0;
-    let members = 4 + u64::from(has_excluded) + u64::from(is_discoverable);
-    put(message, b"\x01")?;
-    put_head(message, 5, members)?;
-    put(message, b"\x01")?;
-    put_bytes(
-        message,
-        &Sha256::digest(create_client_data(options, origin)?.as_slice()),
-    )?;
-    put_entities(message, options, rp_id)?;
-    put(message, b"\x04")?;
-    put_parameters(message, required(options, "pubKeyCredParams")?)?;
-    if has_excluded {
-        put(message, b"\x05")?;
-        put_descriptors(message, excluded)?;
-    }
-    if is_discoverable {
-        put(message, b"\x07\xa1\x62rk\xf5")?;
-    }
-    Ok(())
+    put_request(message, options, origin, rp_id, is_discoverable)
 }

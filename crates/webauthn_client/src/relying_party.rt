@@ -126,8 +126,8 @@ fn check_context(origin: &Origin) -> Result<(), Rejection> {
     Ok(())
 }
 
-/// Returns the RP ID of a call: the one in the options if the page may use it, or else the page's host. If the caller
-/// passes no public suffix, the last label of the host is used as the suffix.
+/// Returns the RP ID of a call: the one in the options, or without one the page's host. Fails if the page may not use
+/// it. If the caller passes no public suffix, the last label of the host is used as the suffix.
 pub fn select_rp_id<'a>(
     given: Option<&'a [u8]>,
     origin: &Origin<'a>,

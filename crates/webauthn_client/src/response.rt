@@ -230,6 +230,31 @@ fn push_request_results(out: &mut Response, extensions: Option<&[u8]>) -> Result
     )
 }
 
+/// Returns the credential ID and the public key in the authenticator data of a registration (WebAuthn Level 2, section
+/// 6.5.1).
+fn attested_credential(auth_data: &[u8]) -> Option<(&[u8], &[u8])> {
+    let Some([high, low]) = auth_data.get(53..55) else {
+        return None;
+    };
+    let end = 55 + usize::from(*high) * 256 + usize::from(*low);
+    Some((auth_data.get(55..end)?, auth_data.get(end..)?))
+}
+
+/// Appends the attestation object, from the encodings of its members (WebAuthn Level 2, section 6.5.4).
+fn push_attestation(
+    out: &mut Attestation,
+    format: &[u8],
+    statement: &[u8],
+    auth_data: &[u8],
+) -> Result<(), Rejection> {
+    push(out, b"\xa3\x63fmt")?;
+    push(out, format)?;
+    push(out, b"\x67attStmt")?;
+    push(out, statement)?;
+    push(out, b"\x68authData")?;
+    push(out, auth_data)
+}
+
 /// Appends the response of a registration, from the authenticator's response map.
 pub fn registration_json(
     map: &[u8],
@@ -247,20 +272,11 @@ pub fn registration_json(
         return Err(invalid_response());
     };
     let auth_data = auth.content;
-    let Some([high, low]) = auth_data.get(53..55) else {
-        return Err(invalid_response());
-    };
-    let end = 55 + usize::from(*high) * 256 + usize::from(*low);
-    let (Some(id), Some(cose)) = (auth_data.get(55..end), auth_data.get(end..)) else {
+    let Some((id, cose)) = attested_credential(auth_data) else {
         return Err(invalid_response());
     };
     let mut attestation = Attestation::new();
-    push(&mut attestation, b"\xa3\x63fmt")?;
-    push(&mut attestation, format.whole)?;
-    push(&mut attestation, b"\x67attStmt")?;
-    push(&mut attestation, statement.whole)?;
-    push(&mut attestation, b"\x68authData")?;
-    push(&mut attestation, auth.whole)?;
+    push_attestation(&mut attestation, format.whole, statement.whole, auth.whole)?;
     push_beginning(out, id, client_data)?;
     push(out, b"\",\"authenticatorData\":\"")?;
     push_encoded(out, auth_data)?;

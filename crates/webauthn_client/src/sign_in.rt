@@ -87,7 +87,7 @@ fn is_any_usable_over(list: &[u8], transport: &str) -> bool {
 }
 
 /// Returns whether the authenticator verifies the user.
-pub fn requests_verification(options: &[u8], abilities: Abilities) -> Result<bool, Rejection>
+pub fn verifies_user(options: &[u8], abilities: Abilities) -> Result<bool, Rejection>
     ensures { IfOk result (λ v. IsTrue v → abilities.verification ≡ Verified) }
 {
     is_verified(
@@ -103,30 +103,15 @@ pub fn create_client_data(options: &[u8], origin: &Origin) -> Result<ClientData,
     write_client_data(Ceremony::Get, challenge.as_slice(), origin)
 }
 
-/// Appends the request of an authentication.
-pub fn encode_request(
+/// Appends the parameters of a request, whose options were checked.
+fn put_request(
+    message: &mut Message,
     options: &[u8],
     origin: &Origin,
-    suffix: &[u8],
-    abilities: Abilities,
-    message: &mut Message,
+    rp_id: &[u8],
 ) -> Result<(), Rejection> {
     let allowed = member(options, "allowCredentials").unwrap_or(b"");
-    check_length(Some(allowed), "allowCredentials")?;
     let has_list = public_key_count(allowed) > 0;
-    check_request(member(options, "extensions"), allowed, origin)?;
-    let given = match member(options, "rpId") {
-        Some(id) => Some(to_string_value(id)?),
-        None => None,
-    };
-    let rp_id = match &given {
-        Some(id) => select_rp_id(Some(id.as_slice()), origin, suffix)?,
-        None => select_rp_id(None, origin, suffix)?,
-    };
-    requests_verification(options, abilities)?;
-    if !is_any_usable_over(allowed, abilities.transport()) {
-        return Err(not_allowed("allowCredentials has no credential with the key's transport"));
-    }
     put(message, b"\x02")?;
     put_head(message, 5, 2 + u64::from(has_list))?;
     put(message, b"\x01")?;
@@ -141,4 +126,30 @@ pub fn encode_request(
         put_descriptors(message, allowed)?;
     }
     Ok(())
+}
+
+/// Appends the request of an authentication.
+pub fn encode_request(
+    options: &[u8],
+    origin: &Origin,
+    suffix: &[u8],
+    abilities: Abilities,
+    message: &mut Message,
+) -> Result<(), Rejection> {
+    let allowed = member(options, "allowCredentials").unwrap_or(b"");
+    check_length(Some(allowed), "allowCredentials")?;
+    check_request(member(options, "extensions"), allowed, origin)?;
+    let given = match member(options, "rpId") {
+        Some(id) => Some(to_string_value(id)?),
+        None => None,
+    };
+    let rp_id = match &given {
+        Some(id) => select_rp_id(Some(id.as_slice()), origin, suffix)?,
+        None => select_rp_id(None, origin, suffix)?,
+    };
+    verifies_user(options, abilities)?;
+    if !is_any_usable_over(allowed, abilities.transport()) {
+        return Err(not_allowed("allowCredentials has no credential with the key's transport"));
+    }
+    put_request(message, options, origin, rp_id)
 }
