@@ -12,7 +12,7 @@ import (
 // maxCalls is the maximum number of calls in a report. Older calls are dropped.
 const maxCalls = 40
 
-// Flags of authenticator data (WebAuthn Level 2, section 6.1).
+// Flags of authenticator data (WebAuthn Level 3, section 6.1).
 const (
 	flagUserVerified   = 0x04
 	flagBackupEligible = 0x08
@@ -39,7 +39,7 @@ type TestingT interface {
 	Logf(format string, args ...any)
 }
 
-// ReportOnFailure logs the key's report when the test ends, if the test failed.
+// ReportOnFailure logs the key's report when the test ends, if the test failed and the report is not empty.
 func (k *SecurityKey) ReportOnFailure(t TestingT) {
 	t.Helper()
 	t.Cleanup(func() {
@@ -119,7 +119,7 @@ func findOption(options map[string]any, path string) (any, bool) {
 	return value, isPresent
 }
 
-// findText returns an option that is a text, or an empty string.
+// findText returns the value of an option if it is a string, and an empty string otherwise.
 func findText(options map[string]any, path string) string {
 	value, _ := findOption(options, path)
 	text, _ := value.(string)
@@ -271,7 +271,8 @@ func describeOptions(kind ceremony, options map[string]any) string {
 	return strings.Join(found, ", ")
 }
 
-// describeAbsent returns "absent", with the default of WebAuthn Level 3, sections 5.4.4 and 5.5, if any.
+// describeAbsent returns "absent", and for residentKey and userVerification also the default (WebAuthn Level 3, sections
+// 5.4.4 and 5.5).
 func describeAbsent(name string, options map[string]any) string {
 	isRequired, _ := findOption(options, "authenticatorSelection.requireResidentKey")
 	switch {

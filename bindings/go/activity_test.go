@@ -72,9 +72,9 @@ func TestReportDescribesCalls(t *testing.T) {
 	if len(got) != len(want) {
 		t.Fatalf("expected %d lines, got:\n%s", len(want), strings.Join(got, "\n"))
 	}
-	for place, line := range want {
-		if !strings.HasPrefix(got[place], line) {
-			t.Errorf("expected %q, got %q", line, got[place])
+	for i, line := range want {
+		if !strings.HasPrefix(got[i], line) {
+			t.Errorf("expected %q, got %q", line, got[i])
 		}
 	}
 }

@@ -10,7 +10,7 @@ import (
 )
 
 // Browser is a simulated browser at an origin, with a security key. It registers and signs in as navigator.credentials
-// of a page does.
+// does on a page.
 type Browser struct {
 	key    *SecurityKey
 	origin string
@@ -33,12 +33,14 @@ func (k *SecurityKey) Browser(origin string) *Browser {
 }
 
 // Create registers a credential. The options are PublicKeyCredentialCreationOptionsJSON, and the result is
-// RegistrationResponseJSON. An error that a page would get is a *DOMError. Create rejects the same options as Chromium.
+// RegistrationResponseJSON. An error that a page would get is a *DOMError. Create rejects the same options as Chromium,
+// except that public suffixes with several labels (co.uk) are not supported.
 func (b *Browser) Create(optionsJSON []byte) ([]byte, error) {
 	return b.call(createCeremony, optionsJSON)
 }
 
-// Get signs in. The options are PublicKeyCredentialRequestOptionsJSON, and the result is AuthenticationResponseJSON.
+// Get signs in. The options are PublicKeyCredentialRequestOptionsJSON, and the result is AuthenticationResponseJSON. An
+// error that a page would get is a *DOMError.
 func (b *Browser) Get(optionsJSON []byte) ([]byte, error) {
 	return b.call(getCeremony, optionsJSON)
 }
@@ -71,7 +73,7 @@ func (b *Browser) perform(call *browserCall) ([]byte, error) {
 			return nil, err
 		}
 	} else if b.key.Faults.Status != 0 {
-		call.faults = []string{"the answer is status " + formatStatus(b.key.Faults.Status)}
+		call.faults = []string{"the response has status " + formatStatus(b.key.Faults.Status)}
 	}
 	credential, err := c.buildCredential(response)
 	if refused, is := err.(*DOMError); is && response[0] != 0 {
@@ -182,7 +184,8 @@ func buildResponse(kind ceremony, members map[any]any, signed signedResponse, ha
 	return found
 }
 
-// alterSigned sets flags in the authenticator data, injects the enabled faults, and signs changed data again.
+// alterSigned sets flags in the authenticator data, injects the enabled faults, and signs changed data again, before it
+// is truncated.
 func (b *Browser) alterSigned(signed *signedResponse, flags byte) error {
 	faults, data := &b.key.Faults, clone(signed.data)
 	data[32] |= flags
@@ -213,7 +216,7 @@ func (b *Browser) alterSigned(signed *signedResponse, flags byte) error {
 	}
 	if faults.TruncateBy > 0 {
 		data = data[:max(0, len(data)-faults.TruncateBy)]
-		signed.faults = append(signed.faults, fmt.Sprintf("the authenticator data is cut to %d bytes", len(data)))
+		signed.faults = append(signed.faults, fmt.Sprintf("the authenticator data is truncated to %d bytes", len(data)))
 	}
 	signed.data = data
 	return nil

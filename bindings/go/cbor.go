@@ -12,7 +12,7 @@ type entry struct{ key, value any }
 
 var errCBOR = errors.New("hidlog: invalid response from the authenticator")
 
-// encode encodes an item: int, []byte, string, bool, []any or []entry.
+// encode encodes an item: int, []byte, string, bool, []any or []entry. Numbers and lengths must be below 65536.
 func encode(item any) []byte {
 	switch value := item.(type) {
 	case int:

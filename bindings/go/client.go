@@ -41,7 +41,7 @@ type clientCall struct {
 	options, origin   []byte
 	mediation, suffix []byte
 	abilities         C.uint32_t
-	isVerified        bool // whether the response has user verification; set by buildRequest
+	isVerified        bool // whether the user is verified; set by buildRequest
 }
 
 // newClientCall returns a call. The default of mediation is "optional".
@@ -64,7 +64,7 @@ func (c *clientCall) buildRequest() ([]byte, error) {
 	return readResult(length, report, out)
 }
 
-// buildCredential returns the credential as JSON. The key's response is a status byte, then CBOR.
+// buildCredential returns the credential as JSON. from is the key's response: a status byte, then CBOR.
 func (c *clientCall) buildCredential(from []byte) ([]byte, error) {
 	out := make([]byte, credentialCapacity)
 	var report C.struct_hidlog_client_report

@@ -45,7 +45,8 @@ func (a *Authenticator) updateCredentials(prefix string, call func() C.int32_t) 
 	return nil
 }
 
-// Add adds a credential. A credential with the same ID is replaced.
+// Add adds a credential, or replaces the one with the same ID. Like Remove and Clear, it power-cycles the
+// authenticator.
 func (a *Authenticator) Add(credential Credential) error {
 	if len(credential.UserID) > 64 || len(credential.UserName) > 64 {
 		return fmt.Errorf("hidlog: UserID and UserName must have at most 64 bytes, not %d and %d",
@@ -83,7 +84,7 @@ func (a *Authenticator) takeSnapshot() []byte {
 	return out[:C.hidlog_key_save_snapshot(a.key, firstByte(out), C.size_t(len(out)))]
 }
 
-// Snapshot returns the credentials, without private keys, as a snapshot for NewAuthenticator and `hidlog --load`.
+// Snapshot returns the credentials, without private keys, as a snapshot for NewAuthenticator and `hidlog check --load`.
 func (a *Authenticator) Snapshot() ([]byte, error) {
 	a.mutex.Lock()
 	defer a.mutex.Unlock()

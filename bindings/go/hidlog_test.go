@@ -96,8 +96,8 @@ func checkRecordings(t *testing.T, key *hidlog.Authenticator) {
 	}
 }
 
-// isVerified returns whether a sign-in is valid for the registered public key.
-func isVerified(t *testing.T, registration, assertion publicKeyCredential) bool {
+// hasValidSignature returns whether the signature of a sign-in is valid for the registered public key.
+func hasValidSignature(t *testing.T, registration, assertion publicKeyCredential) bool {
 	t.Helper()
 	public, err := x509.ParsePKIXPublicKey(decodeBase64URL(t, registration.Response.PublicKey))
 	if err != nil {
@@ -120,18 +120,18 @@ func TestRegisterAndSignIn(t *testing.T) {
 	registered := parseCredential(t, made, err)
 	rp := sha256.Sum256([]byte("example.com"))
 	if data := decodeBase64URL(t, registered.Response.AuthenticatorData); !bytes.Equal(data[:32], rp[:]) || data[32] != 0x41 {
-		t.Fatalf("authenticator data %x", data)
+		t.Fatalf("expected the RP ID hash of example.com and the flags 41, got the authenticator data %x", data)
 	}
 	// {"fmt": "packed", "attStmt": {"alg": -7, "sig": signature of authenticator data and clientDataHash}, ..}
 	front := []byte("\xa3\x63fmt\x66packed\x67attStmt\xa2\x63alg\x26\x63sig\x58")
 	attestation := decodeBase64URL(t, registered.Response.AttestationObject)
 	if !bytes.HasPrefix(attestation, front) {
-		t.Fatalf("attestation %x", attestation)
+		t.Fatalf("expected a packed self attestation with ES256, got the attestation object %x", attestation)
 	}
 	rest := attestation[len(front):]
 	signed := registered
 	signed.Response.Signature = base64.RawURLEncoding.EncodeToString(rest[1 : 1+rest[0]])
-	if !isVerified(t, registered, signed) {
+	if !hasValidSignature(t, registered, signed) {
 		t.Fatal("the signature of the self attestation is invalid")
 	}
 	for expected := uint32(1); expected < 4; expected++ {
@@ -140,8 +140,8 @@ func TestRegisterAndSignIn(t *testing.T) {
 		if signedIn.ID != registered.ID || signedIn.Response.UserHandle != "YW5u" {
 			t.Fatalf("expected the credential and the user handle of the registered account, got %s", used)
 		}
-		if !isVerified(t, registered, signedIn) || signCount(t, signedIn) != expected {
-			t.Fatalf("sign-in %d: %s", expected, used)
+		if !hasValidSignature(t, registered, signedIn) || signCount(t, signedIn) != expected {
+			t.Fatalf("expected a valid signature and the signature counter %d, got %s", expected, used)
 		}
 		var data struct{ Type, Challenge, Origin string }
 		if err := json.Unmarshal(decodeBase64URL(t, signedIn.Response.ClientDataJSON), &data); err != nil {
@@ -164,9 +164,9 @@ func TestAuthenticatorOptions(t *testing.T) {
 	registered := parseCredential(t, made, err)
 	attestation := decodeBase64URL(t, registered.Response.AttestationObject)
 	if !bytes.HasPrefix(attestation, []byte("\xa3\x63fmt\x64none\x67attStmt\xa0\x68authData")) {
-		t.Fatalf("attestation %x", attestation)
+		t.Fatalf("expected the attestation format none, got the attestation object %x", attestation)
 	}
-	// The flags BE and BS are those of the credential.
+	// The flags BE and BS belong to the credential, so changing the options does not clear them.
 	key.Options = hidlog.AuthenticatorOptions{Verification: hidlog.VerificationVerified}
 	browser.Mediation = "conditional"
 	used, err := browser.Get(get)
@@ -176,7 +176,7 @@ func TestAuthenticatorOptions(t *testing.T) {
 			t.Fatalf("expected the flags %02x, got %02x", flags, data[32])
 		}
 	}
-	if !isVerified(t, registered, signedIn) {
+	if !hasValidSignature(t, registered, signedIn) {
 		t.Fatal("the signature over the flags is invalid")
 	}
 	log := key.Recordings()[0].Log
@@ -223,8 +223,8 @@ func TestInvalidCallsAreRejected(t *testing.T) {
 	browser := key.Browser(origin)
 	used, err := browser.Create(create)
 	made := parseCredential(t, used, err)
-	// options returns registration options as JSON. The text rp is inserted before the members of rp, user is the user ID,
-	// and rest has further members.
+	// options returns registration options as JSON. The text rp is inserted before rp's member name, user is the user ID,
+	// and rest is appended to the members of the options.
 	options := func(rp, user, rest string) string {
 		return fmt.Sprintf(`{"rp": {%s"name": "Example"}, "challenge": "AAECAwQFBgcICQoLDA0ODw",
 			"user": {"id": "%s", "name": "a", "displayName": "A"}, "pubKeyCredParams": [{"type": "public-key", "alg": -7}]%s}`,
@@ -241,7 +241,7 @@ func TestInvalidCallsAreRejected(t *testing.T) {
 		{origin, options(`"id": "com", `, "AA", ""), "SecurityError", false},
 		{"http://example.com", options("", "AA", ""), "SecurityError", false},
 		{"https://127.0.0.1", options("", "AA", ""), "SecurityError", false},
-		// Options without rp, user or parameters, which browsers reject.
+		// Options that lack required members, and options that are not JSON.
 		{origin, `{"challenge": "AAECAwQFBgcICQoLDA0ODw"}`, "TypeError", false},
 		{origin, `{"rp": {"id": "example.com"}, "challenge": "AA", "user": {"id": "AA", "name": "a"}}`, "TypeError", false},
 		{origin, `{"rp": {"id": "example.com"}, "user": {"id": "AA"}}`, "TypeError", false},
@@ -272,16 +272,16 @@ func TestFaults(t *testing.T) {
 	}
 	before := signCount(t, signIn())
 	key.Faults = hidlog.Faults{StaleSignCount: true}
-	if used := signIn(); signCount(t, used) != before || !isVerified(t, made, used) {
+	if used := signIn(); signCount(t, used) != before || !hasValidSignature(t, made, used) {
 		t.Fatal("StaleSignCount: expected the previous signature counter and a valid signature")
 	}
 	key.Faults = hidlog.Faults{BadSignature: true}
-	if isVerified(t, made, signIn()) {
+	if hasValidSignature(t, made, signIn()) {
 		t.Fatal("BadSignature: expected an invalid signature, got a valid one")
 	}
 	key.Faults = hidlog.Faults{WrongRPID: "example.org"}
 	rp, used := sha256.Sum256([]byte("example.org")), signIn()
-	if !bytes.HasPrefix(decodeBase64URL(t, used.Response.AuthenticatorData), rp[:]) || !isVerified(t, made, used) {
+	if !bytes.HasPrefix(decodeBase64URL(t, used.Response.AuthenticatorData), rp[:]) || !hasValidSignature(t, made, used) {
 		t.Fatal("WrongRPID: expected the RP ID hash of example.org and a valid signature")
 	}
 	key.Faults = hidlog.Faults{TruncateBy: 4}
@@ -293,8 +293,8 @@ func TestFaults(t *testing.T) {
 		t.Fatal(err)
 	}
 	key.Faults = hidlog.Faults{}
-	if used := signIn(); !isVerified(t, made, used) || signCount(t, used) < before+5 {
-		t.Fatal("without faults: expected a valid sign-in")
+	if used := signIn(); !hasValidSignature(t, made, used) || signCount(t, used) < before+5 {
+		t.Fatalf("without faults: expected a valid signature and a signature counter of at least %d", before+5)
 	}
 }
 
@@ -314,8 +314,21 @@ func TestCredentials(t *testing.T) {
 	if used := parseCredential(t, text, err); signCount(t, used) != 42 || string(decodeBase64URL(t, used.Response.UserHandle)) != "bob" {
 		t.Fatal(string(text))
 	}
+	carol := hidlog.Credential{RPIDHash: rp, ID: hidlog.CredentialID{6}, UserID: []byte("carol")}
+	if err := key.Add(carol); err != nil {
+		t.Fatal(err)
+	}
+	if text, err = key.Browser(origin).Get(get); err != nil {
+		t.Fatalf("a sign-in after Add: %v", err)
+	}
+	if used := parseCredential(t, text, err); signCount(t, used) != 43 {
+		t.Fatal(string(text))
+	}
+	if err := key.Remove(carol.ID); err != nil {
+		t.Fatal(err)
+	}
 	credentials := key.Credentials()
-	if len(credentials) != 1 || credentials[0].UserName != "Bob" || credentials[0].SignCount != 42 ||
+	if len(credentials) != 1 || credentials[0].UserName != "Bob" || credentials[0].SignCount != 43 ||
 		string(credentials[0].UserID) != "bob" {
 		t.Fatal(credentials)
 	}
@@ -341,7 +354,7 @@ func TestCredentials(t *testing.T) {
 	if err := key.Remove(hidlog.CredentialID{9}); err == nil {
 		t.Fatal("expected an error for removing a missing credential")
 	}
-	if err := key.Clear(); err != nil || len(key.Credentials()) != 0 || len(key.Recordings()) != 3 {
+	if err := key.Clear(); err != nil || len(key.Credentials()) != 0 || len(key.Recordings()) != 5 {
 		t.Fatal(err)
 	}
 	if _, err := hidlog.NewAuthenticator([]byte{1}); err == nil {

@@ -1,7 +1,7 @@
 package hidlog
 
-// /* The library is in lib in the published module, and in release in a clone of the repository. On other platforms,
-//    portable.c compiles the library. */
+// /* The prebuilt library for Linux on amd64 and arm64 is in lib in the published module, and in release in a clone of
+//    the repository. Otherwise, portable.c compiles the library. */
 // #cgo CFLAGS: -I${SRCDIR}/lib -I${SRCDIR}/lib/portable -I${SRCDIR}/../../release
 // #cgo linux,amd64,!hidlog_portable LDFLAGS: -L${SRCDIR}/lib/amd64 -L${SRCDIR}/../../release -l:libhidlog.a
 // #cgo linux,arm64,!hidlog_portable LDFLAGS: -L${SRCDIR}/lib/arm64 -L${SRCDIR}/../../release/aarch64 -l:libhidlog.a
@@ -69,7 +69,7 @@ type Credential struct {
 	ID           CredentialID
 	X, Y         [32]byte // the public key on P-256
 	UserID       []byte   // the user handle, at most 64 bytes
-	UserName     string   // at most 64 bytes
+	UserName     string   // UTF-8, at most 64 bytes
 	Discoverable bool
 	SignCount    uint32
 }
@@ -81,23 +81,23 @@ type Recording struct {
 	Log      []byte
 }
 
-// Authenticator is the verified core alone: packets and replies in, packets out. Times are in milliseconds, and every
-// input is recorded. The methods may be called from several goroutines. An input that returns an error does not change
-// the authenticator.
+// Authenticator is the verified core alone: packets and replies in, packets out. Times are milliseconds since power-up.
+// Every input is recorded, except one that returns an error, which does not change the authenticator. The methods may
+// be called from several goroutines.
 type Authenticator struct {
 	mutex      sync.Mutex
 	key        *C.struct_hidlog_key
 	recordings []Recording
 }
 
-// ErrClosed is returned by methods of a closed Authenticator.
+// ErrClosed is returned by the methods of a closed Authenticator that return an error.
 var ErrClosed = errors.New("hidlog: the authenticator is closed")
 
 var errorTexts = map[C.int32_t]string{
 	C.HIDLOG_KEY_ERR_NOT_INITIALIZED:  "the key is not initialized",
 	C.HIDLOG_KEY_ERR_PACKETS_QUEUED:   "packets are queued: read them first",
-	C.HIDLOG_KEY_ERR_INVALID_ARGUMENT: "no such credential, or a text is longer than 64 bytes or not UTF-8",
-	C.HIDLOG_KEY_ERR_BUSY:             "the key is busy",
+	C.HIDLOG_KEY_ERR_INVALID_ARGUMENT: "no credential has this ID, or the user name is not UTF-8",
+	C.HIDLOG_KEY_ERR_BUSY:             "a request is in progress: provide what it needs first",
 	C.HIDLOG_KEY_ERR_DUPLICATE_USER:   "another discoverable credential has the same RP and user",
 	C.HIDLOG_KEY_ERR_NOT_A_SNAPSHOT:   "the bytes are not a snapshot",
 	C.HIDLOG_KEY_ERR_FULL:             "the key is full: its capacity is 64 credentials",
@@ -117,7 +117,7 @@ func toError(what string, status C.int32_t) error {
 }
 
 // NewAuthenticator returns an authenticator with the credentials of a snapshot, or without credentials if the snapshot
-// is nil. Close frees the authenticator's memory, as does the garbage collector.
+// is empty. Close frees the authenticator's memory, as does the garbage collector.
 func NewAuthenticator(snapshot []byte) (*Authenticator, error) {
 	a := &Authenticator{recordings: []Recording{{Snapshot: clone(snapshot)}}}
 	a.key = (*C.struct_hidlog_key)(C.calloc(1, C.sizeof_struct_hidlog_key))
@@ -272,7 +272,7 @@ func (a *Authenticator) Need() Need {
 	return found
 }
 
-// Recordings returns all recordings, oldest first. A new recording begins at each Add, Remove and Clear.
+// Recordings returns all recordings, oldest first. Add, Remove and Clear begin a new recording if they succeed.
 func (a *Authenticator) Recordings() []Recording {
 	a.mutex.Lock()
 	defer a.mutex.Unlock()

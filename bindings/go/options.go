@@ -26,7 +26,7 @@ type AuthenticatorOptions struct {
 	NoResidentKeys bool
 	// BackupEligible and BackedUp are the flags BE and BS of new credentials.
 	BackupEligible, BackedUp bool
-	// NoAttestation, if true, replaces self attestation by the attestation statement format "none".
+	// NoAttestation, if true, replaces self attestation with the attestation statement format "none".
 	NoAttestation bool
 }
 

@@ -13,7 +13,7 @@ import (
 	"time"
 )
 
-// CTAPHID commands, with the bit of initialization packets set (CTAP 2.1, section 11.2.4).
+// CTAPHID commands, with bit 7 set, which marks initialization packets (CTAP 2.1, section 11.2.4).
 const (
 	commandInit      = 0x80 | hidINIT
 	commandCBOR      = 0x80 | hidCBOR
@@ -28,11 +28,12 @@ type Faults struct {
 	Status byte
 	// BadSignature, if true, signs with a different private key.
 	BadSignature bool
-	// StaleSignCount, if true, repeats the signature counter of the previous response, with a valid signature.
+	// StaleSignCount, if true, repeats the signature counter of the credential's previous response, with a valid
+	// signature.
 	StaleSignCount bool
 	// WrongRPID, if not empty, is the RP ID whose hash replaces the one in the authenticator data, with a valid signature.
 	WrongRPID string
-	// TruncateBy is the number of bytes to remove from the end of the authenticator data.
+	// TruncateBy is the number of bytes to remove from the end of the authenticator data after signing.
 	TruncateBy int
 }
 
@@ -42,7 +43,7 @@ type Faults struct {
 type SecurityKey struct {
 	*Authenticator
 	// Presence is the sequence of what the user does when the key asks for a touch. The last element is repeated. If the
-	// sequence is empty, the user grants every touch.
+	// sequence is empty, the user always touches the key.
 	Presence []Presence
 	// Faults are the faults to inject.
 	Faults Faults
@@ -52,8 +53,8 @@ type SecurityKey struct {
 	mutex       sync.Mutex // held during Exchange, and while a call is added
 	poweredUp   time.Time
 	privateKeys map[CredentialID]*ecdsa.PrivateKey
-	channel     [4]byte
-	last        map[CredentialID]uint32 // signature counter of the previous response
+	channel     [4]byte                 // 0 if none is allocated; a power cycle frees channels
+	last        map[CredentialID]uint32 // signature counter of each credential's previous response
 	backupFlags map[CredentialID]byte   // flags BE and BS of credentials that browsers created
 	calls       []browserCall           // the last calls of browsers
 }
@@ -102,8 +103,14 @@ func (k *SecurityKey) AddWithPrivateKey(credential Credential, privateKey *ecdsa
 		return err
 	}
 	k.privateKeys[credential.ID] = privateKey
-	k.channel = [4]byte{}
 	return nil
+}
+
+// Add adds a credential, or replaces the one with the same ID. If the key has no private key for this ID, it cannot sign
+// with the credential; use AddWithPrivateKey.
+func (k *SecurityKey) Add(credential Credential) error {
+	k.channel = [4]byte{}
+	return k.Authenticator.Add(credential)
 }
 
 // Remove removes the credential with this ID.
@@ -250,8 +257,8 @@ func (k *SecurityKey) openChannel() error {
 	return nil
 }
 
-// causeSuffix returns a suffix for an error message: a colon and the cause, if the key rejected its last request, or an
-// empty string.
+// causeSuffix returns a suffix for an error message: a colon and the cause, if the key rejected its last request and no
+// status is injected, or an empty string.
 func (k *SecurityKey) causeSuffix() string {
 	if cause := k.Cause(); cause != "" && k.Faults.Status == 0 {
 		return ": " + cause
@@ -260,7 +267,8 @@ func (k *SecurityKey) causeSuffix() string {
 }
 
 // Exchange sends an authenticator command and its CBOR parameters, and returns the response after the status byte. The
-// error is a Status if the status is not 0; Cause says why.
+// error is a Status if the status is not 0; Cause says why, unless the status is injected. Of the Faults, only Status
+// is injected here, and the others by browsers.
 func (k *SecurityKey) Exchange(request []byte) ([]byte, error) {
 	k.mutex.Lock()
 	defer k.mutex.Unlock()
