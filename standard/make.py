@@ -271,7 +271,7 @@ def to_c_enum(tag: str, front: str, rows: Pairs, section: str) -> str:
 def to_c_header() -> str:
     """Returns the header hidlog_standard.h."""
     commands = [(number, f"COMMAND_{to_constant_name(name)}") for number, name in read_pairs(read_table("commands"))]
-    body = to_c_enum("status", "HIDLOG_", read_pairs(read_table("statuses")), "8.2")
+    body = to_c_enum("ctap_status", "HIDLOG_", read_pairs(read_table("statuses")), "8.2")
     body += to_c_enum("ctaphid_error", "HIDLOG_CTAPHID_", read_pairs(read_table("ctaphid_errors")), "11.2.9.1.6")
     body += to_c_enum("ctaphid_command", "HIDLOG_CTAPHID_", read_pairs(read_table("ctaphid_commands")), "11.2.9")
     body += to_c_enum("command", "HIDLOG_", commands, "6")

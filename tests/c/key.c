@@ -3,11 +3,12 @@
 //
 //     key                  with one call per input
 //     key lines            with hidlog_key_replay_lines, one line per call
-//     key recorded         with hidlog_recording.h, which writes the recording: no comments and totals
+//     key recorded         with hidlog_recording.h, which writes the recording: without comments and totals
 //     key snapshot FILE    like the first, with the credentials of a snapshot
 //     key invalid-calls    invalid calls; prints nothing and returns 0 if each fails as documented
 #include "hidlog.h"
 #include "hidlog_recording.h"
+#include "hidlog_standard.h" // unused: tests that a program can include all headers
 
 #include <inttypes.h>
 #include <stdbool.h>
@@ -137,7 +138,7 @@ static void write_packets(struct hidlog_key *key, int32_t queued) {
 static void write_stats(struct hidlog_key *key) {
     struct hidlog_stats stats;
     if (hidlog_key_get_stats(key, &stats) != 0) {
-        fail("no statistics");
+        fail("hidlog_key_get_stats failed");
     }
     printf("= held %" PRIu32 " rows %" PRIu32 " pending %" PRIu32 " requests %" PRIu64 " bytes %" PRIu64
            " steps %" PRIu64 "\n",
@@ -216,7 +217,7 @@ static void test_uninitialized_key(struct hidlog_key *key) {
     expect(hidlog_key_provide_presence(key, 1, 7), HIDLOG_KEY_ERR_NOT_INITIALIZED,
          "a wrong presence of a key that was never initialized");
     expect(hidlog_key_init(key, aaguid, 0, no_snapshot, sizeof no_snapshot), HIDLOG_KEY_ERR_NOT_A_SNAPSHOT,
-         "no snapshot");
+         "init with an invalid snapshot");
     expect(hidlog_key_init(key, aaguid, 0, no_snapshot, 0), 0, "init");
     expect(hidlog_key_init(key, aaguid, 0, no_snapshot, 0), HIDLOG_KEY_ERR_ALREADY_INITIALIZED,
          "init of an initialized key");
@@ -239,8 +240,8 @@ static void test_invalid_calls(struct hidlog_key *key) {
          "a signature of 73 bytes");
     expect(hidlog_key_provide_signature(key, 3, signature, 72), 0, "a signature that is not needed");
     expect(hidlog_key_get_credential(key, 0, &credential), HIDLOG_KEY_ERR_INVALID_ARGUMENT, "a missing credential");
-    expect(hidlog_key_credential_count(key), 0, "credentials");
-    expect(hidlog_key_pending_assertions(key), 0, "pending");
+    expect(hidlog_key_credential_count(key), 0, "hidlog_key_credential_count");
+    expect(hidlog_key_pending_assertions(key), 0, "hidlog_key_pending_assertions");
     expect(hidlog_key_replay_lines(key, (const uint8_t *)"t 5\nx\n", 6, packet, sizeof packet, &result), 1,
          "an invalid line");
     expect((int32_t)result.error, HIDLOG_ERR_BAD_LINE, "the error of an invalid line");
